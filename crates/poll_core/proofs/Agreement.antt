@@ -24,11 +24,11 @@ give f ps = filter_map (λ p. named p (f p)) ps
 abbrev cons_named : Poll → Option Settlement → List (ℕ × Settlement) → List (ℕ × Settlement)
 cons_named p o xs = cons_option (named p o) xs
 
-same_is : {X : Type 0} (xs ys : List X) → xs ≡ ys → IsPermutation xs ys
+pub same_is : {X : Type 0} (xs ys : List X) → xs ≡ ys → IsPermutation xs ys
 same_is xs ys e = let P : List _ → Type 0 = λ zs. IsPermutation xs zs in subst P e (IsPermutation-refl xs)
 
 -- one more at the front of the second part
-middle : {X : Type 0} (x : X) (xs ys zs : List X) → IsPermutation xs (ys ++ zs) → IsPermutation (x ∷ xs) (ys ++ x ∷ zs)
+pub middle : {X : Type 0} (x : X) (xs ys zs : List X) → IsPermutation xs (ys ++ zs) → IsPermutation (x ∷ xs) (ys ++ x ∷ zs)
 middle x xs ys zs h =
     IsPermutation-trans _ _ _ (IsPermutation-cons x xs (ys ++ zs) h) (IsPermutation-sym _ _ (IsPermutation-middle ys x zs))
 
@@ -107,11 +107,11 @@ give_agree : (f g : Poll → Option Settlement) → ((p : Poll) → f p ≡ g p)
 give_agree f g h [] = refl
 give_agree f g h (p ∷ ps) = ap (λ o. cons_named p o (give f ps)) (h p) ∙ ap (cons_named p (g p)) (give_agree f g h ps)
 
-outcomes_at-start : (t : ℕ) (es : List Event) (e : Event) → is_start e ≡ true → outcomes_at t es e ≡ []
+pub outcomes_at-start : (t : ℕ) (es : List Event) (e : Event) → is_start e ≡ true → outcomes_at t es e ≡ []
 unfolding outcomes_at
 outcomes_at-start t es e start = cond-true _ _ _ start
 
-newly_is : (t : ℕ) (es : List Event) (e : Event) → IsPermutation (newly es e (pending t es)) (outcomes_at t es e)
+pub newly_is : (t : ℕ) (es : List Event) (e : Event) → IsPermutation (newly es e (pending t es)) (outcomes_at t es e)
 newly_is t es e =
     let ps = pending t es in
     elim (cases_Bool (is_start e)) [

@@ -9,3 +9,6 @@ pub mod Settles
 pub mod Starts
 pub mod Agreement
 pub mod Readiness
+pub mod Accounts
+pub mod Afterwards
+pub mod WholeAnswers

@@ -1,4 +1,4 @@
--- Framing one more event does to the polls that wait.
+-- What one more event does to the polls that wait.
 use Rattle.std.proofs.Common.{◌≡◌, ℕ, Bool, true, false, cond, not, ◌&&◌, List, [], ◌∷◌, ◌++◌, map, refl, sym, ap, ◌∙◌, Option, Some, None, append_assoc}
 use Rattle.std.specs.List.{filter, find}
 use Rattle.std.specs.Option.{is_none, option_or, option_map}

@@ -153,7 +153,7 @@ full_fault w n l m ps over full = ap is_some (cond-true _ _ _ (le-leb w (length 
 busy_fault : (w n l m : ℕ) (ps : List Poll) (over : Bool) → list_any (has_id n) ps ≡ true → IsSome (least_fault w ps n l over m)
 busy_fault w n l m ps over busy = some_if (leb w (length ps)) _ _ (ap is_some (cond-true _ _ _ busy))
 
-over_fault : (w n l m : ℕ) (ps : List Poll) (over : Bool) → over ≡ true → IsSome (least_fault w ps n l over m)
+pub over_fault : (w n l m : ℕ) (ps : List Poll) (over : Bool) → over ≡ true → IsSome (least_fault w ps n l over m)
 over_fault w n l m ps over h = some_if (leb w (length ps)) _ _ (some_if (list_any (has_id n) ps) _ _ (some_if (ltb m l) _ _ (ap is_some (cond-true _ _ _ h))))
 
 behind_full : (t w m : ℕ) (es starts : List Event) → AreStarts starts → start_fits w (pending t es) (next_id es) (is_over es) (length starts) ≡ false → IsSome (start_fault t w (es ++ starts) m)

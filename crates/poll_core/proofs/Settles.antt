@@ -36,7 +36,7 @@ pub record Mid (t m n : ℕ) (r : List ℕ) (ps : List Poll) (x : Option LostCau
   pub held : x ≡ None → r ≡ rest (stream (es ++ e ∷ []))
 
 -- the outcomes of an event that is no start
-abbrev told_at : ℕ → List Poll → List (List ℕ) → Option LostCause → List (ℕ × Settlement)
+abbrev pub told_at : ℕ → List Poll → List (List ℕ) → Option LostCause → List (ℕ × Settlement)
 told_at m ps fs x = silences (filter (due m) ps) ++ by_frame fs (alive m ps) ++ losses x (unmatched fs (alive m ps))
 
 pub outcomes_at-other : (t : ℕ) (es : List Event) (e : Event) → is_start e ≡ false → outcomes_at t es e ≡ told_at (moment_of e) (pending t es) (frames_at es e) (ending_at es e)
@@ -48,10 +48,10 @@ losses-none None = refl
 losses-none (Some c) = refl
 
 -- where no poll waits, nothing is told
-told_at-none : (m : ℕ) (fs : List (List ℕ)) (x : Option LostCause) → told_at m [] fs x ≡ []
+pub told_at-none : (m : ℕ) (fs : List (List ℕ)) (x : Option LostCause) → told_at m [] fs x ≡ []
 told_at-none m fs x = ap (λ y. y ++ losses x []) (by_frame-none fs) ∙ losses-none x
 
-if_going-none : (x : Option LostCause) → if_going x [] ≡ []
+pub if_going-none : (x : Option LostCause) → if_going x [] ≡ []
 if_going-none None = refl
 if_going-none (Some c) = refl
 
@@ -63,7 +63,7 @@ pub or_assoc : (a b c : Bool) → (a || (b || c)) ≡ ((a || b) || c)
 or_assoc true b c = refl
 or_assoc false b c = refl
 
-is_closed-push : (es : List Event) (e : Event) → is_closed (es ++ e ∷ []) ≡ (is_closed es || is_some (closing_of e))
+pub is_closed-push : (es : List Event) (e : Event) → is_closed (es ++ e ∷ []) ≡ (is_closed es || is_some (closing_of e))
 unfolding is_closed
 is_closed-push [] e = or_false (is_some (closing_of e))
 is_closed-push (f ∷ es) e = ap (λ b. is_some (closing_of f) || b) (is_closed-push es e) ∙ or_assoc (is_some (closing_of f)) (is_closed es) (is_some (closing_of e))

@@ -1,4 +1,4 @@
--- Framing a session holds, from its fields.
+-- What a session holds, from its fields.
 use Rattle.std.specs.Prelude.{ℕ, ◌+◌, ◌%◌, ◌≤◌, Bool, not, ◌&&◌, nat_lt, if◌then◌else◌, List, length, Some, None}
 use Rattle.std.specs.declared.option.Option.{Option}
 use Rattle.std.specs.Option.{option_map}

@@ -17,7 +17,7 @@ use Rattle.poll_core.specs.declared.outcome.LostCause.{LostCause}
 use Rattle.poll_core.specs.declared.outcome.LostCause.TheVariants.{Garbled}
 use Rattle.poll_core.specs.declared.outcome.Closing.{Closing}
 
--- Framing happens in a session, each event with its moment.
+-- What happens in a session, each event with its moment.
 pub data Event : Type 0 where
   Start : (moment poll unit : ℕ) (span : Span) → Event
   Piece : (moment : ℕ) (bytes : List ℕ) → Event
@@ -96,7 +96,7 @@ ending_at before event =
     then Some Garbled
     else closing_of event
 
--- Framing settles a poll at an event after these: silence, else the first frame with its id, else the end.
+-- What settles a poll at an event after these: silence, else the first frame with its id, else the end.
 unfoldable pub settled_by : List Event → Event → Poll → Option Settlement
 settled_by before event poll =
     if is_start event then None

@@ -1,4 +1,4 @@
--- Framing a call tells, as a caller sees it.
+-- What a call tells, as a caller sees it.
 use Rattle.std.specs.Prelude.{◌≡◌, ℕ, ◌<◌, ◌⊎◌, true, is_some, if◌then◌else◌, List, [], ◌++◌, length, Some, None}
 use Rattle.std.specs.declared.option.Option.{Option}
 use Rattle.mb_wire.specs.Replies.{answer_of}
@@ -31,7 +31,7 @@ settled_of settled = (settled.poll, outcome_of settled.outcome settled.reply)
 abbrev pub IsCall : Call → State → ℕ → Type 0
 IsCall call session moment = (session.settling ≡ None) ⊎ ((session.settling ≡ Some call) × (session.last ≡ moment))
 
--- Framing a call does that brings an event, or more bytes of a piece: an outcome more is told, and a poll less waits.
+-- What a call does that brings an event, or more bytes of a piece: an outcome more is told, and a poll less waits.
 pub record Tells (old new : State) (before after : List ℕ → Event) (settled : Option (ℕ × Settlement)) : Type 0 where
   pub timeout : new.timeout ≡ old.timeout
   pub window : new.window ≡ old.window

@@ -12,7 +12,7 @@ mod table;
 
 pub use answers::{ClockBack, Ready, Settled, StartFault, Turn};
 pub use call::Call;
-pub use laws::each_once;
+pub use laws::{each_once, one_event_more, over_for_good, pending_waits, whole_answers};
 pub use outcome::{Closing, LostCause, Malformation, Outcome};
 pub use session::Session;
 

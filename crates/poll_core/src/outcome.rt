@@ -16,7 +16,7 @@ pub enum Outcome {
     Lost(LostCause),
 }
 
-/// Framing is wrong with a reply.
+/// What is wrong with a reply.
 #[derive(Clone, Copy, Debug, PartialEq, Eq)]
 pub enum Malformation {
     WrongFunction,

@@ -52,7 +52,7 @@ impl PendingPoll {
         self.unit
     }
 
-    /// Framing the poll asks.
+    /// What the poll asks.
     pub fn request(&self) -> Request
         ensures { result ≡ request_of self.now.span }
     {

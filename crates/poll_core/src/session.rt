@@ -191,7 +191,7 @@ impl Session {
     }
 }
 
-// Framing is told, with the words of the frame that the reader holds.
+// What is told, with the words of the frame that the reader holds.
 fn tell_any(taken: Option<SettledPoll>, reader: &FrameReader) -> Option<Settled<'_>>
     ensures told { option_map settled_of result ≡ told_of taken reader.now.frame }
     ensures variant { is_some result ≡ is_some taken }
@@ -231,7 +231,7 @@ fn silent<'a>(poll: u64) -> Settled<'a>
     }
 }
 
-// Framing a frame with the poll's id gives it.
+// What a frame with the poll's id gives it.
 fn answered<'a>(poll: &PendingPoll, frame: Frame<'a>) -> Settled<'a>
     ensures { (bytes : List ℕ) → spelled frame.entry ≡ fields_of bytes → settled_of result ≡ (poll.now.number, answer poll.now bytes) }
 {
