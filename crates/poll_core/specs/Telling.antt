@@ -1,5 +1,5 @@
 -- What a call tells, as a caller sees it.
-use Rattle.std.specs.Prelude.{◌≡◌, ℕ, ◌<◌, ◌⊎◌, true, is_some, if◌then◌else◌, List, [], ◌++◌, length, Some, None}
+use Rattle.std.specs.Prelude.{◌≡◌, ℕ, ◌<◌, ◌⊎◌, Bool, true, false, is_some, if◌then◌else◌, List, [], ◌++◌, length, Some, None}
 use Rattle.std.specs.declared.option.Option.{Option}
 use Rattle.mb_wire.specs.Replies.{answer_of}
 use Rattle.mb_wire.specs.declared.replies.Reply.{Reply}
@@ -26,6 +26,14 @@ outcome_of (Lost cause) reply = told.Lost cause
 
 abbrev pub settled_of : Settled → ℕ × Settlement
 settled_of settled = (settled.poll, outcome_of settled.outcome settled.reply)
+
+abbrev pub is_answered : plain.Outcome → Bool
+is_answered Answered = true
+is_answered _ = false
+
+-- a reply is lent exactly where the poll was answered
+abbrev pub LendsReply : Settled → Type 0
+LendsReply settled = is_some settled.reply ≡ is_answered settled.outcome
 
 -- no call is under way, or this one is, at this moment
 abbrev pub IsCall : Call → State → ℕ → Type 0

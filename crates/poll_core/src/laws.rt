@@ -1,10 +1,11 @@
 // What holds of every list of events.
-ghost use Rattle.std.specs.Prelude.{◌≡◌, ℕ, Bool, true, List, [], ◌∷◌, ◌++◌, length, filter, is_none};
+ghost use Rattle.std.specs.Prelude.{◌≡◌, ℕ, Bool, true, List, [], ◌∷◌, ◌++◌, length, filter, is_none, slice_get};
 ghost use Rattle.std.specs.List.{All};
 ghost use Rattle.std.specs.List.Sorted.{IsPermutation};
 ghost use Rattle.std.specs.Option.{option_to_list};
+ghost use Rattle.mb_wire.specs.Replies.{Answer, word_at};
 ghost use Rattle.poll_core.specs.Polls.{Poll};
-ghost use Rattle.poll_core.specs.Settling.{Event, Answered, settled_by, started, outcomes_at, pending, answer};
+ghost use Rattle.poll_core.specs.Settling.{Event, Answered, settled_by, started, outcomes_at, pending, answer, words_in};
 ghost use Rattle.poll_core.specs.Standing.{is_over};
 ghost use Rattle.poll_core.specs.Laws.{outcomes_by_poll, outcomes_by_event, numbers_started, numbers_settled, numbers_pending, settled_among, Waits, AcceptsAll};
 
@@ -45,9 +46,10 @@ pub fn over_for_good()
         is_over events ≡ true → outcomes_at timeout events event ≡ [] }
 {}
 
-/// An answer has as many registers as the poll asked for.
+/// An answer has as many registers as the poll asked for, and the reply that is lent tells them.
 pub fn whole_answers()
-    ensures { (poll : Poll) (frame words : List ℕ) → answer poll frame ≡ Answered words → length words ≡ poll.span.count }
+    ensures words { (answer : Answer) (i : ℕ) → word_at answer i ≡ slice_get (words_in answer) i }
+    ensures count { (poll : Poll) (frame words : List ℕ) → answer poll frame ≡ Answered words → length words ≡ poll.span.count }
 {
     one_reply();
 }

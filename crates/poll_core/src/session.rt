@@ -13,7 +13,7 @@ ghost use Rattle.poll_core.specs.Inside.{told_of};
 ghost use Rattle.std.specs.Option.{option_map};
 ghost use Rattle.poll_core.specs.Standing.{State, Stands, Before, After};
 ghost use Rattle.poll_core.specs.Starting.{start_fault, IsReady};
-ghost use Rattle.poll_core.specs.Telling.{settled_of, IsCall, TellsPiece, TellsEvent};
+ghost use Rattle.poll_core.specs.Telling.{settled_of, LendsReply, IsCall, TellsPiece, TellsEvent};
 ghost use Rattle.poll_core.specs.contracts.session.Session.{the_row};
 
 use crate::answers::{ClockBack, Ready, Settled, StartFault, Turn};
@@ -119,6 +119,7 @@ impl Session {
         ensures back { IsErr result ↔ (moment < self.old.last) }
         ensures taken { IfOk result (λ turn. turn.taken ≤ length piece.now) }
         ensures all { IfOk result (λ turn. is_some turn.settled ≡ false → turn.taken ≡ length piece.now) }
+        ensures reply { IfOk result (λ turn. IfSome turn.settled LendsReply) }
     {
         let step = self.advance(moment, piece)?;
         Ok(Turn {
@@ -147,6 +148,7 @@ impl Session {
         ensures* after { sem 𝓛 (Rests the_row self.entry (λ new. OnErr result (new ≡ self.old)
             × IfOk result (λ settled. TellsEvent self.old new (Tick moment) (option_map settled_of settled)))) }
         ensures back { IsErr result ↔ (moment < self.old.last) }
+        ensures reply { IfOk result (λ settled. IfSome settled LendsReply) }
     {
         let taken = self.tick_once(moment)?;
         Ok(tell_any(taken, &self.inner.reader))
@@ -170,6 +172,7 @@ impl Session {
         ensures* after { sem 𝓛 (Rests the_row self.entry (λ new. OnErr result (new ≡ self.old)
             × IfOk result (λ settled. TellsEvent self.old new (Close moment closing) (option_map settled_of settled)))) }
         ensures back { IsErr result ↔ (moment < self.old.last) }
+        ensures reply { IfOk result (λ settled. IfSome settled LendsReply) }
     {
         let taken = self.close_once(moment, closing)?;
         Ok(tell_any(taken, &self.inner.reader))
@@ -195,6 +198,7 @@ impl Session {
 fn tell_any(taken: Option<SettledPoll>, reader: &FrameReader) -> Option<Settled<'_>>
     ensures told { option_map settled_of result ≡ told_of taken reader.now.frame }
     ensures variant { is_some result ≡ is_some taken }
+    ensures reply { IfSome result LendsReply }
 {
     match taken {
         None => None,
@@ -204,7 +208,8 @@ fn tell_any(taken: Option<SettledPoll>, reader: &FrameReader) -> Option<Settled<
 
 // A settled poll, with the words of the frame that the reader holds.
 fn tell(settled: SettledPoll, reader: &FrameReader) -> Settled<'_>
-    ensures { settled_of result ≡ told_by settled reader.now.frame }
+    ensures told { settled_of result ≡ told_by settled reader.now.frame }
+    ensures reply { LendsReply result }
 {
     let poll = &settled.poll;
     match settled.by {
@@ -222,7 +227,8 @@ fn tell(settled: SettledPoll, reader: &FrameReader) -> Settled<'_>
 }
 
 fn silent<'a>(poll: u64) -> Settled<'a>
-    ensures { settled_of result ≡ (poll, Silent) }
+    ensures told { settled_of result ≡ (poll, Silent) }
+    ensures reply { LendsReply result }
 {
     Settled {
         poll,
@@ -233,7 +239,8 @@ fn silent<'a>(poll: u64) -> Settled<'a>
 
 // What a frame with the poll's id gives it.
 fn answered<'a>(poll: &PendingPoll, frame: Frame<'a>) -> Settled<'a>
-    ensures { (bytes : List ℕ) → spelled frame.entry ≡ fields_of bytes → settled_of result ≡ (poll.now.number, answer poll.now bytes) }
+    ensures told { (bytes : List ℕ) → spelled frame.entry ≡ fields_of bytes → settled_of result ≡ (poll.now.number, answer poll.now bytes) }
+    ensures reply { LendsReply result }
 {
     let number = poll.number();
     if frame.unit != poll.unit() {

@@ -1,5 +1,5 @@
 use Rattle.poll_core.proofs.WholeAnswers.{whole}
 use Rattle.poll_core.proofs.laws.whole_answers.Goals as goal
 
-pub returns : goal.returns
-returns c = whole c.one_reply.ensures.both
+pub returns-clause-count : goal.returns-clause-count
+returns-clause-count c = whole c.one_reply.ensures.both
