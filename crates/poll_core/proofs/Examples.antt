@@ -1,0 +1,77 @@
+-- The definitions at a few sessions, computed.
+use Rattle.std.proofs.Common.{◌≡◌, ℕ, List, [], ◌∷◌, ◌++◌, refl}
+use Rattle.mb_wire.specs.Frames.{frames, frames_in, rest, rest_in, is_garbled}
+use Rattle.mb_wire.specs.Spans.{Span}
+use Rattle.mb_wire.specs.declared.span.ReadFunction.TheVariants.{HoldingRegisters}
+use Rattle.poll_core.specs.Settling.{Event, Start, Piece, Tick, Close, Answered, Exception, Silent, Malformed, Lost, stream, next_id, frames_at, ending_at, settled_by, pending, outcomes_at}
+use Rattle.poll_core.specs.declared.outcome.Closing.TheVariants.{Gone}
+use Rattle.poll_core.specs.declared.outcome.Malformation.TheVariants.{WrongUnit}
+use Rattle.poll_core.specs.declared.outcome.LostCause.TheVariants as cause
+
+abbrev registers : ℕ → ℕ → Span
+registers address count = record { function = HoldingRegisters; address = address; count = count }
+
+-- a first poll, started at 100 with a timeout of 5 seconds, asks unit 1 for three registers
+abbrev one : List Event
+one = Start 100 1 1 (registers 40094 3) ∷ []
+
+abbrev good : List ℕ
+good = 0 ∷ 0 ∷ 0 ∷ 0 ∷ 0 ∷ 9 ∷ 1 ∷ 3 ∷ 6 ∷ 0 ∷ 0 ∷ 20 ∷ 80 ∷ 0 ∷ 0 ∷ []
+
+answered : outcomes_at 5 one (Piece 104 good) ≡ (1, Answered (0 ∷ 5200 ∷ 0 ∷ [])) ∷ []
+unfolding outcomes_at pending frames_at ending_at stream next_id settled_by frames frames_in rest rest_in is_garbled
+answered = refl
+
+-- at the deadline the frame is a stray
+silent : outcomes_at 5 one (Piece 105 good) ≡ (1, Silent) ∷ []
+unfolding outcomes_at pending frames_at ending_at stream next_id settled_by frames frames_in rest rest_in is_garbled
+silent = refl
+
+-- a reply that comes twice, in one piece or in two, settles once
+twice : outcomes_at 5 one (Piece 104 (good ++ good)) ≡ (1, Answered (0 ∷ 5200 ∷ 0 ∷ [])) ∷ []
+unfolding outcomes_at pending frames_at ending_at stream next_id settled_by frames frames_in rest rest_in is_garbled
+twice = refl
+
+again : outcomes_at 5 (one ++ Piece 104 good ∷ []) (Piece 104 good) ≡ []
+unfolding outcomes_at pending frames_at ending_at stream next_id settled_by frames frames_in rest rest_in is_garbled
+again = refl
+
+other_id : outcomes_at 5 one (Piece 104 (0 ∷ 9 ∷ 0 ∷ 0 ∷ 0 ∷ 9 ∷ 1 ∷ 3 ∷ 6 ∷ 0 ∷ 0 ∷ 20 ∷ 80 ∷ 0 ∷ 0 ∷ [])) ≡ []
+unfolding outcomes_at pending frames_at ending_at stream next_id settled_by frames frames_in rest rest_in is_garbled
+other_id = refl
+
+exception : outcomes_at 5 one (Piece 104 (0 ∷ 0 ∷ 0 ∷ 0 ∷ 0 ∷ 3 ∷ 1 ∷ 131 ∷ 6 ∷ [])) ≡ (1, Exception 6) ∷ []
+unfolding outcomes_at pending frames_at ending_at stream next_id settled_by frames frames_in rest rest_in is_garbled
+exception = refl
+
+other_unit : outcomes_at 5 one (Piece 104 (0 ∷ 0 ∷ 0 ∷ 0 ∷ 0 ∷ 3 ∷ 2 ∷ 131 ∷ 6 ∷ [])) ≡ (1, Malformed WrongUnit) ∷ []
+unfolding outcomes_at pending frames_at ending_at stream next_id settled_by frames frames_in rest rest_in is_garbled
+other_unit = refl
+
+garbled : outcomes_at 5 one (Piece 104 (0 ∷ 0 ∷ 0 ∷ 0 ∷ 0 ∷ 1 ∷ [])) ≡ (1, Lost cause.Garbled) ∷ []
+unfolding outcomes_at pending frames_at ending_at stream next_id settled_by frames frames_in rest rest_in is_garbled
+garbled = refl
+
+-- four bytes of a reply, and then the end
+abbrev four_bytes : List Event
+four_bytes = one ++ Piece 103 (0 ∷ 0 ∷ 0 ∷ 0 ∷ []) ∷ []
+
+lost : outcomes_at 5 four_bytes (Close 104 Gone) ≡ (1, Lost cause.Gone) ∷ []
+unfolding outcomes_at pending frames_at ending_at stream next_id settled_by frames frames_in rest rest_in is_garbled
+lost = refl
+
+lost_late : outcomes_at 5 four_bytes (Close 105 Gone) ≡ (1, Silent) ∷ []
+unfolding outcomes_at pending frames_at ending_at stream next_id settled_by frames frames_in rest rest_in is_garbled
+lost_late = refl
+
+-- two polls, answered in the other order in one piece
+abbrev two : List Event
+two = Start 1000 1 1 (registers 0 1) ∷ Start 1000 2 1 (registers 1 1) ∷ []
+
+crossed : outcomes_at 5 two (Piece 1001 (0 ∷ 1 ∷ 0 ∷ 0 ∷ 0 ∷ 5 ∷ 1 ∷ 3 ∷ 2 ∷ 0 ∷ 7 ∷ 0 ∷ 0 ∷ 0 ∷ 0 ∷ 0 ∷ 5 ∷ 1 ∷ 3 ∷ 2 ∷ 0 ∷ 9 ∷ [])) ≡ (2, Answered (7 ∷ [])) ∷ (1, Answered (9 ∷ [])) ∷ []
+unfolding outcomes_at pending frames_at ending_at stream next_id settled_by frames frames_in rest rest_in is_garbled
+crossed = refl
+
+both_silent : outcomes_at 5 two (Tick 1005) ≡ (1, Silent) ∷ (2, Silent) ∷ []
+unfolding outcomes_at pending frames_at ending_at stream next_id settled_by frames frames_in rest rest_in is_garbled
+both_silent = refl

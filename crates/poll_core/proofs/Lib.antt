@@ -1,0 +1,14 @@
+pub mod Examples
+pub mod Filters
+pub mod Frames
+pub mod Pending
+pub mod Streams
+pub mod Taking
+pub mod Feeding
+pub mod Settles
+pub mod Starts
+pub mod Agreement
+pub mod Readiness
+pub mod Accounts
+pub mod Afterwards
+pub mod WholeAnswers

@@ -1,0 +1,482 @@
+-- How the steps of a session move it within an event.
+use Rattle.std.proofs.Common.{◌≡◌, ℕ, ◌%◌, ◌≤◌, Bool, true, false, cond, not, ◌&&◌, ◌||◌, List, [], ◌∷◌, ◌++◌, length, take, drop, refl, sym, ap, ◌∙◌, subst, arith, Option, Some, None, inl, inr, append_assoc}
+use Rattle.std.specs.List.{filter, find}
+use Rattle.std.specs.Option.{option_or, is_some, is_none}
+use Rattle.std.proofs.lemmas.List.{append-nil, take-append-drop, take_all}
+use Rattle.std.proofs.lemmas.List.Elements.{filter-append, filter_agree}
+use Rattle.std.proofs.lemmas.Bool.{cond-false, or_left, or_right, or_parts, or_cases, both_ways, false_from_ne_true}
+use Rattle.mb_wire.specs.Frames.{Reads, frames, rest, is_bad, is_garbled}
+use Rattle.mb_wire.specs.Reader.{Held}
+use Rattle.poll_core.proofs.Filters.{filter-none, filter_filter}
+use Rattle.poll_core.proofs.Frames.{unmatched-nil, unmatched-append, by_frame-append, by_frame-none}
+use Rattle.poll_core.proofs.Pending.{pending-other}
+use Rattle.poll_core.proofs.Streams.{OneReading, stream-push, frames_at-more, frames_at-nil, ending_at-nil, frames-garbled, is_garbled-append, is_garbled-reads}
+use Rattle.poll_core.specs.declared.outcome.LostCause.{LostCause}
+use Rattle.poll_core.specs.declared.outcome.LostCause.TheVariants.{Garbled}
+use Rattle.poll_core.specs.declared.outcome.Closing.{Closing}
+use Rattle.poll_core.specs.Outcomes.{cause_of}
+use Rattle.poll_core.specs.Settling.{Event, Piece, Tick, Close, Settlement, moment_of, bytes_of, closing_of, is_start, stream, next_id, frames_at, ending_at, alive, unmatched, silences, losses, by_frame, pending, outcomes_at, is_for}
+use Rattle.poll_core.specs.Standing.{State, Stands, Within, Before, After, owed_by, if_going, is_over, is_closed, last_moment, call_of}
+use Rattle.poll_core.specs.Steps.{TellsOwed, Finds, told_by, told_list}
+use Rattle.poll_core.specs.Polls.{Poll, due}
+use Rattle.poll_core.specs.Inside.{call_if, told_of, garbled_end}
+use Rattle.poll_core.specs.declared.poll.SettledPoll.{SettledPoll}
+use Rattle.poll_core.specs.declared.call.Call.{Call}
+use Rattle.poll_core.specs.declared.call.Call.TheVariants as call
+use Rattle.poll_core.specs.declared.poll.SettledBy.TheVariants as by
+
+-- `Within`, by what it reads of a session
+pub record Mid (t m n : ℕ) (r : List ℕ) (ps : List Poll) (x : Option LostCause) (es : List Event) (e : Event) (told : List (ℕ × Settlement)) : Type 0 where
+  pub last : m ≡ moment_of e
+  pub next : n ≡ next_id (es ++ e ∷ [])
+  pub whole : told ++ owed_by m x ps ≡ outcomes_at t es e
+  pub polls : if_going x (alive m ps) ≡ pending t (es ++ e ∷ [])
+  pub over : is_some x ≡ is_over (es ++ e ∷ [])
+  pub none_after : is_closed es ≡ true → pending t es ≡ []
+  pub held : x ≡ None → r ≡ rest (stream (es ++ e ∷ []))
+
+-- the outcomes of an event that is no start
+abbrev pub told_at : ℕ → List Poll → List (List ℕ) → Option LostCause → List (ℕ × Settlement)
+told_at m ps fs x = silences (filter (due m) ps) ++ by_frame fs (alive m ps) ++ losses x (unmatched fs (alive m ps))
+
+pub outcomes_at-other : (t : ℕ) (es : List Event) (e : Event) → is_start e ≡ false → outcomes_at t es e ≡ told_at (moment_of e) (pending t es) (frames_at es e) (ending_at es e)
+unfolding outcomes_at
+outcomes_at-other t es e other = cond-false _ _ _ other
+
+losses-none : (x : Option LostCause) → losses x [] ≡ []
+losses-none None = refl
+losses-none (Some c) = refl
+
+-- where no poll waits, nothing is told
+pub told_at-none : (m : ℕ) (fs : List (List ℕ)) (x : Option LostCause) → told_at m [] fs x ≡ []
+told_at-none m fs x = ap (λ y. y ++ losses x []) (by_frame-none fs) ∙ losses-none x
+
+pub if_going-none : (x : Option LostCause) → if_going x [] ≡ []
+if_going-none None = refl
+if_going-none (Some c) = refl
+
+pub or_false : (b : Bool) → (b || false) ≡ b
+or_false true = refl
+or_false false = refl
+
+pub or_assoc : (a b c : Bool) → (a || (b || c)) ≡ ((a || b) || c)
+or_assoc true b c = refl
+or_assoc false b c = refl
+
+pub is_closed-push : (es : List Event) (e : Event) → is_closed (es ++ e ∷ []) ≡ (is_closed es || is_some (closing_of e))
+unfolding is_closed
+is_closed-push [] e = or_false (is_some (closing_of e))
+is_closed-push (f ∷ es) e = ap (λ b. is_some (closing_of f) || b) (is_closed-push es e) ∙ or_assoc (is_some (closing_of f)) (is_closed es) (is_some (closing_of e))
+
+next_id-other : (es : List Event) (e : Event) → is_start e ≡ false → next_id (es ++ e ∷ []) ≡ next_id es
+unfolding next_id
+next_id-other es e other =
+    ap (λ xs. length xs % 65536) (filter-append is_start es (e ∷ []) ∙ ap (λ xs. filter is_start es ++ xs) (cond-false _ _ _ other) ∙ append-nil (filter is_start es))
+
+pub last_moment-push : (es : List Event) (e : Event) → last_moment (es ++ e ∷ []) ≡ moment_of e
+last_moment-push [] e = refl
+last_moment-push (f ∷ []) e = refl
+last_moment-push (f ∷ g ∷ es) e = last_moment-push (g ∷ es) e
+
+-- one outcome that was owed is told
+pub tell : (t m n : ℕ) (r : List ℕ) (ps qs : List Poll) (x : Option LostCause) (es : List Event) (e : Event) (told : List (ℕ × Settlement)) (taken : SettledPoll) (frame : Option (List ℕ)) → Mid t m n r ps x es e told → TellsOwed m x ps (Some taken) qs → Mid t m n r qs x es e (told ++ told_by taken frame ∷ [])
+tell t m n r ps qs x es e told taken frame mid h =
+    record {
+      last = mid.last;
+      next = mid.next;
+      whole = append_assoc told (told_by taken frame ∷ []) (owed_by m x qs) ∙ ap (λ y. told ++ y) (sym (h.0 frame)) ∙ mid.whole;
+      polls = h.1 ∙ mid.polls;
+      over = mid.over;
+      none_after = mid.none_after;
+      held = mid.held;
+    }
+
+going_all : (x : Option LostCause) (ps : List Poll) → (is_some x ≡ true → ps ≡ []) → if_going x ps ≡ ps
+going_all None ps h = refl
+going_all (Some c) ps h = sym (h refl)
+
+pub some_case : (x : Option LostCause) → is_some x ≡ true → (c : LostCause) × (x ≡ Some c)
+some_case None h = absurd (cc)
+some_case (Some c) h = (c, refl)
+
+-- nothing is owed: the session stands behind the event
+pub done : (t m n w : ℕ) (r : Held) (ps qs : List Poll) (x : Option LostCause) (es : List Event) (e : Event) (told : List (ℕ × Settlement)) → Mid t m n r.rest ps x es e told → TellsOwed m x ps None qs → Stands (record { timeout = t; window = w; last = m; next = n; reader = r; polls = qs; ending = x; settling = None }) (es ++ e ∷ []) × (told ≡ outcomes_at t es e)
+done t m n w r ps qs x es e told mid h = (
+  record {
+    told = refl;
+    last = mid.last ∙ sym (last_moment-push es e);
+    next = mid.next;
+    polls = h.0 ∙ sym (going_all x ps h.3) ∙ ap (if_going x) (sym h.2) ∙ mid.polls;
+    over = mid.over;
+    none_after = λ over.
+        let c = some_case x (mid.over ∙ over) in
+        sym mid.polls ∙ ap (λ y. if_going y (alive m ps)) c.1;
+    held = mid.held;
+  },
+  sym (append-nil told) ∙ ap (λ y. told ++ y) (sym h.1) ∙ mid.whole,
+)
+
+is_some-or : (x y : Option LostCause) → is_some (option_or x y) ≡ (is_some x || is_some y)
+is_some-or None y = refl
+is_some-or (Some c) y = refl
+
+pub none_case : (x : Option LostCause) → is_some x ≡ false → x ≡ None
+none_case None h = refl
+none_case (Some c) h = absurd (cc)
+
+-- how the ending of a session at rest goes on with an event that brings no bytes
+ends_losses : (x y : Option LostCause) (ps : List Poll) → (is_some x ≡ true → ps ≡ []) → losses (option_or x y) ps ≡ losses y ps
+ends_losses None y ps h = refl
+ends_losses (Some c) y ps h = ap (losses (Some c)) (h refl) ∙ sym (ap (losses y) (h refl) ∙ losses-none y)
+
+ends_going : (x y : Option LostCause) (ps : List Poll) → (is_some x ≡ true → ps ≡ []) → if_going (option_or x y) ps ≡ if_going y ps
+ends_going None y ps h = refl
+ends_going (Some c) y ps h = sym (ap (if_going y) (h refl) ∙ if_going-none y)
+
+pub stream-same : (es : List Event) (e : Event) → bytes_of e ≡ [] → stream (es ++ e ∷ []) ≡ stream es
+stream-same es e none = stream-push es e ∙ ap (λ y. stream es ++ y) none ∙ append-nil (stream es)
+
+pub is_over-same : (es : List Event) (e : Event) → bytes_of e ≡ [] → is_over (es ++ e ∷ []) ≡ (is_over es || is_some (closing_of e))
+unfolding is_over
+is_over-same es e none =
+    ap (λ y. is_garbled y || is_closed (es ++ e ∷ [])) (stream-same es e none)
+    ∙ ap (λ b. is_garbled (stream es) || b) (is_closed-push es e)
+    ∙ or_assoc (is_garbled (stream es)) (is_closed es) (is_some (closing_of e))
+
+is_over-closed : (es : List Event) → is_closed es ≡ true → is_over es ≡ true
+unfolding is_over
+is_over-closed es h = or_right _ _ h
+
+-- a session at rest, as an event begins that has brought nothing yet
+pub begin : (s : State) (es : List Event) (e : Event) → is_start e ≡ false → bytes_of e ≡ [] → Stands s es → Mid s.timeout (moment_of e) s.next s.reader.rest s.polls (option_or s.ending (closing_of e)) es e []
+begin s es e other none h =
+    let m = moment_of e in
+    let P = pending s.timeout es in
+    let x = option_or s.ending (closing_of e) in
+    let fs = frames_at es e in
+    let y = ending_at es e in
+    let fs_is : fs ≡ [] = frames_at-nil es e none in
+    let y_is : y ≡ closing_of e = ending_at-nil es e none in
+    let dead : is_some s.ending ≡ true → P ≡ [] = λ over. h.none_after (sym h.over ∙ over) in
+    let dead' : is_some s.ending ≡ true → alive m P ≡ [] = λ over. ap (alive m) (dead over) in
+    record {
+      last = refl;
+      next = h.next ∙ sym (next_id-other es e other);
+      whole =
+          ap (owed_by m x) h.polls
+          ∙ ap (λ l. silences (filter (due m) P) ++ l) (ends_losses s.ending (closing_of e) (alive m P) dead')
+          ∙ ap (λ l. silences (filter (due m) P) ++ losses (closing_of e) l) (sym (unmatched-nil (alive m P)))
+          ∙ ap (λ l. l ++ losses (closing_of e) (unmatched [] (alive m P))) (sym (append-nil (silences (filter (due m) P))))
+          ∙ ap (told_at m P []) (sym y_is)
+          ∙ ap (λ f. told_at m P f y) (sym fs_is)
+          ∙ sym (outcomes_at-other s.timeout es e other);
+      polls =
+          ap (λ ps. if_going x (alive m ps)) h.polls
+          ∙ ends_going s.ending (closing_of e) (alive m P) dead'
+          ∙ ap (if_going (closing_of e)) (sym (unmatched-nil (alive m P)))
+          ∙ ap (λ c. if_going c (unmatched [] (alive m P))) (sym y_is)
+          ∙ ap (λ f. if_going y (unmatched f (alive m P))) (sym fs_is)
+          ∙ sym (pending-other s.timeout es e other);
+      over = is_some-or s.ending (closing_of e) ∙ ap (λ b. b || is_some (closing_of e)) h.over ∙ sym (is_over-same es e none);
+      none_after = λ closed. h.none_after (is_over-closed es closed);
+      held = λ going.
+          let both = or_parts _ _ (sym (is_some-or s.ending (closing_of e)) ∙ ap is_some going) in
+          h.held (none_case s.ending both.0) ∙ ap rest (sym (stream-same es e none));
+    }
+
+not_and : (b : Bool) → (not b && b) ≡ false
+not_and true = refl
+not_and false = refl
+
+and_comm : (a b : Bool) → (a && b) ≡ (b && a)
+and_comm true true = refl
+and_comm true false = refl
+and_comm false true = refl
+and_comm false false = refl
+
+and_true : (b : Bool) → (b && true) ≡ b
+and_true true = refl
+and_true false = refl
+
+-- filters of the polls that are alive
+alive_due : (m : ℕ) (ps : List Poll) → alive m ps ≡ ps → filter (due m) ps ≡ []
+alive_due m ps h =
+    ap (filter (due m)) (sym h)
+    ∙ filter_filter (λ p. not (due m p)) (due m) ps
+    ∙ filter_agree _ _ (λ p. not_and (due m p)) ps
+    ∙ filter-none ps
+
+alive_left : (m : ℕ) (fs : List (List ℕ)) (ps : List Poll) → alive m ps ≡ ps → alive m (unmatched fs ps) ≡ unmatched fs ps
+alive_left m fs ps h =
+    filter_filter (λ p. is_none (find (is_for p) fs)) (λ p. not (due m p)) ps
+    ∙ filter_agree _ _ (λ p. and_comm (is_none (find (is_for p) fs)) (not (due m p))) ps
+    ∙ sym (filter_filter (λ p. not (due m p)) (λ p. is_none (find (is_for p) fs)) ps)
+    ∙ ap (unmatched fs) h
+
+is_some-garbled_end : (b : Bool) → is_some (garbled_end b) ≡ b
+is_some-garbled_end true = refl
+is_some-garbled_end false = refl
+
+ending_at-piece : (es : List Event) (m : ℕ) (p : List ℕ) → is_garbled (stream es) ≡ false → ending_at es (Piece m p) ≡ garbled_end (is_garbled (stream es ++ p))
+unfolding ending_at
+ending_at-piece es m p fresh = ap (λ b. cond b (Some Garbled) None) (ap (λ b. is_garbled (stream es ++ p) && not b) fresh ∙ and_true (is_garbled (stream es ++ p)))
+
+over_parts : (es : List Event) (m : ℕ) (p : List ℕ) → is_over (es ++ Piece m p ∷ []) ≡ (is_garbled (stream es ++ p) || is_closed es)
+unfolding is_over
+over_parts es m p =
+    ap (λ y. is_garbled y || is_closed (es ++ Piece m p ∷ [])) (stream-push es (Piece m p))
+    ∙ ap (λ b. is_garbled (stream es ++ p) || b) (is_closed-push es (Piece m p) ∙ or_false (is_closed es))
+
+fresh_before : (one : OneReading) → (b p : List ℕ) → is_garbled (b ++ p) ≡ false → is_garbled b ≡ false
+fresh_before one b p h = false_from_ne_true _ (λ g. both_ways _ h (is_garbled-append one b p g))
+
+-- a session that goes on takes more of a piece: its frames settle at most one poll, and the bytes may garble it
+pub feed : (one : OneReading) → (t m n : ℕ) (r q p : List ℕ) (held : Held) (ps qs : List Poll) (o : Option Poll) (es : List Event) (told : List (ℕ × Settlement)) (g : Bool) → Mid t m n r ps None es (Piece m p) told → owed_by m None ps ≡ [] → alive m ps ≡ ps → Finds r q ps o held qs → is_bad held.rest ≡ g → Mid t m n held.rest qs (garbled_end g) es (Piece m (p ++ q)) (told ++ told_list o held.frame)
+feed one t m n r q p held ps qs o es told g mid none all found bad =
+    let e = Piece m p in
+    let e' = Piece m (p ++ q) in
+    let b = stream es in
+    let A = alive m (pending t es) in
+    let S = silences (filter (due m) (pending t es)) in
+    let f1 = frames_at es e in
+    let gs = found.ended in
+    let going : (is_garbled (b ++ p) || is_closed es) ≡ false = sym (over_parts es m p) ∙ sym mid.over in
+    let parts = or_parts _ _ going in
+    let fresh : is_garbled b ≡ false = fresh_before one b p parts.0 in
+    let no_end : ending_at es e ≡ None = ending_at-piece es m p fresh ∙ ap garbled_end parts.0 in
+    let r_is : r ≡ rest (b ++ p) = mid.held refl ∙ ap rest (stream-push es e) in
+    let reads : Reads ((b ++ p) ++ q) (frames (b ++ p) ++ gs) held.rest = found.feeds (b ++ p) (frames (b ++ p)) (subst (λ y. Reads (b ++ p) (frames (b ++ p)) y) (sym r_is) (one.exists (b ++ p))) in
+    let garbled : is_garbled (b ++ (p ++ q)) ≡ g = ap is_garbled (sym (append_assoc b p q)) ∙ is_garbled-reads one _ _ _ reads ∙ bad in
+    let end' : ending_at es e' ≡ garbled_end g = ending_at-piece es m (p ++ q) fresh ∙ ap garbled_end garbled in
+    let frames' : frames_at es e' ≡ f1 ++ gs = frames_at-more one es m p q gs held.rest reads in
+    let ps_is : unmatched f1 A ≡ ps = sym (sym all ∙ mid.polls ∙ pending-other t es e refl ∙ ap (λ c. if_going c (unmatched f1 A)) no_end) in
+    let unmatched' : unmatched (f1 ++ gs) A ≡ qs = unmatched-append f1 gs A ∙ ap (unmatched gs) ps_is ∙ found.others_are in
+    let told_is : told ≡ S ++ by_frame f1 A =
+    sym (append-nil told) ∙ ap (λ y. told ++ y) (sym none) ∙ mid.whole ∙ outcomes_at-other t es e refl ∙ ap (told_at m (pending t es) f1) no_end ∙ append-nil (S ++ by_frame f1 A) in
+    let by_new : by_frame gs (unmatched f1 A) ≡ told_list o held.frame = ap (by_frame gs) ps_is ∙ found.told in
+    let alive' : alive m qs ≡ qs = ap (alive m) (sym found.others_are) ∙ alive_left m gs ps all ∙ found.others_are in
+    let owed' : owed_by m (garbled_end g) qs ≡ losses (garbled_end g) qs = ap (λ y. silences y ++ losses (garbled_end g) (alive m qs)) (alive_due m qs alive') ∙ ap (losses (garbled_end g)) alive' in
+    let by_all : S ++ by_frame (f1 ++ gs) A ≡ told ++ told_list o held.frame =
+    ap (λ y. S ++ y) (by_frame-append f1 gs A ∙ ap (λ y. by_frame f1 A ++ y) by_new)
+    ∙ sym (append_assoc S (by_frame f1 A) (told_list o held.frame))
+    ∙ ap (λ y. y ++ told_list o held.frame) (sym told_is) in
+    record {
+      last = refl;
+      next = mid.next ∙ next_id-other es e refl ∙ sym (next_id-other es e' refl);
+      whole =
+          ap (λ y. (told ++ told_list o held.frame) ++ y) owed'
+          ∙ ap (λ y. y ++ losses (garbled_end g) qs) (sym by_all)
+          ∙ ap (λ y. (S ++ by_frame (f1 ++ gs) A) ++ losses (garbled_end g) y) (sym unmatched')
+          ∙ ap (told_at m (pending t es) (f1 ++ gs)) (sym end')
+          ∙ ap (λ f. told_at m (pending t es) f (ending_at es e')) (sym frames')
+          ∙ sym (outcomes_at-other t es e' refl);
+      polls =
+          ap (if_going (garbled_end g)) (alive' ∙ sym unmatched')
+          ∙ ap (λ c. if_going c (unmatched (f1 ++ gs) A)) (sym end')
+          ∙ ap (λ f. if_going (ending_at es e') (unmatched f A)) (sym frames')
+          ∙ sym (pending-other t es e' refl);
+      over =
+          is_some-garbled_end g
+          ∙ sym garbled
+          ∙ sym (or_false (is_garbled (b ++ (p ++ q))))
+          ∙ ap (λ c. is_garbled (b ++ (p ++ q)) || c) (sym parts.1)
+          ∙ sym (over_parts es m (p ++ q));
+      none_after = mid.none_after;
+      held = λ _. sym (one.only _ _ _ reads).1 ∙ ap rest (append_assoc b p q ∙ sym (stream-push es e'));
+    }
+
+frames_at-garbled : (one : OneReading) → (es : List Event) (m : ℕ) (p q : List ℕ) → is_garbled (stream es ++ p) ≡ true → frames_at es (Piece m (p ++ q)) ≡ frames_at es (Piece m p)
+unfolding frames_at
+frames_at-garbled one es m p q g =
+    let n = length (frames (stream es)) in
+    ap (λ y. drop n (frames y)) (sym (append_assoc (stream es) p q)) ∙ ap (drop n) (frames-garbled one (stream es ++ p) q g)
+
+ending_at-garbled : (es : List Event) (m : ℕ) (p q : List ℕ) → is_garbled (stream es ++ p) ≡ true → is_garbled (stream es ++ (p ++ q)) ≡ true → ending_at es (Piece m (p ++ q)) ≡ ending_at es (Piece m p)
+unfolding ending_at
+ending_at-garbled es m p q g h = ap (λ b. cond (b && not (is_garbled (stream es))) (Some Garbled) None) (h ∙ sym g)
+
+-- more bytes change nothing behind a bad length, nor where no poll waits
+same_at : (one : OneReading) → (t m : ℕ) (p q : List ℕ) (es : List Event) → (is_closed es ≡ true → pending t es ≡ []) → (is_garbled (stream es ++ p) || is_closed es) ≡ true → (outcomes_at t es (Piece m (p ++ q)) ≡ outcomes_at t es (Piece m p)) × (pending t (es ++ Piece m (p ++ q) ∷ []) ≡ pending t (es ++ Piece m p ∷ [])) × ((is_garbled (stream es ++ (p ++ q)) || is_closed es) ≡ true)
+same_at one t m p q es none over =
+    let e = Piece m p in
+    let e' = Piece m (p ++ q) in
+    let b = stream es in
+    let P = pending t es in
+    elim (or_cases _ _ over) [
+      | inl garbled ↦
+          let more : is_garbled (b ++ (p ++ q)) ≡ true = ap is_garbled (sym (append_assoc b p q)) ∙ is_garbled-append one (b ++ p) q garbled in
+          let fs : frames_at es e' ≡ frames_at es e = frames_at-garbled one es m p q garbled in
+          let x : ending_at es e' ≡ ending_at es e = ending_at-garbled es m p q garbled more in (
+            outcomes_at-other t es e' refl ∙ ap (λ f. told_at m P f (ending_at es e')) fs ∙ ap (told_at m P (frames_at es e)) x ∙ sym (outcomes_at-other t es e refl),
+            pending-other t es e' refl ∙ ap (λ f. if_going (ending_at es e') (unmatched f (alive m P))) fs ∙ ap (λ c. if_going c (unmatched (frames_at es e) (alive m P))) x ∙ sym (pending-other t es e refl),
+            or_left _ _ more,
+          )
+      | inr closed ↦
+          let no = none closed in (
+            outcomes_at-other t es e' refl ∙ ap (λ ps. told_at m ps (frames_at es e') (ending_at es e')) no ∙ told_at-none m (frames_at es e') (ending_at es e')
+                ∙ sym (outcomes_at-other t es e refl ∙ ap (λ ps. told_at m ps (frames_at es e) (ending_at es e)) no ∙ told_at-none m (frames_at es e) (ending_at es e)),
+            pending-other t es e' refl ∙ ap (λ ps. if_going (ending_at es e') (unmatched (frames_at es e') (alive m ps))) no ∙ if_going-none (ending_at es e')
+                ∙ sym (pending-other t es e refl ∙ ap (λ ps. if_going (ending_at es e) (unmatched (frames_at es e) (alive m ps))) no ∙ if_going-none (ending_at es e)),
+            or_right _ _ closed,
+          )
+    ]
+
+-- a session that is over drops what comes
+pub drop_rest : (one : OneReading) → (t m n : ℕ) (r r' q p : List ℕ) (ps : List Poll) (c : LostCause) (es : List Event) (told : List (ℕ × Settlement)) → Mid t m n r ps (Some c) es (Piece m p) told → Mid t m n r' ps (Some c) es (Piece m (p ++ q)) told
+drop_rest one t m n r r' q p ps c es told mid =
+    let e = Piece m p in
+    let e' = Piece m (p ++ q) in
+    let b = stream es in
+    let over : (is_garbled (b ++ p) || is_closed es) ≡ true = sym (over_parts es m p) ∙ sym mid.over in
+    let same = same_at one t m p q es mid.none_after over in
+    record {
+      last = refl;
+      next = mid.next ∙ next_id-other es e refl ∙ sym (next_id-other es e' refl);
+      whole = mid.whole ∙ sym same.0;
+      polls = mid.polls ∙ sym same.1;
+      over = sym (over_parts es m (p ++ q) ∙ same.2);
+      none_after = mid.none_after;
+      held = λ going. absurd (cc);
+    }
+
+closing_none : (b : Bool) (x : Option LostCause) → (b || is_some x) ≡ false → x ≡ None
+closing_none b x h = none_case x (or_parts _ _ h).1
+
+unfold_over : (es : List Event) (e : Event) → is_over (es ++ e ∷ []) ≡ (is_garbled (stream (es ++ e ∷ [])) || (is_closed es || is_some (closing_of e)))
+unfolding is_over
+unfold_over es e = ap (λ b. is_garbled (stream (es ++ e ∷ [])) || b) (is_closed-push es e)
+
+goes_with : (x : Option LostCause) (es : List Event) (e : Event) → is_some x ≡ is_over (es ++ e ∷ []) → option_or x (closing_of e) ≡ x
+goes_with None es e h = closing_none (is_closed es) (closing_of e) (or_parts _ _ (sym (unfold_over es e) ∙ sym h)).1
+goes_with (Some c) es e h = refl
+
+-- a call, as it begins or goes on
+pub enter : (s : State) (es : List Event) (e : Event) (told : List (ℕ × Settlement)) → is_start e ≡ false → Before s es e told → Mid s.timeout (moment_of e) s.next s.reader.rest s.polls (option_or s.ending (closing_of e)) es e told
+enter s es e told other (inl (stands, bare, none)) =
+    let P : List (ℕ × Settlement) → Type 0 = λ y. Mid s.timeout (moment_of e) s.next s.reader.rest s.polls (option_or s.ending (closing_of e)) es e y in
+    subst P (sym none) (begin s es e other bare stands)
+enter s es e told other (inr (settling, w)) =
+    let x_is : option_or s.ending (closing_of e) ≡ s.ending = goes_with s.ending es e w.over in
+    let P : Option LostCause → Type 0 = λ y. Mid s.timeout (moment_of e) s.next s.reader.rest s.polls y es e told in
+    subst P (sym x_is)
+    record {
+      last = refl;
+      next = w.next;
+      whole = ap (λ m. told ++ owed_by m s.ending s.polls) (sym w.last) ∙ w.whole;
+      polls = ap (λ m. if_going s.ending (alive m s.polls)) (sym w.last) ∙ w.polls;
+      over = w.over;
+      none_after = w.none_after;
+      held = w.held;
+    }
+
+-- what a call answers when one outcome more is told
+pub told_more : (t m n w : ℕ) (r : Held) (ps : List Poll) (x : Option LostCause) (z : Option Call) (es : List Event) (e : Event) (told : List (ℕ × Settlement)) → Mid t m n r.rest ps x es e told → Within (record { timeout = t; window = w; last = m; next = n; reader = r; polls = ps; ending = x; settling = z }) es e told
+told_more t m n w r ps x z es e told mid =
+    record { last = mid.last; next = mid.next; whole = mid.whole; polls = mid.polls; over = mid.over; none_after = mid.none_after; held = mid.held }
+
+-- the end of a call that only tells what is owed
+pub settle : (t m n w : ℕ) (r : Held) (ps qs : List Poll) (x : Option LostCause) (call : Call) (taken : Option SettledPoll) (es : List Event) (e : Event) (told : List (ℕ × Settlement)) → call_of e ≡ Some call → Mid t m n r.rest ps x es e told → TellsOwed m x ps taken qs → After (record { timeout = t; window = w; last = m; next = n; reader = r; polls = qs; ending = x; settling = call_if taken call }) es e told (told_of taken r.frame)
+settle t m n w r ps qs x call None es e told by mid h = done t m n w r ps qs x es e told mid h
+settle t m n w r ps qs x call (Some taken) es e told by mid h =
+    (sym by, told_more t m n w r qs x (Some call) es e (told ++ told_by taken r.frame ∷ []) (tell t m n r.rest ps qs x es e told taken r.frame mid h))
+
+pub option_or-none : (x : Option LostCause) → option_or x None ≡ x
+option_or-none None = refl
+option_or-none (Some c) = refl
+
+pub ticks : (s : State) (m : ℕ) (qs : List Poll) (taken : Option SettledPoll) → TellsOwed m s.ending s.polls taken qs → (es : List Event) (told : List (ℕ × Settlement)) → Before s es (Tick m) told → After (record { timeout = s.timeout; window = s.window; last = m; next = s.next; reader = s.reader; polls = qs; ending = s.ending; settling = call_if taken call.Tick }) es (Tick m) told (told_of taken s.reader.frame)
+ticks s m qs taken h es told b =
+    let P : Option LostCause → Type 0 = λ y. Mid s.timeout m s.next s.reader.rest s.polls y es (Tick m) told in
+    settle s.timeout m s.next s.window s.reader s.polls qs s.ending call.Tick taken es (Tick m) told refl (subst P (option_or-none s.ending) (enter s es (Tick m) told refl b)) h
+
+pub closes : (s : State) (m : ℕ) (c : Closing) (qs : List Poll) (taken : Option SettledPoll) → TellsOwed m (option_or s.ending (Some (cause_of c))) s.polls taken qs → (es : List Event) (told : List (ℕ × Settlement)) → Before s es (Close m c) told → After (record { timeout = s.timeout; window = s.window; last = m; next = s.next; reader = s.reader; polls = qs; ending = option_or s.ending (Some (cause_of c)); settling = call_if taken (call.Close c) }) es (Close m c) told (told_of taken s.reader.frame)
+closes s m c qs taken h es told b =
+    settle s.timeout m s.next s.window s.reader s.polls qs (option_or s.ending (Some (cause_of c))) (call.Close c) taken es (Close m c) told refl (enter s es (Close m c) told refl b) h
+
+-- The ways in which a call that brings a piece ends. It begins with what is owed.
+pub enters : (s : State) (m : ℕ) (p : List ℕ) (es : List Event) (told : List (ℕ × Settlement)) → Before s es (Piece m p) told → Mid s.timeout m s.next s.reader.rest s.polls s.ending es (Piece m p) told
+enters s m p es told b =
+    let P : Option LostCause → Type 0 = λ y. Mid s.timeout m s.next s.reader.rest s.polls y es (Piece m p) told in
+    subst P (option_or-none s.ending) (enter s es (Piece m p) told refl b)
+
+pub piece_owed : (s : State) (m : ℕ) (qs : List Poll) (taken : SettledPoll) (piece : List ℕ) → TellsOwed m s.ending s.polls (Some taken) qs → (es : List Event) (p : List ℕ) (told : List (ℕ × Settlement)) → Before s es (Piece m p) told → After (record { timeout = s.timeout; window = s.window; last = m; next = s.next; reader = s.reader; polls = qs; ending = s.ending; settling = Some call.Piece }) es (Piece m (p ++ take 0 piece)) told (told_of (Some taken) s.reader.frame)
+piece_owed s m qs taken piece h es p told b =
+    let P : List ℕ → Type 0 = λ y. After (record { timeout = s.timeout; window = s.window; last = m; next = s.next; reader = s.reader; polls = qs; ending = s.ending; settling = Some call.Piece }) es (Piece m y) told (told_of (Some taken) s.reader.frame) in
+    subst P (sym (append-nil p)) (settle s.timeout m s.next s.window s.reader s.polls qs s.ending call.Piece (Some taken) es (Piece m p) told refl (enters s m p es told b) h)
+
+-- the session is over: the piece is dropped
+pub piece_dropped : (one : OneReading) → (s : State) (m : ℕ) (c : LostCause) (qs : List Poll) (piece : List ℕ) → s.ending ≡ Some c → TellsOwed m s.ending s.polls None qs → (es : List Event) (p : List ℕ) (told : List (ℕ × Settlement)) → Before s es (Piece m p) told → After (record { timeout = s.timeout; window = s.window; last = m; next = s.next; reader = s.reader; polls = qs; ending = s.ending; settling = None }) es (Piece m (p ++ take (length piece) piece)) told None
+piece_dropped one s m c qs piece over h es p told b =
+    let q = take (length piece) piece in
+    let P : Option LostCause → Type 0 = λ y. Mid s.timeout m s.next s.reader.rest s.polls y es (Piece m p) told in
+    let Q : Option LostCause → Type 0 = λ y. Mid s.timeout m s.next s.reader.rest s.polls y es (Piece m (p ++ q)) told in
+    let mid = subst Q (sym over) (drop_rest one s.timeout m s.next s.reader.rest s.reader.rest q p s.polls c es told (subst P over (enters s m p es told b))) in
+    done s.timeout m s.next s.window s.reader s.polls qs s.ending es (Piece m (p ++ q)) told mid h
+
+-- the piece is fed, up to a frame that settles a poll or to its end
+abbrev fed_mid : State → ℕ → Held → List Poll → Option Poll → Bool → List ℕ → List Event → List ℕ → List (ℕ × Settlement) → Type 0
+fed_mid s m held rs o g q es p told = Mid s.timeout m s.next held.rest rs (garbled_end g) es (Piece m (p ++ q)) (told ++ told_list o held.frame)
+
+fed : (one : OneReading) → (s : State) (m : ℕ) (q : List ℕ) (held : Held) (qs rs : List Poll) (o : Option Poll) (g : Bool) → s.ending ≡ None → TellsOwed m s.ending s.polls None qs → Finds s.reader.rest q qs o held rs → is_bad held.rest ≡ g → (es : List Event) (p : List ℕ) (told : List (ℕ × Settlement)) → Before s es (Piece m p) told → fed_mid s m held rs o g q es p told
+fed one s m q held qs rs o g going h found bad es p told b =
+    let P : Option LostCause → Type 0 = λ y. Mid s.timeout m s.next s.reader.rest s.polls y es (Piece m p) told in
+    let F : List Poll → Type 0 = λ y. Finds s.reader.rest q y o held rs in
+    let none : owed_by m None s.polls ≡ [] = ap (λ y. owed_by m y s.polls) (sym going) ∙ h.1 in
+    feed one s.timeout m s.next s.reader.rest q p held s.polls rs o es told g (subst P going (enters s m p es told b)) none h.2 (subst F h.0 found) bad
+
+pub piece_framed : (one : OneReading) → (s : State) (m n : ℕ) (piece : List ℕ) (held : Held) (qs rs : List Poll) (poll : Poll) (g : Bool) → s.ending ≡ None → TellsOwed m s.ending s.polls None qs → Finds s.reader.rest (take n piece) qs (Some poll) held rs → is_bad held.rest ≡ g → g ≡ false → (es : List Event) (p : List ℕ) (told : List (ℕ × Settlement)) → Before s es (Piece m p) told → After (record { timeout = s.timeout; window = s.window; last = m; next = s.next; reader = held; polls = rs; ending = s.ending; settling = Some call.Piece }) es (Piece m (p ++ take n piece)) told (told_of (Some (record { poll = poll; by = by.Frame })) held.frame)
+piece_framed one s m n piece held qs rs poll g going h found bad clean es p told b =
+    let q = take n piece in
+    let mid = fed one s m q held qs rs (Some poll) g going h found bad es p told b in
+    let P : Option LostCause → Type 0 = λ y. Mid s.timeout m s.next held.rest rs y es (Piece m (p ++ q)) (told ++ told_list (Some poll) held.frame) in
+    let mid' = subst P (ap garbled_end clean ∙ sym going) mid in
+    (refl, told_more s.timeout m s.next s.window held rs s.ending (Some call.Piece) es (Piece m (p ++ q)) (told ++ told_list (Some poll) held.frame) mid')
+
+-- nothing was settled by a frame: what is owed now is told, and else the piece is done
+pub piece_ended : (one : OneReading) → (s : State) (m n k : ℕ) (piece : List ℕ) (held : Held) (qs rs us : List Poll) (g : Bool) (x : Option LostCause) (lost : Option SettledPoll) → s.ending ≡ None → TellsOwed m s.ending s.polls None qs → Finds s.reader.rest (take n piece) qs None held rs → is_bad held.rest ≡ g → x ≡ garbled_end g → TellsOwed m x rs lost us → n ≤ length piece → (g ≡ false → n ≡ length piece) → k ≡ cond (is_some lost) n (length piece) → (es : List Event) (p : List ℕ) (told : List (ℕ × Settlement)) → Before s es (Piece m p) told → After (record { timeout = s.timeout; window = s.window; last = m; next = s.next; reader = held; polls = us; ending = x; settling = call_if lost call.Piece }) es (Piece m (p ++ take k piece)) told (told_of lost held.frame)
+piece_ended one s m n k piece held qs rs us g x (Some taken) going h found bad x_is owes within all k_is es p told b =
+    let q = take n piece in
+    let mid = fed one s m q held qs rs None g going h found bad es p told b in
+    let P : Option LostCause → Type 0 = λ y. Mid s.timeout m s.next held.rest rs y es (Piece m (p ++ q)) (told ++ []) in
+    let T : List (ℕ × Settlement) → Type 0 = λ y. Mid s.timeout m s.next held.rest rs x es (Piece m (p ++ q)) y in
+    let mid' = subst T (append-nil told) (subst P (sym x_is) mid) in
+    let A : ℕ → Type 0 = λ y. After (record { timeout = s.timeout; window = s.window; last = m; next = s.next; reader = held; polls = us; ending = x; settling = Some call.Piece }) es (Piece m (p ++ take y piece)) told (told_of (Some taken) held.frame) in
+    subst A (sym k_is) (settle s.timeout m s.next s.window held rs us x call.Piece (Some taken) es (Piece m (p ++ q)) told refl mid' owes)
+piece_ended one s m n k piece held qs rs us true x None going h found bad x_is owes within all k_is es p told b =
+    let q = take n piece in
+    let more = drop n piece in
+    let mid = fed one s m q held qs rs None true going h found bad es p told b in
+    let T : List (ℕ × Settlement) → Type 0 = λ y. Mid s.timeout m s.next held.rest rs (Some Garbled) es (Piece m (p ++ q)) y in
+    let mid' = subst T (append-nil told) mid in
+    let dropped = drop_rest one s.timeout m s.next held.rest held.rest more (p ++ q) rs Garbled es told mid' in
+    let whole : (p ++ q) ++ more ≡ p ++ take k piece = append_assoc p q more ∙ ap (λ y. p ++ y) (take-append-drop n piece ∙ sym (take_all k piece (omega arith))) in
+    let P : List ℕ → Type 0 = λ y. Mid s.timeout m s.next held.rest rs (Some Garbled) es (Piece m y) told in
+    let X : Option LostCause → Type 0 = λ y. Mid s.timeout m s.next held.rest rs y es (Piece m (p ++ take k piece)) told in
+    settle s.timeout m s.next s.window held rs us x call.Piece None es (Piece m (p ++ take k piece)) told refl (subst X (sym x_is) (subst P whole dropped)) owes
+piece_ended one s m n k piece held qs rs us false x None going h found bad x_is owes within all k_is es p told b =
+    let q = take n piece in
+    let mid = fed one s m q held qs rs None false going h found bad es p told b in
+    let T : List (ℕ × Settlement) → Type 0 = λ y. Mid s.timeout m s.next held.rest rs None es (Piece m (p ++ q)) y in
+    let mid' = subst T (append-nil told) mid in
+    let same : n ≡ k = all refl ∙ sym k_is in
+    let P : ℕ → Type 0 = λ y. Mid s.timeout m s.next held.rest rs None es (Piece m (p ++ take y piece)) told in
+    let X : Option LostCause → Type 0 = λ y. Mid s.timeout m s.next held.rest rs y es (Piece m (p ++ take k piece)) told in
+    settle s.timeout m s.next s.window held rs us x call.Piece None es (Piece m (p ++ take k piece)) told refl (subst X (sym x_is) (subst P same mid')) owes
+
+nil_rest : (r : List ℕ) → [] ≡ r → [] ≡ r
+nil_rest r e = e
+
+-- a session of which no event is known
+pub Stands-new : (one : OneReading) → (t w : ℕ) (r : Held) → Reads [] [] r.rest → Stands (record { timeout = t; window = w; last = 0; next = 0; reader = r; polls = []; ending = None; settling = None }) []
+unfolding pending next_id stream is_over is_closed is_garbled
+Stands-new one t w r h =
+    let r_is : rest [] ≡ r.rest = (one.only [] [] r.rest h).1 in
+    record {
+      told = refl;
+      last = refl;
+      next = refl;
+      polls = refl;
+      over = ap (λ y. is_bad y || false) (nil_rest r.rest h.joined ∙ sym r_is);
+      none_after = λ _. refl;
+      held = λ _. sym r_is;
+    }

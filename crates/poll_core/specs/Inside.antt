@@ -1,0 +1,49 @@
+-- What a session holds, from its fields.
+use Rattle.std.specs.Prelude.{ℕ, ◌+◌, ◌%◌, ◌≤◌, Bool, not, ◌&&◌, nat_lt, if◌then◌else◌, List, length, Some, None}
+use Rattle.std.specs.declared.option.Option.{Option}
+use Rattle.std.specs.Option.{option_map}
+use Rattle.std.specs.List.{list_any}
+use Rattle.poll_core.specs.Polls.{Poll, has_id}
+use Rattle.poll_core.specs.Settling.{Settlement}
+use Rattle.poll_core.specs.Standing.{State}
+use Rattle.poll_core.specs.Steps.{AreApart, told_by}
+use Rattle.poll_core.specs.declared.poll.SettledPoll.{SettledPoll}
+use Rattle.poll_core.specs.declared.call.Call.{Call}
+use Rattle.poll_core.specs.declared.inner.Inner.{Inner}
+use Rattle.poll_core.specs.declared.outcome.LostCause.{LostCause}
+use Rattle.poll_core.specs.declared.outcome.LostCause.TheVariants.{Garbled}
+
+abbrev pub state_of : Inner → State
+state_of s = record {
+  timeout = s.timeout;
+  window = s.window;
+  last = s.last;
+  next = s.next;
+  reader = s.reader;
+  polls = s.polls.items;
+  ending = s.ending;
+  settling = s.settling;
+}
+
+pub record IsSound (s : Inner) : Type 0 where
+  pub window : s.window ≤ 16
+  pub timeout : s.timeout ≤ 60
+  pub room : length s.polls.items ≤ s.window
+  pub apart : AreApart s.polls.items
+
+abbrev pub told_of : Option SettledPoll → Option (List ℕ) → Option (ℕ × Settlement)
+told_of taken frame = option_map (λ t. told_by t frame) taken
+
+-- the call goes on while it tells outcomes
+abbrev pub call_if : Option SettledPoll → Call → Option Call
+call_if None call = None
+call_if (Some taken) call = Some call
+
+-- the end that a piece brings
+abbrev pub garbled_end : Bool → Option LostCause
+garbled_end garbled = if garbled then Some Garbled else None
+
+-- whether a start fits behind so many others: there is room, and no poll that waits has its id
+abbrev pub start_fits : ℕ → List Poll → ℕ → Bool → ℕ → Bool
+start_fits window polls next over before =
+    not over && nat_lt (length polls + before) window && not (list_any (has_id ((next + before) % 65536)) polls)

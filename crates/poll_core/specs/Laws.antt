@@ -1,0 +1,64 @@
+-- What holds of every list of events.
+use Rattle.std.specs.Prelude.{◌≡◌, ℕ, ◌≤◌, List, [], ◌∷◌, ◌++◌, map, Some, None}
+use Rattle.std.specs.declared.option.Option.{Option}
+use Rattle.std.specs.Option.{option_map}
+use Rattle.std.specs.List.{filter_map}
+use Rattle.poll_core.specs.Polls.{Poll}
+use Rattle.poll_core.specs.Settling.{Event, Start, Piece, Tick, Close, Settlement, settled_by, outcome, started, outcomes_at, pending, results}
+use Rattle.poll_core.specs.Standing.{last_moment}
+use Rattle.poll_core.specs.Starting.{start_fault}
+
+-- of each poll that was started its outcome, if it has one
+abbrev pub with_outcome : Poll × Option Settlement → Option (ℕ × Settlement)
+with_outcome result = option_map (λ outcome. (result.0.number, outcome)) result.1
+
+abbrev pub outcomes_by_poll : ℕ → List Event → List (ℕ × Settlement)
+outcomes_by_poll timeout events = filter_map with_outcome (results timeout [] events)
+
+-- what each event settles, event by event
+abbrev pub outcomes_after : ℕ → List Event → List Event → List (ℕ × Settlement)
+outcomes_after timeout before [] = []
+outcomes_after timeout before (event ∷ later) = outcomes_at timeout before event ++ outcomes_after timeout (before ++ event ∷ []) later
+
+abbrev pub outcomes_by_event : ℕ → List Event → List (ℕ × Settlement)
+outcomes_by_event timeout events = outcomes_after timeout [] events
+
+-- the numbers of the polls that were started
+abbrev pub number_started : Event → Option ℕ
+number_started (Start moment poll unit span) = Some poll
+number_started (Piece moment bytes) = None
+number_started (Tick moment) = None
+number_started (Close moment closing) = None
+
+abbrev pub numbers_started : List Event → List ℕ
+numbers_started events = filter_map number_started events
+
+abbrev pub numbers_settled : ℕ → List Event → List ℕ
+numbers_settled timeout events = map (λ told. told.0) (outcomes_by_event timeout events)
+
+abbrev pub numbers_pending : ℕ → List Event → List ℕ
+numbers_pending timeout events = map (λ poll. poll.number) (pending timeout events)
+
+-- of these polls each that the event settles, with its outcome
+abbrev pub settled_among : List Event → Event → List Poll → List (ℕ × Settlement)
+settled_among before event polls = filter_map (λ poll. option_map (λ outcome. (poll.number, outcome)) (settled_by before event poll)) polls
+
+-- The poll was started by one of the events, and none of those after it settles it.
+pub record Waits (timeout : ℕ) (events : List Event) (poll : Poll) : Type 0 where
+  pub before : List Event
+  pub start : Event
+  pub later : List Event
+  pub among : events ≡ before ++ start ∷ later
+  pub starts : started timeout before start ≡ Some poll
+  pub unsettled : outcome (before ++ start ∷ []) later poll ≡ None
+
+-- A session accepts the event after these: its moment isn't back, and a start isn't refused.
+abbrev pub Accepts : ℕ → ℕ → List Event → Event → Type 0
+Accepts timeout window before (Start moment poll unit span) = start_fault timeout window before moment ≡ None
+Accepts timeout window before (Piece moment bytes) = last_moment before ≤ moment
+Accepts timeout window before (Tick moment) = last_moment before ≤ moment
+Accepts timeout window before (Close moment closing) = last_moment before ≤ moment
+
+abbrev pub AcceptsAll : ℕ → ℕ → List Event → List Event → Type 0
+AcceptsAll timeout window before [] = Unit {0}
+AcceptsAll timeout window before (event ∷ later) = Accepts timeout window before event × AcceptsAll timeout window (before ++ event ∷ []) later

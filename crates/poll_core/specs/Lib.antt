@@ -1,0 +1,9 @@
+pub mod Polls
+pub mod Outcomes
+pub mod Settling
+pub mod Standing
+pub mod Steps
+pub mod Inside
+pub mod Starting
+pub mod Telling
+pub mod Laws

@@ -1,0 +1,82 @@
+-- Where a session stands after a list of events.
+use Rattle.std.specs.Prelude.{◌≡◌, ℕ, ◌⊎◌, Bool, true, ◌||◌, List, [], ◌∷◌, ◌++◌, is_some, Some, None}
+use Rattle.std.specs.declared.option.Option.{Option}
+use Rattle.std.specs.List.{filter, list_any}
+use Rattle.mb_wire.specs.Frames.{is_garbled, rest}
+use Rattle.mb_wire.specs.Reader.{Held}
+use Rattle.poll_core.specs.Settling.{Event, Start, Piece, Tick, Close, moment_of, bytes_of, closing_of, stream, next_id, Settlement, alive, silences, losses, pending, outcomes_at}
+use Rattle.poll_core.specs.Polls.{Poll, due}
+use Rattle.poll_core.specs.declared.outcome.LostCause.{LostCause}
+use Rattle.poll_core.specs.declared.call.Call.{Call}
+use Rattle.poll_core.specs.declared.call.Call.TheVariants as call
+
+-- what a session holds
+pub record State : Type 0 where
+  pub timeout : ℕ
+  pub window : ℕ
+  pub last : ℕ
+  pub next : ℕ
+  pub reader : Held
+  pub polls : List Poll
+  pub ending : Option LostCause
+  pub settling : Option Call
+
+abbrev pub last_moment : List Event → ℕ
+last_moment [] = 0
+last_moment (event ∷ []) = moment_of event
+last_moment (event ∷ next ∷ events) = last_moment (next ∷ events)
+
+-- the session was garbled or closed
+unfoldable pub is_closed : List Event → Bool
+is_closed events = list_any (λ event. is_some (closing_of event)) events
+
+unfoldable pub is_over : List Event → Bool
+is_over events = is_garbled (stream events) || is_closed events
+
+-- The session stands after these events, and has told all their outcomes.
+pub record Stands (session : State) (events : List Event) : Type 0 where
+  pub told : session.settling ≡ None
+  pub last : session.last ≡ last_moment events
+  pub next : session.next ≡ next_id events
+  pub polls : session.polls ≡ pending session.timeout events
+  pub over : is_some session.ending ≡ is_over events
+  pub none_after : is_over events ≡ true → pending session.timeout events ≡ []
+  pub held : session.ending ≡ None → session.reader.rest ≡ rest (stream events)
+
+-- what the session has yet to tell: who is due is silent, and at the end the others are lost
+abbrev pub owed_by : ℕ → Option LostCause → List Poll → List (ℕ × Settlement)
+owed_by moment ending polls = silences (filter (due moment) polls) ++ losses ending (alive moment polls)
+
+abbrev pub owed : State → List (ℕ × Settlement)
+owed session = owed_by session.last session.ending session.polls
+
+abbrev pub if_going : Option LostCause → List Poll → List Poll
+if_going None polls = polls
+if_going (Some cause) polls = []
+
+-- The session stands within an event after these: it has told so many of its outcomes, and owes the others.
+pub record Within (session : State) (events : List Event) (event : Event) (told : List (ℕ × Settlement)) : Type 0 where
+  pub last : session.last ≡ moment_of event
+  pub next : session.next ≡ next_id (events ++ event ∷ [])
+  pub whole : told ++ owed session ≡ outcomes_at session.timeout events event
+  pub polls : if_going session.ending (alive session.last session.polls) ≡ pending session.timeout (events ++ event ∷ [])
+  pub over : is_some session.ending ≡ is_over (events ++ event ∷ [])
+  pub none_after : is_closed events ≡ true → pending session.timeout events ≡ []
+  pub held : session.ending ≡ None → session.reader.rest ≡ rest (stream (events ++ event ∷ []))
+
+-- the call that brings the event
+abbrev pub call_of : Event → Option Call
+call_of (Start moment poll unit span) = None
+call_of (Piece moment bytes) = Some call.Piece
+call_of (Tick moment) = Some call.Tick
+call_of (Close moment closing) = Some (call.Close closing)
+
+-- Before a call: nothing of the event has come, or the call goes on.
+abbrev pub Before : State → List Event → Event → List (ℕ × Settlement) → Type 0
+Before session events event told =
+    (Stands session events × (bytes_of event ≡ []) × (told ≡ [])) ⊎ ((session.settling ≡ call_of event) × Within session events event told)
+
+-- After it: one more outcome is told, or there was none unmatched and all were told.
+abbrev pub After : State → List Event → Event → List (ℕ × Settlement) → Option (ℕ × Settlement) → Type 0
+After session events event told None = Stands session (events ++ event ∷ []) × (told ≡ outcomes_at session.timeout events event)
+After session events event told (Some settled) = (session.settling ≡ call_of event) × Within session events event (told ++ settled ∷ [])

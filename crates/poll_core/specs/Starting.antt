@@ -1,0 +1,38 @@
+-- When a start is refused.
+use Rattle.std.specs.Prelude.{◌≡◌, ℕ, ◌≤◌, ◌<◌, Bool, true, nat_le, nat_lt, if◌then◌else◌, List, ◌++◌, length, Some, None, IsSome}
+use Rattle.std.specs.declared.option.Option.{Option}
+use Rattle.std.specs.List.{list_any, AllByRecursion}
+use Rattle.poll_core.specs.Polls.{Poll, has_id}
+use Rattle.poll_core.specs.Settling.{Event, is_start, pending, next_id}
+use Rattle.poll_core.specs.Standing.{is_over, last_moment}
+use Rattle.poll_core.specs.declared.answers.StartFault.{StartFault}
+use Rattle.poll_core.specs.declared.answers.StartFault.TheVariants.{WindowFull, IdBusy, ClockBack, Closed}
+
+abbrev pub start_fault_number : StartFault → ℕ
+start_fault_number WindowFull = 1
+start_fault_number IdBusy = 2
+start_fault_number ClockBack = 3
+start_fault_number Closed = 4
+
+-- the least fault, by the window, the polls that wait, the next id, the latest moment, and whether the session is over
+abbrev pub least_fault : ℕ → List Poll → ℕ → ℕ → Bool → ℕ → Option StartFault
+least_fault window polls next last over moment =
+    if nat_le window (length polls) then Some WindowFull
+    else if list_any (has_id next) polls then Some IdBusy
+    else if nat_lt moment last then Some ClockBack
+    else if over then Some Closed
+    else None
+
+-- why a start at a moment is refused after these events, if it is
+abbrev pub start_fault : ℕ → ℕ → List Event → ℕ → Option StartFault
+start_fault timeout window events moment = least_fault window (pending timeout events) (next_id events) (last_moment events) (is_over events) moment
+
+abbrev pub AreStarts : List Event → Type 0
+AreStarts events = AllByRecursion (λ event. is_start event ≡ true) events
+
+-- This is the next id, and so many starts in a row succeed: while fewer were made, another at a moment
+-- that isn't back isn't refused, and once so many were made, every other is.
+pub record IsReady (timeout window : ℕ) (events : List Event) (id count : ℕ) : Type 0 where
+  pub next : id ≡ next_id events
+  pub succeed : (starts : List Event) (moment : ℕ) → AreStarts starts → length starts < count → last_moment (events ++ starts) ≤ moment → start_fault timeout window (events ++ starts) moment ≡ None
+  pub no_more : (starts : List Event) (moment : ℕ) → AreStarts starts → length starts ≡ count → IsSome (start_fault timeout window (events ++ starts) moment)

@@ -1,0 +1,56 @@
+-- What a call tells, as a caller sees it.
+use Rattle.std.specs.Prelude.{◌≡◌, ℕ, ◌<◌, ◌⊎◌, Bool, true, false, is_some, if◌then◌else◌, List, [], ◌++◌, length, Some, None}
+use Rattle.std.specs.declared.option.Option.{Option}
+use Rattle.mb_wire.specs.Replies.{answer_of}
+use Rattle.mb_wire.specs.declared.replies.Reply.{Reply}
+use Rattle.poll_core.specs.Settling as told
+use Rattle.poll_core.specs.Settling.{Event, Piece, Settlement, moment_of, words_in}
+use Rattle.poll_core.specs.Standing.{State, Before, After, call_of}
+use Rattle.poll_core.specs.declared.call.Call.{Call}
+use Rattle.poll_core.specs.declared.outcome.Outcome as plain
+use Rattle.poll_core.specs.declared.outcome.Outcome.TheVariants.{Answered, Exception, Silent, Malformed, Lost}
+use Rattle.poll_core.specs.declared.answers.Settled.{Settled}
+
+-- the registers that a reply lends
+abbrev pub lent_words : Option Reply → List ℕ
+lent_words None = []
+lent_words (Some reply) = words_in (answer_of reply)
+
+-- an outcome with the registers of its reply
+abbrev pub outcome_of : plain.Outcome → Option Reply → Settlement
+outcome_of Answered reply = told.Answered (lent_words reply)
+outcome_of (Exception code) reply = told.Exception code
+outcome_of Silent reply = told.Silent
+outcome_of (Malformed malformation) reply = told.Malformed malformation
+outcome_of (Lost cause) reply = told.Lost cause
+
+abbrev pub settled_of : Settled → ℕ × Settlement
+settled_of settled = (settled.poll, outcome_of settled.outcome settled.reply)
+
+abbrev pub is_answered : plain.Outcome → Bool
+is_answered Answered = true
+is_answered _ = false
+
+-- a reply is lent exactly where the poll was answered
+abbrev pub LendsReply : Settled → Type 0
+LendsReply settled = is_some settled.reply ≡ is_answered settled.outcome
+
+-- no call is under way, or this one is, at this moment
+abbrev pub IsCall : Call → State → ℕ → Type 0
+IsCall call session moment = (session.settling ≡ None) ⊎ ((session.settling ≡ Some call) × (session.last ≡ moment))
+
+-- What a call does that brings an event, or more bytes of a piece: an outcome more is told, and a poll less waits.
+pub record Tells (old new : State) (before after : List ℕ → Event) (settled : Option (ℕ × Settlement)) : Type 0 where
+  pub timeout : new.timeout ≡ old.timeout
+  pub window : new.window ≡ old.window
+  pub last : new.last ≡ moment_of (after [])
+  pub settling : new.settling ≡ (if is_some settled then call_of (after []) else None)
+  pub less : is_some settled ≡ true → length new.polls < length old.polls
+  pub told : (events : List Event) (bytes : List ℕ) (told : List (ℕ × Settlement)) → Before old events (before bytes) told → After new events (after bytes) told settled
+
+-- by a piece at a moment, of which these bytes were taken
+abbrev pub TellsPiece : State → State → ℕ → List ℕ → Option (ℕ × Settlement) → Type 0
+TellsPiece old new moment taken = Tells old new (λ bytes. Piece moment bytes) (λ bytes. Piece moment (bytes ++ taken))
+
+abbrev pub TellsEvent : State → State → Event → Option (ℕ × Settlement) → Type 0
+TellsEvent old new event = Tells old new (λ _. event) (λ _. event)

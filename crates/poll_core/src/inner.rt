@@ -1,0 +1,219 @@
+// The fields of a session, and its steps.
+ghost use Rattle.std.specs.Prelude.{◌≡◌, ℕ, ◌+◌, ◌≤◌, ◌<◌, List, [], ◌∷◌, ◌++◌, length, take, Some, None, is_some, true, false, if◌then◌else◌, OnOk, OnErr, IfOk};
+ghost use Rattle.std.specs.Result.{result_err};
+ghost use Rattle.mb_wire.specs.Requests.{IsLawful, request_bytes};
+ghost use Rattle.mb_wire.specs.Reader.{spelling};
+ghost use Rattle.mb_wire.specs.Spans.{request_of};
+ghost use Rattle.mb_wire.specs.Spans.{span_view};
+ghost use Rattle.poll_core.specs.Starting.{start_fault};
+ghost use Rattle.poll_core.specs.Settling.{Settlement, Event, Start, Piece, Tick, Close};
+ghost use Rattle.poll_core.specs.Standing.{Stands, Before, After};
+ghost use Rattle.poll_core.specs.Inside.{state_of, IsSound, told_of, call_if, garbled_end, start_fits};
+
+use crate::answers::StartFault;
+use crate::call::Call;
+use crate::outcome::{Closing, LostCause};
+use crate::poll::{PendingPoll, SettledBy, SettledPoll};
+use crate::table::{Found, Table, feed_until, free_ids, has_poll, take_owed};
+use mb_wire::{FrameReader, ReadSpan, Request, encode_request, one_reading, write_frame};
+
+#[derive(Drop)]
+pub struct Inner {
+    pub reader: FrameReader,
+    pub timeout: u64,
+    pub window: usize,
+    pub last: u64,
+    pub next: u16,
+    pub polls: Table,
+    pub ending: Option<LostCause>,
+    pub settling: Option<Call>,
+}
+
+/// How far a call came.
+#[derive(Drop)]
+pub struct Step {
+    pub taken: usize,
+    pub settled: Option<SettledPoll>,
+}
+
+// Writes the frame of a request.
+fn write_request(id: u16, unit: u8, request: &Request, out: &mut [u8; 260]) -> usize
+    requires { IsLawful request.now }
+    ensures { take result out.new ≡ spelling id unit (request_bytes request.now) }
+{
+    let mut pdu = [0; 253];
+    let count = encode_request(request, &mut pdu);
+    write_frame(id, unit, &pdu[..count], out)
+}
+
+// The call goes on while it tells outcomes.
+fn call_while(taken: &Option<SettledPoll>, call: Call) -> Option<Call>
+    ensures { result ≡ call_if taken.now call }
+{
+    match taken {
+        Some(_) => Some(call),
+        None => None,
+    }
+}
+
+// A garbled stream ends the session.
+fn ending_if(is_garbled: bool) -> Option<LostCause>
+    ensures { result ≡ garbled_end is_garbled }
+{
+    if is_garbled {
+        Some(LostCause::Garbled)
+    } else {
+        None
+    }
+}
+
+// All of the piece is taken once nothing is unmatched to tell.
+fn taken_if(lost: &Option<SettledPoll>, taken: usize, all: usize) -> usize
+    ensures { result ≡ (if is_some lost.now then taken else all) }
+{
+    if lost.is_some() { taken } else { all }
+}
+
+impl Inner {
+    pub fn start(
+        &mut self,
+        moment: u64,
+        poll: u64,
+        unit: u8,
+        span: ReadSpan,
+        out: &mut [u8; 260],
+    ) -> Result<usize, StartFault>
+        requires sound { IsSound self.old }
+        requires limit { moment ≤ 4102444800 }
+        ensures sound { IsSound self.new }
+        ensures refused { (events : List Event) → Stands (state_of self.old) events →
+            result_err result ≡ start_fault self.old.timeout self.old.window events moment }
+        ensures started { (events : List Event) → Stands (state_of self.old) events →
+            OnOk result (After (state_of self.new) events (Start moment poll unit (span_view span)) [] None) }
+        ensures terms { (self.new.timeout ≡ self.old.timeout) × (self.new.window ≡ self.old.window) }
+        ensures written { IfOk result (λ n. take n out.new ≡ spelling self.old.next unit (request_bytes (request_of (span_view span)))) }
+        ensures err { OnErr result ((self.new ≡ self.old) × (out.new ≡ out.old)) }
+    {
+        if self.polls.len() >= self.window {
+            return Err(StartFault::WindowFull);
+        }
+        if has_poll(self.polls.as_slice(), self.next) {
+            return Err(StartFault::IdBusy);
+        }
+        if moment < self.last {
+            return Err(StartFault::ClockBack);
+        }
+        if self.ending.is_some() {
+            return Err(StartFault::Closed);
+        }
+        let size = write_request(self.next, unit, &span.request(), out);
+        let deadline = moment + self.timeout;
+        self.polls
+            .push(PendingPoll::new(poll, self.next, unit, span, deadline));
+        self.last = moment;
+        self.next = self.next.wrapping_add(1);
+        Ok(size)
+    }
+
+    /// How many starts in a row would succeed.
+    pub fn room(&self) -> usize
+        requires { IsSound self.now }
+        ensures few { result ≤ self.now.window }
+        ensures succeed { (k : ℕ) → k < result → start_fits self.now.window self.now.polls.items self.now.next (is_some self.now.ending) k ≡ true }
+        ensures no_more { start_fits self.now.window self.now.polls.items self.now.next (is_some self.now.ending) result ≡ false }
+    {
+        if self.ending.is_some() {
+            return 0;
+        }
+        let room = self.window - self.polls.len();
+        free_ids(self.polls.as_slice(), self.next, room)
+    }
+
+    pub fn tick(&mut self, moment: u64) -> Option<SettledPoll>
+        requires { IsSound self.old }
+        ensures sound { IsSound self.new }
+        ensures terms { (self.new.timeout ≡ self.old.timeout) × (self.new.window ≡ self.old.window) }
+        ensures last { self.new.last ≡ moment }
+        ensures settling { self.new.settling ≡ call_if result Call.Tick }
+        ensures less { is_some result ≡ true → length self.new.polls.items < length self.old.polls.items }
+        ensures told { (events : List Event) (told : List (ℕ × Settlement)) → Before (state_of self.old) events (Tick moment) told →
+            After (state_of self.new) events (Tick moment) told (told_of result self.new.reader.frame) }
+    {
+        self.last = moment;
+        let taken = take_owed(&mut self.polls, self.ending, moment);
+        self.settling = call_while(&taken, Call::Tick);
+        taken
+    }
+
+    pub fn close(&mut self, moment: u64, closing: Closing) -> Option<SettledPoll>
+        requires { IsSound self.old }
+        ensures sound { IsSound self.new }
+        ensures terms { (self.new.timeout ≡ self.old.timeout) × (self.new.window ≡ self.old.window) }
+        ensures last { self.new.last ≡ moment }
+        ensures settling { self.new.settling ≡ call_if result (Call.Close closing) }
+        ensures less { is_some result ≡ true → length self.new.polls.items < length self.old.polls.items }
+        ensures told { (events : List Event) (told : List (ℕ × Settlement)) → Before (state_of self.old) events (Close moment closing) told →
+            After (state_of self.new) events (Close moment closing) told (told_of result self.new.reader.frame) }
+    {
+        self.last = moment;
+        self.ending = self.ending.or(Some(LostCause::from(closing)));
+        let taken = take_owed(&mut self.polls, self.ending, moment);
+        self.settling = call_while(&taken, Call::Close(closing));
+        taken
+    }
+
+    pub fn next(&mut self, moment: u64, piece: &[u8]) -> Step
+        requires { IsSound self.old }
+        ensures sound { IsSound self.new }
+        ensures terms { (self.new.timeout ≡ self.old.timeout) × (self.new.window ≡ self.old.window) }
+        ensures taken { result.taken ≤ length piece.now }
+        ensures last { self.new.last ≡ moment }
+        ensures settling { self.new.settling ≡ call_if result.settled Call.Piece }
+        ensures less { is_some result.settled ≡ true → length self.new.polls.items < length self.old.polls.items }
+        ensures all { is_some result.settled ≡ false → result.taken ≡ length piece.now }
+        ensures told { (events : List Event) (bytes : List ℕ) (told : List (ℕ × Settlement)) →
+            Before (state_of self.old) events (Piece moment bytes) told →
+            After (state_of self.new) events (Piece moment (bytes ++ take result.taken piece.now)) told (told_of result.settled self.new.reader.frame) }
+    {
+        one_reading();
+        self.last = moment;
+        if let Some(taken) = take_owed(&mut self.polls, self.ending, moment) {
+            self.settling = Some(Call::Piece);
+            return Step {
+                taken: 0,
+                settled: Some(taken),
+            };
+        }
+        if self.ending.is_some() {
+            self.settling = None;
+            return Step {
+                taken: piece.len(),
+                settled: None,
+            };
+        }
+        let found = feed_until(&mut self.reader, &mut self.polls, piece);
+        let Found {
+            taken,
+            is_garbled,
+            poll,
+        } = found;
+        if let Some(poll) = poll {
+            self.settling = Some(Call::Piece);
+            return Step {
+                taken,
+                settled: Some(SettledPoll {
+                    poll,
+                    by: SettledBy::Frame,
+                }),
+            };
+        }
+        self.ending = ending_if(is_garbled);
+        let lost = take_owed(&mut self.polls, self.ending, moment);
+        self.settling = call_while(&lost, Call::Piece);
+        let taken = taken_if(&lost, taken, piece.len());
+        Step {
+            taken,
+            settled: lost,
+        }
+    }
+}

@@ -1,0 +1,55 @@
+// What holds of every list of events.
+ghost use Rattle.std.specs.Prelude.{◌≡◌, ℕ, Bool, true, List, [], ◌∷◌, ◌++◌, length, filter, is_none, slice_get};
+ghost use Rattle.std.specs.List.{All};
+ghost use Rattle.std.specs.List.Sorted.{IsPermutation};
+ghost use Rattle.std.specs.Option.{option_to_list};
+ghost use Rattle.mb_wire.specs.Replies.{Answer, word_at};
+ghost use Rattle.poll_core.specs.Polls.{Poll};
+ghost use Rattle.poll_core.specs.Settling.{Event, Answered, settled_by, started, outcomes_at, pending, answer, words_in};
+ghost use Rattle.poll_core.specs.Standing.{is_over};
+ghost use Rattle.poll_core.specs.Laws.{outcomes_by_poll, outcomes_by_event, numbers_started, numbers_settled, numbers_pending, settled_among, Waits, AcceptsAll};
+
+use mb_wire::one_reply;
+
+/// Each poll that was started is settled once or is pending. What the events settle, event by event,
+/// is the outcome of each poll that has one.
+pub fn each_once()
+    ensures polls { (timeout : ℕ) (events : List Event) →
+        IsPermutation (numbers_started events) (numbers_settled timeout events ++ numbers_pending timeout events) }
+    ensures outcomes { (timeout : ℕ) (events : List Event) →
+        IsPermutation (outcomes_by_poll timeout events) (outcomes_by_event timeout events) }
+{}
+
+/// What one event more does: it settles pending polls, each by itself, and may start one.
+pub fn one_event_more()
+    ensures outcomes { (timeout : ℕ) (events : List Event) (event : Event) →
+        outcomes_by_event timeout (events ++ event ∷ []) ≡ outcomes_by_event timeout events ++ outcomes_at timeout events event }
+    ensures settled { (timeout : ℕ) (events : List Event) (event : Event) →
+        IsPermutation (settled_among events event (pending timeout events)) (outcomes_at timeout events event) }
+    ensures pending { (timeout : ℕ) (events : List Event) (event : Event) →
+        pending timeout (events ++ event ∷ [])
+        ≡ filter (λ poll. is_none (settled_by events event poll)) (pending timeout events) ++ option_to_list (started timeout events event) }
+    ensures nobody { (timeout : ℕ) (events : List Event) (event : Event) →
+        pending timeout events ≡ [] → outcomes_at timeout events event ≡ [] }
+{}
+
+/// A pending poll was started by one of the events, and none of the later ones settles it.
+pub fn pending_waits()
+    ensures { (timeout : ℕ) (events : List Event) → All (Waits timeout events) (pending timeout events) }
+{}
+
+/// Nothing settles, and nobody waits, on a session after its stream was garbled or it was closed.
+pub fn over_for_good()
+    ensures nobody { (timeout window : ℕ) (events : List Event) → AcceptsAll timeout window [] events →
+        is_over events ≡ true → pending timeout events ≡ [] }
+    ensures nothing { (timeout window : ℕ) (events : List Event) (event : Event) → AcceptsAll timeout window [] events →
+        is_over events ≡ true → outcomes_at timeout events event ≡ [] }
+{}
+
+/// An answer has as many registers as the poll asked for, and the reply that is lent tells them.
+pub fn whole_answers()
+    ensures words { (answer : Answer) (i : ℕ) → word_at answer i ≡ slice_get (words_in answer) i }
+    ensures count { (poll : Poll) (frame words : List ℕ) → answer poll frame ≡ Answered words → length words ≡ poll.span.count }
+{
+    one_reply();
+}

@@ -1,0 +1,20 @@
+//! Polls of one device over Modbus TCP: each poll that is started has exactly one outcome.
+#![tactic(auto)]
+
+mod answers;
+mod call;
+mod inner;
+mod laws;
+mod outcome;
+mod poll;
+mod session;
+mod table;
+
+pub use answers::{ClockBack, Ready, Settled, StartFault, Turn};
+pub use call::Call;
+pub use laws::{each_once, one_event_more, over_for_good, pending_waits, whole_answers};
+pub use outcome::{Closing, LostCause, Malformation, Outcome};
+pub use session::Session;
+
+#[cfg(test)]
+mod tests;

@@ -1,0 +1,145 @@
+// How a poll ends.
+use mb_wire::ReplyFault;
+
+/// How a poll ended.
+#[derive(Clone, Copy, Debug, PartialEq, Eq)]
+pub enum Outcome {
+    /// The device sent the registers.
+    Answered,
+    /// The device answered with this exception code (Modbus Application Protocol V1.1b3, section 7).
+    Exception(u8),
+    /// No reply came before the deadline.
+    Silent,
+    /// A frame with the poll's transaction id is no reply to its request.
+    Malformed(Malformation),
+    /// The session ended first.
+    Lost(LostCause),
+}
+
+/// What is wrong with a reply.
+#[derive(Clone, Copy, Debug, PartialEq, Eq)]
+pub enum Malformation {
+    WrongFunction,
+    WrongLength,
+    WrongByteCount,
+    WrongEcho,
+    /// The frame comes from another unit. This is looked at before the rest.
+    WrongUnit,
+}
+
+/// Why a pending poll is lost.
+#[derive(Clone, Copy, Debug, PartialEq, Eq)]
+pub enum LostCause {
+    /// The device closed the connection.
+    Gone,
+    /// A length field of the stream is out of its range.
+    Garbled,
+    /// A read or a write of the connection failed.
+    Failed,
+    /// The program was started again. No session gives this cause.
+    Restart,
+}
+
+/// How a connection ends.
+#[derive(Clone, Copy, Debug, PartialEq, Eq)]
+pub enum Closing {
+    /// The device closed it.
+    Gone,
+    /// A read or a write failed.
+    Failed,
+}
+
+impl Outcome {
+    ghost use Rattle.std.specs.Prelude.{◌≡◌};
+    ghost use Rattle.poll_core.specs.Outcomes.{outcome_number, outcome_code};
+
+    /// The number of the kind, 1 to 5.
+    pub fn number(self) -> u8
+        ensures { result ≡ outcome_number self }
+    {
+        match self {
+            Outcome::Answered => 1,
+            Outcome::Exception(_) => 2,
+            Outcome::Silent => 3,
+            Outcome::Malformed(_) => 4,
+            Outcome::Lost(_) => 5,
+        }
+    }
+
+    /// The exception code, or the number of the malformation or of the loss; 0 where the kind has none.
+    pub fn code(self) -> u8
+        ensures { result ≡ outcome_code self }
+    {
+        match self {
+            Outcome::Exception(code) => code,
+            Outcome::Malformed(malformation) => malformation.number(),
+            Outcome::Lost(cause) => cause.number(),
+            Outcome::Answered | Outcome::Silent => 0,
+        }
+    }
+}
+
+impl Malformation {
+    ghost use Rattle.std.specs.Prelude.{◌≡◌};
+    ghost use Rattle.poll_core.specs.Outcomes.{malformation_number};
+
+    /// 1 to 5.
+    pub fn number(self) -> u8
+        ensures { result ≡ malformation_number self }
+    {
+        match self {
+            Malformation::WrongFunction => 1,
+            Malformation::WrongLength => 2,
+            Malformation::WrongByteCount => 3,
+            Malformation::WrongEcho => 4,
+            Malformation::WrongUnit => 5,
+        }
+    }
+}
+
+impl From<ReplyFault> for Malformation {
+    ghost use Rattle.std.specs.Prelude.{◌≡◌};
+    ghost use Rattle.poll_core.specs.Outcomes.{malformation_by};
+
+    ghost from_gives = { λ fault malformation. malformation ≡ malformation_by fault };
+
+    fn from(fault: ReplyFault) -> Malformation {
+        match fault {
+            ReplyFault::WrongFunction => Malformation::WrongFunction,
+            ReplyFault::WrongLength => Malformation::WrongLength,
+            ReplyFault::WrongByteCount => Malformation::WrongByteCount,
+            ReplyFault::WrongEcho => Malformation::WrongEcho,
+        }
+    }
+}
+
+impl LostCause {
+    ghost use Rattle.std.specs.Prelude.{◌≡◌};
+    ghost use Rattle.poll_core.specs.Outcomes.{cause_number};
+
+    /// 1 to 4.
+    pub fn number(self) -> u8
+        ensures { result ≡ cause_number self }
+    {
+        match self {
+            LostCause::Gone => 1,
+            LostCause::Garbled => 2,
+            LostCause::Failed => 3,
+            LostCause::Restart => 4,
+        }
+    }
+}
+
+impl From<Closing> for LostCause {
+    ghost use Rattle.std.specs.Prelude.{◌≡◌};
+    ghost use Rattle.poll_core.specs.Outcomes.{cause_of};
+
+    ghost from_gives = { λ closing cause. cause ≡ cause_of closing };
+
+    fn from(closing: Closing) -> LostCause {
+        match closing {
+            Closing::Gone => LostCause::Gone,
+            Closing::Failed => LostCause::Failed,
+        }
+    }
+}

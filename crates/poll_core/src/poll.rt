@@ -1,0 +1,100 @@
+// A poll that waits for its reply.
+use crate::outcome::LostCause;
+use mb_wire::{ReadFunction, ReadSpan, Request};
+use std::marker::Model;
+
+/// A poll that was started and isn't settled.
+#[derive(Drop)]
+pub struct PendingPoll {
+    number: u64,
+    id: u16,
+    unit: u8,
+    span: ReadSpan,
+    deadline: u64,
+}
+
+impl Model for PendingPoll {
+    ghost use Rattle.mb_wire.specs.Spans.{span_view};
+    ghost use Rattle.poll_core.specs.Polls as polls;
+
+    ghost Value = { polls.Poll };
+
+    ghost view = { λ p. record { number = p.number; id = p.id; unit = p.unit; span = span_view p.span; deadline = p.deadline } };
+}
+
+impl PendingPoll {
+    ghost use Rattle.std.specs.Prelude.{◌≡◌};
+    ghost use Rattle.mb_wire.specs.Spans.{span_view};
+    ghost use Rattle.mb_wire.specs.Spans.{request_of};
+    ghost use Rattle.poll_core.specs.Polls.{due, has_id};
+
+    pub fn new(number: u64, id: u16, unit: u8, span: ReadSpan, deadline: u64) -> Self
+        ensures { result ≡ record { number = number; id = id; unit = unit; span = span_view span; deadline = deadline } }
+    {
+        PendingPoll {
+            number,
+            id,
+            unit,
+            span,
+            deadline,
+        }
+    }
+
+    pub fn number(&self) -> u64
+        ensures { result ≡ self.now.number }
+    {
+        self.number
+    }
+
+    pub fn unit(&self) -> u8
+        ensures { result ≡ self.now.unit }
+    {
+        self.unit
+    }
+
+    /// What the poll asks.
+    pub fn request(&self) -> Request
+        ensures { result ≡ request_of self.now.span }
+    {
+        self.span.request()
+    }
+
+    /// Whether the deadline has come.
+    pub fn is_due(&self, moment: u64) -> bool
+        ensures { result ≡ due moment self.now }
+    {
+        self.deadline <= moment
+    }
+
+    pub fn has_id(&self, id: u16) -> bool
+        ensures { result ≡ has_id id self.now }
+    {
+        id == self.id
+    }
+}
+
+impl Default for PendingPoll {
+    fn default() -> Self {
+        let span = ReadSpan {
+            function: ReadFunction::HoldingRegisters,
+            address: 0,
+            count: 1,
+        };
+        PendingPoll::new(0, 0, 0, span, 0)
+    }
+}
+
+/// How a poll was settled.
+#[derive(Clone, Copy, Debug, PartialEq, Eq)]
+pub enum SettledBy {
+    Silence,
+    Frame,
+    End(LostCause),
+}
+
+/// A poll that is settled.
+#[derive(Drop)]
+pub struct SettledPoll {
+    pub poll: PendingPoll,
+    pub by: SettledBy,
+}

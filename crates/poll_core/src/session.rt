@@ -1,0 +1,270 @@
+// One device's polling session.
+ghost use Rattle.std.specs.Prelude.{◌≡◌, ℕ, ◌+◌, ◌≤◌, ◌<◌, ◌⊎◌, ◌↔◌, List, [], ◌∷◌, ◌++◌, length, take, Some, None, is_some, IsTrue, true, false, IsErr, OnOk, OnErr, IfOk, IfSome};
+ghost use Rattle.std.specs.Result.{result_err};
+ghost use Rattle.std.specs.Borrow.{sem};
+ghost use Rattle.std.specs.Io.BufRead.{Rests};
+ghost use Rattle.mb_wire.specs.Requests.{request_bytes};
+ghost use Rattle.mb_wire.specs.Reader.{spelling, spelled, fields_of};
+ghost use Rattle.mb_wire.specs.Spans.{request_of};
+ghost use Rattle.mb_wire.specs.Spans.{span_view};
+ghost use Rattle.poll_core.specs.Settling.{Settlement, Event, Start, Piece, Tick, Close, Silent, answer};
+ghost use Rattle.poll_core.specs.Steps.{told_by};
+ghost use Rattle.poll_core.specs.Inside.{told_of};
+ghost use Rattle.std.specs.Option.{option_map};
+ghost use Rattle.poll_core.specs.Standing.{State, Stands, Before, After};
+ghost use Rattle.poll_core.specs.Starting.{start_fault, IsReady};
+ghost use Rattle.poll_core.specs.Telling.{settled_of, LendsReply, IsCall, TellsPiece, TellsEvent};
+ghost use Rattle.poll_core.specs.contracts.session.Session.{the_row};
+
+use crate::answers::{ClockBack, Ready, Settled, StartFault, Turn};
+use crate::call::Call;
+use crate::inner::{Inner, Step};
+use crate::outcome::{Closing, LostCause, Malformation, Outcome};
+use crate::poll::{PendingPoll, SettledBy, SettledPoll};
+use crate::table::Table;
+use mb_wire::{Frame, FrameReader, ReadSpan, Reply, decode_reply, one_reading};
+use std::marker::Model;
+
+/// The polls of one device over one connection. All moments are whole seconds since 1970-01-01 UTC.
+#[derive(Drop)]
+pub struct Session {
+    inner: Inner,
+}
+
+impl Model for Session {
+    ghost use Rattle.poll_core.specs.Standing.{State};
+    ghost use Rattle.poll_core.specs.Inside.{state_of, IsSound};
+
+    ghost Value = { State };
+
+    ghost view = { λ s. state_of s.inner };
+
+    ghost invariant = { λ s. IsSound s.inner };
+}
+
+impl Session {
+    /// A session of which no event is known, whose polls are silent after `timeout` seconds and of which
+    /// at most `window` wait at a time.
+    pub fn new(timeout: u64, window: usize) -> Self
+        requires timeout_low { 1 ≤ timeout }
+        requires timeout_high { timeout ≤ 60 }
+        requires window_low { 1 ≤ window }
+        requires window_high { window ≤ 16 }
+        ensures stands { Stands result [] }
+        ensures timeout { result.timeout ≡ timeout }
+        ensures window { result.window ≡ window }
+    {
+        one_reading();
+        Session {
+            inner: Inner {
+                reader: FrameReader::new(),
+                timeout,
+                window,
+                last: 0,
+                next: 0,
+                polls: Table::new(),
+                ending: None,
+                settling: None,
+            },
+        }
+    }
+
+    /// Whether a call has outcomes unmatched to tell.
+    pub fn settling(&self) -> bool
+        ensures { result ≡ is_some self.now.settling }
+    {
+        self.inner.settling.is_some()
+    }
+
+    /// The next transaction id, and how many starts in a row would now succeed at a moment that isn't back.
+    pub fn ready(&self) -> Ready
+        ensures few { result.count ≤ self.now.window }
+        ensures ready { (events : List Event) → Stands self.now events → IsReady self.now.timeout self.now.window events result.id result.count }
+    {
+        Ready {
+            id: self.inner.next,
+            count: self.inner.room(),
+        }
+    }
+
+    /// Starts a poll: writes the frame of its request in front of `out`, and answers how many bytes it has.
+    /// The poll is told by the number `poll`. After a refusal nothing is written.
+    pub fn start(
+        &mut self,
+        moment: u64,
+        poll: u64,
+        unit: u8,
+        span: ReadSpan,
+        out: &mut [u8; 260],
+    ) -> Result<usize, StartFault>
+        requires limit { moment ≤ 4102444800 }
+        requires rests { self.old.settling ≡ None }
+        ensures refused { (events : List Event) → Stands self.old events →
+            result_err result ≡ start_fault self.old.timeout self.old.window events moment }
+        ensures started { (events : List Event) → Stands self.old events →
+            OnOk result (After self.new events (Start moment poll unit (span_view span)) [] None) }
+        ensures terms { (self.new.timeout ≡ self.old.timeout) × (self.new.window ≡ self.old.window) }
+        ensures written { IfOk result (λ n. take n out.new ≡ spelling self.old.next unit (request_bytes (request_of (span_view span)))) }
+        ensures err { OnErr result ((self.new ≡ self.old) × (out.new ≡ out.old)) }
+    {
+        self.inner.start(moment, poll, unit, span, out)
+    }
+
+    /// Takes bytes of the piece, up to the first outcome. The caller repeats with the rest until none is settled.
+    pub fn next(&mut self, moment: u64, piece: &[u8]) -> Result<Turn<'_>, ClockBack>
+        requires limit { moment ≤ 4102444800 }
+        requires call { IsCall Call.Piece self.old moment }
+        ensures* after { sem 𝓛 (Rests the_row self.entry (λ new. OnErr result (new ≡ self.old)
+            × IfOk result (λ turn. TellsPiece self.old new moment (take turn.taken piece.now) (option_map settled_of turn.settled)))) }
+        ensures back { IsErr result ↔ (moment < self.old.last) }
+        ensures taken { IfOk result (λ turn. turn.taken ≤ length piece.now) }
+        ensures all { IfOk result (λ turn. is_some turn.settled ≡ false → turn.taken ≡ length piece.now) }
+        ensures reply { IfOk result (λ turn. IfSome turn.settled LendsReply) }
+    {
+        let step = self.advance(moment, piece)?;
+        Ok(Turn {
+            taken: step.taken,
+            settled: tell_any(step.settled, &self.inner.reader),
+        })
+    }
+
+    fn advance(&mut self, moment: u64, piece: &[u8]) -> Result<Step, ClockBack>
+        ensures err { OnErr result (self.new ≡ self.old) }
+        ensures told { IfOk result (λ step. TellsPiece self.old self.new moment (take step.taken piece.now) (told_of step.settled self.new.reader.frame)) }
+        ensures back { IsErr result ↔ (moment < self.old.last) }
+        ensures taken { IfOk result (λ step. step.taken ≤ length piece.now) }
+        ensures all { IfOk result (λ step. is_some step.settled ≡ false → step.taken ≡ length piece.now) }
+    {
+        if moment < self.inner.last {
+            return Err(ClockBack);
+        }
+        Ok(self.inner.next(moment, piece))
+    }
+
+    /// A moment with no bytes. The caller repeats until none is settled.
+    pub fn tick(&mut self, moment: u64) -> Result<Option<Settled<'_>>, ClockBack>
+        requires limit { moment ≤ 4102444800 }
+        requires call { IsCall Call.Tick self.old moment }
+        ensures* after { sem 𝓛 (Rests the_row self.entry (λ new. OnErr result (new ≡ self.old)
+            × IfOk result (λ settled. TellsEvent self.old new (Tick moment) (option_map settled_of settled)))) }
+        ensures back { IsErr result ↔ (moment < self.old.last) }
+        ensures reply { IfOk result (λ settled. IfSome settled LendsReply) }
+    {
+        let taken = self.tick_once(moment)?;
+        Ok(tell_any(taken, &self.inner.reader))
+    }
+
+    fn tick_once(&mut self, moment: u64) -> Result<Option<SettledPoll>, ClockBack>
+        ensures err { OnErr result (self.new ≡ self.old) }
+        ensures told { IfOk result (λ taken. TellsEvent self.old self.new (Tick moment) (told_of taken self.new.reader.frame)) }
+        ensures back { IsErr result ↔ (moment < self.old.last) }
+    {
+        if moment < self.inner.last {
+            return Err(ClockBack);
+        }
+        Ok(self.inner.tick(moment))
+    }
+
+    /// The end of the session. The caller repeats until none is settled.
+    pub fn close(&mut self, moment: u64, closing: Closing) -> Result<Option<Settled<'_>>, ClockBack>
+        requires limit { moment ≤ 4102444800 }
+        requires call { IsCall (Call.Close closing) self.old moment }
+        ensures* after { sem 𝓛 (Rests the_row self.entry (λ new. OnErr result (new ≡ self.old)
+            × IfOk result (λ settled. TellsEvent self.old new (Close moment closing) (option_map settled_of settled)))) }
+        ensures back { IsErr result ↔ (moment < self.old.last) }
+        ensures reply { IfOk result (λ settled. IfSome settled LendsReply) }
+    {
+        let taken = self.close_once(moment, closing)?;
+        Ok(tell_any(taken, &self.inner.reader))
+    }
+
+    fn close_once(
+        &mut self,
+        moment: u64,
+        closing: Closing,
+    ) -> Result<Option<SettledPoll>, ClockBack>
+        ensures err { OnErr result (self.new ≡ self.old) }
+        ensures told { IfOk result (λ taken. TellsEvent self.old self.new (Close moment closing) (told_of taken self.new.reader.frame)) }
+        ensures back { IsErr result ↔ (moment < self.old.last) }
+    {
+        if moment < self.inner.last {
+            return Err(ClockBack);
+        }
+        Ok(self.inner.close(moment, closing))
+    }
+}
+
+// What is told, with the words of the frame that the reader holds.
+fn tell_any(taken: Option<SettledPoll>, reader: &FrameReader) -> Option<Settled<'_>>
+    ensures told { option_map settled_of result ≡ told_of taken reader.now.frame }
+    ensures variant { is_some result ≡ is_some taken }
+    ensures reply { IfSome result LendsReply }
+{
+    match taken {
+        None => None,
+        Some(taken) => Some(tell(taken, reader)),
+    }
+}
+
+// A settled poll, with the words of the frame that the reader holds.
+fn tell(settled: SettledPoll, reader: &FrameReader) -> Settled<'_>
+    ensures told { settled_of result ≡ told_by settled reader.now.frame }
+    ensures reply { LendsReply result }
+{
+    let poll = &settled.poll;
+    match settled.by {
+        SettledBy::Silence => silent(poll.number()),
+        SettledBy::End(cause) => Settled {
+            poll: poll.number(),
+            outcome: Outcome::Lost(cause),
+            reply: None,
+        },
+        SettledBy::Frame => match reader.frame() {
+            None => silent(poll.number()),
+            Some(frame) => answered(poll, frame),
+        },
+    }
+}
+
+fn silent<'a>(poll: u64) -> Settled<'a>
+    ensures told { settled_of result ≡ (poll, Silent) }
+    ensures reply { LendsReply result }
+{
+    Settled {
+        poll,
+        outcome: Outcome::Silent,
+        reply: None,
+    }
+}
+
+// What a frame with the poll's id gives it.
+fn answered<'a>(poll: &PendingPoll, frame: Frame<'a>) -> Settled<'a>
+    ensures told { (bytes : List ℕ) → spelled frame.entry ≡ fields_of bytes → settled_of result ≡ (poll.now.number, answer poll.now bytes) }
+    ensures reply { LendsReply result }
+{
+    let number = poll.number();
+    if frame.unit != poll.unit() {
+        return Settled {
+            poll: number,
+            outcome: Outcome::Malformed(Malformation::WrongUnit),
+            reply: None,
+        };
+    }
+    match decode_reply(&poll.request(), frame.pdu) {
+        Ok(Reply::Exception(code)) => Settled {
+            poll: number,
+            outcome: Outcome::Exception(code),
+            reply: None,
+        },
+        Ok(reply) => Settled {
+            poll: number,
+            outcome: Outcome::Answered,
+            reply: Some(reply),
+        },
+        Err(fault) => Settled {
+            poll: number,
+            outcome: Outcome::Malformed(Malformation::from(fault)),
+            reply: None,
+        },
+    }
+}

@@ -1,0 +1,171 @@
+// The table of pending polls.
+ghost use Rattle.std.specs.Prelude.{◌≡◌, ℕ, ◌+◌, ◌≤◌, ◌<◌, List, length, take, true, false, ◌%◌, IsSome};
+ghost use Rattle.std.specs.List.{filter, list_any};
+ghost use Rattle.mb_wire.specs.Frames.{IsOwn, is_bad};
+ghost use Rattle.poll_core.specs.Polls.{due, has_id};
+ghost use Rattle.poll_core.specs.Steps.{AreApart, TakesOut, TellsOwed, FindsFirst, FindsBy, Finds, OneLess};
+
+use crate::outcome::LostCause;
+use crate::poll::{PendingPoll, SettledBy, SettledPoll};
+use arrayvec::ArrayVec;
+use mb_wire::{FrameReader, Framing};
+
+pub type Table = ArrayVec<PendingPoll, 16>;
+
+// The place of the first poll that is due.
+fn first_due(polls: &[PendingPoll], moment: u64) -> Option<usize>
+    ensures { FindsFirst (due moment) polls.now result }
+{
+    for (i, poll) in polls.iter().enumerate() {
+        if poll.is_due(moment) {
+            return Some(i);
+        }
+    }
+    None
+}
+
+// The place of the poll with this id.
+fn first_with_id(polls: &[PendingPoll], id: u16) -> Option<usize>
+    ensures { FindsFirst (has_id id) polls.now result }
+{
+    for (i, poll) in polls.iter().enumerate() {
+        if poll.has_id(id) {
+            return Some(i);
+        }
+    }
+    None
+}
+
+/// How many ids in a row from `next` no poll has, up to `room`.
+pub fn free_ids(polls: &[PendingPoll], next: u16, room: usize) -> usize
+    requires { room ≤ 16 }
+    ensures room { result ≤ room }
+    ensures free { (k : ℕ) → k < result → list_any (has_id ((next + k) % 65536)) polls.now ≡ false }
+    ensures busy { result < room → list_any (has_id ((next + result) % 65536)) polls.now ≡ true }
+{
+    for k in 0..room {
+        if has_poll(polls, next.wrapping_add(k as u16)) {
+            return k;
+        }
+    }
+    room
+}
+
+/// Whether a poll has this id.
+pub fn has_poll(polls: &[PendingPoll], id: u16) -> bool
+    ensures { result ≡ list_any (has_id id) polls.now }
+{
+    polls.iter().any(|poll| poll.has_id(id))
+}
+
+// Takes out the first poll that is due.
+pub fn take_due(polls: &mut Table, moment: u64) -> Option<PendingPoll>
+    ensures taken { TakesOut (due moment) polls.old.items result polls.new.items }
+    ensures apart { AreApart polls.old.items → AreApart polls.new.items }
+{
+    match first_due(polls.as_slice(), moment) {
+        Some(i) => Some(polls.remove(i)),
+        None => None,
+    }
+}
+
+// Takes out the poll with this id.
+pub fn take_by_id(polls: &mut Table, id: u16) -> Option<PendingPoll>
+    ensures taken { TakesOut (has_id id) polls.old.items result polls.new.items }
+    ensures apart { AreApart polls.old.items → AreApart polls.new.items }
+{
+    match first_with_id(polls.as_slice(), id) {
+        Some(i) => Some(polls.remove(i)),
+        None => None,
+    }
+}
+
+// Takes out the poll whose outcome is owed first.
+pub fn take_owed(polls: &mut Table, ending: Option<LostCause>, moment: u64) -> Option<SettledPoll>
+    ensures told { TellsOwed moment ending polls.old.items result polls.new.items }
+    ensures apart { AreApart polls.old.items → AreApart polls.new.items }
+{
+    if let Some(poll) = take_due(polls, moment) {
+        return Some(SettledPoll {
+            poll,
+            by: SettledBy::Silence,
+        });
+    }
+    match ending {
+        None => None,
+        Some(cause) => {
+            if polls.is_empty() {
+                return None;
+            }
+            Some(SettledPoll {
+                poll: polls.remove(0),
+                by: SettledBy::End(cause),
+            })
+        }
+    }
+}
+
+// Takes out the poll that the reader's frame settles.
+fn take_framed(reader: &FrameReader, polls: &mut Table) -> Option<PendingPoll>
+    requires { AreApart polls.old.items }
+    ensures apart { AreApart polls.new.items }
+    ensures less { OneLess polls.old.items result polls.new.items }
+    ensures found { (frame : List ℕ) → reader.now.frame ≡ Some frame → IsOwn frame → FindsBy frame polls.old.items result polls.new.items }
+{
+    match reader.frame() {
+        None => None,
+        Some(frame) => take_by_id(polls, frame.tid),
+    }
+}
+
+/// How far a piece was taken.
+#[derive(Drop)]
+pub struct Found {
+    pub taken: usize,
+    pub is_garbled: bool,
+    pub poll: Option<PendingPoll>,
+}
+
+// Feeds the piece up to the first frame that settles a poll, and takes that poll out.
+pub fn feed_until(reader: &mut FrameReader, polls: &mut Table, piece: &[u8]) -> Found
+    requires { AreApart polls.old.items }
+    ensures apart { AreApart polls.new.items }
+    ensures less { OneLess polls.old.items result.poll polls.new.items }
+    ensures taken { result.taken ≤ length piece.now }
+    ensures all { result.poll ≡ None → result.is_garbled ≡ false → result.taken ≡ length piece.now }
+    ensures clean { IsSome result.poll → result.is_garbled ≡ false }
+    ensures garbled { is_bad reader.new.rest ≡ result.is_garbled }
+    ensures found { Finds reader.old.rest (take result.taken piece.now) polls.old.items result.poll reader.new polls.new.items }
+{
+    let mut at = 0;
+    'feeds: loop {
+        let fed = reader.feed(&piece[at..]);
+        at += fed.taken;
+        match fed.what {
+            Framing::Need => {
+                return Found {
+                    taken: at,
+                    is_garbled: false,
+                    poll: None,
+                };
+            }
+            Framing::Garbled => {
+                return Found {
+                    taken: at,
+                    is_garbled: true,
+                    poll: None,
+                };
+            }
+            Framing::Foreign => {}
+            Framing::Whole => {
+                if let Some(poll) = take_framed(reader, polls) {
+                    return Found {
+                        taken: at,
+                        is_garbled: false,
+                        poll: Some(poll),
+                    };
+                }
+            }
+        }
+    }
+}
