@@ -1,0 +1,6 @@
+pub mod Value
+pub mod Ranged
+pub mod Account
+pub mod Verdict
+pub mod Entering
+pub mod TrueRun

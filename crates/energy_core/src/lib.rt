@@ -1,0 +1,14 @@
+//! Energy from a counter that turns over: which readings are accepted, and how much energy each step is.
+#![tactic(auto)]
+
+mod correcting;
+mod counters;
+mod entering;
+mod entries;
+mod judging;
+
+pub use correcting::{close, manual, rescale, reset};
+pub use counters::{Acc32, Counter, Ranged};
+pub use entering::{TermFault, enter};
+pub use entries::{Entry, Last, Step};
+pub use judging::{Cause, Reading, Terms, Verdict, judge};
