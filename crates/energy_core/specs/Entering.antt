@@ -1,5 +1,5 @@
 -- The table by which an entry by hand is booked or refused.
-use Rattle.std.specs.Prelude.{ℕ, pos, negsuc, ◌+◌, ◌*◌, ◌^◌, nat_lt, nat_le, int_lt, Bool, ◌||◌, false, List, [], ◌∷◌, Option, Some, None, Result, Ok, Err}
+use Rattle.std.specs.Prelude.{◌≡◌, ◌≤◌, ℕ, pos, negsuc, ◌+◌, ◌*◌, ◌^◌, nat_lt, nat_le, int_lt, Bool, ◌||◌, false, List, [], ◌∷◌, Option, Some, None, Result, Ok, Err}
 use Rattle.std.specs.List.{find}
 use Rattle.energy_core.specs.declared.entries.Last.{Last}
 use Rattle.energy_core.specs.declared.entries.Step.{Step}
@@ -7,7 +7,7 @@ use Rattle.energy_core.specs.declared.entries.Entry.{Entry}
 use Rattle.energy_core.specs.declared.entries.Entry.TheVariants as entry
 use Rattle.energy_core.specs.declared.entering.TermFault.{TermFault}
 use Rattle.energy_core.specs.declared.entering.TermFault.TheVariants as fault
-use Rattle.energy_core.specs.Account.{intervals_touched, moment_of, after, reached, energy_of, step_to}
+use Rattle.energy_core.specs.Account.{intervals_touched, moment_of, after, reached, energy_of, step_to, Follows}
 
 -- the number of a fault
 abbrev pub fault_number : TermFault → ℕ
@@ -54,3 +54,11 @@ answered range last e None = Ok (after last e, step_to range last e)
 -- What a load can draw is not looked at.
 abbrev pub entered : (range total : ℕ) → Last → Entry → Result (Last × Step) TermFault
 entered range total last e = answered range last e (find (refuses range total last e) faults)
+
+-- An entry that may follow was booked: the counter stands then where the entry says, the step goes up to it, and the
+-- whole energy is within its limit.
+pub record IsBooked (range total : ℕ) (last : Last) (e : Entry) (next : Last) (step : Step) : Type 0 where
+  pub next_is : next ≡ after last e
+  pub step_is : step ≡ step_to range last e
+  pub follows : Follows range last e
+  pub within : total + step.mwh ≤ 4 * 10 ^ 18

@@ -4,3 +4,4 @@ pub mod Account
 pub mod Verdict
 pub mod Entering
 pub mod TrueRun
+pub mod Laws

@@ -6,9 +6,14 @@ mod counters;
 mod entering;
 mod entries;
 mod judging;
+mod laws;
 
 pub use correcting::{close, manual, rescale, reset};
 pub use counters::{Acc32, Counter, Ranged};
 pub use entering::{TermFault, enter};
 pub use entries::{Entry, Last, Step};
 pub use judging::{Cause, Reading, Terms, Verdict, judge};
+pub use laws::{
+    accepted_is_entered, accounts_are_sound, accounts_go_on, entered_is_booked,
+    readings_keep_accounts, steps_add_up, truth_is_booked,
+};
