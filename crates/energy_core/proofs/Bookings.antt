@@ -8,7 +8,7 @@ use Rattle.energy_core.specs.declared.entries.Step.{Step}
 use Rattle.energy_core.specs.declared.entries.Entry.{Entry}
 use Rattle.energy_core.specs.declared.entries.Entry.TheVariants as entry
 use Rattle.energy_core.specs.declared.entering.TermFault.{TermFault}
-use Rattle.energy_core.specs.Account.{after, last_of, energy_of, step_to, NeverFalls, KeepsScale, CanBeShown, Follows, AllFollow}
+use Rattle.energy_core.specs.Account.{after, last_of, energy_of, step_to, NeverFalls, KeepsScale, CanBeShown, Follows, AllFollow, IsAccount}
 use Rattle.energy_core.specs.Entering.{has_bad_scale, is_beyond, refuses, faults, answered, entered, IsBooked}
 use Rattle.energy_core.specs.Laws.{EnteredIsBooked, AccountsGoOn}
 use Rattle.energy_core.proofs.Tables.{none_pass, find-none}
@@ -105,3 +105,9 @@ account_goes_on range opening es last total e next step h b =
       within = b.within;
       follow = (follows, h.follow);
     }
+
+pub account_where_entered : (range : ℕ) (opening : Last) (es : List Entry) (last : Last) (total : ℕ) (e : Entry) (next : Last) (step : Step)
+    → IsAccount range opening es last total → entered range total last e ≡ Ok (next, step)
+    → IsAccount range opening (e ∷ es) next (total + step.mwh)
+account_where_entered range opening es last total e next step h is =
+    account_goes_on range opening es last total e next step h (booked_where_entered range total last e next step is)

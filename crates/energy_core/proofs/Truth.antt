@@ -17,7 +17,7 @@ use Rattle.energy_core.specs.declared.judging.Verdict.TheVariants.{Accepted, Hel
 use Rattle.energy_core.specs.Value.{unit_of}
 use Rattle.energy_core.specs.Account.{last_of, energy_of, step_to, steps_of, whole_energy, NeverFalls}
 use Rattle.energy_core.specs.Verdict.{judged, distance, applies, causes, verdict_of, can_count}
-use Rattle.energy_core.specs.TrueRun.{Item, shown, told, newest, advance, true_steps, verdict_on, entries_of_readings, IsAccepted, AllAccepted, IsTrueRun, IsReadOften, TruthIsBooked}
+use Rattle.energy_core.specs.TrueRun.{Item, shown, told, newest, advance, true_steps, verdict_on, entries_of_readings, IsAccepted, AllAccepted, IsTrueRun, IsReadOftenEnough, TruthIsBooked}
 use Rattle.energy_core.proofs.Tables.{find-none}
 use Rattle.energy_core.proofs.Turns.{distance-shown, turned}
 use Rattle.energy_core.proofs.Sums.{whole-cons}
@@ -152,7 +152,7 @@ record Run (range ceiling : ℕ) (sf : ℤ) (first : Item) (items : List Item) :
   accepted : AllAccepted range ceiling (shown range sf first) (map (told range sf) items)
 
 whole_run : (range ceiling : ℕ) (sf : ℤ) (first : Item) (items : List Item) → 0 < range
-    → IsTrueRun ceiling sf first items → IsReadOften range ceiling sf first items → Run range ceiling sf first items
+    → IsTrueRun ceiling sf first items → IsReadOftenEnough range ceiling sf first items → Run range ceiling sf first items
 whole_run range ceiling sf first [] pos run often =
     record {
       booked = record {

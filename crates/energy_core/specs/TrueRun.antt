@@ -78,14 +78,14 @@ advance sf a b = (b.count - a.count) * unit_of sf
 
 -- Nothing but its speed or its range could hold a reading of the run: it is read often enough, each reading shows
 -- something, and the whole energy stays within its limit.
-abbrev pub IsReadOften : (range ceiling : ℕ) → ℤ → Item → List Item → Type 0
-IsReadOften range ceiling sf first [] = Unit {0}
-IsReadOften range ceiling sf first (b ∷ items) =
+abbrev pub IsReadOftenEnough : (range ceiling : ℕ) → ℤ → Item → List Item → Type 0
+IsReadOftenEnough range ceiling sf first [] = Unit {0}
+IsReadOftenEnough range ceiling sf first (b ∷ items) =
     let a = newest first items in
     let terms : Terms = record { ceiling = ceiling; total = advance sf first a } in
     ((c : Cause) → c ≢ cause.TooFast → c ≢ cause.NotBelowRange
     → applies range terms (shown range sf a) (told range sf b) c ≡ false)
-    × IsReadOften range ceiling sf first items
+    × IsReadOftenEnough range ceiling sf first items
 
 -- The true steps, one between each two neighbouring items, the latest first.
 abbrev pub true_steps : ℤ → Item → List Item → List Step
@@ -106,5 +106,5 @@ pub record IsBookedTruly (range ceiling : ℕ) (sf : ℤ) (first : Item) (items 
 -- A true run that is read often enough is booked truly, however often the counter turned over.
 abbrev pub TruthIsBooked : Type 0
 TruthIsBooked = (range ceiling : ℕ) (sf : ℤ) (first : Item) (items : List Item) → 0 < range
-    → IsTrueRun ceiling sf first items → IsReadOften range ceiling sf first items
+    → IsTrueRun ceiling sf first items → IsReadOftenEnough range ceiling sf first items
     → IsBookedTruly range ceiling sf first items

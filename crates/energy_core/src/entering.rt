@@ -104,6 +104,18 @@ pub fn enter<C: Counter>(
     requires scale_low { negsuc 2 ≤ℤ last.now.sf }
     requires scale_high { last.now.sf ≤ℤ pos 3 }
     ensures booked { result ≡ entered (C.range counter.now) terms.now.total last.now entry.now }
+    ensures account { (opening : Last) (es : List Entry) → IsAccount (C.range counter.now) opening es last.now terms.now.total
+        → IfOk result (λ r. IsAccount (C.range counter.now) opening (entry.now ∷ es) r.0 (terms.now.total + r.1.mwh)) }
+
+    // what the next call requires
+    ensures total { IfOk result (λ r. terms.now.total + r.1.mwh ≤ 4 * 10 ^ 18) }
+    ensures raw { IfOk result (λ r. r.0.raw < C.range counter.now) }
+    ensures scale_low { IfOk result (λ r. negsuc 2 ≤ℤ r.0.sf) }
+    ensures scale_high { IfOk result (λ r. r.0.sf ≤ℤ pos 3) }
+
+    // the step can be shared out over its intervals
+    ensures later { IfOk result (λ r. r.1.from < r.1.till) }
+    ensures span { IfOk result (λ r. intervals_touched r.1.from r.1.till ≤ 3000) }
 {
     let range = counter.range();
     let reached = reach(range, entry);
