@@ -7,6 +7,8 @@ mod entering;
 mod entries;
 mod judging;
 mod laws;
+#[cfg(test)]
+mod tests;
 
 pub use correcting::{close, manual, rescale, reset};
 pub use counters::{Acc32, Counter, Ranged};
