@@ -40,7 +40,7 @@ pub fn close<C: Counter>(
     requires scale_high { last.now.sf ≤ℤ pos 3 }
     ensures { result ≡ entered (C.range counter.now) terms.now.total last.now (entry.Step at raw rolls) }
 {
-    enter(counter, terms, last, &Entry::Step { at, raw, rolls })
+    manual(counter, terms, last, at, raw, rolls)
 }
 
 /// Books a reset: the counter stood at `before` and was set to `after`. The ceiling isn't looked at.

@@ -32,11 +32,11 @@ impl Counter for Acc32 {
     ghost at_most = { λ _. lit≤ tt };
 
     fn range(&self) -> u64 {
-        4294967296
+        u64::from(u32::MAX) + 1
     }
 
     fn shown(&self, count: u64) -> u32 {
-        (count % 4294967296) as u32
+        (count % 4_294_967_296) as u32
     }
 }
 
@@ -56,7 +56,7 @@ impl Ranged {
         ensures valid { IsSome result ↔ ((65536 ≤ range) × (range ≤ 4294967296)) }
         ensures value { IfSome result (λ counter. range_of counter ≡ range) }
     {
-        if (65536..=4294967296).contains(&range) {
+        if (65_536..=4_294_967_296).contains(&range) {
             Some(Ranged { range })
         } else {
             None
