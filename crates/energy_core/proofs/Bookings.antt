@@ -8,7 +8,7 @@ use Rattle.energy_core.specs.declared.entries.Step.{Step}
 use Rattle.energy_core.specs.declared.entries.Entry.{Entry}
 use Rattle.energy_core.specs.declared.entries.Entry.TheVariants as entry
 use Rattle.energy_core.specs.declared.entering.TermFault.{TermFault}
-use Rattle.energy_core.specs.Account.{after, last_of, energy_of, step_to, NeverFalls, KeepsScale, CanBeShown, Follows, AllFollow, IsAccount}
+use Rattle.energy_core.specs.Account.{after, last_of, energy_of, step_to, NeverFalls, HasLawfulScale, CanBeShown, Follows, AllFollow, IsAccount}
 use Rattle.energy_core.specs.Entering.{has_bad_scale, is_beyond, refuses, faults, answered, entered, IsBooked}
 use Rattle.energy_core.specs.Laws.{EnteredIsBooked, AccountsGoOn}
 use Rattle.energy_core.proofs.Tables.{none_pass, find-none}
@@ -21,11 +21,11 @@ answered_ok range last e None next step h =
     (refl, ap (λ (p : Last × Step). p.0) pair, ap (λ (p : Last × Step). p.1) pair)
 answered_ok range last e (Some f) next step h = absurd (cc)
 
-keeps_scale : (e : Entry) → has_bad_scale e ≡ false → KeepsScale e
-keeps_scale (entry.Step at raw rolls) h = tt
-keeps_scale (entry.Change at before new sf) h = (grind (arith, ints), grind (arith, ints))
+lawful_scale : (e : Entry) → has_bad_scale e ≡ false → HasLawfulScale e
+lawful_scale (entry.Step at raw rolls) h = tt
+lawful_scale (entry.Change at before new sf) h = (grind (arith, ints), grind (arith, ints))
 
-no_bad_scale : (e : Entry) → KeepsScale e → has_bad_scale e ≡ false
+no_bad_scale : (e : Entry) → HasLawfulScale e → has_bad_scale e ≡ false
 no_bad_scale (entry.Step at raw rolls) h = refl
 no_bad_scale (entry.Change at before new sf) h = grind (arith, ints)
 
@@ -43,10 +43,10 @@ at_least a b h = grind (arith, nat_tests)
 pub below : (a b : ℕ) → nat_le a b ≡ false → b < a
 below a b h = grind (arith, nat_tests)
 
-not_lt : (a b : ℕ) → b ≤ a → nat_lt a b ≡ false
+pub not_lt : (a b : ℕ) → b ≤ a → nat_lt a b ≡ false
 not_lt a b h = grind (arith, nat_tests)
 
-not_le : (a b : ℕ) → b < a → nat_le a b ≡ false
+pub not_le : (a b : ℕ) → b < a → nat_le a b ≡ false
 not_le a b h = grind (arith, nat_tests)
 
 pub booked_where_entered : (range total : ℕ) (last : Last) (e : Entry) (next : Last) (step : Step)
@@ -62,7 +62,7 @@ booked_where_entered range total last e next step h =
         rises = at_least _ _ none.0;
         later = below _ _ none.1.0;
         span = at_least _ _ none.1.1.0;
-        scale = keeps_scale e none.1.1.1.1.0;
+        scale = lawful_scale e none.1.1.1.1.0;
         shown = can_be_shown range e none.1.1.1.1.1.0;
       };
       within = rw ok.2 within;

@@ -10,9 +10,9 @@ use Rattle.energy_core.specs.declared.judging.Reading.{Reading}
 use Rattle.energy_core.specs.declared.judging.Verdict.{Verdict}
 use Rattle.energy_core.specs.declared.judging.Verdict.TheVariants.{Accepted, Held}
 use Rattle.energy_core.specs.Value.{unit_of}
-use Rattle.energy_core.specs.Account.{last_of, step_to, steps_of, whole_energy, IsScale, AllFollow, IsAccount}
+use Rattle.energy_core.specs.Account.{last_of, step_to, steps_of, whole_energy, IsLawfulScale, AllFollow, IsAccount}
 use Rattle.energy_core.specs.TrueRun.{verdict_on, with_verdict, entries_of_readings}
-use Rattle.energy_core.specs.Laws.{IsShareable, AccountsAreSound, ReadingsKeepAccounts}
+use Rattle.energy_core.specs.Laws.{AccountsBegin, IsShareable, AccountsAreSound, ReadingsKeepAccounts}
 use Rattle.energy_core.proofs.Sums.{sum-step, sum-steps}
 use Rattle.energy_core.proofs.Bookings.{never_falls, account_goes_on}
 use Rattle.energy_core.proofs.Acceptance.{booked_where_accepted}
@@ -22,7 +22,7 @@ last_below range opening [] below h = below
 last_below range opening (entry.Step at raw rolls ∷ es) below h = h.0.shown
 last_below range opening (entry.Change at before new sf ∷ es) below h = h.0.shown.1
 
-last_scale : (range : ℕ) (opening : Last) (es : List Entry) → IsScale opening.sf → AllFollow range opening es → IsScale (last_of opening es).sf
+last_scale : (range : ℕ) (opening : Last) (es : List Entry) → IsLawfulScale opening.sf → AllFollow range opening es → IsLawfulScale (last_of opening es).sf
 last_scale range opening [] scale h = scale
 last_scale range opening (entry.Step at raw rolls ∷ es) scale h = last_scale range opening es scale h.1
 last_scale range opening (entry.Change at before new sf ∷ es) scale h = h.0.scale
@@ -61,11 +61,15 @@ one_more range ceiling opening es r (Accepted rolls step) below h is =
     let next = account_goes_on range opening es _ _ (entry.Step r.at r.raw rolls) _ _ h booked in
     record { last_is = refl; total_is = refl; within = omega (arith, next.total_is, next.within); follow = next.follow }
 
-no_energy : (v : ℕ) → (v + 0) - (v + 0) ≡ 0
+no_energy : (v : ℕ) → 0 ≡ (v + 0) - (v + 0)
 no_energy v = omega arith
+
+pub accounts_begin : AccountsBegin
+accounts_begin range opening =
+    record { last_is = refl; total_is = no_energy (opening.raw * unit_of opening.sf); within = omega arith; follow = tt }
 
 pub readings_keep_accounts : ReadingsKeepAccounts
 readings_keep_accounts range ceiling opening [] below =
-    record { last_is = refl; total_is = refl; within = rw (no_energy (opening.raw * unit_of opening.sf)) (omega arith); follow = tt }
+    record { last_is = refl; total_is = refl; within = rw (← no_energy (opening.raw * unit_of opening.sf)) (omega arith); follow = tt }
 readings_keep_accounts range ceiling opening (r ∷ rs) below =
     one_more range ceiling opening (entries_of_readings range ceiling opening rs) r _ below (readings_keep_accounts range ceiling opening rs below) refl

@@ -1,5 +1,5 @@
 -- The table by which a reading is accepted or held.
-use Rattle.std.specs.Prelude.{ℕ, ◌+◌, ◌-◌, ◌*◌, ◌^◌, ◌%◌, ◌==◌, nat_lt, nat_le, Bool, not, List, [], ◌∷◌, Option, Some, None, if◌then◌else◌}
+use Rattle.std.specs.Prelude.{◌≡◌, ◌≢◌, ◌<◌, ◌≤◌, ℕ, ◌+◌, ◌-◌, ◌*◌, ◌^◌, ◌%◌, ◌==◌, nat_lt, nat_le, Bool, not, List, [], ◌∷◌, Option, Some, None, if◌then◌else◌}
 use Rattle.std.specs.List.{find}
 use Rattle.std.specs.Ordering.{int_eq}
 use Rattle.energy_core.specs.declared.entries.Last.{Last}
@@ -34,7 +34,7 @@ distance range from to = (to + range - from) % range
 
 -- whether a reading is to be held for a cause
 abbrev pub applies : (range : ℕ) → Terms → Last → Reading → Cause → Bool
--- the register has not counted yet
+-- SunSpec's value of an accumulator that does not count
 applies range terms last reading cause.NotAccumulated = reading.raw == 0
 -- it counts in another unit than at the last entry
 applies range terms last reading cause.ScaleChanged = not (int_eq reading.sf last.sf)
@@ -69,3 +69,14 @@ judged range last reading None =
 -- than before, else not.
 abbrev pub verdict_of : (range : ℕ) → Terms → Last → Reading → Verdict
 verdict_of range terms last reading = judged range last reading (find (applies range terms last reading) causes)
+
+-- Nothing speaks against a reading.
+pub record IsPlausible (range : ℕ) (terms : Terms) (last : Last) (reading : Reading) : Type 0 where
+  pub accumulated : reading.raw ≢ 0
+  pub scale : reading.sf ≡ last.sf
+  pub below : reading.raw < range
+  pub later : last.at < reading.at
+  pub span : intervals_touched last.at reading.at ≤ 3000
+  pub gap : terms.ceiling * (reading.at - last.at) * 5 < (range - 1) * unit_of last.sf * 18
+  pub speed : (distance range last.raw reading.raw - 1) * unit_of last.sf * 18 ≤ terms.ceiling * (reading.at - last.at) * 5
+  pub within : terms.total + distance range last.raw reading.raw * unit_of last.sf ≤ 4 * 10 ^ 18

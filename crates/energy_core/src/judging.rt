@@ -23,7 +23,8 @@ pub struct Terms {
     pub total: u64,
 }
 
-/// What a meter told: the moment, in seconds since 1970-01-01 UTC, its counter, and the scale factor of the counter.
+/// What a meter told: the moment, in seconds since 1970-01-01 UTC, its counter, and the scale factor of the counter. A
+/// scale factor that is not implemented counts as 0.
 #[derive(Clone, Copy, Debug, PartialEq, Eq)]
 pub struct Reading {
     pub at: u64,
@@ -34,7 +35,7 @@ pub struct Reading {
 /// Why a reading is held.
 #[derive(Clone, Copy, Debug, PartialEq, Eq)]
 pub enum Cause {
-    /// The counter shows 0, as one that has not counted yet.
+    /// The counter shows 0: SunSpec's value of an accumulator that does not count.
     NotAccumulated = 1,
     /// The scale factor is another than at the last entry.
     ScaleChanged = 2,
@@ -61,10 +62,12 @@ impl Cause {
     }
 }
 
-/// What becomes of a reading: accepted, with how often the counter turned over and the energy in mWh, or held.
+/// What becomes of a reading.
 #[derive(Clone, Copy, Debug, PartialEq, Eq)]
 pub enum Verdict {
+    /// It is an entry: how often the counter turned over since the last one, 0 or 1, and the energy between, in mWh.
     Accepted { rolls: u8, step: u64 },
+    /// It is none.
     Held(Cause),
 }
 

@@ -1,4 +1,4 @@
-ghost use Rattle.energy_core.specs.Laws.{StepsAddUp, EnteredIsBooked, AcceptedIsEntered, AccountsGoOn, AccountsAreSound, ReadingsKeepAccounts};
+ghost use Rattle.energy_core.specs.Laws.{StepsAddUp, EnteredIsBooked, AcceptedIsPlausible, AcceptedIsEntered, AccountsBegin, AccountsGoOn, AccountsAreSound, ReadingsKeepAccounts};
 ghost use Rattle.energy_core.specs.TrueRun.{TruthIsBooked};
 
 /// The energies of the steps of an installation add up to its whole energy.
@@ -11,9 +11,19 @@ pub fn entered_is_booked()
     ensures { EnteredIsBooked }
 {}
 
+/// A reading is accepted exactly where nothing speaks against it.
+pub fn accepted_is_plausible()
+    ensures { AcceptedIsPlausible }
+{}
+
 /// An accepted reading is an entry that may be entered, with the same step.
 pub fn accepted_is_entered()
     ensures { AcceptedIsEntered }
+{}
+
+/// At opening an installation has an account, with no energy yet.
+pub fn accounts_begin()
+    ensures { AccountsBegin }
 {}
 
 /// With one more entry that is booked, an account is that of the longer list.

@@ -16,6 +16,6 @@ pub use entering::{TermFault, enter};
 pub use entries::{Entry, Last, Step};
 pub use judging::{Cause, Reading, Terms, Verdict, judge};
 pub use laws::{
-    accepted_is_entered, accounts_are_sound, accounts_go_on, entered_is_booked,
-    readings_keep_accounts, steps_add_up, truth_is_booked,
+    accepted_is_entered, accepted_is_plausible, accounts_are_sound, accounts_begin, accounts_go_on,
+    entered_is_booked, readings_keep_accounts, steps_add_up, truth_is_booked,
 };
