@@ -11,7 +11,7 @@ use Rattle.energy_core.specs.declared.judging.Verdict.{Verdict}
 use Rattle.energy_core.specs.declared.judging.Verdict.TheVariants.{Accepted, Held}
 use Rattle.energy_core.specs.Value.{unit_of}
 use Rattle.energy_core.specs.Account.{last_of, step_to, steps_of, whole_energy, IsLawfulScale, AllFollow, IsAccount}
-use Rattle.energy_core.specs.TrueRun.{verdict_on, with_verdict, entries_of_readings}
+use Rattle.energy_core.specs.Readings.{verdict_on, with_verdict, entries_of_readings}
 use Rattle.energy_core.specs.Laws.{AccountsBegin, IsShareable, AccountsAreSound, ReadingsKeepAccounts}
 use Rattle.energy_core.proofs.Sums.{sum-step, sum-steps}
 use Rattle.energy_core.proofs.Bookings.{never_falls, account_goes_on}

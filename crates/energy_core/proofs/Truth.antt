@@ -17,7 +17,8 @@ use Rattle.energy_core.specs.declared.judging.Verdict.TheVariants.{Accepted, Hel
 use Rattle.energy_core.specs.Value.{unit_of}
 use Rattle.energy_core.specs.Account.{last_of, energy_of, step_to, steps_of, whole_energy, NeverFalls}
 use Rattle.energy_core.specs.Verdict.{judged, distance, applies, causes, verdict_of, can_count}
-use Rattle.energy_core.specs.TrueRun.{Item, shown, told, newest, advance, true_steps, verdict_on, entries_of_readings, IsAccepted, AllAccepted, IsTrueRun, IsReadOftenEnough, TruthIsBooked}
+use Rattle.energy_core.specs.Readings.{verdict_on, entries_of_readings, IsAccepted, AllAccepted}
+use Rattle.energy_core.specs.TrueRun.{Item, shown, told, newest, advance, true_steps, IsTrueRun, IsReadOftenEnough, TruthIsBooked}
 use Rattle.energy_core.proofs.Tables.{find-none}
 use Rattle.energy_core.proofs.Turns.{distance-shown, turned}
 use Rattle.energy_core.proofs.Sums.{whole-cons}

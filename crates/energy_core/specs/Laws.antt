@@ -11,7 +11,7 @@ use Rattle.energy_core.specs.Account.{intervals_touched, last_of, steps_of, whol
 use Rattle.energy_core.specs.Value.{unit_of}
 use Rattle.energy_core.specs.Verdict.{distance, verdict_of, IsPlausible}
 use Rattle.energy_core.specs.Entering.{entered, IsBooked}
-use Rattle.energy_core.specs.TrueRun.{entries_of_readings}
+use Rattle.energy_core.specs.Readings.{entries_of_readings}
 
 -- The energies of the steps add up to the whole energy.
 abbrev pub StepsAddUp : Type 0

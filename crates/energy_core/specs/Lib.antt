@@ -3,5 +3,6 @@ pub mod Ranged
 pub mod Account
 pub mod Verdict
 pub mod Entering
+pub mod Readings
 pub mod TrueRun
 pub mod Laws

@@ -20,7 +20,8 @@ pub fn manual<C: Counter>(
     requires raw { last.now.raw < C.range counter.now }
     requires scale_low { negsuc 2 ≤ℤ last.now.sf }
     requires scale_high { last.now.sf ≤ℤ pos 3 }
-    ensures { result ≡ entered (C.range counter.now) terms.now.total last.now (entry.Step at raw rolls) }
+    ensures { let reading = entry.Step at raw rolls in
+        result ≡ entered (C.range counter.now) terms.now.total last.now reading }
 {
     enter(counter, terms, last, &Entry::Step { at, raw, rolls })
 }
@@ -38,7 +39,8 @@ pub fn close<C: Counter>(
     requires raw { last.now.raw < C.range counter.now }
     requires scale_low { negsuc 2 ≤ℤ last.now.sf }
     requires scale_high { last.now.sf ≤ℤ pos 3 }
-    ensures { result ≡ entered (C.range counter.now) terms.now.total last.now (entry.Step at raw rolls) }
+    ensures { let reading = entry.Step at raw rolls in
+        result ≡ entered (C.range counter.now) terms.now.total last.now reading }
 {
     manual(counter, terms, last, at, raw, rolls)
 }
@@ -56,7 +58,8 @@ pub fn reset<C: Counter>(
     requires raw { last.now.raw < C.range counter.now }
     requires scale_low { negsuc 2 ≤ℤ last.now.sf }
     requires scale_high { last.now.sf ≤ℤ pos 3 }
-    ensures { result ≡ entered (C.range counter.now) terms.now.total last.now (entry.Change at before after last.now.sf) }
+    ensures { let change = entry.Change at before after last.now.sf in
+        result ≡ entered (C.range counter.now) terms.now.total last.now change }
 {
     rescale(counter, terms, last, at, before, after, last.sf)
 }
@@ -75,7 +78,8 @@ pub fn rescale<C: Counter>(
     requires raw { last.now.raw < C.range counter.now }
     requires scale_low { negsuc 2 ≤ℤ last.now.sf }
     requires scale_high { last.now.sf ≤ℤ pos 3 }
-    ensures { result ≡ entered (C.range counter.now) terms.now.total last.now (entry.Change at before after sf) }
+    ensures { let change = entry.Change at before after sf in
+        result ≡ entered (C.range counter.now) terms.now.total last.now change }
 {
     let change = Entry::Change {
         at,

@@ -6,7 +6,8 @@ ghost use Rattle.energy_core.specs.declared.entries.Entry.{Entry};
 
 use crate::counters::Counter;
 use crate::entries::{Entry, Last, Step};
-use crate::judging::{TOTAL_LIMIT, Terms, is_long_span, unit};
+use crate::judging::Terms;
+use crate::measures::{TOTAL_LIMIT, is_long_span, unit};
 
 /// Why an entry is refused.
 #[derive(Clone, Copy, Debug, PartialEq, Eq)]
@@ -104,8 +105,9 @@ pub fn enter<C: Counter>(
     requires scale_low { negsuc 2 ≤ℤ last.now.sf }
     requires scale_high { last.now.sf ≤ℤ pos 3 }
     ensures booked { result ≡ entered (C.range counter.now) terms.now.total last.now entry.now }
-    ensures account { (opening : Last) (es : List Entry) → IsAccount (C.range counter.now) opening es last.now terms.now.total
-        → IfOk result (λ r. IsAccount (C.range counter.now) opening (entry.now ∷ es) r.0 (terms.now.total + r.1.mwh)) }
+    ensures account { let range = C.range counter.now in
+        (opening : Last) (es : List Entry) → IsAccount range opening es last.now terms.now.total
+        → IfOk result (λ r. IsAccount range opening (entry.now ∷ es) r.0 (terms.now.total + r.1.mwh)) }
 
     // what the next call requires
     ensures total { IfOk result (λ r. terms.now.total + r.1.mwh ≤ 4 * 10 ^ 18) }

@@ -7,6 +7,7 @@ mod entering;
 mod entries;
 mod judging;
 mod laws;
+mod measures;
 #[cfg(test)]
 mod tests;
 
