@@ -1,5 +1,5 @@
 -- An accepted reading may be entered, with the same step.
-use Rattle.std.proofs.Common.{◌==◌, ◌≢◌, nat_le, ◌≡◌, ℕ, ℤ, ◌+◌, ◌-◌, ◌*◌, ◌^◌, ◌<◌, ◌≤◌, false, not, nat_lt, if◌then◌else◌, Option, Some, None, ap, sym, refl, ◌∙◌, arith}
+use Rattle.std.proofs.Common.{◌==◌, ◌≢◌, nat_le, ◌≡◌, ℕ, ℤ, ◌+◌, ◌-◌, ◌*◌, ◌<◌, ◌≤◌, false, not, nat_lt, if◌then◌else◌, Option, Some, None, ap, sym, refl, ◌∙◌, arith}
 use Rattle.std.proofs.lemmas.Bool.Decides.{nat_tests, Decides-int_eq}
 use Rattle.std.specs.List.{find}
 use Rattle.std.specs.Ordering.{int_eq}

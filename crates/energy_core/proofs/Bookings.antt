@@ -8,7 +8,7 @@ use Rattle.energy_core.specs.declared.entries.Step.{Step}
 use Rattle.energy_core.specs.declared.entries.Entry.{Entry}
 use Rattle.energy_core.specs.declared.entries.Entry.TheVariants as entry
 use Rattle.energy_core.specs.declared.entering.TermFault.{TermFault}
-use Rattle.energy_core.specs.Account.{after, last_of, energy_of, step_to, NeverFalls, HasLawfulScale, CanBeShown, Follows, AllFollow, IsAccount}
+use Rattle.energy_core.specs.Account.{after, last_of, energy_of, step_to, NeverFalls, HasScale, CanBeShown, Follows, AllFollow, IsAccount}
 use Rattle.energy_core.specs.Entering.{has_bad_scale, is_beyond, refuses, faults, answered, entered, IsBooked}
 use Rattle.energy_core.specs.Laws.{EnteredIsBooked, AccountsGoOn}
 use Rattle.energy_core.proofs.Tables.{none_pass, find-none}
@@ -21,11 +21,11 @@ answered_ok range last e None next step h =
     (refl, ap (λ (p : Last × Step). p.0) pair, ap (λ (p : Last × Step). p.1) pair)
 answered_ok range last e (Some f) next step h = absurd (cc)
 
-lawful_scale : (e : Entry) → has_bad_scale e ≡ false → HasLawfulScale e
+lawful_scale : (e : Entry) → has_bad_scale e ≡ false → HasScale e
 lawful_scale (entry.Step at raw rolls) h = tt
 lawful_scale (entry.Change at before new sf) h = (grind (arith, ints), grind (arith, ints))
 
-no_bad_scale : (e : Entry) → HasLawfulScale e → has_bad_scale e ≡ false
+no_bad_scale : (e : Entry) → HasScale e → has_bad_scale e ≡ false
 no_bad_scale (entry.Step at raw rolls) h = refl
 no_bad_scale (entry.Change at before new sf) h = grind (arith, ints)
 

@@ -10,7 +10,7 @@ use Rattle.energy_core.specs.declared.judging.Reading.{Reading}
 use Rattle.energy_core.specs.declared.judging.Verdict.{Verdict}
 use Rattle.energy_core.specs.declared.judging.Verdict.TheVariants.{Accepted, Held}
 use Rattle.energy_core.specs.Value.{unit_of}
-use Rattle.energy_core.specs.Account.{last_of, step_to, steps_of, whole_energy, IsLawfulScale, AllFollow, IsAccount}
+use Rattle.energy_core.specs.Account.{last_of, step_to, steps_of, whole_energy, IsScale, AllFollow, IsAccount}
 use Rattle.energy_core.specs.Readings.{verdict_on, with_verdict, entries_of_readings}
 use Rattle.energy_core.specs.Laws.{AccountsBegin, IsShareable, AccountsAreSound, ReadingsKeepAccounts}
 use Rattle.energy_core.proofs.Sums.{sum-step, sum-steps}
@@ -22,7 +22,7 @@ last_below range opening [] below h = below
 last_below range opening (entry.Step at raw rolls ∷ es) below h = h.0.shown
 last_below range opening (entry.Change at before new sf ∷ es) below h = h.0.shown.1
 
-last_scale : (range : ℕ) (opening : Last) (es : List Entry) → IsLawfulScale opening.sf → AllFollow range opening es → IsLawfulScale (last_of opening es).sf
+last_scale : (range : ℕ) (opening : Last) (es : List Entry) → IsScale opening.sf → AllFollow range opening es → IsScale (last_of opening es).sf
 last_scale range opening [] scale h = scale
 last_scale range opening (entry.Step at raw rolls ∷ es) scale h = last_scale range opening es scale h.1
 last_scale range opening (entry.Change at before new sf ∷ es) scale h = h.0.scale

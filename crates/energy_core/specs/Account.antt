@@ -69,13 +69,13 @@ NeverFalls range opening [] = Unit {0}
 NeverFalls range opening (e ∷ es) = ((last_of opening es).raw ≤ reached range e) × NeverFalls range opening es
 
 -- the scale is one that a register may have
-abbrev pub IsLawfulScale : ℤ → Type 0
-IsLawfulScale sf = (negsuc 2 ≤ℤ sf) × (sf ≤ℤ pos 3)
+abbrev pub IsScale : ℤ → Type 0
+IsScale sf = (negsuc 2 ≤ℤ sf) × (sf ≤ℤ pos 3)
 
--- where an entry sets the scale, it sets a lawful one
-abbrev pub HasLawfulScale : Entry → Type 0
-HasLawfulScale (entry.Step at raw rolls) = Unit {0}
-HasLawfulScale (entry.Change at before new sf) = IsLawfulScale sf
+-- where an entry sets the scale, it is such a one
+abbrev pub HasScale : Entry → Type 0
+HasScale (entry.Step at raw rolls) = Unit {0}
+HasScale (entry.Change at before new sf) = IsScale sf
 
 -- an entry tells only what the counter can show
 abbrev pub CanBeShown : (range : ℕ) → Entry → Type 0
@@ -87,7 +87,7 @@ pub record Follows (range : ℕ) (last : Last) (e : Entry) : Type 0 where
   pub rises : last.raw ≤ reached range e
   pub later : last.at < moment_of e
   pub span : intervals_touched last.at (moment_of e) ≤ 3000
-  pub scale : HasLawfulScale e
+  pub scale : HasScale e
   pub shown : CanBeShown range e
 
 -- Each entry may follow those before it.

@@ -7,7 +7,7 @@ use Rattle.energy_core.specs.declared.entries.Entry.TheVariants as entry
 use Rattle.energy_core.specs.declared.judging.Terms.{Terms}
 use Rattle.energy_core.specs.declared.judging.Reading.{Reading}
 use Rattle.energy_core.specs.declared.judging.Verdict.TheVariants.{Accepted}
-use Rattle.energy_core.specs.Account.{intervals_touched, last_of, steps_of, whole_energy, NeverFalls, IsLawfulScale, IsAccount}
+use Rattle.energy_core.specs.Account.{intervals_touched, last_of, steps_of, whole_energy, NeverFalls, IsScale, IsAccount}
 use Rattle.energy_core.specs.Value.{unit_of}
 use Rattle.energy_core.specs.Verdict.{distance, verdict_of, IsPlausible}
 use Rattle.energy_core.specs.Entering.{entered, IsBooked}
@@ -59,7 +59,7 @@ pub record IsShareable (step : Step) : Type 0 where
 -- each of which can be shared out.
 pub record IsSound (range : ℕ) (opening : Last) (es : List Entry) (last : Last) (total : ℕ) : Type 0 where
   pub raw : last.raw < range
-  pub scale : IsLawfulScale last.sf
+  pub scale : IsScale last.sf
   pub never_falls : NeverFalls range opening es
   pub sum : total ≡ sum_by (λ (s : Step). s.mwh) (steps_of range opening es)
   pub steps : All IsShareable (steps_of range opening es)
@@ -67,7 +67,7 @@ pub record IsSound (range : ℕ) (opening : Last) (es : List Entry) (last : Last
 -- The account of an installation whose opening is sound is sound.
 abbrev pub AccountsAreSound : Type 0
 AccountsAreSound = (range : ℕ) (opening : Last) (es : List Entry) (last : Last) (total : ℕ)
-    → opening.raw < range → IsLawfulScale opening.sf
+    → opening.raw < range → IsScale opening.sf
     → IsAccount range opening es last total → IsSound range opening es last total
 
 -- Whatever readings come, the entries that they leave have an account.
