@@ -23,8 +23,8 @@ cause_number cause.TooFast = 6
 cause_number cause.TotalFull = 7
 cause_number cause.NotBelowRange = 8
 
--- A load of at most `ceiling` W can make a meter count this far in so many seconds: 18 mWh are 5 Ws. The last count
--- may have been all but full before, so that one count is always possible.
+-- A load of at most `ceiling` W can make a meter count this far in so many seconds: 5 mWh are 18 Ws. The first count
+-- may have been all but due before, so that it takes no energy.
 abbrev pub can_count : (ceiling unit seconds count : ℕ) → Bool
 can_count ceiling unit seconds count = nat_le ((count - 1) * unit * 18) (ceiling * seconds * 5)
 

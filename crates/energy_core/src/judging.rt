@@ -55,9 +55,10 @@ impl Cause {
 /// What becomes of a reading.
 #[derive(Clone, Copy, Debug, PartialEq, Eq)]
 pub enum Verdict {
-    /// It is an entry: how often the counter turned over since the last one, 0 or 1, and the energy between, in mWh.
+    /// The reading is an entry: how often the counter turned over since the last one, 0 or 1, and the energy between,
+    /// in mWh.
     Accepted { rolls: u8, step: u64 },
-    /// It is none.
+    /// The reading is no entry.
     Held(Cause),
 }
 
