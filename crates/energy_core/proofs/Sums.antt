@@ -1,0 +1,53 @@
+-- The whole energy is the sum of the steps.
+use Rattle.std.proofs.Common.{◌≡◌, ℕ, ◌+◌, ◌-◌, ◌*◌, ◌≤◌, List, [], ◌∷◌, arith}
+use Rattle.std.proofs.Math.Nat.{mul-le-mul_right}
+use Rattle.std.specs.List.{sum_by}
+use Rattle.std.proofs.lemmas.List.Sums.{sum_by-cons}
+use Rattle.energy_core.specs.declared.entries.Last.{Last}
+use Rattle.energy_core.specs.declared.entries.Step.{Step}
+use Rattle.energy_core.specs.declared.entries.Entry.{Entry}
+use Rattle.energy_core.specs.declared.entries.Entry.TheVariants as entry
+use Rattle.energy_core.specs.Value.{unit_of, value_of}
+use Rattle.energy_core.specs.Account.{last_of, energy_of, step_to, steps_of, recorded, set_anew, whole_energy, NeverFalls}
+use Rattle.energy_core.specs.Laws.{StepsAddUp}
+
+one_step : (r l u : ℕ) → l ≤ r → r * u - l * u + l * u ≡ r * u
+one_step r l u h = omega (arith, mul-le-mul_right u h)
+
+pub energy_in : Step → ℕ
+energy_in s = s.mwh
+
+-- one more step
+pub sum-step : (range : ℕ) (opening : Last) (e : Entry) (es : List Entry)
+    → sum_by (λ (s : Step). s.mwh) (steps_of range opening (e ∷ es))
+    ≡ energy_of range (last_of opening es) e + sum_by (λ (s : Step). s.mwh) (steps_of range opening es)
+sum-step range opening e es = sum_by-cons (λ (s : Step). s.mwh) (step_to range (last_of opening es) e) (steps_of range opening es)
+
+-- what came in is what the counter shows and what was recorded
+balance : (range : ℕ) (opening : Last) (es : List Entry) → NeverFalls range opening es
+    → sum_by (λ (s : Step). s.mwh) (steps_of range opening es) + value_of opening + set_anew es
+    ≡ value_of (last_of opening es) + recorded range opening es
+balance range opening [] h = omega arith
+balance range opening (entry.Step at raw rolls ∷ es) h =
+    omega (
+      arith,
+      sum-step range opening (entry.Step at raw rolls) es,
+      balance range opening es h.1,
+      one_step (raw + rolls * range) (last_of opening es).raw (unit_of (last_of opening es).sf) h.0,
+    )
+balance range opening (entry.Change at before new sf ∷ es) h =
+    omega (
+      arith,
+      sum-step range opening (entry.Change at before new sf) es,
+      balance range opening es h.1,
+      one_step before (last_of opening es).raw (unit_of (last_of opening es).sf) h.0,
+    )
+
+pub sum-steps : StepsAddUp
+sum-steps range opening es h = omega (arith, balance range opening es h)
+
+-- one more entry adds its energy
+pub whole-cons : (range : ℕ) (opening : Last) (e : Entry) (es : List Entry) → NeverFalls range opening (e ∷ es)
+    → whole_energy range opening (e ∷ es) ≡ whole_energy range opening es + energy_of range (last_of opening es) e
+whole-cons range opening e es h =
+    omega (arith, sum-steps range opening (e ∷ es) h, sum-steps range opening es h.1, sum-step range opening e es)

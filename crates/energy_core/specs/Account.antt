@@ -1,0 +1,103 @@
+-- The entries of an installation, the steps between them, and the energy that they stand for.
+-- A list of entries has the latest first; below it lies the opening. `range` is how many counts the counter has.
+use Rattle.std.specs.Prelude.{◌≡◌, ℕ, ℤ, pos, negsuc, ◌+◌, ◌-◌, ◌*◌, ◌/◌, ◌^◌, ◌≤◌, ◌<◌, ◌≤ℤ◌, List, [], ◌∷◌}
+use Rattle.energy_core.specs.declared.entries.Last.{Last}
+use Rattle.energy_core.specs.declared.entries.Step.{Step}
+use Rattle.energy_core.specs.declared.entries.Entry.{Entry}
+use Rattle.energy_core.specs.declared.entries.Entry.TheVariants as entry
+use Rattle.energy_core.specs.Value.{unit_of, value_of}
+
+-- How many intervals of 900 seconds are touched between two moments, the second being the later.
+abbrev pub intervals_touched : (from till : ℕ) → ℕ
+intervals_touched from till = (till - 1) / 900 - from / 900 + 1
+
+-- when an entry was made
+abbrev pub moment_of : Entry → ℕ
+moment_of (entry.Step at raw rolls) = at
+moment_of (entry.Change at before new sf) = at
+
+-- where the counter stands after an entry
+abbrev pub after : Last → Entry → Last
+after last (entry.Step at raw rolls) = record { at = at; raw = raw; sf = last.sf }
+after last (entry.Change at before new sf) = record { at = at; raw = new; sf = sf }
+
+-- where it stands after all entries of an installation
+abbrev pub last_of : Last → List Entry → Last
+last_of opening [] = opening
+last_of opening (e ∷ es) = after (last_of opening es) e
+
+-- what the counter would have reached, had it neither turned over nor been set
+abbrev pub reached : (range : ℕ) → Entry → ℕ
+reached range (entry.Step at raw rolls) = raw + rolls * range
+reached range (entry.Change at before new sf) = before
+
+-- the energy, in mWh, from where the counter stood to an entry
+abbrev pub energy_of : (range : ℕ) → Last → Entry → ℕ
+energy_of range last e = reached range e * unit_of last.sf - value_of last
+
+-- the step from where the counter stood to an entry
+abbrev pub step_to : (range : ℕ) → Last → Entry → Step
+step_to range last e = record { from = last.at; till = moment_of e; mwh = energy_of range last e }
+
+-- The steps of an installation, one between each two neighbouring entries, the latest first.
+abbrev pub steps_of : (range : ℕ) → Last → List Entry → List Step
+steps_of range opening [] = []
+steps_of range opening (e ∷ es) = step_to range (last_of opening es) e ∷ steps_of range opening es
+
+-- The full turns that the entries record, and what the counter showed before each change, in mWh.
+abbrev pub recorded : (range : ℕ) → Last → List Entry → ℕ
+recorded range opening [] = 0
+recorded range opening (entry.Step at raw rolls ∷ es) =
+    rolls * range * unit_of (last_of opening es).sf + recorded range opening es
+recorded range opening (entry.Change at before new sf ∷ es) =
+    before * unit_of (last_of opening es).sf + recorded range opening es
+
+-- What the counter was set to by each change, in mWh.
+abbrev pub set_anew : List Entry → ℕ
+set_anew [] = 0
+set_anew (entry.Step at raw rolls ∷ es) = set_anew es
+set_anew (entry.Change at before new sf ∷ es) = new * unit_of sf + set_anew es
+
+-- The whole energy of an installation: its last value less its first, plus one full range for each recorded
+-- rollover, plus for each change what the counter showed before it, less what it was set to.
+abbrev pub whole_energy : (range : ℕ) → Last → List Entry → ℕ
+whole_energy range opening es = (value_of (last_of opening es) + recorded range opening es) - (value_of opening + set_anew es)
+
+-- No entry goes back, so that each difference above is one.
+abbrev pub NeverFalls : (range : ℕ) → Last → List Entry → Type 0
+NeverFalls range opening [] = Unit {0}
+NeverFalls range opening (e ∷ es) = ((last_of opening es).raw ≤ reached range e) × NeverFalls range opening es
+
+-- the scale is one that a register may have
+abbrev pub IsScale : ℤ → Type 0
+IsScale sf = (negsuc 2 ≤ℤ sf) × (sf ≤ℤ pos 3)
+
+-- where an entry sets the scale, it is such a one
+abbrev pub HasScale : Entry → Type 0
+HasScale (entry.Step at raw rolls) = Unit {0}
+HasScale (entry.Change at before new sf) = IsScale sf
+
+-- an entry tells only what the counter can show
+abbrev pub CanBeShown : (range : ℕ) → Entry → Type 0
+CanBeShown range (entry.Step at raw rolls) = raw < range
+CanBeShown range (entry.Change at before new sf) = (before < range) × (new < range)
+
+-- An entry may follow where the counter stood.
+pub record Follows (range : ℕ) (last : Last) (e : Entry) : Type 0 where
+  pub rises : last.raw ≤ reached range e
+  pub later : last.at < moment_of e
+  pub span : intervals_touched last.at (moment_of e) ≤ 3000
+  pub scale : HasScale e
+  pub shown : CanBeShown range e
+
+-- Each entry may follow those before it.
+abbrev pub AllFollow : (range : ℕ) → Last → List Entry → Type 0
+AllFollow range opening [] = Unit {0}
+AllFollow range opening (e ∷ es) = Follows range (last_of opening es) e × AllFollow range opening es
+
+-- The account of an installation: after these entries the counter stands so, and the whole energy is so much.
+pub record IsAccount (range : ℕ) (opening : Last) (es : List Entry) (last : Last) (total : ℕ) : Type 0 where
+  pub last_is : last ≡ last_of opening es
+  pub total_is : total ≡ whole_energy range opening es
+  pub within : total ≤ 4 * 10 ^ 18
+  pub follow : AllFollow range opening es

@@ -1,0 +1,77 @@
+-- Laws of the definitions, over every list of entries and of readings.
+use Rattle.std.specs.Prelude.{◌≡◌, ℕ, ◌+◌, ◌^◌, ◌*◌, ◌<◌, ◌≤◌, ◌↔◌, List, [], ◌∷◌, Ok, All, sum_by, nat_lt, if◌then◌else◌}
+use Rattle.energy_core.specs.declared.entries.Last.{Last}
+use Rattle.energy_core.specs.declared.entries.Step.{Step}
+use Rattle.energy_core.specs.declared.entries.Entry.{Entry}
+use Rattle.energy_core.specs.declared.entries.Entry.TheVariants as entry
+use Rattle.energy_core.specs.declared.judging.Terms.{Terms}
+use Rattle.energy_core.specs.declared.judging.Reading.{Reading}
+use Rattle.energy_core.specs.declared.judging.Verdict.TheVariants.{Accepted}
+use Rattle.energy_core.specs.Account.{intervals_touched, last_of, steps_of, whole_energy, NeverFalls, IsScale, IsAccount}
+use Rattle.energy_core.specs.Value.{unit_of}
+use Rattle.energy_core.specs.Verdict.{distance, verdict_of, IsPlausible}
+use Rattle.energy_core.specs.Entering.{entered, IsBooked}
+use Rattle.energy_core.specs.Readings.{entries_of_readings}
+
+-- The energies of the steps add up to the whole energy.
+abbrev pub StepsAddUp : Type 0
+StepsAddUp = (range : ℕ) (opening : Last) (es : List Entry) → NeverFalls range opening es
+    → sum_by (λ (s : Step). s.mwh) (steps_of range opening es) ≡ whole_energy range opening es
+
+-- An entry is entered exactly where it may follow and the energy stays within its limit.
+abbrev pub EnteredIsBooked : Type 0
+EnteredIsBooked = (range total : ℕ) (last : Last) (e : Entry) (next : Last) (step : Step)
+    → (entered range total last e ≡ Ok (next, step)) ↔ IsBooked range total last e next step
+
+-- A reading is accepted exactly where nothing speaks against it. Its rollovers are 1 if it shows less than before, else
+-- 0; its energy is the distance that the counter went.
+abbrev pub AcceptedIsPlausible : Type 0
+AcceptedIsPlausible = (range : ℕ) (terms : Terms) (last : Last) (reading : Reading) (rolls step : ℕ)
+    → (verdict_of range terms last reading ≡ Accepted rolls step)
+    ↔ (IsPlausible range terms last reading
+    × (rolls ≡ (if nat_lt reading.raw last.raw then 1 else 0))
+    × (step ≡ distance range last.raw reading.raw * unit_of last.sf))
+
+-- An accepted reading may be entered, with the same step.
+abbrev pub AcceptedIsEntered : Type 0
+AcceptedIsEntered = (range : ℕ) (terms : Terms) (last : Last) (reading : Reading) (rolls step : ℕ) → last.raw < range
+    → verdict_of range terms last reading ≡ Accepted rolls step
+    → entered range terms.total last (entry.Step reading.at reading.raw rolls)
+    ≡ Ok (record { at = reading.at; raw = reading.raw; sf = reading.sf }, record { from = last.at; till = reading.at; mwh = step })
+
+-- At opening an installation has an account, with no energy yet.
+abbrev pub AccountsBegin : Type 0
+AccountsBegin = (range : ℕ) (opening : Last) → IsAccount range opening [] opening 0
+
+-- One more entry, and the account is that of the longer list.
+abbrev pub AccountsGoOn : Type 0
+AccountsGoOn = (range : ℕ) (opening : Last) (es : List Entry) (last : Last) (total : ℕ) (e : Entry) (next : Last) (step : Step)
+    → IsAccount range opening es last total → IsBooked range total last e next step
+    → IsAccount range opening (e ∷ es) next (total + step.mwh)
+
+-- a step that can be shared out over the intervals that it touches
+pub record IsShareable (step : Step) : Type 0 where
+  pub later : step.from < step.till
+  pub span : intervals_touched step.from step.till ≤ 3000
+  pub within : step.mwh ≤ 4 * 10 ^ 18
+
+-- The counter stands below its range and at a lawful scale, no entry goes back, and the total is that of the steps,
+-- each of which can be shared out.
+pub record IsSound (range : ℕ) (opening : Last) (es : List Entry) (last : Last) (total : ℕ) : Type 0 where
+  pub raw : last.raw < range
+  pub scale : IsScale last.sf
+  pub never_falls : NeverFalls range opening es
+  pub sum : total ≡ sum_by (λ (s : Step). s.mwh) (steps_of range opening es)
+  pub steps : All IsShareable (steps_of range opening es)
+
+-- The account of an installation whose opening is sound is sound.
+abbrev pub AccountsAreSound : Type 0
+AccountsAreSound = (range : ℕ) (opening : Last) (es : List Entry) (last : Last) (total : ℕ)
+    → opening.raw < range → IsScale opening.sf
+    → IsAccount range opening es last total → IsSound range opening es last total
+
+-- Whatever readings come, the entries that they leave have an account.
+abbrev pub ReadingsKeepAccounts : Type 0
+ReadingsKeepAccounts = (range ceiling : ℕ) (opening : Last) (rs : List Reading) → opening.raw < range
+    → let es = entries_of_readings range ceiling opening rs in
+    IsAccount range opening es (last_of opening es) (whole_energy range opening es)

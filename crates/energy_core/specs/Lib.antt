@@ -1,0 +1,8 @@
+pub mod Value
+pub mod Ranged
+pub mod Account
+pub mod Verdict
+pub mod Entering
+pub mod Readings
+pub mod TrueRun
+pub mod Laws

@@ -1,0 +1,82 @@
+-- The table by which a reading is accepted or held.
+use Rattle.std.specs.Prelude.{◌≡◌, ◌≢◌, ◌<◌, ◌≤◌, ℕ, ◌+◌, ◌-◌, ◌*◌, ◌^◌, ◌%◌, ◌==◌, nat_lt, nat_le, Bool, not, List, [], ◌∷◌, Option, Some, None, if◌then◌else◌}
+use Rattle.std.specs.List.{find}
+use Rattle.std.specs.Ordering.{int_eq}
+use Rattle.energy_core.specs.declared.entries.Last.{Last}
+use Rattle.energy_core.specs.declared.judging.Terms.{Terms}
+use Rattle.energy_core.specs.declared.judging.Reading.{Reading}
+use Rattle.energy_core.specs.declared.judging.Cause.{Cause}
+use Rattle.energy_core.specs.declared.judging.Cause.TheVariants as cause
+use Rattle.energy_core.specs.declared.judging.Verdict.{Verdict}
+use Rattle.energy_core.specs.declared.judging.Verdict.TheVariants.{Accepted, Held}
+use Rattle.energy_core.specs.Value.{unit_of}
+use Rattle.energy_core.specs.Account.{intervals_touched}
+
+-- the number under which a cause is printed and kept
+abbrev pub cause_number : Cause → ℕ
+cause_number cause.NotAccumulated = 1
+cause_number cause.ScaleChanged = 2
+cause_number cause.NotLater = 3
+cause_number cause.SpanTooLong = 4
+cause_number cause.GapTooLong = 5
+cause_number cause.TooFast = 6
+cause_number cause.TotalFull = 7
+cause_number cause.NotBelowRange = 8
+
+-- A load of at most `ceiling` W can make a meter count this far in so many seconds: 5 mWh are 18 Ws. The first count
+-- may have been all but due before, so that it takes no energy.
+abbrev pub can_count : (ceiling unit seconds count : ℕ) → Bool
+can_count ceiling unit seconds count = nat_le ((count - 1) * unit * 18) (ceiling * seconds * 5)
+
+-- How far a counter went from one number to another, if it made less than a full turn.
+abbrev pub distance : (range from to : ℕ) → ℕ
+distance range from to = (to + range - from) % range
+
+-- whether a reading is to be held for a cause
+abbrev pub applies : (range : ℕ) → Terms → Last → Reading → Cause → Bool
+-- SunSpec's value of an accumulator that does not count
+applies range terms last reading cause.NotAccumulated = reading.raw == 0
+-- it counts in another unit than at the last entry
+applies range terms last reading cause.ScaleChanged = not (int_eq reading.sf last.sf)
+-- it shows what a counter of this range can't show
+applies range terms last reading cause.NotBelowRange = nat_le range reading.raw
+-- the last entry is as late, or later
+applies range terms last reading cause.NotLater = nat_le reading.at last.at
+-- more than 3,000 intervals lie between
+applies range terms last reading cause.SpanTooLong = nat_lt 3000 (intervals_touched last.at reading.at)
+-- the counter could have made a full turn, so that nobody can tell how far it went
+applies range terms last reading cause.GapTooLong =
+    can_count terms.ceiling (unit_of last.sf) (reading.at - last.at) range
+-- the counter could not have gone so far
+applies range terms last reading cause.TooFast =
+    not (can_count terms.ceiling (unit_of last.sf) (reading.at - last.at) (distance range last.raw reading.raw))
+-- the whole energy would pass its limit
+applies range terms last reading cause.TotalFull =
+    nat_lt (4 * 10 ^ 18) (terms.total + distance range last.raw reading.raw * unit_of last.sf)
+
+-- The causes, in the order in which they are looked at.
+abbrev pub causes : List Cause
+causes = cause.NotAccumulated ∷ cause.ScaleChanged ∷ cause.NotBelowRange ∷ cause.NotLater ∷ cause.SpanTooLong
+    ∷ cause.GapTooLong ∷ cause.TooFast ∷ cause.TotalFull ∷ []
+
+-- held for a cause, or accepted with the rollovers and the energy of the step
+abbrev pub judged : (range : ℕ) → Last → Reading → Option Cause → Verdict
+judged range last reading (Some cause) = Held cause
+judged range last reading None =
+    Accepted (if nat_lt reading.raw last.raw then 1 else 0) (distance range last.raw reading.raw * unit_of last.sf)
+
+-- Held for the first cause that applies. Where none does, accepted: the counter turned over once if it shows less
+-- than before, else not.
+abbrev pub verdict_of : (range : ℕ) → Terms → Last → Reading → Verdict
+verdict_of range terms last reading = judged range last reading (find (applies range terms last reading) causes)
+
+-- Nothing speaks against a reading.
+pub record IsPlausible (range : ℕ) (terms : Terms) (last : Last) (reading : Reading) : Type 0 where
+  pub accumulated : reading.raw ≢ 0
+  pub scale : reading.sf ≡ last.sf
+  pub below : reading.raw < range
+  pub later : last.at < reading.at
+  pub span : intervals_touched last.at reading.at ≤ 3000
+  pub gap : terms.ceiling * (reading.at - last.at) * 5 < (range - 1) * unit_of last.sf * 18
+  pub speed : (distance range last.raw reading.raw - 1) * unit_of last.sf * 18 ≤ terms.ceiling * (reading.at - last.at) * 5
+  pub within : terms.total + distance range last.raw reading.raw * unit_of last.sf ≤ 4 * 10 ^ 18

@@ -1,0 +1,83 @@
+ghost use Rattle.std.specs.Prelude.{◌≡◌, ℕ, ◌≤◌, ◌%◌, ◌↔◌, IsSome, IfSome};
+
+/// A counter that turns over: it shows the true count without its full turns.
+pub trait Counter {
+    /// How many counts a full turn has.
+    ghost range: { Self → ℕ };
+
+    /// How many counts a full turn has.
+    fn range(&self) -> u64
+        ensures { result ≡ range self.now };
+
+    /// What the counter shows at a true count.
+    fn shown(&self, count: u64) -> u32
+        ensures { result ≡ count % range self.now };
+
+    ghost at_least: { (c : Self) → 65536 ≤ range c };
+
+    ghost at_most: { (c : Self) → range c ≤ 4294967296 };
+}
+
+/// A counter of 32 bits, as SunSpec's `acc32`.
+#[derive(Clone, Copy, Debug, PartialEq, Eq)]
+pub struct Acc32;
+
+impl Counter for Acc32 {
+    ghost use Rattle.std.proofs.Common.{lit≤};
+
+    ghost range = { λ _. 4294967296 };
+
+    ghost at_least = { λ _. lit≤ tt };
+
+    ghost at_most = { λ _. lit≤ tt };
+
+    fn range(&self) -> u64 {
+        u64::from(u32::MAX) + 1
+    }
+
+    fn shown(&self, count: u64) -> u32 {
+        (count % 4_294_967_296) as u32
+    }
+}
+
+/// A counter that turns over at a number of its own, as many meters do at a power of ten.
+#[derive(Clone, Copy, Debug, PartialEq, Eq)]
+pub struct Ranged {
+    range: u64,
+    ghost at_least: { 65536 ≤ range },
+    ghost at_most: { range ≤ 4294967296 },
+}
+
+impl Ranged {
+    ghost use Rattle.energy_core.specs.Ranged.{range_of};
+
+    /// A counter of that many counts, from 65,536 to 4,294,967,296.
+    pub fn new(range: u64) -> Option<Self>
+        ensures valid { IsSome result ↔ ((65536 ≤ range) × (range ≤ 4294967296)) }
+        ensures value { IfSome result (λ counter. range_of counter ≡ range) }
+    {
+        if (65_536..=4_294_967_296).contains(&range) {
+            Some(Ranged { range })
+        } else {
+            None
+        }
+    }
+}
+
+impl Counter for Ranged {
+    ghost use Rattle.energy_core.specs.Ranged.{range_of};
+
+    ghost range = { range_of };
+
+    ghost at_least = { λ c. c.at_least };
+
+    ghost at_most = { λ c. c.at_most };
+
+    fn range(&self) -> u64 {
+        self.range
+    }
+
+    fn shown(&self, count: u64) -> u32 {
+        (count % self.range) as u32
+    }
+}

@@ -1,0 +1,136 @@
+ghost use Rattle.std.specs.Prelude.{◌≡◌, ◌≤◌, ◌<◌, ◌*◌, ◌^◌, pos, negsuc, ◌≤ℤ◌};
+ghost use Rattle.energy_core.specs.Verdict.{verdict_of, can_count, distance, cause_number};
+
+use crate::counters::Counter;
+use crate::entries::Last;
+use crate::measures::{TOTAL_LIMIT, is_long_span, unit};
+
+/// What holds of an installation when an entry is judged: the greatest load that can flow, in W, and its energy so
+/// far, in mWh.
+#[derive(Clone, Copy, Debug, PartialEq, Eq)]
+pub struct Terms {
+    pub ceiling: u64,
+    pub total: u64,
+}
+
+/// What a meter told: the moment, in seconds since 1970-01-01 UTC, its counter, and the scale factor of the counter. A
+/// scale factor that is not implemented counts as 0.
+#[derive(Clone, Copy, Debug, PartialEq, Eq)]
+pub struct Reading {
+    pub at: u64,
+    pub raw: u32,
+    pub sf: i16,
+}
+
+/// Why a reading is held.
+#[derive(Clone, Copy, Debug, PartialEq, Eq)]
+pub enum Cause {
+    /// The counter shows 0: SunSpec's value of an accumulator that does not count.
+    NotAccumulated = 1,
+    /// The scale factor is another than at the last entry.
+    ScaleChanged = 2,
+    /// The last entry is as late, or later.
+    NotLater = 3,
+    /// More than 3,000 intervals lie between.
+    SpanTooLong = 4,
+    /// The counter could have made a full turn.
+    GapTooLong = 5,
+    /// The counter went further than the ceiling allows.
+    TooFast = 6,
+    /// The installation's energy would pass 4 * 10^18 mWh.
+    TotalFull = 7,
+    /// The counter shows a number that is not below its range.
+    NotBelowRange = 8,
+}
+
+impl Cause {
+    /// The number under which the cause is printed and kept.
+    pub fn number(self) -> u8
+        ensures { result ≡ cause_number self }
+    {
+        self as u8
+    }
+}
+
+/// What becomes of a reading.
+#[derive(Clone, Copy, Debug, PartialEq, Eq)]
+pub enum Verdict {
+    /// The reading is an entry: how often the counter turned over since the last one, 0 or 1, and the energy between,
+    /// in mWh.
+    Accepted { rolls: u8, step: u64 },
+    /// The reading is no entry.
+    Held(Cause),
+}
+
+/// Whether a load of at most `ceiling` W can make a meter count this far in so many seconds.
+fn may_count(ceiling: u64, unit: u64, seconds: u64, count: u64) -> bool
+    requires ceiling { ceiling ≤ 1000000000 }
+    requires unit { unit ≤ 1000000 }
+    requires seconds { seconds ≤ 3000000 }
+    requires count { count ≤ 4294967296 }
+    ensures { result ≡ can_count ceiling unit seconds count }
+{
+    count.saturating_sub(1) * unit * 18 <= ceiling * seconds * 5
+}
+
+/// How far a counter went from one number to another, if it made less than a full turn.
+fn distance_between(range: u64, from: u64, to: u64) -> u64
+    requires some { 0 < range }
+    requires range { range ≤ 4294967296 }
+    requires from { from < range }
+    requires to { to < range }
+    ensures value { result ≡ distance range from to }
+    ensures below { result < range }
+{
+    if to < from {
+        to + range - from
+    } else {
+        to - from
+    }
+}
+
+/// Accepts a reading or holds it for the first cause that applies, in the order 1, 2, 8, 3, 4, 5, 6, 7.
+pub fn judge<C: Counter>(counter: &C, terms: &Terms, last: &Last, reading: &Reading) -> Verdict
+    requires ceiling_low { 1 ≤ terms.now.ceiling }
+    requires ceiling_high { terms.now.ceiling ≤ 1000000000 }
+    requires total { terms.now.total ≤ 4 * 10 ^ 18 }
+    requires raw { last.now.raw < C.range counter.now }
+    requires scale_low { negsuc 2 ≤ℤ last.now.sf }
+    requires scale_high { last.now.sf ≤ℤ pos 3 }
+    ensures { result ≡ verdict_of (C.range counter.now) terms.now last.now reading.now }
+{
+    let range = counter.range();
+    let raw = u64::from(reading.raw);
+    if reading.raw == 0 {
+        return Verdict::Held(Cause::NotAccumulated);
+    }
+    if reading.sf != last.sf {
+        return Verdict::Held(Cause::ScaleChanged);
+    }
+    if range <= raw {
+        return Verdict::Held(Cause::NotBelowRange);
+    }
+    if reading.at <= last.at {
+        return Verdict::Held(Cause::NotLater);
+    }
+    if is_long_span(last.at, reading.at) {
+        return Verdict::Held(Cause::SpanTooLong);
+    }
+    let unit = unit(last.sf);
+    let seconds = reading.at - last.at;
+    if may_count(terms.ceiling, unit, seconds, range) {
+        return Verdict::Held(Cause::GapTooLong);
+    }
+    let distance = distance_between(range, u64::from(last.raw), raw);
+    if !may_count(terms.ceiling, unit, seconds, distance) {
+        return Verdict::Held(Cause::TooFast);
+    }
+    let step = distance * unit;
+    if terms.total + step > TOTAL_LIMIT {
+        return Verdict::Held(Cause::TotalFull);
+    }
+    Verdict::Accepted {
+        rolls: u8::from(reading.raw < last.raw),
+        step,
+    }
+}

@@ -1,0 +1,40 @@
+ghost use Rattle.std.specs.Prelude.{◌≡◌, ◌≤◌, ◌<◌, ◌↔◌, pos, negsuc, ◌≤ℤ◌, IsTrue};
+ghost use Rattle.energy_core.specs.Value.{unit_of};
+ghost use Rattle.energy_core.specs.Account.{intervals_touched};
+
+/// The most energy that an installation may have, in mWh.
+pub(crate) const TOTAL_LIMIT: u64 = 4_000_000_000_000_000_000;
+
+/// How many intervals a step may touch.
+const INTERVAL_LIMIT: u64 = 3000;
+
+/// How many seconds an interval has.
+const INTERVAL_SECONDS: u64 = 900;
+
+/// How many mWh one count is.
+#[tactic(auto, unfolding(crate::specs::Value::unit_of))]
+pub(crate) fn unit(sf: i16) -> u64
+    requires low { negsuc 2 ≤ℤ sf }
+    requires high { sf ≤ℤ pos 3 }
+    ensures value { result ≡ unit_of sf }
+    ensures some { 1 ≤ result }
+    ensures small { result ≤ 1000000 }
+{
+    match sf {
+        -3 => 1,
+        -2 => 10,
+        -1 => 100,
+        0 => 1000,
+        1 => 10000,
+        2 => 100000,
+        _ => 1000000,
+    }
+}
+
+/// Whether more intervals are touched between two moments than a step may touch.
+pub(crate) fn is_long_span(from: u64, till: u64) -> bool
+    requires { from < till }
+    ensures { IsTrue result ↔ (3000 < intervals_touched from till) }
+{
+    (till - 1) / INTERVAL_SECONDS - from / INTERVAL_SECONDS >= INTERVAL_LIMIT
+}
