@@ -5,4 +5,4 @@ pub mod Turns
 pub mod Acceptance
 pub mod Soundness
 pub mod Truth
-pub mod Rows
+pub mod Examples
