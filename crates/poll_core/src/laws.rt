@@ -9,8 +9,6 @@ ghost use Rattle.poll_core.specs.Settling.{Event, Answered, settled_by, started,
 ghost use Rattle.poll_core.specs.Standing.{is_over};
 ghost use Rattle.poll_core.specs.Laws.{outcomes_by_poll, outcomes_by_event, numbers_started, numbers_settled, numbers_pending, settled_among, with_event, new_result, Waits, AcceptsAll};
 
-use mb_wire::one_reply;
-
 /// Each poll that was started is settled once or is pending. What the events settle, event by event,
 /// is the outcome of each poll that has one.
 pub fn each_once()
@@ -52,6 +50,4 @@ pub fn over_for_good()
 pub fn whole_answers()
     ensures words { (answer : Answer) (i : ℕ) → word_at answer i ≡ slice_get (words_in answer) i }
     ensures count { (poll : Poll) (frame words : List ℕ) → answer poll frame ≡ Answered words → length words ≡ poll.span.count }
-{
-    one_reply();
-}
+{}
