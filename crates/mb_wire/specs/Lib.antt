@@ -1,6 +1,10 @@
 pub mod Bytes
+pub mod Coils
 pub mod Frames
 pub mod Reader
 pub mod Requests
+pub mod RequestFaults
 pub mod Replies
 pub mod Spans
+pub mod Links
+pub mod MemoryLinks

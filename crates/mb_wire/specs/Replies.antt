@@ -1,10 +1,14 @@
 -- Replies, as they stand in PDUs (Modbus Application Protocol V1.1b3, sections 4.1, 6 and 7).
-use Rattle.std.specs.Prelude.{◌≡◌, ℕ, ◌+◌, ◌*◌, Bool, ◌&&◌, ◌||◌, not, nat_lt, ◌==◌, if◌then◌else◌, List, ◌∷◌, [], length, drop, slice_index, slice_get, Ok, Err, None}
+use Rattle.std.specs.Prelude.{◌≡◌, ℕ, ◌+◌, ◌*◌, Bool, true, false, ◌&&◌, ◌||◌, not, nat_lt, ◌==◌, if◌then◌else◌, List, [], ◌∷◌, ◌++◌, length, take, drop, slice_index, slice_get, Ok, Err, Some, None}
 use Rattle.std.specs.declared.result.Result.{Result}
 use Rattle.std.specs.declared.option.Option.{Option}
-use Rattle.mb_wire.specs.Bytes.{words_of}
-use Rattle.mb_wire.specs.Requests.{Query, query_of, function_of, quantity_of}
+use Rattle.mb_wire.specs.Bytes.{number_at, words_of, word_bytes}
+use Rattle.mb_wire.specs.Coils.{bytes_for, cleared_after, coils_of, packed}
+use Rattle.mb_wire.specs.Requests.{Query, ReadCoils, ReadDiscrete, ReadHolding, ReadInput, WriteCoil, WriteRegister, WriteCoils, WriteRegisters, query_of, function_of, address_of, field_of, query_bytes}
+use Rattle.mb_wire.specs.RequestFaults.{value_unless}
 use Rattle.mb_wire.specs.declared.requests.Request.{Request}
+use Rattle.mb_wire.specs.declared.requests.Wanted.{Wanted}
+use Rattle.mb_wire.specs.declared.requests.Wanted.TheVariants.{Coils, Registers, Head}
 use Rattle.mb_wire.specs.declared.replies.Reply.{Reply}
 use Rattle.mb_wire.specs.declared.replies.Reply.TheVariants as lent
 use Rattle.mb_wire.specs.declared.replies.ReplyFault.{ReplyFault}
@@ -12,24 +16,96 @@ use Rattle.mb_wire.specs.declared.replies.ReplyFault.TheVariants.{WrongFunction,
 
 -- what a device answers, without where the reply lies in memory
 pub data Answer : Type 0 where
+  Bits : (bits : List Bool) → Answer
   Words : (words : List ℕ) → Answer
+  Echo : Answer
   Exception : (code : ℕ) → Answer
 
 abbrev pub answer_of : Reply → Answer
+answer_of (lent.Bits quantity bytes) = Bits (coils_of quantity bytes.now)
 answer_of (lent.Words bytes) = Words (words_of bytes.now)
+answer_of lent.Echo = Echo
 answer_of (lent.Exception code) = Exception code
 
-abbrev pub read_as : Result Reply ReplyFault → Result Answer ReplyFault
-read_as (Ok reply) = Ok (answer_of reply)
-read_as (Err fault) = Err fault
+-- what a reply that is no exception brings: so many coils, so many registers, or the request's own head
+abbrev pub wanted_by : Query → Wanted
+wanted_by (ReadCoils address quantity) = Coils quantity
+wanted_by (ReadDiscrete address quantity) = Coils quantity
+wanted_by (ReadHolding address quantity) = Registers quantity
+wanted_by (ReadInput address quantity) = Registers quantity
+wanted_by (WriteCoil address on) = Head
+wanted_by (WriteRegister address value) = Head
+wanted_by (WriteCoils address coils) = Head
+wanted_by (WriteRegisters address values) = Head
+
+-- the head that the reply to a write repeats
+abbrev pub echo_of : Query → List ℕ
+echo_of query = take 5 (query_bytes query)
 
 -- The PDU spells this answer to the query.
 abbrev pub SpellsReply : Query → List ℕ → Answer → Type 0
+-- the function code, how many bytes follow, and the coils asked for
+SpellsReply query pdu (Bits bits) =
+    (wanted_by query ≡ Coils (length bits))
+    × ((bytes : List ℕ) × (pdu ≡ function_of query ∷ bytes_for (length bits) ∷ bytes)
+    × (length bytes ≡ bytes_for (length bits)) × (bits ≡ coils_of (length bits) bytes))
 -- the function code, how many bytes follow, and the registers asked for
 SpellsReply query pdu (Words words) =
-    (bytes : List ℕ) × (pdu ≡ function_of query ∷ 2 * quantity_of query ∷ bytes) × (length bytes ≡ 2 * quantity_of query) × (words ≡ words_of bytes)
+    (wanted_by query ≡ Registers (length words))
+    × ((bytes : List ℕ) × (pdu ≡ function_of query ∷ 2 * length words ∷ bytes)
+    × (length bytes ≡ 2 * length words) × (words ≡ words_of bytes))
+-- the head of the request
+SpellsReply query pdu Echo = (wanted_by query ≡ Head) × (pdu ≡ echo_of query)
 -- the function code with its top bit set, and one code
 SpellsReply query pdu (Exception code) = pdu ≡ (function_of query + 128) ∷ code ∷ []
+
+-- the one spelling of an answer, its spare bits being 0
+abbrev pub answer_bytes : Query → Answer → List ℕ
+answer_bytes query (Bits bits) = function_of query ∷ bytes_for (length bits) ∷ packed bits
+answer_bytes query (Words words) = function_of query ∷ 2 * length words ∷ word_bytes words
+answer_bytes query Echo = echo_of query
+answer_bytes query (Exception code) = (function_of query + 128) ∷ code ∷ []
+
+-- an answer that brings what the query asks for
+abbrev pub AnswersQuery : Query → Answer → Type 0
+AnswersQuery query (Bits bits) = wanted_by query ≡ Coils (length bits)
+AnswersQuery query (Words words) = wanted_by query ≡ Registers (length words)
+AnswersQuery query Echo = wanted_by query ≡ Head
+AnswersQuery query (Exception code) = Unit {0}
+
+-- a reply that brings what the request asks for, and as many bytes as it says
+abbrev pub FitsRequest : Request → Reply → Type 0
+FitsRequest request (lent.Bits quantity bytes) =
+    (wanted_by (query_of request) ≡ Coils quantity) × (length bytes.now ≡ bytes_for quantity)
+FitsRequest request (lent.Words bytes) =
+    (wanted_by (query_of request) ≡ Registers (length (words_of bytes.now))) × (length bytes.now ≡ 2 * length (words_of bytes.now))
+FitsRequest request lent.Echo = wanted_by (query_of request) ≡ Head
+FitsRequest request (lent.Exception code) = Unit {0}
+
+-- coil number i, from 0
+abbrev pub bit_at : Answer → ℕ → Option Bool
+bit_at (Bits bits) i = slice_get bits i
+bit_at (Words words) i = None
+bit_at Echo i = None
+bit_at (Exception code) i = None
+
+-- register number i, from 0
+abbrev pub word_at : Answer → ℕ → Option ℕ
+word_at (Bits bits) i = None
+word_at (Words words) i = slice_get words i
+word_at Echo i = None
+word_at (Exception code) i = None
+
+-- whether a reply brings bytes, and how many
+abbrev pub brings_bytes : Wanted → Bool
+brings_bytes (Coils quantity) = true
+brings_bytes (Registers quantity) = true
+brings_bytes Head = false
+
+abbrev pub byte_count : Wanted → ℕ
+byte_count (Coils quantity) = bytes_for quantity
+byte_count (Registers quantity) = 2 * quantity
+byte_count Head = 0
 
 -- when each fault holds
 abbrev pub is_exception : Query → List ℕ → Bool
@@ -43,28 +119,58 @@ abbrev pub is_wrong_length : Query → List ℕ → Bool
 is_wrong_length query pdu =
     if is_exception query pdu
     then not (length pdu == 2)
-    else nat_lt (length pdu) 2 || not (length pdu == 2 + slice_index pdu 1)
+    else if brings_bytes (wanted_by query)
+    then nat_lt (length pdu) 2 || not (length pdu == 2 + slice_index pdu 1)
+    else not (length pdu == 5)
 
 abbrev pub is_wrong_byte_count : Query → List ℕ → Bool
 is_wrong_byte_count query pdu =
-    not (is_exception query pdu) && not (slice_index pdu 1 == 2 * quantity_of query)
+    not (is_exception query pdu) && brings_bytes (wanted_by query) && not (slice_index pdu 1 == byte_count (wanted_by query))
 
--- the answer that the PDU spells, or the least fault that holds
+abbrev pub is_wrong_echo : Query → List ℕ → Bool
+is_wrong_echo query pdu =
+    not (is_exception query pdu) && not (brings_bytes (wanted_by query))
+    && not (number_at pdu 1 == address_of query && number_at pdu 3 == field_of query)
+
+-- the least fault that holds
+abbrev pub reply_fault : Query → List ℕ → Option ReplyFault
+reply_fault query pdu =
+    if is_wrong_function query pdu then Some WrongFunction
+    else if is_wrong_length query pdu then Some WrongLength
+    else if is_wrong_byte_count query pdu then Some WrongByteCount
+    else if is_wrong_echo query pdu then Some WrongEcho
+    else None
+
+-- what a PDU without a fault brings
+abbrev pub brought : Wanted → List ℕ → Answer
+brought (Coils quantity) pdu = Bits (coils_of quantity (drop 2 pdu))
+brought (Registers quantity) pdu = Words (words_of (drop 2 pdu))
+brought Head pdu = Echo
+
+abbrev pub answer_from : Query → List ℕ → Answer
+answer_from query pdu =
+    if is_exception query pdu then Exception (slice_index pdu 1) else brought (wanted_by query) pdu
+
+-- what the PDU answers, or the least fault
 abbrev pub answer_in : Query → List ℕ → Result Answer ReplyFault
-answer_in query pdu =
-    if is_wrong_function query pdu then Err WrongFunction
-    else if is_wrong_length query pdu then Err WrongLength
-    else if is_wrong_byte_count query pdu then Err WrongByteCount
-    else if is_exception query pdu then Ok (Exception (slice_index pdu 1))
-    else Ok (Words (words_of (drop 2 pdu)))
+answer_in query pdu = value_unless (reply_fault query pdu) (answer_from query pdu)
 
 abbrev pub reply_of : Request → List ℕ → Result Answer ReplyFault
 reply_of request pdu = answer_in (query_of request) pdu
 
--- register number i, from 0
-abbrev pub word_at : Answer → ℕ → Option ℕ
-word_at (Words words) i = slice_get words i
-word_at (Exception code) i = None
+abbrev pub read_as : Result Reply ReplyFault → Result Answer ReplyFault
+read_as (Ok reply) = Ok (answer_of reply)
+read_as (Err fault) = Err fault
+
+-- a reply's PDU with its spare bits made 0
+abbrev pub cleared_reply : Wanted → List ℕ → List ℕ
+cleared_reply (Coils quantity) pdu = take 2 pdu ++ cleared_after quantity (drop 2 pdu)
+cleared_reply (Registers quantity) pdu = pdu
+cleared_reply Head pdu = pdu
+
+abbrev pub reply_cleared : Query → List ℕ → List ℕ
+reply_cleared query pdu =
+    if is_exception query pdu then pdu else cleared_reply (wanted_by query) pdu
 
 -- the number of a fault, as it is printed and kept
 abbrev pub fault_number : ReplyFault → ℕ

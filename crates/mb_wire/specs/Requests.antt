@@ -1,51 +1,135 @@
 -- Requests, as they stand in PDUs (Modbus Application Protocol V1.1b3, sections 4.1 and 6).
-use Rattle.std.specs.Prelude.{◌≡◌, ℕ, ◌<◌, ◌≤◌, List, ◌∷◌, ◌++◌}
-use Rattle.mb_wire.specs.Bytes.{word}
+use Rattle.std.specs.Prelude.{◌≡◌, ℕ, ◌*◌, ◌<◌, ◌≤◌, Bool, if◌then◌else◌, List, [], ◌∷◌, ◌++◌, length}
+use Rattle.mb_wire.specs.Bytes.{word, words_of, word_bytes}
+use Rattle.mb_wire.specs.Coils.{bytes_for, coils_of, packed}
 use Rattle.mb_wire.specs.declared.requests.Request.{Request}
 use Rattle.mb_wire.specs.declared.requests.Request.TheVariants as lent
 
 -- what a client asks for, without where the request lies in memory
 pub data Query : Type 0 where
+  ReadCoils : (address quantity : ℕ) → Query
+  ReadDiscrete : (address quantity : ℕ) → Query
   ReadHolding : (address quantity : ℕ) → Query
   ReadInput : (address quantity : ℕ) → Query
+  WriteCoil : (address : ℕ) (on : Bool) → Query
+  WriteRegister : (address value : ℕ) → Query
+  WriteCoils : (address : ℕ) (coils : List Bool) → Query
+  WriteRegisters : (address : ℕ) (values : List ℕ) → Query
 
 abbrev pub query_of : Request → Query
+query_of (lent.ReadCoils address quantity) = ReadCoils address quantity
+query_of (lent.ReadDiscrete address quantity) = ReadDiscrete address quantity
 query_of (lent.ReadHolding address quantity) = ReadHolding address quantity
 query_of (lent.ReadInput address quantity) = ReadInput address quantity
+query_of (lent.WriteCoil address on) = WriteCoil address on
+query_of (lent.WriteRegister address value) = WriteRegister address value
+query_of (lent.WriteCoils address quantity bytes) = WriteCoils address (coils_of quantity bytes.now)
+query_of (lent.WriteRegisters address bytes) = WriteRegisters address (words_of bytes.now)
 
 -- the function code
 abbrev pub function_of : Query → ℕ
+function_of (ReadCoils address quantity) = 1
+function_of (ReadDiscrete address quantity) = 2
 function_of (ReadHolding address quantity) = 3
 function_of (ReadInput address quantity) = 4
+function_of (WriteCoil address on) = 5
+function_of (WriteRegister address value) = 6
+function_of (WriteCoils address coils) = 15
+function_of (WriteRegisters address values) = 16
 
--- the first address, and how many coils or registers are asked for from there on
+-- the first address
 abbrev pub address_of : Query → ℕ
+address_of (ReadCoils address quantity) = address
+address_of (ReadDiscrete address quantity) = address
 address_of (ReadHolding address quantity) = address
 address_of (ReadInput address quantity) = address
+address_of (WriteCoil address on) = address
+address_of (WriteRegister address value) = address
+address_of (WriteCoils address coils) = address
+address_of (WriteRegisters address values) = address
 
-abbrev pub quantity_of : Query → ℕ
-quantity_of (ReadHolding address quantity) = quantity
-quantity_of (ReadInput address quantity) = quantity
+-- what stands for a coil that is written
+abbrev pub coil_value : Bool → ℕ
+coil_value on = if on then 65280 else 0
 
--- a quantity that the standard allows
-abbrev pub IsLawfulQuery : Query → Type 0
-IsLawfulQuery (ReadHolding address quantity) = (1 ≤ quantity) × (quantity ≤ 125)
-IsLawfulQuery (ReadInput address quantity) = (1 ≤ quantity) × (quantity ≤ 125)
+-- what stands after the address: the quantity, or the one value that is written
+abbrev pub field_of : Query → ℕ
+field_of (ReadCoils address quantity) = quantity
+field_of (ReadDiscrete address quantity) = quantity
+field_of (ReadHolding address quantity) = quantity
+field_of (ReadInput address quantity) = quantity
+field_of (WriteCoil address on) = coil_value on
+field_of (WriteRegister address value) = value
+field_of (WriteCoils address coils) = length coils
+field_of (WriteRegisters address values) = length values
 
-abbrev pub IsLawful : Request → Type 0
-IsLawful request = IsLawfulQuery (query_of request)
+-- what stands after that: how many bytes are written, and these
+abbrev pub carried_by : Query → List ℕ
+carried_by (ReadCoils address quantity) = []
+carried_by (ReadDiscrete address quantity) = []
+carried_by (ReadHolding address quantity) = []
+carried_by (ReadInput address quantity) = []
+carried_by (WriteCoil address on) = []
+carried_by (WriteRegister address value) = []
+carried_by (WriteCoils address coils) = bytes_for (length coils) ∷ packed coils
+carried_by (WriteRegisters address values) = 2 * length values ∷ word_bytes values
 
--- The one spelling of a request: the function code, the address, and what the function asks for.
+-- the function code and two numbers
+abbrev pub head_bytes : ℕ → ℕ → ℕ → List ℕ
+head_bytes function address field = function ∷ word address ++ word field
+
+-- the one spelling of a request, its spare bits being 0
 abbrev pub query_bytes : Query → List ℕ
-query_bytes (ReadHolding address quantity) = 3 ∷ word address ++ word quantity
-query_bytes (ReadInput address quantity) = 4 ∷ word address ++ word quantity
+query_bytes query = head_bytes (function_of query) (address_of query) (field_of query) ++ carried_by query
 
 abbrev pub request_bytes : Request → List ℕ
 request_bytes request = query_bytes (query_of request)
 
--- The PDU spells the request.
+abbrev pub IsWithin : ℕ → ℕ → Type 0
+IsWithin quantity most = (1 ≤ quantity) × (quantity ≤ most)
+
+-- a quantity that the standard allows
+abbrev pub IsLawfulQuery : Query → Type 0
+IsLawfulQuery (ReadCoils address quantity) = IsWithin quantity 2000
+IsLawfulQuery (ReadDiscrete address quantity) = IsWithin quantity 2000
+IsLawfulQuery (ReadHolding address quantity) = IsWithin quantity 125
+IsLawfulQuery (ReadInput address quantity) = IsWithin quantity 125
+IsLawfulQuery (WriteCoil address on) = Unit {0}
+IsLawfulQuery (WriteRegister address value) = Unit {0}
+IsLawfulQuery (WriteCoils address coils) = IsWithin (length coils) 1968
+IsLawfulQuery (WriteRegisters address values) = IsWithin (length values) 123
+
+-- a request with such a quantity, and as many bytes as it says
+abbrev pub IsLawful : Request → Type 0
+IsLawful (lent.ReadCoils address quantity) = IsWithin quantity 2000
+IsLawful (lent.ReadDiscrete address quantity) = IsWithin quantity 2000
+IsLawful (lent.ReadHolding address quantity) = IsWithin quantity 125
+IsLawful (lent.ReadInput address quantity) = IsWithin quantity 125
+IsLawful (lent.WriteCoil address on) = Unit {0}
+IsLawful (lent.WriteRegister address value) = Unit {0}
+IsLawful (lent.WriteCoils address quantity bytes) = IsWithin quantity 1968 × (length bytes.now ≡ bytes_for quantity)
+IsLawful (lent.WriteRegisters address bytes) =
+    IsWithin (length (words_of bytes.now)) 123 × (length bytes.now ≡ 2 * length (words_of bytes.now))
+
+-- The PDU spells the query.
 abbrev pub SpellsRequest : List ℕ → Query → Type 0
+SpellsRequest pdu (ReadCoils address quantity) =
+    IsWithin quantity 2000 × (address < 65536) × (pdu ≡ head_bytes 1 address quantity)
+SpellsRequest pdu (ReadDiscrete address quantity) =
+    IsWithin quantity 2000 × (address < 65536) × (pdu ≡ head_bytes 2 address quantity)
 SpellsRequest pdu (ReadHolding address quantity) =
-    IsLawfulQuery (ReadHolding address quantity) × (address < 65536) × (pdu ≡ 3 ∷ word address ++ word quantity)
+    IsWithin quantity 125 × (address < 65536) × (pdu ≡ head_bytes 3 address quantity)
 SpellsRequest pdu (ReadInput address quantity) =
-    IsLawfulQuery (ReadInput address quantity) × (address < 65536) × (pdu ≡ 4 ∷ word address ++ word quantity)
+    IsWithin quantity 125 × (address < 65536) × (pdu ≡ head_bytes 4 address quantity)
+SpellsRequest pdu (WriteCoil address on) =
+    (address < 65536) × (pdu ≡ head_bytes 5 address (coil_value on))
+SpellsRequest pdu (WriteRegister address value) =
+    (address < 65536) × (value < 65536) × (pdu ≡ head_bytes 6 address value)
+SpellsRequest pdu (WriteCoils address coils) =
+    IsWithin (length coils) 1968 × (address < 65536)
+    × ((bytes : List ℕ) × (pdu ≡ head_bytes 15 address (length coils) ++ length bytes ∷ bytes)
+    × (length bytes ≡ bytes_for (length coils)) × (coils ≡ coils_of (length coils) bytes))
+SpellsRequest pdu (WriteRegisters address values) =
+    IsWithin (length values) 123 × (address < 65536)
+    × ((bytes : List ℕ) × (pdu ≡ head_bytes 16 address (length values) ++ length bytes ∷ bytes)
+    × (length bytes ≡ 2 * length values) × (values ≡ words_of bytes))

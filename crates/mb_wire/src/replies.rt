@@ -1,16 +1,23 @@
 // Replies and their PDUs.
-ghost use Rattle.std.specs.Prelude.{◌≡◌, ℕ, ◌↔◌, List, Ok};
-ghost use Rattle.mb_wire.specs.Requests.{Query};
-ghost use Rattle.mb_wire.specs.Replies.{Answer, SpellsReply, answer_in, answer_of, fault_number, read_as, reply_of, word_at};
+ghost use Rattle.std.specs.Prelude.{◌≡◌, ◌≤◌, ◌+◌, ℕ, ◌↔◌, ◌++◌, List, length, take, false, Ok, None, IfOk};
+ghost use Rattle.mb_wire.specs.Bytes.{AreBytes};
+ghost use Rattle.mb_wire.specs.Requests.{Query, IsLawful, query_of, function_of};
+ghost use Rattle.mb_wire.specs.Replies.{Answer, FitsRequest, SpellsReply, answer_bytes, answer_from, answer_in, answer_of, bit_at, brings_bytes, byte_count, echo_of, fault_number, is_exception, is_wrong_byte_count, is_wrong_echo, is_wrong_function, is_wrong_length, read_as, reply_cleared, reply_fault, reply_of, wanted_by, word_at};
 
-use crate::requests::Request;
+use crate::bytes::{append, append_coils, append_words, head, read_number};
+use crate::requests::{Request, Wanted};
 use byteorder::{BigEndian, ByteOrder};
 
 /// What a device answers, lent from the PDU.
 #[derive(Clone, Copy, Debug)]
 pub enum Reply<'a> {
+    /// Coils or discrete inputs, eight to a byte, the lowest bit of the first byte first. Spare bits
+    /// of the last byte are ignored.
+    Bits { quantity: u16, bytes: &'a [u8] },
     /// Registers, two bytes each, high byte first.
     Words(&'a [u8]),
+    /// A write was carried out: its head stands in the reply.
+    Echo,
     /// An exception code.
     Exception(u8),
 }
@@ -42,34 +49,180 @@ impl ReplyFault {
     }
 }
 
+impl Wanted {
+    // Whether a reply brings bytes.
+    fn brings(self) -> bool
+        ensures { result ≡ brings_bytes self }
+    {
+        match self {
+            Wanted::Coils(_) | Wanted::Registers(_) => true,
+            Wanted::Head => false,
+        }
+    }
+
+    // How many bytes a reply brings.
+    fn count(self) -> u32
+        ensures { result ≡ byte_count self }
+    {
+        match self {
+            Wanted::Coils(quantity) => (u32::from(quantity) + 7) / 8,
+            Wanted::Registers(quantity) => 2 * u32::from(quantity),
+            Wanted::Head => 0,
+        }
+    }
+}
+
+// The function code with its top bit set.
+fn says_exception(request: &Request<'_>, pdu: &[u8]) -> bool
+    requires { 1 ≤ length pdu.now }
+    ensures { result ≡ is_exception (query_of request.now) pdu.now }
+{
+    pdu[0] == request.function() + 0x80
+}
+
+fn has_wrong_function(request: &Request<'_>, pdu: &[u8]) -> bool
+    ensures { result ≡ is_wrong_function (query_of request.now) pdu.now }
+{
+    !pdu.is_empty() && pdu[0] != request.function() && !says_exception(request, pdu)
+}
+
+fn has_wrong_length(request: &Request<'_>, pdu: &[u8]) -> bool
+    ensures { result ≡ is_wrong_length (query_of request.now) pdu.now }
+{
+    if pdu.is_empty() {
+        true
+    } else if says_exception(request, pdu) {
+        pdu.len() != 2
+    } else if request.wanted().brings() {
+        pdu.len() < 2 || pdu.len() != 2 + usize::from(pdu[1])
+    } else {
+        pdu.len() != 5
+    }
+}
+
+fn has_wrong_byte_count(request: &Request<'_>, pdu: &[u8]) -> bool
+    requires { 2 ≤ length pdu.now }
+    ensures { result ≡ is_wrong_byte_count (query_of request.now) pdu.now }
+{
+    let wanted = request.wanted();
+    !says_exception(request, pdu) && wanted.brings() && u32::from(pdu[1]) != wanted.count()
+}
+
+fn has_wrong_echo(request: &Request<'_>, pdu: &[u8]) -> bool
+    requires some { 2 ≤ length pdu.now }
+    requires length { is_wrong_length (query_of request.now) pdu.now ≡ false }
+    ensures { result ≡ is_wrong_echo (query_of request.now) pdu.now }
+{
+    if says_exception(request, pdu) || request.wanted().brings() {
+        return false;
+    }
+    read_number(pdu, 1) != request.address() || usize::from(read_number(pdu, 3)) != request.field()
+}
+
+// The least fault that holds.
+fn find_fault(request: &Request<'_>, pdu: &[u8]) -> Option<ReplyFault>
+    ensures { result ≡ reply_fault (query_of request.now) pdu.now }
+{
+    if has_wrong_function(request, pdu) {
+        Some(ReplyFault::WrongFunction)
+    } else if has_wrong_length(request, pdu) {
+        Some(ReplyFault::WrongLength)
+    } else if has_wrong_byte_count(request, pdu) {
+        Some(ReplyFault::WrongByteCount)
+    } else if has_wrong_echo(request, pdu) {
+        Some(ReplyFault::WrongEcho)
+    } else {
+        None
+    }
+}
+
+// What a PDU without a fault brings.
+fn read_reply<'a>(request: &Request<'_>, pdu: &'a [u8]) -> Reply<'a>
+    requires { reply_fault (query_of request.now) pdu.now ≡ None }
+    ensures value { answer_of result ≡ answer_from (query_of request.now) pdu.now }
+    ensures fits { FitsRequest request.now result }
+{
+    if says_exception(request, pdu) {
+        return Reply::Exception(pdu[1]);
+    }
+    match request.wanted() {
+        Wanted::Coils(quantity) => Reply::Bits {
+            quantity,
+            bytes: &pdu[2..],
+        },
+        Wanted::Registers(_) => Reply::Words(&pdu[2..]),
+        Wanted::Head => Reply::Echo,
+    }
+}
+
 /// Reads the reply to a request from its PDU, or finds the least fault.
-pub fn decode_reply<'a>(request: &Request, pdu: &'a [u8]) -> Result<Reply<'a>, ReplyFault>
+pub fn decode_reply<'a>(request: &Request<'_>, pdu: &'a [u8]) -> Result<Reply<'a>, ReplyFault>
     ensures exact { read_as result ≡ reply_of request.now pdu.now }
+    ensures fits { IfOk result (λ reply. FitsRequest request.now reply) }
+    ensures writes_back { IfOk result (λ reply. answer_bytes (query_of request.now) (answer_of reply) ≡ reply_cleared (query_of request.now) pdu.now) }
+{
+    match find_fault(request, pdu) {
+        Some(fault) => Err(fault),
+        None => Ok(read_reply(request, pdu)),
+    }
+}
+
+fn write_reply(request: &Request<'_>, reply: &Reply<'_>, out: &mut [u8; 253]) -> usize
+    requires lawful { IsLawful request.now }
+    requires fits { FitsRequest request.now reply.now }
+    ensures some { 1 ≤ result }
+    ensures few { result ≤ 253 }
+    ensures written { take result out.new ≡ answer_bytes (query_of request.now) (answer_of reply.now) }
 {
     let function = request.function();
-    let quantity = request.quantity();
-    if pdu.is_empty() {
-        return Err(ReplyFault::WrongLength);
-    }
-    if pdu[0] == function + 0x80 {
-        if pdu.len() != 2 {
-            return Err(ReplyFault::WrongLength);
+    match *reply {
+        Reply::Bits { quantity, bytes } => {
+            let end = append(out, 0, &[function, bytes.len() as u8]);
+            append_coils(out, end, quantity, bytes)
         }
-        return Ok(Reply::Exception(pdu[1]));
+        Reply::Words(bytes) => {
+            let end = append(out, 0, &[function, bytes.len() as u8]);
+            append_words(out, end, bytes)
+        }
+        Reply::Echo => {
+            let head = head(function, request.address(), request.field() as u16);
+            append(out, 0, &head)
+        }
+        Reply::Exception(code) => append(out, 0, &[function + 0x80, code]),
     }
-    if pdu[0] != function {
-        return Err(ReplyFault::WrongFunction);
-    }
-    if pdu.len() < 2 || pdu.len() != 2 + usize::from(pdu[1]) {
-        return Err(ReplyFault::WrongLength);
-    }
-    if u32::from(pdu[1]) != 2 * u32::from(quantity) {
-        return Err(ReplyFault::WrongByteCount);
-    }
-    Ok(Reply::Words(&pdu[2..]))
+}
+
+/// Writes the reply's PDU to the front of `out`, and says how many bytes it has. Spare bits are
+/// written as 0.
+pub fn encode_reply(request: &Request<'_>, reply: &Reply<'_>, out: &mut [u8; 253]) -> usize
+    requires lawful { IsLawful request.now }
+    requires fits { FitsRequest request.now reply.now }
+    ensures some { 1 ≤ result }
+    ensures few { result ≤ 253 }
+    ensures written { take result out.new ≡ answer_bytes (query_of request.now) (answer_of reply.now) }
+    ensures spelled { SpellsReply (query_of request.now) (take result out.new) (answer_of reply.now) }
+    ensures reads_back { reply_of request.now (take result out.new) ≡ Ok (answer_of reply.now) }
+{
+    write_reply(request, reply, out)
 }
 
 impl Reply<'_> {
+    /// Coil or discrete input number `i` of the reply, from 0.
+    pub fn bit(&self, i: usize) -> Option<bool>
+        ensures { result ≡ bit_at (answer_of self.now) i }
+    {
+        match *self {
+            Reply::Bits { quantity, bytes } => {
+                if i < usize::from(quantity) && i / 8 < bytes.len() {
+                    Some((bytes[i / 8] >> (i % 8)) % 2 == 1)
+                } else {
+                    None
+                }
+            }
+            _ => None,
+        }
+    }
+
     /// Register number `i` of the reply, from 0.
     pub fn word(&self, i: usize) -> Option<u16>
         ensures { result ≡ word_at (answer_of self.now) i }
@@ -82,13 +235,7 @@ impl Reply<'_> {
                     None
                 }
             }
-            Reply::Exception(_) => None,
+            _ => None,
         }
     }
 }
-
-/// A PDU spells an answer exactly where it is read as that answer.
-pub fn one_reply()
-    ensures both { (query : Query) (pdu : List ℕ) (answer : Answer) →
-        SpellsReply query pdu answer ↔ (answer_in query pdu ≡ Ok answer) }
-{}

@@ -1,61 +1,243 @@
 // Requests and their PDUs.
-ghost use Rattle.std.specs.Prelude.{◌≡◌, ◌≤◌, take};
-ghost use Rattle.mb_wire.specs.Requests.{IsLawful, SpellsRequest, query_of, function_of, address_of, quantity_of, request_bytes};
+ghost use Rattle.std.specs.Prelude.{◌≡◌, ◌≤◌, ◌<◌, ◌+◌, ℕ, List, ◌↔◌, ◌++◌, length, take, true, false, Ok, None, IfOk};
+ghost use Rattle.mb_wire.specs.Bytes.{AreBytes, words_of};
+ghost use Rattle.mb_wire.specs.Coils.{coils_of};
+ghost use Rattle.mb_wire.specs.Requests.{Query, IsLawful, IsLawfulQuery, SpellsRequest, query_of, function_of, address_of, field_of, carried_by, coil_value, head_bytes, query_bytes, request_bytes};
+ghost use Rattle.mb_wire.specs.RequestFaults.{asked_as, function_in, is_known, is_unknown_function, is_wrong_request_length, is_wrong_quantity, is_wrong_carried_count, is_wrong_coil_value, most_of, query_from, query_in, request_cleared, request_fault, request_fault_number};
+ghost use Rattle.mb_wire.specs.Replies.{wanted_by};
 
-/// What a client asks a device for (Modbus Application Protocol V1.1b3, section 6).
-#[derive(Clone, Copy, Debug, PartialEq, Eq)]
-pub enum Request {
+use crate::bytes::{append, append_coils, append_words, head};
+
+/// What a client asks a device for (Modbus Application Protocol V1.1b3, section 6). Addresses count
+/// from 0.
+#[derive(Clone, Copy, Debug)]
+pub enum Request<'a> {
+    /// Function 1.
+    ReadCoils {
+        address: u16,
+        quantity: u16,
+    },
+    /// Function 2.
+    ReadDiscrete {
+        address: u16,
+        quantity: u16,
+    },
     /// Function 3.
-    ReadHolding { address: u16, quantity: u16 },
+    ReadHolding {
+        address: u16,
+        quantity: u16,
+    },
     /// Function 4.
-    ReadInput { address: u16, quantity: u16 },
+    ReadInput {
+        address: u16,
+        quantity: u16,
+    },
+    /// Function 5.
+    WriteCoil {
+        address: u16,
+        on: bool,
+    },
+    /// Function 6.
+    WriteRegister {
+        address: u16,
+        value: u16,
+    },
+    /// Function 15: eight coils to a byte, the lowest bit of the first byte first. Spare bits of the
+    /// last byte are ignored.
+    WriteCoils {
+        address: u16,
+        quantity: u16,
+        bytes: &'a [u8],
+    },
+    /// Function 16: two bytes to a register, high byte first.
+    WriteRegisters {
+        address: u16,
+        bytes: &'a [u8],
+    },
 }
 
-impl Request {
+/// Why a PDU is no request; the least fault is told.
+#[derive(Clone, Copy, Debug, PartialEq, Eq)]
+pub enum RequestFault {
+    /// The first byte is none of the eight function codes.
+    UnknownFunction,
+    /// The PDU is empty, or longer or shorter than such a request.
+    WrongLength,
+    /// The quantity is none that the function allows.
+    WrongQuantity,
+    /// The bytes that follow are not as many as the quantity needs.
+    WrongByteCount,
+    /// A coil is written with another value than 0x0000 and 0xFF00.
+    WrongCoilValue,
+}
+
+// What a reply that is no exception brings.
+#[derive(Clone, Copy, Debug, PartialEq, Eq)]
+pub(crate) enum Wanted {
+    // So many coils.
+    Coils(u16),
+    // So many registers.
+    Registers(u16),
+    // The head of the request.
+    Head,
+}
+
+impl RequestFault {
+    /// The number that stands for the fault where it is printed or kept.
+    pub fn number(self) -> u8
+        ensures { result ≡ request_fault_number self }
+    {
+        match self {
+            RequestFault::UnknownFunction => 1,
+            RequestFault::WrongLength => 2,
+            RequestFault::WrongQuantity => 3,
+            RequestFault::WrongByteCount => 4,
+            RequestFault::WrongCoilValue => 5,
+        }
+    }
+}
+
+impl Request<'_> {
     /// The function code of the standard.
     pub fn function(&self) -> u8
         ensures { result ≡ function_of (query_of self.now) }
     {
         match self {
+            Request::ReadCoils { .. } => 1,
+            Request::ReadDiscrete { .. } => 2,
             Request::ReadHolding { .. } => 3,
             Request::ReadInput { .. } => 4,
+            Request::WriteCoil { .. } => 5,
+            Request::WriteRegister { .. } => 6,
+            Request::WriteCoils { .. } => 15,
+            Request::WriteRegisters { .. } => 16,
         }
     }
 
-    fn address(&self) -> u16
+    /// The first address.
+    pub fn address(&self) -> u16
         ensures { result ≡ address_of (query_of self.now) }
     {
         match *self {
-            Request::ReadHolding { address, .. } | Request::ReadInput { address, .. } => address,
+            Request::ReadCoils { address, .. }
+            | Request::ReadDiscrete { address, .. }
+            | Request::ReadHolding { address, .. }
+            | Request::ReadInput { address, .. }
+            | Request::WriteCoil { address, .. }
+            | Request::WriteRegister { address, .. }
+            | Request::WriteCoils { address, .. }
+            | Request::WriteRegisters { address, .. } => address,
         }
     }
 
-    pub(crate) fn quantity(&self) -> u16
-        ensures { result ≡ quantity_of (query_of self.now) }
+    // What stands after the address.
+    pub(crate) fn field(&self) -> usize
+        ensures value { result ≡ field_of (query_of self.now) }
+        ensures fits { IsLawful self.now → result < 65536 }
     {
         match *self {
-            Request::ReadHolding { quantity, .. } | Request::ReadInput { quantity, .. } => quantity,
+            Request::ReadCoils { quantity, .. }
+            | Request::ReadDiscrete { quantity, .. }
+            | Request::ReadHolding { quantity, .. }
+            | Request::ReadInput { quantity, .. } => usize::from(quantity),
+            Request::WriteCoil { on, .. } => field_of_coil(on),
+            Request::WriteRegister { value, .. } => usize::from(value),
+            Request::WriteCoils {
+                quantity,
+                bytes,
+                ..
+            } => count_coils(quantity, bytes),
+            Request::WriteRegisters { bytes, .. } => count_words(bytes),
+        }
+    }
+
+    // What a reply that is no exception brings.
+    pub(crate) fn wanted(&self) -> Wanted
+        ensures { result ≡ wanted_by (query_of self.now) }
+    {
+        match *self {
+            Request::ReadCoils { quantity, .. } | Request::ReadDiscrete { quantity, .. } => {
+                Wanted::Coils(quantity)
+            }
+            Request::ReadHolding { quantity, .. } | Request::ReadInput { quantity, .. } => {
+                Wanted::Registers(quantity)
+            }
+            _ => Wanted::Head,
         }
     }
 }
 
-/// Writes the request's PDU to the front of `out`, and says how many bytes it has.
-pub fn encode_request(request: &Request, out: &mut [u8; 253]) -> usize
+// What stands for a coil that is written.
+fn field_of_coil(on: bool) -> usize
+    ensures { result ≡ coil_value on }
+{
+    if on { 0xFF00 } else { 0 }
+}
+
+// How many of so many coils are in the bytes.
+fn count_coils(quantity: u16, bytes: &[u8]) -> usize
+    ensures { result ≡ length (coils_of quantity bytes.now) }
+{
+    usize::from(quantity).min(bytes.len().saturating_mul(8))
+}
+
+// How many registers are in the bytes.
+fn count_words(bytes: &[u8]) -> usize
+    ensures { result ≡ length (words_of bytes.now) }
+{
+    bytes.len() / 2
+}
+
+// Writes how many bytes a request carries, and these, behind its head.
+fn append_carried(out: &mut [u8; 253], end: usize, request: &Request<'_>) -> usize
+    requires lawful { IsLawful request.now }
+    requires head { end ≡ 5 }
+    ensures count { result ≡ end + length (carried_by (query_of request.now)) }
+    ensures written { take result out.new ≡ take end out.old ++ carried_by (query_of request.now) }
+{
+    match *request {
+        Request::WriteCoils {
+            quantity,
+            bytes,
+            ..
+        } => {
+            let counted = append(out, end, &[bytes.len() as u8]);
+            append_coils(out, counted, quantity, bytes)
+        }
+        Request::WriteRegisters { bytes, .. } => {
+            let counted = append(out, end, &[bytes.len() as u8]);
+            append_words(out, counted, bytes)
+        }
+        _ => end,
+    }
+}
+
+fn write_request(request: &Request<'_>, out: &mut [u8; 253]) -> usize
+    requires { IsLawful request.now }
+    ensures some { 1 ≤ result }
+    ensures few { result ≤ 253 }
+    ensures written { take result out.new ≡ request_bytes request.now }
+    ensures address { address_of (query_of request.now) < 65536 }
+    ensures field { field_of (query_of request.now) < 65536 }
+{
+    let head = head(
+        request.function(),
+        request.address(),
+        request.field() as u16,
+    );
+    let end = append(out, 0, &head);
+    append_carried(out, end, request)
+}
+
+/// Writes the request's PDU to the front of `out`, and says how many bytes it has. Spare bits are
+/// written as 0.
+pub fn encode_request(request: &Request<'_>, out: &mut [u8; 253]) -> usize
     requires { IsLawful request.now }
     ensures some { 1 ≤ result }
     ensures few { result ≤ 253 }
     ensures written { take result out.new ≡ request_bytes request.now }
     ensures spelled { SpellsRequest (take result out.new) (query_of request.now) }
+    ensures reads_back { query_in (take result out.new) ≡ Ok (query_of request.now) }
 {
-    let [address_high, address_low] = request.address().to_be_bytes();
-    let [quantity_high, quantity_low] = request.quantity().to_be_bytes();
-    let pdu = [
-        request.function(),
-        address_high,
-        address_low,
-        quantity_high,
-        quantity_low,
-    ];
-    out[..5].copy_from_slice(&pdu);
-    5
+    write_request(request, out)
 }

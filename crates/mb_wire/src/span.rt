@@ -64,7 +64,7 @@ impl ReadSpan {
     }
 
     /// The request that reads these registers.
-    pub fn request(self) -> Request
+    pub fn request(self) -> Request<'static>
         ensures { result ≡ request_of (span_view self) }
     {
         match self.function {

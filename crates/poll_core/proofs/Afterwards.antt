@@ -1,5 +1,5 @@
 -- One event more, and a session that is over.
-use Rattle.std.proofs.Common.{◌≡◌, ℕ, Bool, true, false, not, ◌&&◌, ◌||◌, cond, List, [], ◌∷◌, ◌++◌, refl, sym, ap, ◌∙◌, subst, inl, inr, Option, Some, None, append_assoc}
+use Rattle.std.proofs.Common.{map, ◌≡◌, ℕ, Bool, true, false, not, ◌&&◌, ◌||◌, cond, List, [], ◌∷◌, ◌++◌, refl, sym, ap, ◌∙◌, subst, inl, inr, Option, Some, None, append_assoc}
 use Rattle.std.specs.List.{filter}
 use Rattle.std.specs.Prelude.{IsSome}
 use Rattle.std.specs.Option.{is_some, is_none, option_to_list}
@@ -7,13 +7,13 @@ use Rattle.std.proofs.lemmas.List.{append-nil}
 use Rattle.std.proofs.lemmas.Bool.{cases_Bool, or_parts}
 use Rattle.mb_wire.specs.Frames.{is_garbled}
 use Rattle.poll_core.proofs.Agreement.{outcomes_at-start}
-use Rattle.poll_core.proofs.Pending.{pending-push, pending-other, untouched, waiting}
+use Rattle.poll_core.proofs.Pending.{pending-push, pending-other, results-push, extend, untouched, waiting}
 use Rattle.poll_core.proofs.Readiness.{over_fault}
 use Rattle.poll_core.proofs.Settles.{outcomes_at-other, told_at, told_at-none, if_going-none, is_closed-push, is_over-same, or_false}
 use Rattle.poll_core.proofs.Streams.{stream-push}
-use Rattle.poll_core.specs.Laws.{Accepts, AcceptsAll}
+use Rattle.poll_core.specs.Laws.{Accepts, AcceptsAll, with_event, new_result}
 use Rattle.poll_core.specs.Polls.{Poll}
-use Rattle.poll_core.specs.Settling.{Event, Start, Piece, Tick, Close, settled_by, result_of, started, pending, outcomes_at, is_start, moment_of, frames_at, ending_at, closing_of, stream, bytes_of, next_id, unmatched, alive}
+use Rattle.poll_core.specs.Settling.{results, Event, Start, Piece, Tick, Close, settled_by, result_of, started, pending, outcomes_at, is_start, moment_of, frames_at, ending_at, closing_of, stream, bytes_of, next_id, unmatched, alive}
 use Rattle.poll_core.specs.Standing.{is_over, is_closed, if_going, last_moment}
 use Rattle.poll_core.specs.declared.outcome.LostCause.{LostCause}
 use Rattle.poll_core.specs.declared.outcome.LostCause.TheVariants.{Garbled}
@@ -24,6 +24,13 @@ started_waits es (Some p) = refl
 
 pub pending_more : (t : ℕ) (es : List Event) (e : Event) → pending t (es ++ e ∷ []) ≡ filter (λ p. is_none (settled_by es e p)) (pending t es) ++ option_to_list (started t es e)
 pending_more t es e = pending-push t es e ∙ ap (λ x. untouched es e (pending t es) ++ x) (started_waits (es ++ e ∷ []) (started t es e))
+
+new_is : (es : List Event) (o : Option Poll) → result_of es [] o ≡ new_result o
+new_is es None = refl
+new_is es (Some p) = refl
+
+pub results_more : (t : ℕ) (es : List Event) (e : Event) → results t [] (es ++ e ∷ []) ≡ map (with_event es e) (results t [] es) ++ new_result (started t es e)
+results_more t es e = results-push t [] es e ∙ ap (λ x. map (extend es e) (results t [] es) ++ x) (new_is (es ++ e ∷ []) (started t es e))
 
 -- where nobody waits, nothing settles
 pub nobody_told : (t : ℕ) (es : List Event) (e : Event) → pending t es ≡ [] → outcomes_at t es e ≡ []

@@ -39,7 +39,7 @@ none_passes t (x ∷ xs) h =
 pub tells_none : (m : ℕ) (old new : List Poll) → TakesOut (due m) old None new → TellsOwed m None old None new
 tells_none m old new h = (h.0, ap (λ ps. silences ps ++ []) h.1, none_passes (due m) old h.1, λ e. absurd (let f : false ≡ true = e in cc))
 
--- nobody is unmatched
+-- nobody is left
 pub tells_end : (m : ℕ) (c : LostCause) (old new : List Poll) → TakesOut (due m) old None new → old ≡ [] → TellsOwed m (Some c) old None new
 tells_end m c old new h none =
     let a : alive m old ≡ old = none_passes (due m) old h.1 in

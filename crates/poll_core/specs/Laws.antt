@@ -1,7 +1,7 @@
 -- What holds of every list of events.
 use Rattle.std.specs.Prelude.{◌≡◌, ℕ, ◌≤◌, List, [], ◌∷◌, ◌++◌, map, Some, None}
 use Rattle.std.specs.declared.option.Option.{Option}
-use Rattle.std.specs.Option.{option_map}
+use Rattle.std.specs.Option.{option_map, option_or}
 use Rattle.std.specs.List.{filter_map}
 use Rattle.poll_core.specs.Polls.{Poll}
 use Rattle.poll_core.specs.Settling.{Event, Start, Piece, Tick, Close, Settlement, settled_by, outcome, started, outcomes_at, pending, results}
@@ -42,6 +42,15 @@ numbers_pending timeout events = map (λ poll. poll.number) (pending timeout eve
 -- of these polls each that the event settles, with its outcome
 abbrev pub settled_among : List Event → Event → List Poll → List (ℕ × Settlement)
 settled_among before event polls = filter_map (λ poll. option_map (λ outcome. (poll.number, outcome)) (settled_by before event poll)) polls
+
+-- a poll and what settled it, with one event more
+abbrev pub with_event : List Event → Event → Poll × Option Settlement → Poll × Option Settlement
+with_event before event result = (result.0, option_or result.1 (settled_by before event result.0))
+
+-- a poll that was just started
+abbrev pub new_result : Option Poll → List (Poll × Option Settlement)
+new_result None = []
+new_result (Some poll) = (poll, None) ∷ []
 
 -- The poll was started by one of the events, and none of those after it settles it.
 pub record Waits (timeout : ℕ) (events : List Event) (poll : Poll) : Type 0 where

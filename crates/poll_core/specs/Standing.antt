@@ -10,7 +10,8 @@ use Rattle.poll_core.specs.declared.outcome.LostCause.{LostCause}
 use Rattle.poll_core.specs.declared.call.Call.{Call}
 use Rattle.poll_core.specs.declared.call.Call.TheVariants as call
 
--- what a session holds
+-- What a session holds: its terms, the latest moment, the next transaction id, the half-read frame, the pending
+-- polls in the order of their starts, why it is over, and the call that has outcomes left to tell.
 pub record State : Type 0 where
   pub timeout : ℕ
   pub window : ℕ
@@ -26,21 +27,24 @@ last_moment [] = 0
 last_moment (event ∷ []) = moment_of event
 last_moment (event ∷ next ∷ events) = last_moment (next ∷ events)
 
--- the session was garbled or closed
+-- the session was closed
 unfoldable pub is_closed : List Event → Bool
 is_closed events = list_any (λ event. is_some (closing_of event)) events
 
+-- its stream is garbled, or it was closed
 unfoldable pub is_over : List Event → Bool
 is_over events = is_garbled (stream events) || is_closed events
 
--- The session stands after these events, and has told all their outcomes.
+-- The session stands after these events: what it holds is what they give, and it has told all their outcomes.
 pub record Stands (session : State) (events : List Event) : Type 0 where
   pub told : session.settling ≡ None
   pub last : session.last ≡ last_moment events
   pub next : session.next ≡ next_id events
   pub polls : session.polls ≡ pending session.timeout events
   pub over : is_some session.ending ≡ is_over events
+  -- no start is accepted once the session is over
   pub none_after : is_over events ≡ true → pending session.timeout events ≡ []
+  -- while it goes on, it has read the stream up to its rest
   pub held : session.ending ≡ None → session.reader.rest ≡ rest (stream events)
 
 -- what the session has yet to tell: who is due is silent, and at the end the others are lost
@@ -50,6 +54,7 @@ owed_by moment ending polls = silences (filter (due moment) polls) ++ losses end
 abbrev pub owed : State → List (ℕ × Settlement)
 owed session = owed_by session.last session.ending session.polls
 
+-- who waits on: nobody once the session is over
 abbrev pub if_going : Option LostCause → List Poll → List Poll
 if_going None polls = polls
 if_going (Some cause) polls = []
@@ -76,7 +81,7 @@ abbrev pub Before : State → List Event → Event → List (ℕ × Settlement) 
 Before session events event told =
     (Stands session events × (bytes_of event ≡ []) × (told ≡ [])) ⊎ ((session.settling ≡ call_of event) × Within session events event told)
 
--- After it: one more outcome is told, or there was none unmatched and all were told.
+-- After it: one more outcome is told, or there was none left, and all were told.
 abbrev pub After : State → List Event → Event → List (ℕ × Settlement) → Option (ℕ × Settlement) → Type 0
 After session events event told None = Stands session (events ++ event ∷ []) × (told ≡ outcomes_at session.timeout events event)
 After session events event told (Some settled) = (session.settling ≡ call_of event) × Within session events event (told ++ settled ∷ [])

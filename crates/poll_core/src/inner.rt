@@ -1,10 +1,9 @@
 // The fields of a session, and its steps.
 ghost use Rattle.std.specs.Prelude.{◌≡◌, ℕ, ◌+◌, ◌≤◌, ◌<◌, List, [], ◌∷◌, ◌++◌, length, take, Some, None, is_some, true, false, if◌then◌else◌, OnOk, OnErr, IfOk};
 ghost use Rattle.std.specs.Result.{result_err};
-ghost use Rattle.mb_wire.specs.Requests.{IsLawful, request_bytes};
+ghost use Rattle.mb_wire.specs.Requests.{request_bytes};
 ghost use Rattle.mb_wire.specs.Reader.{spelling};
-ghost use Rattle.mb_wire.specs.Spans.{request_of};
-ghost use Rattle.mb_wire.specs.Spans.{span_view};
+ghost use Rattle.mb_wire.specs.Spans.{request_of, span_view};
 ghost use Rattle.poll_core.specs.Starting.{start_fault};
 ghost use Rattle.poll_core.specs.Settling.{Settlement, Event, Start, Piece, Tick, Close};
 ghost use Rattle.poll_core.specs.Standing.{Stands, Before, After};
@@ -15,7 +14,7 @@ use crate::call::Call;
 use crate::outcome::{Closing, LostCause};
 use crate::poll::{PendingPoll, SettledBy, SettledPoll};
 use crate::table::{Found, Table, feed_until, free_ids, has_poll, take_owed};
-use mb_wire::{FrameReader, ReadSpan, Request, encode_request, one_reading, write_frame};
+use mb_wire::{FrameReader, ReadSpan, encode_request, one_reading, write_frame};
 
 #[derive(Drop)]
 pub struct Inner {
@@ -36,13 +35,13 @@ pub struct Step {
     pub settled: Option<SettledPoll>,
 }
 
-// Writes the frame of a request.
-fn write_request(id: u16, unit: u8, request: &Request, out: &mut [u8; 260]) -> usize
-    requires { IsLawful request.now }
-    ensures { take result out.new ≡ spelling id unit (request_bytes request.now) }
+// Writes the frame that asks for a span of registers.
+fn write_request(id: u16, unit: u8, span: ReadSpan, out: &mut [u8; 260]) -> usize
+    ensures size { result ≡ 12 }
+    ensures written { take result out.new ≡ spelling id unit (request_bytes (request_of (span_view span))) }
 {
     let mut pdu = [0; 253];
-    let count = encode_request(request, &mut pdu);
+    let count = encode_request(&span.request(), &mut pdu);
     write_frame(id, unit, &pdu[..count], out)
 }
 
@@ -67,7 +66,7 @@ fn ending_if(is_garbled: bool) -> Option<LostCause>
     }
 }
 
-// All of the piece is taken once nothing is unmatched to tell.
+// All of the piece is taken once nothing is left to tell.
 fn taken_if(lost: &Option<SettledPoll>, taken: usize, all: usize) -> usize
     ensures { result ≡ (if is_some lost.now then taken else all) }
 {
@@ -90,7 +89,10 @@ impl Inner {
             result_err result ≡ start_fault self.old.timeout self.old.window events moment }
         ensures started { (events : List Event) → Stands (state_of self.old) events →
             OnOk result (After (state_of self.new) events (Start moment poll unit (span_view span)) [] None) }
+        ensures settling { self.new.settling ≡ self.old.settling }
+        ensures last { OnOk result (self.new.last ≡ moment) }
         ensures terms { (self.new.timeout ≡ self.old.timeout) × (self.new.window ≡ self.old.window) }
+        ensures size { IfOk result (λ n. n ≡ 12) }
         ensures written { IfOk result (λ n. take n out.new ≡ spelling self.old.next unit (request_bytes (request_of (span_view span)))) }
         ensures err { OnErr result ((self.new ≡ self.old) × (out.new ≡ out.old)) }
     {
@@ -106,7 +108,7 @@ impl Inner {
         if self.ending.is_some() {
             return Err(StartFault::Closed);
         }
-        let size = write_request(self.next, unit, &span.request(), out);
+        let size = write_request(self.next, unit, span, out);
         let deadline = moment + self.timeout;
         self.polls
             .push(PendingPoll::new(poll, self.next, unit, span, deadline));

@@ -1,15 +1,13 @@
 // What holds of every list of events.
-ghost use Rattle.std.specs.Prelude.{◌≡◌, ℕ, Bool, true, List, [], ◌∷◌, ◌++◌, length, filter, is_none, slice_get};
+ghost use Rattle.std.specs.Prelude.{◌≡◌, ℕ, Bool, true, List, [], ◌∷◌, ◌++◌, length, filter, map, is_none, slice_get};
 ghost use Rattle.std.specs.List.{All};
 ghost use Rattle.std.specs.List.Sorted.{IsPermutation};
 ghost use Rattle.std.specs.Option.{option_to_list};
 ghost use Rattle.mb_wire.specs.Replies.{Answer, word_at};
 ghost use Rattle.poll_core.specs.Polls.{Poll};
-ghost use Rattle.poll_core.specs.Settling.{Event, Answered, settled_by, started, outcomes_at, pending, answer, words_in};
+ghost use Rattle.poll_core.specs.Settling.{Event, Answered, settled_by, started, outcomes_at, pending, results, answer, words_in};
 ghost use Rattle.poll_core.specs.Standing.{is_over};
-ghost use Rattle.poll_core.specs.Laws.{outcomes_by_poll, outcomes_by_event, numbers_started, numbers_settled, numbers_pending, settled_among, Waits, AcceptsAll};
-
-use mb_wire::one_reply;
+ghost use Rattle.poll_core.specs.Laws.{outcomes_by_poll, outcomes_by_event, numbers_started, numbers_settled, numbers_pending, settled_among, with_event, new_result, Waits, AcceptsAll};
 
 /// Each poll that was started is settled once or is pending. What the events settle, event by event,
 /// is the outcome of each poll that has one.
@@ -29,6 +27,8 @@ pub fn one_event_more()
     ensures pending { (timeout : ℕ) (events : List Event) (event : Event) →
         pending timeout (events ++ event ∷ [])
         ≡ filter (λ poll. is_none (settled_by events event poll)) (pending timeout events) ++ option_to_list (started timeout events event) }
+    ensures results { (timeout : ℕ) (events : List Event) (event : Event) →
+        results timeout [] (events ++ event ∷ []) ≡ map (with_event events event) (results timeout [] events) ++ new_result (started timeout events event) }
     ensures nobody { (timeout : ℕ) (events : List Event) (event : Event) →
         pending timeout events ≡ [] → outcomes_at timeout events event ≡ [] }
 {}
@@ -50,6 +50,4 @@ pub fn over_for_good()
 pub fn whole_answers()
     ensures words { (answer : Answer) (i : ℕ) → word_at answer i ≡ slice_get (words_in answer) i }
     ensures count { (poll : Poll) (frame words : List ℕ) → answer poll frame ≡ Answered words → length words ≡ poll.span.count }
-{
-    one_reply();
-}
+{}

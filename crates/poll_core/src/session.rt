@@ -5,8 +5,7 @@ ghost use Rattle.std.specs.Borrow.{sem};
 ghost use Rattle.std.specs.Io.BufRead.{Rests};
 ghost use Rattle.mb_wire.specs.Requests.{request_bytes};
 ghost use Rattle.mb_wire.specs.Reader.{spelling, spelled, fields_of};
-ghost use Rattle.mb_wire.specs.Spans.{request_of};
-ghost use Rattle.mb_wire.specs.Spans.{span_view};
+ghost use Rattle.mb_wire.specs.Spans.{request_of, span_view};
 ghost use Rattle.poll_core.specs.Settling.{Settlement, Event, Start, Piece, Tick, Close, Silent, answer};
 ghost use Rattle.poll_core.specs.Steps.{told_by};
 ghost use Rattle.poll_core.specs.Inside.{told_of};
@@ -69,7 +68,7 @@ impl Session {
         }
     }
 
-    /// Whether a call has outcomes unmatched to tell.
+    /// Whether a call has outcomes left to tell.
     pub fn settling(&self) -> bool
         ensures { result ≡ is_some self.now.settling }
     {
@@ -87,8 +86,8 @@ impl Session {
         }
     }
 
-    /// Starts a poll: writes the frame of its request in front of `out`, and answers how many bytes it has.
-    /// The poll is told by the number `poll`. After a refusal nothing is written.
+    /// Starts a poll of a unit's registers, which is told by the number `poll`. The frame of its request is written
+    /// to the front of `out`, and its size is answered. Its deadline is the moment plus the timeout.
     pub fn start(
         &mut self,
         moment: u64,
@@ -104,6 +103,9 @@ impl Session {
         ensures started { (events : List Event) → Stands self.old events →
             OnOk result (After self.new events (Start moment poll unit (span_view span)) [] None) }
         ensures terms { (self.new.timeout ≡ self.old.timeout) × (self.new.window ≡ self.old.window) }
+        ensures rests { self.new.settling ≡ None }
+        ensures last { OnOk result (self.new.last ≡ moment) }
+        ensures size { IfOk result (λ n. n ≡ 12) }
         ensures written { IfOk result (λ n. take n out.new ≡ spelling self.old.next unit (request_bytes (request_of (span_view span)))) }
         ensures err { OnErr result ((self.new ≡ self.old) × (out.new ≡ out.old)) }
     {

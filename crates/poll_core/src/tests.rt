@@ -153,11 +153,11 @@ fn one_piece_settles_the_first_poll(rt: HostRuntime) -> Result<(), Fail> {
             let mut session = first_poll(&rt, window.clamp(1, 16))?;
             let told = feed(&rt, rt.alloc(), &mut session, (*moment).min(105), piece)?;
             match outcome {
-                None => assert_eq!(rt; told.len(), 0, "row {i}"),
+                None => assert_eq!(rt; told.len(), 0, "case {i}"),
                 Some(outcome) => assert_eq!(rt;
                     told.as_slice(),
                     [(1, *outcome)].as_slice(),
-                    "row {i}"
+                    "case {i}"
                 ),
             }
         }

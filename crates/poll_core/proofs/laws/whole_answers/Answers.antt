@@ -2,4 +2,4 @@ use Rattle.poll_core.proofs.WholeAnswers.{whole}
 use Rattle.poll_core.proofs.laws.whole_answers.Goals as goal
 
 pub returns-clause-count : goal.returns-clause-count
-returns-clause-count c = whole c.one_reply.ensures.both
+returns-clause-count c = whole

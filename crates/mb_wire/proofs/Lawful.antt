@@ -1,0 +1,30 @@
+-- What holds of requests and replies holds of their values.
+use Rattle.std.proofs.Common.{◌≡◌, ◌≤◌, ℕ, sym, ap, ◌∙◌, subst}
+use Rattle.mb_wire.specs.Bytes.{words_of}
+use Rattle.mb_wire.specs.Coils.{coils_of}
+use Rattle.mb_wire.specs.Requests.{IsLawful, IsLawfulQuery, IsWithin, query_of}
+use Rattle.mb_wire.specs.Replies.{AnswersQuery, FitsRequest, answer_of}
+use Rattle.mb_wire.specs.declared.requests.Request.{Request}
+use Rattle.mb_wire.specs.declared.requests.Request.TheVariants.{ReadCoils, ReadDiscrete, ReadHolding, ReadInput, WriteCoil, WriteRegister, WriteCoils, WriteRegisters}
+use Rattle.mb_wire.specs.declared.requests.Wanted.TheVariants.{Coils}
+use Rattle.mb_wire.specs.declared.replies.Reply.{Reply}
+use Rattle.mb_wire.specs.declared.replies.Reply.TheVariants.{Bits, Words, Echo, Exception}
+use Rattle.mb_wire.proofs.Packing.{length-coils_of-whole}
+
+pub lawful_query : (request : Request) → IsLawful request → IsLawfulQuery (query_of request)
+lawful_query (ReadCoils address quantity) h = h
+lawful_query (ReadDiscrete address quantity) h = h
+lawful_query (ReadHolding address quantity) h = h
+lawful_query (ReadInput address quantity) h = h
+lawful_query (WriteCoil address on) h = h
+lawful_query (WriteRegister address value) h = h
+lawful_query (WriteCoils address quantity bytes) h =
+    let P : ℕ → Type 0 = λ n. IsWithin n 1968 in
+    subst P (sym (length-coils_of-whole quantity bytes.now h.1)) h.0
+lawful_query (WriteRegisters address bytes) h = h.0
+
+pub answers_query : (request : Request) (reply : Reply) → FitsRequest request reply → AnswersQuery (query_of request) (answer_of reply)
+answers_query request (Bits quantity bytes) h = h.0 ∙ ap Coils (sym (length-coils_of-whole quantity bytes.now h.1))
+answers_query request (Words bytes) h = h.0
+answers_query request Echo h = h
+answers_query request (Exception code) h = h

@@ -1,0 +1,36 @@
+-- What the calls of a link do, where its bytes are known, and when its counts rise.
+use Rattle.std.specs.Prelude.{ℕ, ◌+◌, ◌-◌, ◌^◌, ◌<◌, ◌≤◌, ◌==◌, ◌&&◌, nat_lt, min, Bool, true, false, if◌then◌else◌, List, length, take, Ok, Err, Some, None}
+use Rattle.std.specs.Io.KnownBytes.{Consumes, IsAtEnd, Keeps}
+use Rattle.std.specs.declared.result.Result.{Result}
+use Rattle.std.specs.declared.option.Option.{Option}
+use Rattle.mb_wire.specs.declared.link.LinkFailed.{LinkFailed}
+use Rattle.mb_wire.specs.declared.link.Took.{Took}
+use Rattle.mb_wire.specs.declared.link.Took.TheVariants.{Bytes, End, Idle}
+
+-- a take hands out at most what there is room for, and something if there is room
+abbrev pub TakesAtMost : Result Took LinkFailed → List ℕ → Type 0
+TakesAtMost (Ok (Bytes n)) piece = (n ≤ length piece) × (0 < length piece → 0 < n)
+TakesAtMost (Ok End) piece = Unit {0}
+TakesAtMost (Ok Idle) piece = Unit {0}
+TakesAtMost (Err failed) piece = Unit {0}
+
+-- the bytes that are handed out are the next that the link still has, and the end comes when none is left
+abbrev pub TakeConsumes : Option (List ℕ) → Option (List ℕ) → Result Took LinkFailed → List ℕ → Type 0
+TakeConsumes old new (Ok (Bytes n)) piece = Consumes old new (take n piece)
+TakeConsumes old new (Ok End) piece = Keeps old new × IsAtEnd new
+TakeConsumes old new (Ok Idle) piece = Keeps old new
+TakeConsumes old new (Err failed) piece = Keeps old new
+
+-- a count that may rise by one, up to 2^64 - 1
+abbrev pub risen : Bool → ℕ → ℕ
+risen rises count = if rises then min (count + 1) (2 ^ 64 - 1) else count
+
+-- a give failed, or took nothing of something
+abbrev pub is_failed_give : Result ℕ LinkFailed → List ℕ → Bool
+is_failed_give (Ok n) bytes = n == 0 && nat_lt 0 (length bytes)
+is_failed_give (Err failed) bytes = true
+
+-- the call that is told to fail, if one is
+abbrev pub is_call : Option ℕ → ℕ → Bool
+is_call None call = false
+is_call (Some fails) call = fails == call

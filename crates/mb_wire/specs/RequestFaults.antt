@@ -1,0 +1,116 @@
+-- What a PDU asks for, or the least fault that holds of it.
+use Rattle.std.specs.Prelude.{ℕ, ◌+◌, ◌*◌, Bool, ◌&&◌, ◌||◌, not, nat_le, nat_lt, ◌==◌, if◌then◌else◌, List, [], ◌++◌, length, take, drop, slice_index, Ok, Err, Some, None}
+use Rattle.std.specs.declared.result.Result.{Result}
+use Rattle.std.specs.declared.option.Option.{Option}
+use Rattle.mb_wire.specs.Bytes.{number_at, words_of}
+use Rattle.mb_wire.specs.Coils.{bytes_for, cleared_after, coils_of}
+use Rattle.mb_wire.specs.Requests.{Query, ReadCoils, ReadDiscrete, ReadHolding, ReadInput, WriteCoil, WriteRegister, WriteCoils, WriteRegisters, query_of}
+use Rattle.mb_wire.specs.declared.requests.Request.{Request}
+use Rattle.mb_wire.specs.declared.requests.RequestFault.{RequestFault}
+use Rattle.mb_wire.specs.declared.requests.RequestFault.TheVariants.{UnknownFunction, WrongLength, WrongQuantity, WrongByteCount, WrongCoilValue}
+
+-- the parts of a PDU
+abbrev pub function_in : List ℕ → ℕ
+function_in pdu = slice_index pdu 0
+
+abbrev pub address_in : List ℕ → ℕ
+address_in pdu = number_at pdu 1
+
+abbrev pub field_in : List ℕ → ℕ
+field_in pdu = number_at pdu 3
+
+abbrev pub count_in : List ℕ → ℕ
+count_in pdu = slice_index pdu 5
+
+-- one of the eight functions
+abbrev pub is_known : ℕ → Bool
+is_known function = (nat_le 1 function && nat_le function 6) || function == 15 || function == 16
+
+-- one of the two that carry bytes
+abbrev pub carries_bytes : ℕ → Bool
+carries_bytes function = function == 15 || function == 16
+
+-- one of the two that write a single value
+abbrev pub writes_one : ℕ → Bool
+writes_one function = function == 5 || function == 6
+
+-- the greatest quantity that a function allows
+abbrev pub most_of : ℕ → ℕ
+most_of function =
+    if nat_le function 2 then 2000
+    else if nat_le function 4 then 125
+    else if function == 15 then 1968
+    else 123
+
+-- how many bytes a function carries for a quantity
+abbrev pub bytes_of : ℕ → ℕ → ℕ
+bytes_of function quantity = if function == 15 then bytes_for quantity else 2 * quantity
+
+-- when each fault holds
+abbrev pub is_unknown_function : List ℕ → Bool
+is_unknown_function pdu = nat_lt 0 (length pdu) && not (is_known (function_in pdu))
+
+abbrev pub is_wrong_request_length : List ℕ → Bool
+is_wrong_request_length pdu =
+    if carries_bytes (function_in pdu)
+    then nat_lt (length pdu) 6 || not (length pdu == 6 + count_in pdu)
+    else not (length pdu == 5)
+
+abbrev pub is_wrong_quantity : List ℕ → Bool
+is_wrong_quantity pdu =
+    not (writes_one (function_in pdu)) && (nat_lt (field_in pdu) 1 || nat_lt (most_of (function_in pdu)) (field_in pdu))
+
+abbrev pub is_wrong_carried_count : List ℕ → Bool
+is_wrong_carried_count pdu =
+    carries_bytes (function_in pdu) && not (count_in pdu == bytes_of (function_in pdu) (field_in pdu))
+
+abbrev pub is_wrong_coil_value : List ℕ → Bool
+is_wrong_coil_value pdu = function_in pdu == 5 && not (field_in pdu == 0 || field_in pdu == 65280)
+
+-- the least fault that holds
+abbrev pub request_fault : List ℕ → Option RequestFault
+request_fault pdu =
+    if is_unknown_function pdu then Some UnknownFunction
+    else if is_wrong_request_length pdu then Some WrongLength
+    else if is_wrong_quantity pdu then Some WrongQuantity
+    else if is_wrong_carried_count pdu then Some WrongByteCount
+    else if is_wrong_coil_value pdu then Some WrongCoilValue
+    else None
+
+-- what a PDU without a fault asks for
+abbrev pub query_from : List ℕ → Query
+query_from pdu =
+    if function_in pdu == 1 then ReadCoils (address_in pdu) (field_in pdu)
+    else if function_in pdu == 2 then ReadDiscrete (address_in pdu) (field_in pdu)
+    else if function_in pdu == 3 then ReadHolding (address_in pdu) (field_in pdu)
+    else if function_in pdu == 4 then ReadInput (address_in pdu) (field_in pdu)
+    else if function_in pdu == 5 then WriteCoil (address_in pdu) (field_in pdu == 65280)
+    else if function_in pdu == 6 then WriteRegister (address_in pdu) (field_in pdu)
+    else if function_in pdu == 15 then WriteCoils (address_in pdu) (coils_of (field_in pdu) (drop 6 pdu))
+    else WriteRegisters (address_in pdu) (words_of (drop 6 pdu))
+
+-- a value, unless there is a fault
+abbrev pub value_unless : {V F : Type 0} → Option F → V → Result V F
+value_unless None value = Ok value
+value_unless (Some fault) value = Err fault
+
+-- what the PDU asks for, or the least fault
+abbrev pub query_in : List ℕ → Result Query RequestFault
+query_in pdu = value_unless (request_fault pdu) (query_from pdu)
+
+abbrev pub asked_as : Result Request RequestFault → Result Query RequestFault
+asked_as (Ok request) = Ok (query_of request)
+asked_as (Err fault) = Err fault
+
+-- a request's PDU with its spare bits made 0
+abbrev pub request_cleared : List ℕ → List ℕ
+request_cleared pdu =
+    if function_in pdu == 15 then take 6 pdu ++ cleared_after (field_in pdu) (drop 6 pdu) else pdu
+
+-- the number of a fault, as it is printed and kept
+abbrev pub request_fault_number : RequestFault → ℕ
+request_fault_number UnknownFunction = 1
+request_fault_number WrongLength = 2
+request_fault_number WrongQuantity = 3
+request_fault_number WrongByteCount = 4
+request_fault_number WrongCoilValue = 5

@@ -1,0 +1,28 @@
+// Laws of the definitions, over all byte lists.
+ghost use Rattle.std.specs.Prelude.{◌≡◌, ◌↔◌, ℕ, List, Ok};
+ghost use Rattle.mb_wire.specs.Bytes.{AreBytes};
+ghost use Rattle.mb_wire.specs.Requests.{Query, IsLawfulQuery, SpellsRequest, query_bytes};
+ghost use Rattle.mb_wire.specs.RequestFaults.{query_in, request_cleared};
+ghost use Rattle.mb_wire.specs.Replies.{Answer, AnswersQuery, SpellsReply, answer_bytes, answer_in, reply_cleared};
+
+/// A PDU spells a request exactly where it is read as that request. A lawful request is read back
+/// from its spelling, and a PDU is the spelling of its request up to the spare bits.
+pub fn one_request()
+    ensures both { (pdu : List ℕ) (query : Query) → AreBytes pdu →
+        SpellsRequest pdu query ↔ (query_in pdu ≡ Ok query) }
+    ensures reads_back { (query : Query) → IsLawfulQuery query → AreBytes (query_bytes query) →
+        query_in (query_bytes query) ≡ Ok query }
+    ensures writes_back { (pdu : List ℕ) (query : Query) → AreBytes pdu → query_in pdu ≡ Ok query →
+        query_bytes query ≡ request_cleared pdu }
+{}
+
+/// A PDU spells an answer exactly where it is read as that answer. A fitting answer is read back
+/// from its spelling, and a PDU is the spelling of its answer up to the spare bits.
+pub fn one_reply()
+    ensures both { (query : Query) (pdu : List ℕ) (answer : Answer) → AreBytes pdu →
+        SpellsReply query pdu answer ↔ (answer_in query pdu ≡ Ok answer) }
+    ensures reads_back { (query : Query) (answer : Answer) → AnswersQuery query answer →
+        answer_in query (answer_bytes query answer) ≡ Ok answer }
+    ensures writes_back { (query : Query) (pdu : List ℕ) (answer : Answer) → AreBytes pdu → answer_in query pdu ≡ Ok answer →
+        answer_bytes query answer ≡ reply_cleared query pdu }
+{}

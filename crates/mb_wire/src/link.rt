@@ -1,0 +1,57 @@
+// The bytes to and from a peer.
+ghost use Rattle.std.specs.Prelude.{◌≡◌, ◌≤◌, ℕ, List, length, true, is_err, None, IfOk};
+ghost use Rattle.std.specs.Io.KnownBytes.{Keeps, WriteAppends};
+ghost use Rattle.mb_wire.specs.Links.{TakeConsumes, TakesAtMost, is_failed_give, risen};
+ghost use Rattle.std.specs.declared.option.Option.{Option};
+
+/// What a take gave.
+#[derive(Clone, Copy, Debug, PartialEq, Eq)]
+pub enum Took {
+    /// So many bytes, at the front of the piece.
+    Bytes(usize),
+    /// Nothing more will come.
+    End,
+    /// Nothing came for now.
+    Idle,
+}
+
+/// A take or a give failed.
+#[derive(Clone, Copy, Debug, PartialEq, Eq)]
+pub struct LinkFailed;
+
+/// A link to a peer. The counts stay at 2^64 - 1.
+pub trait Link {
+    // The bytes that takes will hand out from here on, and those given so far, where they are known.
+    ghost remaining: { Self → Option (List ℕ) } = { λ _. None };
+
+    ghost given: { Self → Option (List ℕ) } = { λ _. None };
+
+    // What the two counts are.
+    ghost failed: { Self → ℕ };
+
+    ghost taken: { Self → ℕ };
+
+    /// Takes what the peer sent, to the front of the piece.
+    fn take(&mut self, piece: &mut [u8]) -> Result<Took, LinkFailed>
+        ensures bound { TakesAtMost result piece.new }
+        ensures bytes { TakeConsumes (remaining self.old) (remaining self.new) result piece.new }
+        ensures given { Keeps (given self.old) (given self.new) }
+        ensures failures { failed self.new ≡ risen (is_err result) (failed self.old) }
+        ensures takes { taken self.new ≡ risen true (taken self.old) };
+
+    /// Gives bytes to the peer, and says how many it took: the first so many.
+    fn give(&mut self, bytes: &[u8]) -> Result<usize, LinkFailed>
+        ensures bound { IfOk result (λ n. n ≤ length bytes.now) }
+        ensures bytes { WriteAppends (given self.old) (given self.new) result bytes.now }
+        ensures remaining { Keeps (remaining self.old) (remaining self.new) }
+        ensures failures { failed self.new ≡ risen (is_failed_give result bytes.now) (failed self.old) }
+        ensures takes { taken self.new ≡ taken self.old };
+
+    /// How many calls failed: answered LinkFailed, or took nothing of what was given.
+    fn failures(&self) -> u64
+        ensures { result ≡ failed self.now };
+
+    /// How many takes there were.
+    fn takes(&self) -> u64
+        ensures { result ≡ taken self.now };
+}
