@@ -1,0 +1,6 @@
+pub mod Share
+pub mod Underway
+pub mod Account
+pub mod Zone
+pub mod Days
+pub mod Fold
