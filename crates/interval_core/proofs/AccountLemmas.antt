@@ -1,6 +1,6 @@
 -- The accounts of rows, after one more row.
-use Rattle.std.proofs.Common.{◌≡◌, ◌≢◌, ℕ, ◌+◌, ◌-◌, ◌^◌, ◌<◌, ◌≤◌, min, Bool, true, false, not, if◌then◌else◌, List, [], ◌∷◌, ◌++◌, map, length, get_or, refl, sym, ap, subst, ◌∙◌, inl, inr, ◌==◌, arith}
-use Rattle.std.specs.Prelude.{ℤ, ◌<ℤ◌, ◌↔◌, All, Contains, Option, Some, None}
+use Rattle.std.proofs.Common.{◌≡◌, ◌≢◌, ℕ, ◌+◌, ◌-◌, ◌^◌, ◌<◌, ◌≤◌, min, Bool, false, if◌then◌else◌, List, [], ◌∷◌, ◌++◌, length, get_or, refl, sym, ap, subst, ◌∙◌, inl, inr, ◌==◌, arith}
+use Rattle.std.specs.Prelude.{ℤ, ◌↔◌, All, Contains, Option, Some, None}
 use Rattle.std.specs.Option.{ForSome}
 use Rattle.std.specs.Ordering.{int_eq}
 use Rattle.std.proofs.lemmas.Bool.{cases_Bool, cases_lt}
@@ -13,8 +13,8 @@ use Rattle.interval_core.specs.declared.shares.Share.{Share}
 use Rattle.interval_core.specs.declared.zone.Zone.{Zone}
 use Rattle.interval_core.specs.Account.{starts_of, energy_of}
 use Rattle.interval_core.specs.Zone.{day_at}
-use Rattle.interval_core.specs.Days.{DayAccount, days_of, rows_on, distinct_count, account_on, AreAccounts, AreInOrder}
-use Rattle.interval_core.specs.Fold.{Grows, Begins, IsLatest, HasTaken, FoldState}
+use Rattle.interval_core.specs.Days.{DayAccount, days_of, rows_on, distinct_count, account_on, AreAccounts}
+use Rattle.interval_core.specs.Fold.{Grows, Begins, IsLatest}
 use Rattle.interval_core.proofs.OrderLemmas.{Earlier, Later, All-split, in_order-between, in_order-changed, in_order-inserted}
 use Rattle.interval_core.proofs.PlaceLemmas.{Other, same_day, other_day, absent, not_contained}
 use Rattle.interval_core.proofs.CountLemmas.{among, rows_on-same, rows_on-other, distinct_count-push, present, missing, energy-rows_on}

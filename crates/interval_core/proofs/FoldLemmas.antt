@@ -13,8 +13,8 @@ use Rattle.interval_core.specs.declared.totals.DayTotal.{DayTotal}
 use Rattle.interval_core.specs.declared.zone.Zone.{Zone}
 use Rattle.interval_core.specs.Account.{energy_of}
 use Rattle.interval_core.specs.Zone.{day_at}
-use Rattle.interval_core.specs.Days.{DayAccount, account_of, AreInOrder, AreAccounts, account_on}
-use Rattle.interval_core.specs.Fold.{FoldState, no_rows, HasTaken, IsSoundFold, IsAdded, Grows, Begins, IsLatest, most_intervals}
+use Rattle.interval_core.specs.Days.{DayAccount, account_of, AreInOrder, account_on}
+use Rattle.interval_core.specs.Fold.{no_rows, HasTaken, IsSoundFold, IsAdded, IsLatest, most_intervals}
 use Rattle.interval_core.proofs.OrderLemmas.{All-split, in_order-changed, in_order-inserted}
 use Rattle.interval_core.proofs.AccountLemmas.{grown, begun, known-is, is_known, is_latest, latest-push}
 

@@ -8,3 +8,4 @@ mod FoldLemmas
 mod OneLemmas
 mod SpreadLemmas
 mod RowLemmas
+mod Rows

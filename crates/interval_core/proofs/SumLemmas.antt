@@ -1,11 +1,11 @@
 -- The shares of a step add up to its energy.
-use Rattle.std.proofs.Common.{◌≡◌, ℕ, zero, suc, ◌+◌, ◌-◌, ◌*◌, ◌/◌, ◌<◌, ◌≤◌, min, max, sym, ap, ◌∙◌, List, map, sum_by, arith}
+use Rattle.std.proofs.Common.{◌≡◌, ℕ, zero, suc, ◌+◌, ◌-◌, ◌*◌, ◌/◌, ◌<◌, ◌≤◌, min, max, ap, map, arith}
 use Rattle.std.specs.List.{range_with_len}
 use Rattle.std.proofs.Math.Nat.{mul-div_cancel, mul-zero, zero-div}
 use Rattle.std.proofs.lemmas.List.Sums.{sum_by-cons}
 use Rattle.energy_core.specs.declared.entries.Step.{Step}
 use Rattle.interval_core.specs.declared.shares.Share.{Share}
-use Rattle.interval_core.specs.Share.{running_energy, share_at, share_of, shares_of, interval_count}
+use Rattle.interval_core.specs.Share.{running_energy, share_of, shares_of, interval_count}
 use Rattle.interval_core.specs.Account.{energy_of}
 use Rattle.interval_core.proofs.ShareLemmas.{running_mono}
 

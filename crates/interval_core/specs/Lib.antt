@@ -4,3 +4,4 @@ pub mod Account
 pub mod Zone
 pub mod Days
 pub mod Fold
+pub mod Report

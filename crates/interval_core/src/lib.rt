@@ -3,14 +3,18 @@
 
 mod day;
 mod laws;
+mod report;
 mod shares;
 mod spread;
+#[cfg(test)]
+mod tests;
 mod totals;
 mod zone;
 
 pub use day::{DayFault, day_of};
 pub use jiff::civil::Date as Day;
 pub use laws::{accounts_add_up, accounts_are_one, shares_add_up};
+pub use report::write_day;
 pub use shares::{INTERVAL, Share, Shares};
 pub use totals::{DayFold, DayTotal, by_day};
 pub use zone::{Zone, ZoneFault};

@@ -56,7 +56,8 @@ impl DayFold {
 
     /// The days so far, in order. No memory is taken.
     pub fn rows(&self) -> &[DayTotal]
-        ensures { map account_of result.now ≡ self.now.accounts }
+        ensures accounts { map account_of result.now ≡ self.now.accounts }
+        ensures in_order { AreInOrder self.now.accounts }
     {
         self.totals.as_slice()
     }

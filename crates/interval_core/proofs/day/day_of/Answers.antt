@@ -1,11 +1,11 @@
-use Rattle.std.proofs.Common.{◌≡◌, ◌+◌, ◌*◌, ◌∙◌, ap, sym, arith, w64, to_z}
-use Rattle.std.specs.Prelude.{ℤ, pos, ◌+ℤ◌, ◌*ℤ◌, ◌≤ℤ◌}
+use Rattle.std.proofs.Common.{◌≡◌, ◌∙◌, ap, arith, w64, to_z}
+use Rattle.std.specs.Prelude.{ℤ, pos, ◌+ℤ◌, ◌*ℤ◌}
 use Rattle.std.specs.Int.{int_div_euclid}
-use Rattle.jiff.specs.Words.{epoch_day, offset_at, plain_zone, civil_nanos}
+use Rattle.jiff.specs.Words.{epoch_day}
 use Rattle.jiff.proofs.SpanFacts.{signed_arith}
 use Rattle.jiff_core.proofs.DateTimeLemmas.{epoch_day-civil_nanos}
 use Rattle.std.proofs.lemmas.Int.{to_z_pos}
-use Rattle.interval_core.specs.Zone.{offset_of, rule_of}
+use Rattle.interval_core.specs.Zone.{offset_of}
 use Rattle.interval_core.proofs.day.day_of.Goals as goal
 
 -- nanoseconds to whole days, by way of whole seconds

@@ -1,4 +1,4 @@
-use Rattle.std.proofs.Common.{◌≡◌, ℕ, Bool, true, false, ◌++◌, ◌+◌, ◌-◌, ◌^◌, min, ap, if◌then◌else◌, map, take, drop, All, sym, inl, inr, refl, arith}
+use Rattle.std.proofs.Common.{◌≡◌, ℕ, Bool, true, false, ◌+◌, ◌-◌, ◌^◌, min, ap, if◌then◌else◌, map, take, drop, All, inl, inr, refl}
 use mir.Val.{bool_byte}
 use Rattle.std.proofs.lemmas.List.{take-append-drop}
 use Rattle.jiff.specs.Words.{epoch_day}

@@ -1,8 +1,7 @@
-use Rattle.std.proofs.Common.{◌≡◌, ◌+◌, ◌-◌, ◌*◌, ◌<◌, ◌≤◌, ◌++◌, ◌∷◌, [], Some, get_or, take, sym, ◌∙◌, arith}
+use Rattle.std.proofs.Common.{◌≡◌, ◌+◌, ◌<◌, ◌++◌, ◌∷◌, [], Some, get_or, take, arith}
 use Rattle.std.proofs.lemmas.List.{take_more}
 use Rattle.interval_core.specs.declared.shares.Share.{Share}
-use Rattle.interval_core.specs.Account.{energy_of}
-use Rattle.interval_core.specs.Fold.{HasTaken, IsLatest}
+use Rattle.interval_core.specs.Fold.{IsLatest}
 use Rattle.interval_core.proofs.FoldLemmas.{taken-none, latest-before, energy-more}
 use Rattle.interval_core.proofs.totals.by_day.Goals as goal
 

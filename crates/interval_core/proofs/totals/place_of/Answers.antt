@@ -1,13 +1,12 @@
-use Rattle.std.proofs.Common.{◌≡◌, ◌+◌, ◌-◌, ◌<◌, ◌≤◌, ℕ, zero, suc, sym, ap, ◌∙◌, List, map, length, get_or, drop, take, true, false, arith}
+use Rattle.std.proofs.Common.{◌≡◌, ◌-◌, ◌<◌, ℕ, suc, sym, ◌∙◌, List, map, length, get_or, drop, true, false, arith}
 use Rattle.std.specs.Prelude.{ℤ, ◌≤ℤ◌, ◌<ℤ◌, All}
 use Rattle.std.specs.Ordering.{int_cmp, is_le}
 use Rattle.std.proofs.Math.Seq.{drop-cons}
-use Rattle.std.proofs.lemmas.List.{length-map, get_or-map}
-use Rattle.std.proofs.lemmas.List.Elements.{All-cons, All-nil}
+use Rattle.std.proofs.lemmas.List.{length-map}
+use Rattle.std.proofs.lemmas.List.Elements.{All-cons}
 use Rattle.jiff.specs.Words.{epoch_day}
-use Rattle.interval_core.specs.Days.{DayAccount, account_of, AreInOrder}
-use Rattle.interval_core.specs.declared.totals.DayTotal.{DayTotal}
-use Rattle.interval_core.proofs.OrderLemmas.{Earlier, earlier-take, le_from_cmp, lt_from_cmp}
+use Rattle.interval_core.specs.Days.{DayAccount, account_of}
+use Rattle.interval_core.proofs.OrderLemmas.{earlier-take, le_from_cmp, lt_from_cmp}
 use Rattle.interval_core.proofs.PlaceLemmas.{NotEarlier, account-at}
 use Rattle.interval_core.proofs.totals.place_of.Goals as goal
 

@@ -1,8 +1,6 @@
-use Rattle.std.proofs.Common.{◌≡◌, ◌<◌, ◌≤◌, ℕ, ◌+◌, ◌-◌, ◌*◌, ◌∷◌, ◌∙◌, max, min, map, length, arith}
-use Rattle.std.specs.List.{range_with_len}
+use Rattle.std.proofs.Common.{◌≡◌, ◌<◌, ◌+◌, ◌-◌, ◌*◌, max, min, length, arith}
 use Rattle.std.proofs.lemmas.List.FromFn.{length-map-range_with_len}
-use Rattle.interval_core.specs.Share.{running_energy, share_of}
-use Rattle.interval_core.specs.Underway.{left}
+use Rattle.interval_core.specs.Share.{share_of}
 use Rattle.interval_core.proofs.ShareLemmas.{running_mono, left-next}
 use Rattle.interval_core.proofs.shares.SharesIterator.next.Goals as goal
 

@@ -1,4 +1,4 @@
-use Rattle.std.proofs.Common.{◌≡◌, ◌-◌, ◌<◌, sym, ap, ◌∙◌, arith}
+use Rattle.std.proofs.Common.{◌-◌, ◌<◌, arith}
 use Rattle.interval_core.proofs.ShareLemmas.{running-split}
 use Rattle.interval_core.proofs.spread.Spread.running.Goals as goal
 

@@ -1,10 +1,10 @@
-use Rattle.std.proofs.Common.{◌≡◌, ◌≢◌, ◌+◌, ◌<◌, ◌≤◌, ◌∙◌, sym, ap, subst, not, true, false, List, map, arith}
+use Rattle.std.proofs.Common.{◌≡◌, ◌≤◌, ◌∙◌, sym, ap, subst, not, true, false, map}
 use Rattle.std.specs.Prelude.{Contains}
 use Rattle.std.specs.Option.{ForSome}
 use Rattle.jiff.specs.Words.{epoch_day}
 use Rattle.interval_core.specs.declared.shares.Share.{Share}
 use Rattle.interval_core.specs.Zone.{day_at}
-use Rattle.interval_core.specs.Days.{account_of, days_of, DayAccount}
+use Rattle.interval_core.specs.Days.{account_of, days_of}
 use Rattle.interval_core.specs.Fold.{FoldState, HasTaken, IsAdded}
 use Rattle.interval_core.proofs.AccountLemmas.{is_latest}
 use Rattle.interval_core.proofs.FoldLemmas.{count-fits, is_latest-eq, sound-added, taken-added}
