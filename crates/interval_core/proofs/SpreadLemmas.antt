@@ -1,5 +1,5 @@
 -- The shares of a step are those of the intervals that it touches.
-use Rattle.std.proofs.Common.{◌≡◌, ℕ, zero, suc, ◌+◌, ◌-◌, ◌*◌, ◌/◌, ◌<◌, List, ◌∷◌, map, refl, sym, ap, ◌∙◌, arith}
+use Rattle.std.proofs.Common.{◌≡◌, ℕ, zero, suc, ◌+◌, ◌-◌, ◌*◌, ◌/◌, ◌<◌, List, ◌∷◌, map, refl, sym, ap, ◌∙◌, arith, min, max, inl, inr, ◌≤◌}
 use Rattle.std.specs.Prelude.{◌↔◌, All, Contains}
 use Rattle.std.specs.List.{range_with_len}
 use Rattle.std.proofs.lemmas.List.Elements.{All-map}
@@ -8,6 +8,8 @@ use Rattle.energy_core.specs.declared.entries.Step.{Step}
 use Rattle.interval_core.specs.declared.shares.Share.{Share}
 use Rattle.interval_core.specs.Share.{share_at, share_of, shares_of, interval_count}
 use Rattle.interval_core.specs.Account.{Touches, IsAscending, IsSpread, starts_of}
+use Rattle.std.specs.Prelude.{◌⊎◌}
+use Rattle.interval_core.proofs.ShareLemmas.{running_mono}
 use Rattle.interval_core.proofs.SumLemmas.{energy-shares_of}
 
 abbrev start_of : ℕ → ℕ
@@ -49,6 +51,15 @@ touched-starts step start forward =
           ),
     )
 
+-- before and behind the step nothing is gained
+outside-zero : (step : Step) (start : ℕ) → step.from < step.till → (start + 900 ≤ step.from) ⊎ (step.till ≤ start) → share_at step start ≡ 0
+outside-zero step start forward (inl before) =
+    let up = running_mono step (min (start + 900) step.till) (max start step.from) forward (omega (arith, before)) in
+    omega (arith, up)
+outside-zero step start forward (inr behind) =
+    let up = running_mono step (min (start + 900) step.till) (max start step.from) forward (omega (arith, behind)) in
+    omega (arith, up)
+
 pub spread : (step : Step) → step.from < step.till → IsSpread step (shares_of step)
 spread step forward =
     let first = step.from / 900 in
@@ -58,5 +69,6 @@ spread step forward =
       in_order = rw (starts-left step count first) (rising count first);
       touched = λ start. rw (starts-left step count first) (touched-starts step start forward);
       each = All-map P (share_of step) (range_with_len first count) (λ k d lt. refl);
+      outside = λ start. outside-zero step start forward;
       whole = energy-shares_of step forward;
     }

@@ -1,5 +1,5 @@
 -- The energy of a list of steps, interval by interval.
-use Rattle.std.specs.Prelude.{◌≡◌, ◌↔◌, ℕ, ◌+◌, ◌%◌, ◌<◌, List, [], ◌∷◌, map, All, Any, Contains, sum_by}
+use Rattle.std.specs.Prelude.{◌≡◌, ◌↔◌, ℕ, ◌+◌, ◌%◌, ◌<◌, ◌≤◌, ◌⊎◌, List, [], ◌∷◌, map, All, Any, Contains, sum_by}
 use Rattle.energy_core.specs.declared.entries.Step.{Step}
 use Rattle.interval_core.specs.declared.shares.Share.{Share}
 use Rattle.interval_core.specs.Share.{share_at, shares_of}
@@ -19,11 +19,13 @@ abbrev pub IsAscending : List ℕ → Type 0
 IsAscending [] = Unit {0}
 IsAscending (n ∷ ns) = All (λ later. n < later) ns × IsAscending ns
 
--- One share for each interval that the step touches, in order; together they are its energy.
+-- One share for each interval that the step touches, in order; together they are its energy. Before and behind the
+-- step a share is 0.
 pub record IsSpread (step : Step) (shares : List Share) : Type 0 where
   pub in_order : IsAscending (starts_of shares)
   pub touched : (start : ℕ) → Contains (starts_of shares) start ↔ Touches step start
   pub each : All (λ share. share.mwh ≡ share_at step share.start) shares
+  pub outside : (start : ℕ) → (start + 900 ≤ step.from) ⊎ (step.till ≤ start) → share_at step start ≡ 0
   pub whole : energy_of shares ≡ step.mwh
 
 -- The shares of every step are such.
@@ -31,7 +33,6 @@ abbrev pub SharesAddUp : Type 0
 SharesAddUp = (step : Step) → step.from < step.till → IsSpread step (shares_of step)
 
 -- One row for each interval that a step touches, in order: the sum of the shares of all steps there.
--- (The share of a step is 0 in an interval that it does not touch.)
 pub record IsAccount (steps : List Step) (rows : List Share) : Type 0 where
   pub in_order : IsAscending (starts_of rows)
   pub touched : (start : ℕ) → Contains (starts_of rows) start ↔ Any (λ step. Touches step start) steps

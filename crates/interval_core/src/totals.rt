@@ -46,7 +46,8 @@ impl DayFold {
 
     /// No rows yet. The allocator is kept for `push`; no memory is taken.
     pub fn new(alloc: Global) -> DayFold
-        ensures { result ≡ no_rows }
+        ensures empty { result ≡ no_rows }
+        ensures taken { (zone : Zone) → HasTaken zone [] result }
     {
         DayFold {
             totals: Vec::new(alloc),

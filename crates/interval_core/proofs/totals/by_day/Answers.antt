@@ -2,11 +2,11 @@ use Rattle.std.proofs.Common.{◌≡◌, ◌+◌, ◌<◌, ◌++◌, ◌∷◌, 
 use Rattle.std.proofs.lemmas.List.{take_more}
 use Rattle.interval_core.specs.declared.shares.Share.{Share}
 use Rattle.interval_core.specs.Fold.{IsLatest}
-use Rattle.interval_core.proofs.FoldLemmas.{taken-none, latest-before, energy-more}
+use Rattle.interval_core.proofs.FoldLemmas.{latest-before, energy-more}
 use Rattle.interval_core.proofs.totals.by_day.Goals as goal
 
 pub loop-row-init : goal.loop-row-init
-loop-row-init c = record { taken = rw c.new-fold.ensures (taken-none c.args.zone.now); energy = omega arith }
+loop-row-init c = record { taken = c.new-fold.ensures.taken c.args.zone.now; energy = omega arith }
 
 pub push-requires-clause-not_back : goal.push-requires-clause-not_back
 push-requires-clause-not_back c = λ latest is.
