@@ -9,3 +9,4 @@ mod OneLemmas
 mod SpreadLemmas
 mod RowLemmas
 mod Rows
+mod ZoneLemmas

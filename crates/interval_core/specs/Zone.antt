@@ -1,5 +1,5 @@
 -- Zones and civil days. `jiff` says what the clocks of a zone show.
-use Rattle.std.specs.Prelude.{ℕ, ℤ, pos, ◌+ℤ◌, ◌*ℤ◌, List}
+use Rattle.std.specs.Prelude.{◌≡◌, ℕ, ℤ, pos, ◌+ℤ◌, ◌*ℤ◌, List}
 use Rattle.std.specs.Int.{int_div_euclid}
 use Rattle.jiff.specs.Words.{offset_at, plain_zone}
 use Rattle.jiff.specs.Placed.{IsPosixZone}
@@ -20,3 +20,7 @@ offset_of zone moment = offset_at (plain_zone (rule_of zone)) (pos moment *ℤ p
 -- The civil day of a moment, counted from 1970-01-01: that of the moment plus the offset, in days of 86,400 seconds.
 abbrev pub day_at : Zone → ℕ → ℤ
 day_at zone moment = int_div_euclid (pos moment +ℤ offset_of zone moment) (pos 86_400)
+
+-- A text spells one zone: whoever reads it finds the same days.
+abbrev pub ZonesAreOne : Type 0
+ZonesAreOne = (text : List ℕ) (a b : Zone) → HasRule text a → HasRule text b → (moment : ℕ) → day_at a moment ≡ day_at b moment

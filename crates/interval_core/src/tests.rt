@@ -1,6 +1,6 @@
 use crate::{
     DayFault, DayFold, DayTotal, Share, Shares, Zone, ZoneFault, accounts_add_up, accounts_are_one,
-    by_day, day_of, shares_add_up, write_day,
+    by_day, day_of, shares_add_up, write_day, zones_are_one,
 };
 use energy_core::Step;
 use std::alloc::{AllocError, Global};
@@ -231,4 +231,5 @@ fn laws_are_called() {
     shares_add_up();
     accounts_add_up();
     accounts_are_one();
+    zones_are_one();
 }
