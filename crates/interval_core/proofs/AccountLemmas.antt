@@ -112,14 +112,14 @@ replaced zone rows row before a b after was same exact =
     let around = in_order-between before a after was.in_order in
     let parts = All-split (IsExact zone rows) before (a ∷ after) was.each in
     let b_day : b.day ≡ day = ap (λ (x : DayAccount). x.day) exact in
-    let same_day_ : b.day ≡ a.day = b_day ∙ sym same in
+    let kept_day : b.day ≡ a.day = b_day ∙ sym same in
     let exact_now : IsExact zone now b = exact ∙ ap (account_on zone now) (sym b_day) in
     let same_days : days_of (before ++ b ∷ after) ≡ days_of (before ++ a ∷ after) =
-    days-between before b after ∙ ap (λ d. days_of before ++ d ∷ days_of after) same_day_ ∙ sym (days-between before a after) in
+    days-between before b after ∙ ap (λ d. days_of before ++ d ∷ days_of after) kept_day ∙ sym (days-between before a after) in
     let earlier : All (Earlier day) before = rw (← same) around.0 in
     let later : All (Later day) after = rw (← same) around.1 in
     record {
-      in_order = in_order-changed before a b after same_day_ was.in_order;
+      in_order = in_order-changed before a b after kept_day was.in_order;
       complete = by_day_of (λ d. Contains (days_of (before ++ b ∷ after)) d ↔ (0 < length (rows_on zone now d))) day
           (λ _. more_rows zone rows row, λ _. rw (days-between before b after, b_day) (here-contained (days_of before) day (days_of after)))
           (λ d other. rw (same_days, same_rows zone rows row d other) (was.complete d));
@@ -183,7 +183,7 @@ begun zone rows row old new accounts begins =
     let none : rows_on zone rows day ≡ [] =
     nil_from_length (rows_on zone rows day) (elim (cases_lt 0 (length (rows_on zone rows day))) [
       | inl some ↦ absurd (not_contained day (before ++ after) (absent day before after begins.earlier begins.later) ((was.complete day).1 some))
-      | inr zero_ ↦ omega arith
+      | inr none_left ↦ omega arith
     ]) in
     let of_rows : List Share → DayAccount = λ rs. record { day = day; count = distinct_count (starts_of rs); mwh = energy_of rs } in
     let exact : b ≡ account_on zone (rows ++ row ∷ []) day =
