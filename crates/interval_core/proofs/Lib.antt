@@ -1,0 +1,12 @@
+mod ShareLemmas
+mod SumLemmas
+mod OrderLemmas
+mod PlaceLemmas
+mod CountLemmas
+mod AccountLemmas
+mod FoldLemmas
+mod OneLemmas
+mod SpreadLemmas
+mod RowLemmas
+mod Rows
+mod ZoneLemmas

@@ -1,0 +1,72 @@
+-- A fold that is given rows one by one.
+use Rattle.std.specs.Prelude.{◌≡◌, ℕ, ℤ, ◌+◌, ◌-◌, ◌≤◌, ◌<◌, ◌<ℤ◌, ◌≤ℤ◌, ◌^◌, min, Option, Some, None, MatchOption, List, [], ◌∷◌, ◌++◌, length, take, drop, All, Contains, Bool, if◌then◌else◌, ◌⊎◌}
+use Rattle.std.specs.List.{HoldsAt}
+use Rattle.interval_core.specs.declared.shares.Share.{Share}
+use Rattle.interval_core.specs.declared.zone.Zone.{Zone}
+use Rattle.interval_core.specs.Account.{starts_of}
+use Rattle.interval_core.specs.Days.{DayAccount, AreAccounts, AreInOrder}
+
+-- what a fold shows: the accounts so far, and the start of the latest row
+pub record FoldState : Type 0 where
+  pub accounts : List DayAccount
+  pub latest : Option ℕ
+
+abbrev pub no_rows : FoldState
+no_rows = record { accounts = []; latest = None }
+
+-- no row starts later, and one starts then
+abbrev pub IsLatest : List Share → Option ℕ → Type 0
+IsLatest rows latest = MatchOption latest (rows ≡ []) (λ start. Contains (starts_of rows) start × All (λ row. row.start ≤ start) rows)
+
+-- The fold was given these rows, by the clocks of one zone.
+pub record HasTaken (zone : Zone) (rows : List Share) (fold : FoldState) : Type 0 where
+  pub accounts : AreAccounts zone rows fold.accounts
+  pub latest : IsLatest rows fold.latest
+
+-- how many intervals a day can have so far: no more than there were seconds
+abbrev pub most_intervals : Option ℕ → ℕ
+most_intervals None = 0
+most_intervals (Some start) = start + 1
+
+-- what each fold keeps
+pub record IsSoundFold (accounts : List DayAccount) (latest : Option ℕ) : Type 0 where
+  pub in_order : AreInOrder accounts
+  pub counts : All (λ account. account.count ≤ most_intervals latest) accounts
+  pub moments : most_intervals latest ≤ 4102444801
+
+-- the place of a day among accounts: those before it are of earlier days, the others are not
+pub record IsPlace (day : ℤ) (accounts : List DayAccount) (place : ℕ) : Type 0 where
+  pub earlier : All (λ account. account.day <ℤ day) (take place accounts)
+  pub others : All (λ account. day ≤ℤ account.day) (drop place accounts)
+
+-- the day has its account at the place
+abbrev pub HoldsDay : ℤ → List DayAccount → ℕ → Type 0
+HoldsDay day accounts place = (place < length accounts) × HoldsAt (λ account. account.day ≡ day) accounts place
+
+-- the day has none: those before the place are of earlier days, the others of later ones
+pub record IsGap (day : ℤ) (accounts : List DayAccount) (place : ℕ) : Type 0 where
+  pub within : place ≤ length accounts
+  pub earlier : All (λ account. account.day <ℤ day) (take place accounts)
+  pub later : All (λ account. day <ℤ account.day) (drop place accounts)
+
+-- the day had an account, and has more now; its energy stays at 2 ^ 128 - 1
+pub record Grows (day : ℤ) (count mwh : ℕ) (old new : List DayAccount) : Type 0 where
+  pub before : List DayAccount
+  pub after : List DayAccount
+  pub had_count : ℕ
+  pub had_mwh : ℕ
+  pub old_is : old ≡ before ++ record { day = day; count = had_count; mwh = had_mwh } ∷ after
+  pub new_is : new ≡ before ++ record { day = day; count = had_count + count; mwh = min (had_mwh + mwh) (2 ^ 128 - 1) } ∷ after
+
+-- the day had no account, and has one now
+pub record Begins (day : ℤ) (mwh : ℕ) (old new : List DayAccount) : Type 0 where
+  pub before : List DayAccount
+  pub after : List DayAccount
+  pub earlier : All (λ account. account.day <ℤ day) before
+  pub later : All (λ account. day <ℤ account.day) after
+  pub old_is : old ≡ before ++ after
+  pub new_is : new ≡ before ++ record { day = day; count = 1; mwh = mwh } ∷ after
+
+-- a row came to the day
+abbrev pub IsAdded : ℤ → Bool → ℕ → List DayAccount → List DayAccount → Type 0
+IsAdded day is_new mwh old new = Grows day (if is_new then 1 else 0) mwh old new ⊎ Begins day mwh old new

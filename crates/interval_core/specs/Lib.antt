@@ -1,0 +1,7 @@
+pub mod Share
+pub mod Underway
+pub mod Account
+pub mod Zone
+pub mod Days
+pub mod Fold
+pub mod Report

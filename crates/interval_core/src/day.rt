@@ -1,0 +1,40 @@
+ghost use Rattle.std.specs.Prelude.{◌≡◌, ◌≤◌, IsOk, IfOk};
+ghost use Rattle.jiff.specs.Words.{epoch_day};
+ghost use Rattle.interval_core.specs.Zone.{day_at};
+
+use crate::zone::Zone;
+use jiff::Timestamp;
+use jiff::civil::Date;
+use std::alloc::AllocError;
+
+/// Why a moment has no civil day.
+#[derive(Clone, Copy, Debug, PartialEq, Eq)]
+pub enum DayFault {
+    /// The calendar has no such instant. It never comes at a moment up to 4,102,444,800.
+    Zone = 1,
+    /// Memory is wanting.
+    Memory = 2,
+}
+
+impl From<AllocError> for DayFault {
+    ghost use Rattle.interval_core.specs.declared.day.DayFault.TheVariants.{Memory};
+
+    ghost from_gives = { λ _ fault. fault ≡ Memory };
+
+    fn from(_: AllocError) -> DayFault {
+        DayFault::Memory
+    }
+}
+
+/// The civil day of the moment `start`, in seconds since 1970-01-01 UTC, by the clocks of the zone.
+pub fn day_of(zone: &Zone, start: u64) -> Result<Date, DayFault>
+    requires { start ≤ 4102444800 }
+    ensures succeeds { IsOk result }
+    ensures day { IfOk result (λ day. epoch_day day ≡ day_at zone.now start) }
+{
+    let Ok(instant) = Timestamp::from_second(start as i64) else {
+        return Err(DayFault::Zone);
+    };
+    let clock = zone.rule().to_datetime(instant);
+    Ok(clock.date())
+}

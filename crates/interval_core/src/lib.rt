@@ -1,0 +1,20 @@
+//! Energy by quarter hour and by civil day, exact to the mWh.
+#![tactic(auto)]
+
+mod day;
+mod laws;
+mod report;
+mod shares;
+mod spread;
+#[cfg(test)]
+mod tests;
+mod totals;
+mod zone;
+
+pub use day::{DayFault, day_of};
+pub use jiff::civil::Date as Day;
+pub use laws::{accounts_add_up, accounts_are_one, shares_add_up, zones_are_one};
+pub use report::write_day;
+pub use shares::{INTERVAL, Share, Shares};
+pub use totals::{DayFold, DayTotal, by_day};
+pub use zone::{Zone, ZoneFault};

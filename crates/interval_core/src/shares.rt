@@ -1,0 +1,78 @@
+ghost use Rattle.std.specs.Prelude.{◌≡◌, ◌<◌, ◌≤◌};
+ghost use Rattle.std.specs.Iterator.{YieldsFirst, item_count};
+ghost use Rattle.interval_core.specs.Share.{interval_count, shares_of};
+
+use crate::spread::Spread;
+use energy_core::Step;
+use std::marker::Model;
+
+/// How many seconds an interval has. Each begins at a multiple of it.
+pub const INTERVAL: u64 = 900;
+
+/// So many mWh in the interval that begins at `start`, in seconds since 1970-01-01 UTC.
+#[derive(Clone, Copy, Debug, PartialEq, Eq)]
+pub struct Share {
+    pub start: u64,
+    pub mwh: u64,
+}
+
+/// The shares of a step, one for each interval that it touches, in order. None takes memory.
+#[derive(Debug, Drop)]
+pub struct Shares {
+    spread: Spread,
+    interval: u64,
+    end: u64,
+    reached: u64,
+}
+
+impl Model for Shares {
+    ghost use Rattle.std.specs.Prelude.{List};
+    ghost use Rattle.interval_core.specs.declared.shares.Share.{Share};
+
+    ghost Value = { List Share };
+
+    ghost use Rattle.interval_core.specs.Underway.{IsUnderway, left};
+
+    ghost view = { left };
+
+    ghost invariant = { IsUnderway };
+}
+
+impl Shares {
+    /// The shares of a step.
+    pub fn of(step: &Step) -> Shares
+        requires forward { step.now.from < step.now.till }
+        requires intervals { interval_count step.now ≤ 3000 }
+        requires energy { step.now.mwh ≤ 4000000000000000000 }
+        ensures { result ≡ shares_of step.now }
+    {
+        let spread = Spread::new(*step);
+        Shares {
+            spread,
+            interval: step.from / INTERVAL,
+            end: (step.till - 1) / INTERVAL + 1,
+            reached: 0,
+        }
+    }
+}
+
+impl Iterator for Shares {
+    type Item = Share;
+
+    ghost next_gives = { YieldsFirst (λ s. s) };
+
+    ghost remaining = { item_count (λ s. s) };
+
+    fn next(&mut self) -> Option<Share> {
+        if self.interval == self.end {
+            return None;
+        }
+        let start = self.interval * INTERVAL;
+        let stop = start.saturating_add(INTERVAL).min(self.spread.step.till);
+        let reached = self.spread.running(stop);
+        let mwh = reached - self.reached;
+        self.reached = reached;
+        self.interval += 1;
+        Some(Share { start, mwh })
+    }
+}

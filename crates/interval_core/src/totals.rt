@@ -1,0 +1,161 @@
+ghost use Rattle.std.specs.Prelude.{◌≡◌, ◌+◌, ◌-◌, ◌≤◌, ◌<◌, ◌^◌, ◌++◌, ◌∷◌, [], List, Option, Some, None, map, length, All, Contains, IsOk, IfOk, IfErr, OnOk, OnErr};
+ghost use Rattle.std.specs.Option.{ForSome};
+ghost use Rattle.std.specs.List.Sorted.{IsNonDecreasingBy};
+ghost use Rattle.jiff.specs.Words.{epoch_day};
+ghost use Rattle.interval_core.specs.Days.{account_of, days_of, AreAccounts, AreInOrder};
+ghost use Rattle.interval_core.specs.Fold.{IsPlace, HoldsDay, IsGap, IsAdded};
+
+use crate::day::{DayFault, day_of};
+use crate::shares::Share;
+use crate::zone::Zone;
+use jiff::civil::Date;
+use std::alloc::{AllocError, Global};
+use std::marker::Model;
+
+/// A civil day, how many intervals of it have a row, each counted once, and their energy in mWh.
+#[derive(Clone, Copy, Debug, PartialEq, Eq)]
+pub struct DayTotal {
+    pub day: Date,
+    pub count: u32,
+    pub mwh: u128,
+}
+
+/// The days of interval rows that come one by one, in order of their starts.
+#[derive(Debug, Drop)]
+pub struct DayFold {
+    totals: Vec<DayTotal>,
+    latest: Option<u64>,
+}
+
+impl Model for DayFold {
+    ghost use Rattle.std.specs.Prelude.{map};
+    ghost use Rattle.interval_core.specs.Days.{account_of};
+    ghost use Rattle.interval_core.specs.Fold.{FoldState, IsSoundFold};
+
+    ghost Value = { FoldState };
+
+    ghost view = { λ f. record { accounts = map account_of f.totals.items; latest = f.latest } };
+
+    ghost invariant = { λ f. IsSoundFold (map account_of f.totals.items) f.latest };
+}
+
+impl DayFold {
+    ghost use Rattle.interval_core.specs.Account.{energy_of};
+    ghost use Rattle.interval_core.specs.Fold.{no_rows, HasTaken};
+    ghost use Rattle.interval_core.specs.Zone.{day_at};
+
+    /// No rows yet. The allocator is kept for `push`; no memory is taken.
+    pub fn new(alloc: Global) -> DayFold
+        ensures empty { result ≡ no_rows }
+        ensures taken { (zone : Zone) → HasTaken zone [] result }
+    {
+        DayFold {
+            totals: Vec::new(alloc),
+            latest: None,
+        }
+    }
+
+    /// The days so far, in order. No memory is taken.
+    pub fn rows(&self) -> &[DayTotal]
+        ensures accounts { map account_of result.now ≡ self.now.accounts }
+        ensures in_order { AreInOrder self.now.accounts }
+    {
+        self.totals.as_slice()
+    }
+
+    /// The days, in order, as their own list. No memory is taken.
+    pub fn into_rows(self) -> Vec<DayTotal>
+        ensures { map account_of result.items ≡ self.accounts }
+    {
+        let DayFold { totals, latest: _ } = self;
+        totals
+    }
+
+    /// Takes one more row, `mwh` in the interval from `start`, by the clocks of the zone. A start that is the latest
+    /// already isn't counted again. Past 2^128 - 1 mWh the energy of a day stays there.
+    pub fn push(&mut self, start: u64, mwh: u64, zone: &Zone) -> Result<(), DayFault>
+        requires moment { start ≤ 4102444800 }
+        requires not_back { ForSome self.old.latest (λ latest. latest ≤ start) }
+        ensures taken { (rows : List Share) → HasTaken zone.now rows self.old → energy_of rows + mwh < 2 ^ 128
+            → OnOk result (HasTaken zone.now (rows ++ record { start = start; mwh = mwh } ∷ []) self.new) }
+        ensures latest { OnOk result (self.new.latest ≡ Some start) }
+        ensures known { Contains (days_of self.old.accounts) (day_at zone.now start) → IsOk result }
+        ensures err { OnErr result (self.new ≡ self.old) }
+        ensures memory { IfErr result (λ fault. fault ≡ DayFault.Memory) }
+    {
+        let day = day_of(zone, start)?;
+        let is_new = self.latest != Some(start);
+        add(&mut self.totals, day, is_new, mwh)?;
+        self.latest = Some(start);
+        Ok(())
+    }
+}
+
+/// The days of interval rows in order of their starts, each with its intervals, counted once, and its energy.
+pub fn by_day(alloc: Global, rows: &[Share], zone: &Zone) -> Result<Vec<DayTotal>, DayFault>
+    requires never_back { IsNonDecreasingBy (λ row. row.start) rows.now }
+    requires moments { All (λ row. row.start ≤ 4102444800) rows.now }
+    ensures accounts { IfOk result (λ totals. AreAccounts zone.now rows.now (map account_of totals.items)) }
+    ensures memory { IfErr result (λ fault. fault ≡ DayFault.Memory) }
+{
+    let mut fold = DayFold::new(alloc);
+    for row in rows {
+        fold.push(row.start, row.mwh, zone)?;
+    }
+    Ok(fold.into_rows())
+}
+
+/// The place of the first day that is not before `day`. It looks from the end, where rows in order have theirs.
+fn place_of(totals: &[DayTotal], day: Date) -> usize
+    ensures within { result ≤ length totals.now }
+    ensures place { AreInOrder (map account_of totals.now) → IsPlace (epoch_day day) (map account_of totals.now) result }
+{
+    let mut place = totals.len();
+    while place > 0 && day <= totals[place - 1].day {
+        place -= 1;
+    }
+    place
+}
+
+/// The place of the day, or else the place where it is to stand.
+fn find_day(totals: &[DayTotal], day: Date) -> Result<usize, usize>
+    requires { AreInOrder (map account_of totals.now) }
+    ensures found { IfOk result (HoldsDay (epoch_day day) (map account_of totals.now)) }
+    ensures missing { IfErr result (IsGap (epoch_day day) (map account_of totals.now)) }
+{
+    let place = place_of(totals, day);
+    if place < totals.len() && totals[place].day == day {
+        Ok(place)
+    } else {
+        Err(place)
+    }
+}
+
+/// Adds a row to its day.
+fn add(totals: &mut Vec<DayTotal>, day: Date, is_new: bool, mwh: u64) -> Result<(), AllocError>
+    requires in_order { AreInOrder (map account_of totals.old.items) }
+    requires counts { All (λ total. total.count < 2 ^ 32 - 1) totals.old.items }
+    ensures ok { OnOk result (IsAdded (epoch_day day) is_new mwh (map account_of totals.old.items) (map account_of totals.new.items)) }
+    ensures known { Contains (days_of (map account_of totals.old.items)) (epoch_day day) → IsOk result }
+    ensures err { OnErr result (totals.new.items ≡ totals.old.items) }
+{
+    match find_day(totals, day) {
+        Ok(place) => {
+            let total = totals[place];
+            totals[place] = DayTotal {
+                day,
+                count: total.count + u32::from(is_new),
+                mwh: total.mwh.saturating_add(u128::from(mwh)),
+            };
+        }
+        Err(place) => {
+            let total = DayTotal {
+                day,
+                count: 1,
+                mwh: u128::from(mwh),
+            };
+            totals.insert(place, total)?;
+        }
+    }
+    Ok(())
+}

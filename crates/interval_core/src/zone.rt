@@ -1,0 +1,44 @@
+ghost use Rattle.std.specs.Prelude.{◌↔◌, ◌≤◌, IsOk, IsSome, IfOk, IfErr, ◌≡◌, Ok, Err, length};
+ghost use Rattle.jiff_tz.specs.PosixReader.{read_whole};
+ghost use Rattle.interval_core.specs.Zone.{HasRule, rule_of};
+
+use jiff::tz::TimeZone;
+
+/// Why a text is no zone.
+#[derive(Clone, Copy, Debug, PartialEq, Eq)]
+pub enum ZoneFault {
+    /// The text is no POSIX rule of at most 64 bytes.
+    Text = 1,
+    /// Memory is wanting. It never comes: a zone takes none.
+    Memory = 2,
+}
+
+/// A time zone: how far its clocks are ahead of UTC, at each moment.
+#[derive(Clone, Copy, Debug)]
+pub struct Zone {
+    rule: TimeZone<'static>,
+}
+
+impl Zone {
+    /// The zone of a POSIX rule text, as `UTC0` or `CET-1CEST,M3.5.0,M10.5.0/3`, of at most 64 bytes.
+    pub fn read(text: &str) -> Result<Zone, ZoneFault>
+        ensures succeeds { IsOk result ↔ (IsSome (read_whole text.now) × (length text.now ≤ 64)) }
+        ensures value { IfOk result (HasRule text.now) }
+        ensures err { IfErr result (λ fault. fault ≡ ZoneFault.Text) }
+    {
+        if text.len() > 64 {
+            return Err(ZoneFault::Text);
+        }
+        match TimeZone::posix(text) {
+            Ok(rule) => Ok(Zone { rule }),
+            Err(_) => Err(ZoneFault::Text),
+        }
+    }
+
+    /// The zone as `jiff` has it.
+    pub(crate) fn rule(&self) -> &TimeZone<'static>
+        ensures { result.now ≡ rule_of self.now }
+    {
+        &self.rule
+    }
+}
