@@ -1,6 +1,7 @@
 -- The four maps of a device (Modbus Application Protocol V1.1b3, section 4.3): from an address to a
 -- value, where the device has one there.
-use Rattle.std.specs.Prelude.{ℕ, ◌==◌, if◌then◌else◌, List, is_some, slice_index_or, slice_set, Some, None}
+use Rattle.std.specs.Prelude.{ℕ, ◌+◌, ◌==◌, ◌&&◌, nat_le, Bool, if◌then◌else◌, List, [], ◌∷◌, length, take, drop, is_some, slice_index_or, slice_set, Some, None}
+use Rattle.std.specs.List.{list_all}
 use Rattle.std.specs.declared.option.Option.{Option}
 use Rattle.mb_device.specs.declared.kinds.Kind.{Kind}
 use Rattle.mb_device.specs.declared.kinds.Kind.TheVariants.{Coil, Discrete, Holding, Input}
@@ -43,3 +44,17 @@ with_table maps Coil table = record { coils = table; discretes = maps.discretes;
 with_table maps Discrete table = record { coils = maps.coils; discretes = table; holdings = maps.holdings; inputs = maps.inputs }
 with_table maps Holding table = record { coils = maps.coils; discretes = maps.discretes; holdings = table; inputs = maps.inputs }
 with_table maps Input table = record { coils = maps.coils; discretes = maps.discretes; holdings = maps.holdings; inputs = table }
+
+-- what stands at so many addresses
+abbrev pub values_at : List (Option ℕ) → ℕ → ℕ → List (Option ℕ)
+values_at table address count = take count (drop address table)
+
+-- all of so many addresses are there
+abbrev pub are_there : List (Option ℕ) → ℕ → ℕ → Bool
+are_there table address count =
+    nat_le (address + count) (length table) && list_all (λ value. is_some value) (values_at table address count)
+
+-- a table with these values from an address on
+abbrev pub all_written : List (Option ℕ) → ℕ → List ℕ → List (Option ℕ)
+all_written table address [] = table
+all_written table address (value ∷ values) = all_written (slice_set table address (Some value)) (address + 1) values

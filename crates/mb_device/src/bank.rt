@@ -1,10 +1,16 @@
 // A device's values.
-ghost use Rattle.std.specs.Prelude.{◌≡◌, ◌≤◌, ◌<◌, ℕ, List, ◌↔◌, IfOk, Err, true, false, is_some, if◌then◌else◌, slice_index_or, length, None};
+ghost use Rattle.std.specs.Prelude.{◌≡◌, ◌≤◌, ◌<◌, ℕ, List, ◌↔◌, IsTrue, IfOk, Ok, Err, take, true, false, is_some, if◌then◌else◌, slice_index_or, length, None};
 ghost use Rattle.std.specs.List.{list_any};
 ghost use Rattle.mb_device.specs.Areas.{any_overlap, first_value, holds, is_out_of_range, overlap};
+ghost use Rattle.mb_wire.specs.Requests.{IsLawful, query_of};
+ghost use Rattle.mb_device.specs.Device.{answer_to, maps_after, maps_for, reply_for};
 ghost use Rattle.mb_device.specs.Maps.{Maps, kept, table_of, value_at, value_in, with_table, written};
 
+use crate::answer::{
+    answer_bits, answer_coil, answer_coils, answer_registers, answer_words, code_of, refuse,
+};
 use crate::kinds::{Area, BankFault, Kind};
+use mb_wire::{Request, decode_request};
 use std::alloc::{AllocError, Global};
 use std::marker::Model;
 
@@ -150,6 +156,69 @@ impl Bank {
             Kind::Input => self.inputs.as_slice(),
         };
         value_of(table, address)
+    }
+
+    /// Answers a PDU of 1 to 253 bytes at the front of `out`, and says how many bytes the answer has.
+    /// The function is looked at first, then the rest of the PDU, then the addresses; what is refused
+    /// changes nothing (Modbus Application Protocol V1.1b3, sections 6 and 7).
+    pub fn answer(&mut self, pdu: &[u8], out: &mut [u8; 253]) -> usize
+        requires some { 1 ≤ length pdu.now }
+        requires few { length pdu.now ≤ 253 }
+        ensures some { 1 ≤ result }
+        ensures few { result ≤ 253 }
+        ensures answered { take result out.new ≡ answer_to self.old pdu.now }
+        ensures after { self.new ≡ maps_after self.old pdu.now }
+    {
+        match decode_request(pdu) {
+            Ok(request) => self.carry_out(&request, out),
+            Err(fault) => refuse(pdu[0], code_of(fault), out),
+        }
+    }
+
+    // Carries out a request, and writes its answer.
+    fn carry_out(&mut self, request: &Request<'_>, out: &mut [u8; 253]) -> usize
+        requires { IsLawful request.now }
+        ensures some { 1 ≤ result }
+        ensures few { result ≤ 253 }
+        ensures answered { take result out.new ≡ reply_for self.old 0 (Ok (query_of request.now)) }
+        ensures after { self.new ≡ maps_for self.old (Ok (query_of request.now)) }
+    {
+        match *request {
+            Request::ReadCoils { address, quantity } => {
+                answer_bits(self.coils.as_slice(), request, address, quantity, out)
+            }
+            Request::ReadDiscrete { address, quantity } => {
+                answer_bits(self.discretes.as_slice(), request, address, quantity, out)
+            }
+            Request::ReadHolding { address, quantity } => {
+                answer_words(self.holdings.as_slice(), request, address, quantity, out)
+            }
+            Request::ReadInput { address, quantity } => {
+                answer_words(self.inputs.as_slice(), request, address, quantity, out)
+            }
+            Request::WriteCoil { address, on } => {
+                answer_coil(self.coils.as_mut_slice(), request, address, on, out)
+            }
+            Request::WriteRegister { address, value } => {
+                let bytes = value.to_be_bytes();
+                answer_registers(self.holdings.as_mut_slice(), request, address, &bytes, out)
+            }
+            Request::WriteCoils {
+                address,
+                quantity,
+                bytes,
+            } => answer_coils(
+                self.coils.as_mut_slice(),
+                request,
+                address,
+                quantity,
+                bytes,
+                out,
+            ),
+            Request::WriteRegisters { address, bytes } => {
+                answer_registers(self.holdings.as_mut_slice(), request, address, bytes, out)
+            }
+        }
     }
 }
 
