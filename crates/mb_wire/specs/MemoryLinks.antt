@@ -1,6 +1,7 @@
 -- A `MemoryLink` as what is left of its input, what was given, and what its calls answer.
-use Rattle.std.specs.Prelude.{ℕ, ◌+◌, ◌-◌, ◌^◌, ◌==◌, ◌||◌, min, Bool, if◌then◌else◌, List, length, take, Ok, Err}
+use Rattle.std.specs.Prelude.{ℕ, ◌+◌, ◌-◌, ◌^◌, ◌≡◌, ◌==◌, ◌||◌, min, Bool, if◌then◌else◌, List, length, take, Ok, Err}
 use Rattle.std.specs.declared.result.Result.{Result}
+use Rattle.std.specs.declared.option.Option.{Option}
 use Rattle.mb_wire.specs.Links.{is_call}
 use Rattle.mb_wire.specs.declared.link.LinkFailed.{LinkFailed}
 use Rattle.mb_wire.specs.declared.link.Took.{Took}
@@ -17,6 +18,22 @@ output_given link = take link.filled link.output.now
 -- how many more bytes may be given
 abbrev pub output_free : MemoryLink → ℕ
 output_free link = length link.output.now - link.filled
+
+-- a link of which no call was made
+pub record IsFresh (link : MemoryLink) (space most : ℕ) (failing : Option ℕ) : Type 0 where
+  pub room : length link.output.now ≡ space
+  pub piece : link.piece ≡ most
+  pub fails : link.fails ≡ failing
+  pub calls : link.calls ≡ 0
+  pub failures : link.failures ≡ 0
+  pub takes : link.takes ≡ 0
+
+-- one call more
+pub record IsCounted (old new : MemoryLink) : Type 0 where
+  pub room : length new.output.now ≡ length old.output.now
+  pub piece : new.piece ≡ old.piece
+  pub fails : new.fails ≡ old.fails
+  pub calls : new.calls ≡ min (old.calls + 1) (2 ^ 64 - 1)
 
 -- the next call of take or give is the one that fails
 abbrev pub fails_next : MemoryLink → Bool

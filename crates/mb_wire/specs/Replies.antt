@@ -38,6 +38,16 @@ wanted_by (WriteRegister address value) = Head
 wanted_by (WriteCoils address coils) = Head
 wanted_by (WriteRegisters address values) = Head
 
+-- the reply brings so many coils, so many registers, or the head
+abbrev pub WantsCoils : Query → ℕ → Type 0
+WantsCoils query quantity = wanted_by query ≡ Coils quantity
+
+abbrev pub WantsRegisters : Query → ℕ → Type 0
+WantsRegisters query quantity = wanted_by query ≡ Registers quantity
+
+abbrev pub WantsHead : Query → Type 0
+WantsHead query = wanted_by query ≡ Head
+
 -- the head that the reply to a write repeats
 abbrev pub echo_of : Query → List ℕ
 echo_of query = take 5 (query_bytes query)

@@ -21,7 +21,7 @@ pub struct MemoryLink<'a> {
 }
 
 impl<'a> MemoryLink<'a> {
-    ghost use Rattle.mb_wire.specs.MemoryLinks.{input_left, output_given};
+    ghost use Rattle.mb_wire.specs.MemoryLinks.{IsFresh, input_left, output_given};
 
     /// A link that hands out and takes at most `piece` bytes a call, and whose call number `fails`
     /// fails.
@@ -34,6 +34,7 @@ impl<'a> MemoryLink<'a> {
         requires { 1 ≤ piece }
         ensures input { input_left result ≡ input.entry.now }
         ensures output { output_given result ≡ [] }
+        ensures fresh { IsFresh result (length output.entry.now) piece fails }
     {
         MemoryLink {
             input,
@@ -68,7 +69,7 @@ fn fails_at(fails: Option<u64>, call: u64) -> bool
 impl Link for MemoryLink<'_> {
     ghost use Rattle.std.specs.Io.KnownBytes.{WriteAppends};
     ghost use Rattle.mb_wire.specs.Links.{TakeConsumes, TakesAtMost, is_failed_give, risen};
-    ghost use Rattle.mb_wire.specs.MemoryLinks.{give_answer, input_left, output_given, take_answer};
+    ghost use Rattle.mb_wire.specs.MemoryLinks.{IsCounted, give_answer, input_left, output_given, take_answer};
 
     ghost remaining = { λ link. Some link.input.now };
 
@@ -79,6 +80,7 @@ impl Link for MemoryLink<'_> {
     ghost taken = { λ link. link.takes };
 
     fn take(&mut self, piece: &mut [u8]) -> Result<Took, LinkFailed>
+        ensures counted { IsCounted self.old self.new }
         ensures exact { result ≡ take_answer self.old (length piece.old) }
         ensures bound { TakesAtMost result piece.new }
         ensures bytes { TakeConsumes (Some (input_left self.old)) (Some (input_left self.new)) result piece.new }
@@ -102,6 +104,7 @@ impl Link for MemoryLink<'_> {
     }
 
     fn give(&mut self, bytes: &[u8]) -> Result<usize, LinkFailed>
+        ensures counted { IsCounted self.old self.new }
         ensures exact { result ≡ give_answer self.old (length bytes.now) }
         ensures bound { IfOk result (λ n. n ≤ length bytes.now) }
         ensures bytes { WriteAppends (Some (output_given self.old)) (Some (output_given self.new)) result bytes.now }

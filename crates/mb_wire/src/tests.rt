@@ -153,7 +153,15 @@ fn spans_are_lawful(rt: HostRuntime) -> Result<(), Fail> {
         (ReadFunction::HoldingRegisters, 107, 3)
     );
     assert_eq!(rt; (span.function.code(), span.request().function()), (3, 3));
-    assert!(rt; matches!(span.request(), Request::ReadHolding { address: 107, quantity: 3 }));
+    assert!(rt;
+        matches!(
+            span.request(),
+            Request::ReadHolding {
+                address: 107,
+                quantity: 3
+            }
+        )
+    );
     let last = ReadSpan::new(4, 65535, 1).ok_or("no span")?;
     assert_eq!(rt; last.function.code(), 4);
     assert!(rt; ReadSpan::new(3, 0, 125).is_some());
@@ -166,27 +174,15 @@ fn spans_are_lawful(rt: HostRuntime) -> Result<(), Fail> {
 
 // The examples of the standard: a request and its reply.
 const EXAMPLES: [(&[u8], &[u8]); 8] = [
-    (
-        &[1, 0x00, 0x13, 0x00, 0x13],
-        &[1, 3, 0xCD, 0x6B, 0x05],
-    ),
-    (
-        &[2, 0x00, 0xC4, 0x00, 0x16],
-        &[2, 3, 0xAC, 0xDB, 0x35],
-    ),
+    (&[1, 0x00, 0x13, 0x00, 0x13], &[1, 3, 0xCD, 0x6B, 0x05]),
+    (&[2, 0x00, 0xC4, 0x00, 0x16], &[2, 3, 0xAC, 0xDB, 0x35]),
     (
         &[3, 0x00, 0x6B, 0x00, 0x03],
         &[3, 6, 0x02, 0x2B, 0x00, 0x00, 0x00, 0x64],
     ),
     (&[4, 0x00, 0x08, 0x00, 0x01], &[4, 2, 0x00, 0x0A]),
-    (
-        &[5, 0x00, 0xAC, 0xFF, 0x00],
-        &[5, 0x00, 0xAC, 0xFF, 0x00],
-    ),
-    (
-        &[6, 0x00, 0x01, 0x00, 0x03],
-        &[6, 0x00, 0x01, 0x00, 0x03],
-    ),
+    (&[5, 0x00, 0xAC, 0xFF, 0x00], &[5, 0x00, 0xAC, 0xFF, 0x00]),
+    (&[6, 0x00, 0x01, 0x00, 0x03], &[6, 0x00, 0x01, 0x00, 0x03]),
     (
         &[15, 0x00, 0x13, 0x00, 0x0A, 2, 0xCD, 0x01],
         &[15, 0x00, 0x13, 0x00, 0x0A],
@@ -222,7 +218,9 @@ fn examples_of_the_standard_come_back(rt: HostRuntime) {
 fn coils_are_read_from_the_lowest_bit(rt: HostRuntime) -> Result<(), Fail> {
     let asked = decode_request(&[1, 0, 19, 0, 19]).ok().ok_or("fault")?;
     assert_eq!(rt; (asked.function(), asked.address()), (1, 19));
-    let reply = decode_reply(&asked, &[1, 3, 0xCD, 0x6B, 0x05]).ok().ok_or("fault")?;
+    let reply = decode_reply(&asked, &[1, 3, 0xCD, 0x6B, 0x05])
+        .ok()
+        .ok_or("fault")?;
     let states = [
         (0, true),
         (1, false),
@@ -247,7 +245,10 @@ fn spare_bits_are_written_as_zero(rt: HostRuntime) {
     match decode_request(&[15, 0, 19, 0, 10, 2, 0xCD, 0xFD]) {
         Ok(request) => {
             let count = encode_request(&request, &mut out);
-            assert_eq!(rt; out.get(..count), Some([15, 0, 19, 0, 10, 2, 0xCD, 1].as_slice()));
+            assert_eq!(rt;
+                out.get(..count),
+                Some([15, 0, 19, 0, 10, 2, 0xCD, 1].as_slice())
+            );
         }
         Err(fault) => assert_eq!(rt; fault.number(), 0),
     }
@@ -282,12 +283,18 @@ fn an_echo_repeats_the_write(rt: HostRuntime) -> Result<(), Fail> {
         address: 172,
         on: true,
     };
-    let echo = decode_reply(&asked, &[5, 0, 172, 0xFF, 0]).ok().ok_or("fault")?;
+    let echo = decode_reply(&asked, &[5, 0, 172, 0xFF, 0])
+        .ok()
+        .ok_or("fault")?;
     assert!(rt; matches!(echo, Reply::Echo));
     assert_eq!(rt; (echo.bit(0), echo.word(0)), (None, None));
-    let other = decode_reply(&asked, &[5, 0, 173, 0xFF, 0]).err().ok_or("no fault")?;
+    let other = decode_reply(&asked, &[5, 0, 173, 0xFF, 0])
+        .err()
+        .ok_or("no fault")?;
     assert_eq!(rt; (other, other.number()), (ReplyFault::WrongEcho, 4));
-    let short = decode_reply(&asked, &[5, 0, 172, 0xFF]).err().ok_or("no fault")?;
+    let short = decode_reply(&asked, &[5, 0, 172, 0xFF])
+        .err()
+        .ok_or("no fault")?;
     assert_eq!(rt; short, ReplyFault::WrongLength);
     Ok(())
 }
@@ -319,11 +326,25 @@ fn a_memory_link_fails_where_told(rt: HostRuntime) {
         let mut link = MemoryLink::new(&[1, 2], &mut output, 1, Some(fails));
         let mut piece = [0; 4];
         let taken = link.take(&mut piece);
-        assert_eq!(rt; taken, if fails == 1 { Err(LinkFailed) } else { Ok(Took::Bytes(1)) });
+        assert_eq!(rt;
+            taken,
+            if fails == 1 {
+                Err(LinkFailed)
+            } else {
+                Ok(Took::Bytes(1))
+            }
+        );
         let given = link.give(&[1]);
         assert_eq!(rt; given, if fails == 2 { Err(LinkFailed) } else { Ok(1) });
         let again = link.take(&mut piece);
-        assert_eq!(rt; again, if fails == 3 { Err(LinkFailed) } else { Ok(Took::Bytes(1)) });
+        assert_eq!(rt;
+            again,
+            if fails == 3 {
+                Err(LinkFailed)
+            } else {
+                Ok(Took::Bytes(1))
+            }
+        );
         let last = link.give(&[2]);
         assert_eq!(rt; last, if fails == 4 { Err(LinkFailed) } else { Ok(1) });
         assert_eq!(rt; (link.failures(), link.takes()), (1, 2));

@@ -1,4 +1,4 @@
-use Rattle.std.proofs.Common.{◌≡◌, ◌∙◌, ◌/◌, ◌%◌, ◌^◌, ap, sym, [], ◌∷◌, ◌++◌, take, arith, append_assoc, slice_index}
+use Rattle.std.proofs.Common.{◌∙◌, ◌%◌, ◌^◌, ap, sym, [], ◌∷◌, ◌++◌, take, arith, append_assoc, slice_index}
 use Rattle.mb_wire.specs.Bytes.{AreBytes}
 use Rattle.mb_wire.proofs.Packing.{cleared_after-even, cleared_after-odd, packed-coils_of}
 use Rattle.mb_wire.proofs.bytes.append_coils.Goals as goal

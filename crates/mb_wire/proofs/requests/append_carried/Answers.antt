@@ -1,6 +1,6 @@
-use Rattle.std.proofs.Common.{◌≡◌, ◌∙◌, ap, sym, ◌++◌, ◌∷◌, [], take, length, arith, append_assoc}
+use Rattle.std.proofs.Common.{◌∙◌, ap, sym, ◌++◌, ◌∷◌, [], take, length, arith, append_assoc}
 use Rattle.mb_wire.specs.Bytes.{words_of, word_bytes}
-use Rattle.mb_wire.specs.Coils.{bytes_for, coils_of, packed}
+use Rattle.mb_wire.specs.Coils.{coils_of, packed}
 use Rattle.mb_wire.proofs.Carried.{count_of_coils, length_of_coils, length_of_words}
 use Rattle.mb_wire.proofs.requests.append_carried.Goals as goal
 

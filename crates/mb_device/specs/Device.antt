@@ -1,0 +1,84 @@
+-- What a device answers to a PDU, and what becomes of its maps (Modbus Application Protocol V1.1b3,
+-- section 6 with its state diagrams, and section 7).
+use Rattle.std.specs.Prelude.{ℕ, ◌+◌, Bool, ◌==◌, not, nat_lt, if◌then◌else◌, List, [], ◌∷◌, map, length, unwrap_or, Ok, Err}
+use Rattle.std.specs.declared.result.Result.{Result}
+use Rattle.std.specs.declared.option.Option.{Option}
+use Rattle.mb_wire.specs.Requests.{Query, ReadCoils, ReadDiscrete, ReadHolding, ReadInput, WriteCoil, WriteRegister, WriteCoils, WriteRegisters}
+use Rattle.mb_wire.specs.RequestFaults.{function_in, query_in}
+use Rattle.mb_wire.specs.Replies.{Answer, Bits, Words, Echo, Exception, answer_bytes}
+use Rattle.mb_wire.specs.declared.requests.RequestFault.{RequestFault}
+use Rattle.mb_wire.specs.declared.requests.RequestFault.TheVariants.{UnknownFunction, WrongLength, WrongQuantity, WrongByteCount, WrongCoilValue}
+use Rattle.mb_device.specs.declared.kinds.Kind.TheVariants.{Coil, Holding}
+use Rattle.mb_device.specs.Maps.{Maps, all_written, are_there, values_at, with_table}
+
+-- the exception code of a fault: illegal function, or illegal data value
+abbrev pub code_of_fault : RequestFault → ℕ
+code_of_fault UnknownFunction = 1
+code_of_fault WrongLength = 3
+code_of_fault WrongQuantity = 3
+code_of_fault WrongByteCount = 3
+code_of_fault WrongCoilValue = 3
+
+-- the function code with its top bit set, and a code
+abbrev pub exception_bytes : ℕ → ℕ → List ℕ
+exception_bytes function code = (if nat_lt function 128 then function + 128 else function) ∷ code ∷ []
+
+-- all addresses that a query speaks of are there
+abbrev pub has_all : Maps → Query → Bool
+has_all maps (ReadCoils address quantity) = are_there maps.coils address quantity
+has_all maps (ReadDiscrete address quantity) = are_there maps.discretes address quantity
+has_all maps (ReadHolding address quantity) = are_there maps.holdings address quantity
+has_all maps (ReadInput address quantity) = are_there maps.inputs address quantity
+has_all maps (WriteCoil address on) = are_there maps.coils address 1
+has_all maps (WriteRegister address value) = are_there maps.holdings address 1
+has_all maps (WriteCoils address coils) = are_there maps.coils address (length coils)
+has_all maps (WriteRegisters address values) = are_there maps.holdings address (length values)
+
+-- coils as values, and values as coils
+abbrev pub coil_number : Bool → ℕ
+coil_number on = if on then 1 else 0
+
+abbrev pub kept_value : Option ℕ → ℕ
+kept_value value = unwrap_or value 0
+
+abbrev pub is_kept_on : Option ℕ → Bool
+is_kept_on value = not (kept_value value == 0)
+
+-- what a query is answered where all its addresses are there
+abbrev pub answered : Maps → Query → Answer
+answered maps (ReadCoils address quantity) = Bits (map is_kept_on (values_at maps.coils address quantity))
+answered maps (ReadDiscrete address quantity) = Bits (map is_kept_on (values_at maps.discretes address quantity))
+answered maps (ReadHolding address quantity) = Words (map kept_value (values_at maps.holdings address quantity))
+answered maps (ReadInput address quantity) = Words (map kept_value (values_at maps.inputs address quantity))
+answered maps (WriteCoil address on) = Echo
+answered maps (WriteRegister address value) = Echo
+answered maps (WriteCoils address coils) = Echo
+answered maps (WriteRegisters address values) = Echo
+
+-- the maps after it
+abbrev pub carried_out : Maps → Query → Maps
+carried_out maps (ReadCoils address quantity) = maps
+carried_out maps (ReadDiscrete address quantity) = maps
+carried_out maps (ReadHolding address quantity) = maps
+carried_out maps (ReadInput address quantity) = maps
+carried_out maps (WriteCoil address on) = with_table maps Coil (all_written maps.coils address (coil_number on ∷ []))
+carried_out maps (WriteRegister address value) = with_table maps Holding (all_written maps.holdings address (value ∷ []))
+carried_out maps (WriteCoils address coils) = with_table maps Coil (all_written maps.coils address (map coil_number coils))
+carried_out maps (WriteRegisters address values) = with_table maps Holding (all_written maps.holdings address values)
+
+-- The function first, then the rest of the PDU, then the addresses.
+abbrev pub reply_for : Maps → ℕ → Result Query RequestFault → List ℕ
+reply_for maps function (Err fault) = exception_bytes function (code_of_fault fault)
+reply_for maps function (Ok query) =
+    answer_bytes query (if has_all maps query then answered maps query else Exception 2)
+
+abbrev pub maps_for : Maps → Result Query RequestFault → Maps
+maps_for maps (Err fault) = maps
+maps_for maps (Ok query) = if has_all maps query then carried_out maps query else maps
+
+-- the answer to a PDU, and the maps after it
+abbrev pub answer_to : Maps → List ℕ → List ℕ
+answer_to maps pdu = reply_for maps (function_in pdu) (query_in pdu)
+
+abbrev pub maps_after : Maps → List ℕ → Maps
+maps_after maps pdu = maps_for maps (query_in pdu)

@@ -1,0 +1,60 @@
+-- The four maps of a device (Modbus Application Protocol V1.1b3, section 4.3): from an address to a
+-- value, where the device has one there.
+use Rattle.std.specs.Prelude.{ℕ, ◌+◌, ◌==◌, ◌&&◌, nat_le, Bool, if◌then◌else◌, List, [], ◌∷◌, length, take, drop, is_some, slice_index_or, slice_set, Some, None}
+use Rattle.std.specs.List.{list_all}
+use Rattle.std.specs.declared.option.Option.{Option}
+use Rattle.mb_device.specs.declared.kinds.Kind.{Kind}
+use Rattle.mb_device.specs.declared.kinds.Kind.TheVariants.{Coil, Discrete, Holding, Input}
+
+-- each map as the values at the addresses from 0 on
+pub record Maps : Type 0 where
+  pub coils : List (Option ℕ)
+  pub discretes : List (Option ℕ)
+  pub holdings : List (Option ℕ)
+  pub inputs : List (Option ℕ)
+
+abbrev pub table_of : Maps → Kind → List (Option ℕ)
+table_of maps Coil = maps.coils
+table_of maps Discrete = maps.discretes
+table_of maps Holding = maps.holdings
+table_of maps Input = maps.inputs
+
+-- the value at an address, if there is one
+abbrev pub value_in : List (Option ℕ) → ℕ → Option ℕ
+value_in table address = slice_index_or table address None
+
+abbrev pub value_at : Maps → Kind → ℕ → Option ℕ
+value_at maps kind address = value_in (table_of maps kind) address
+
+-- what is kept for a value: a coil or a discrete input is on or off
+abbrev pub kept : Kind → ℕ → ℕ
+kept Coil value = if value == 0 then 0 else 1
+kept Discrete value = if value == 0 then 0 else 1
+kept Holding value = value
+kept Input value = value
+
+-- a table with another value at an address that it has
+abbrev pub written : List (Option ℕ) → ℕ → ℕ → List (Option ℕ)
+written table address value =
+    if is_some (value_in table address) then slice_set table address (Some value) else table
+
+-- maps with another table
+abbrev pub with_table : Maps → Kind → List (Option ℕ) → Maps
+with_table maps Coil table = record { coils = table; discretes = maps.discretes; holdings = maps.holdings; inputs = maps.inputs }
+with_table maps Discrete table = record { coils = maps.coils; discretes = table; holdings = maps.holdings; inputs = maps.inputs }
+with_table maps Holding table = record { coils = maps.coils; discretes = maps.discretes; holdings = table; inputs = maps.inputs }
+with_table maps Input table = record { coils = maps.coils; discretes = maps.discretes; holdings = maps.holdings; inputs = table }
+
+-- what stands at so many addresses
+abbrev pub values_at : List (Option ℕ) → ℕ → ℕ → List (Option ℕ)
+values_at table address count = take count (drop address table)
+
+-- all of so many addresses are there
+abbrev pub are_there : List (Option ℕ) → ℕ → ℕ → Bool
+are_there table address count =
+    nat_le (address + count) (length table) && list_all (λ value. is_some value) (values_at table address count)
+
+-- a table with these values from an address on
+abbrev pub all_written : List (Option ℕ) → ℕ → List ℕ → List (Option ℕ)
+all_written table address [] = table
+all_written table address (value ∷ values) = all_written (slice_set table address (Some value)) (address + 1) values

@@ -1,0 +1,206 @@
+// What a device answers to a request, and what becomes of a table.
+ghost use Rattle.std.specs.Prelude.{◌≡◌, ◌≤◌, ◌+◌, ◌/◌, ◌∷◌, [], ℕ, List, map, length, take, if◌then◌else◌, is_some, true};
+ghost use Rattle.std.specs.List.{list_all};
+ghost use Rattle.mb_wire.specs.Bytes.{words_of};
+ghost use Rattle.mb_wire.specs.Coils.{bytes_for, coils_of};
+ghost use Rattle.mb_wire.specs.Requests.{IsLawful, IsWithin, query_of};
+ghost use Rattle.mb_wire.specs.Replies.{Bits, Words, Echo, Exception, WantsCoils, WantsHead, WantsRegisters, answer_bytes};
+ghost use Rattle.mb_device.specs.Device.{code_of_fault, coil_number, exception_bytes, is_kept_on, kept_value};
+ghost use Rattle.mb_device.specs.Maps.{all_written, are_there, values_at};
+
+use crate::packing::{pack_coils, pack_words, write_coils, write_words};
+use mb_wire::{Reply, Request, RequestFault, encode_reply};
+
+// The exception code of a fault.
+pub(crate) fn code_of(fault: RequestFault) -> u8
+    ensures { result ≡ code_of_fault fault }
+{
+    match fault {
+        RequestFault::UnknownFunction => 1,
+        RequestFault::WrongLength => 3,
+        RequestFault::WrongQuantity => 3,
+        RequestFault::WrongByteCount => 3,
+        RequestFault::WrongCoilValue => 3,
+    }
+}
+
+// Writes an exception to a PDU that is no request.
+pub(crate) fn refuse(function: u8, code: u8, out: &mut [u8; 253]) -> usize
+    ensures count { result ≡ 2 }
+    ensures written { take result out.new ≡ exception_bytes function code }
+{
+    let first = if function < 0x80 {
+        function + 0x80
+    } else {
+        function
+    };
+    out[..2].copy_from_slice(&[first, code]);
+    2
+}
+
+// All of so many addresses are there.
+fn has_all(table: &[Option<u16>], address: u16, count: u16) -> bool
+    ensures { result ≡ are_there table.now address count }
+{
+    let first = usize::from(address);
+    let end = first + usize::from(count);
+    end <= table.len() && are_some(&table[first..end])
+}
+
+fn are_some(values: &[Option<u16>]) -> bool
+    ensures { result ≡ list_all (λ value. is_some value) values.now }
+{
+    values.iter().all(|value| value.is_some())
+}
+
+// All addresses are there from which on so many coils are written.
+fn has_coils(table: &[Option<u16>], address: u16, quantity: u16, bytes: &[u8]) -> bool
+    requires { length bytes.now ≡ bytes_for quantity }
+    ensures value { result ≡ are_there table.now address (length (coils_of quantity bytes.now)) }
+    ensures fits { result ≡ true → address + quantity ≤ length table.now }
+{
+    has_all(table, address, quantity)
+}
+
+// All addresses are there from which on registers are written.
+fn has_words(table: &[Option<u16>], address: u16, bytes: &[u8]) -> bool
+    requires { length bytes.now ≤ 246 }
+    ensures value { result ≡ are_there table.now address (length (words_of bytes.now)) }
+    ensures fits { result ≡ true → address + length bytes.now / 2 ≤ length table.now }
+{
+    has_all(table, address, (bytes.len() / 2) as u16)
+}
+
+// Writes the answer to a read of coils or discrete inputs.
+pub(crate) fn answer_bits(
+    table: &[Option<u16>],
+    request: &Request<'_>,
+    address: u16,
+    quantity: u16,
+    out: &mut [u8; 253],
+) -> usize
+    requires lawful { IsLawful request.now }
+    requires within { IsWithin quantity 2000 }
+    requires wanted { WantsCoils (query_of request.now) quantity }
+    ensures some { 1 ≤ result }
+    ensures few { result ≤ 253 }
+    ensures written { take result out.new ≡ answer_bytes (query_of request.now)
+        (if are_there table.now address quantity then Bits (map is_kept_on (values_at table.now address quantity)) else Exception 2) }
+{
+    if has_all(table, address, quantity) {
+        let first = usize::from(address);
+        let mut bytes = [0; 250];
+        let count = pack_coils(&table[first..first + usize::from(quantity)], &mut bytes);
+        let reply = Reply::Bits {
+            quantity,
+            bytes: &bytes[..count],
+        };
+        encode_reply(request, &reply, out)
+    } else {
+        encode_reply(request, &Reply::Exception(2), out)
+    }
+}
+
+// Writes the answer to a read of registers.
+pub(crate) fn answer_words(
+    table: &[Option<u16>],
+    request: &Request<'_>,
+    address: u16,
+    quantity: u16,
+    out: &mut [u8; 253],
+) -> usize
+    requires lawful { IsLawful request.now }
+    requires within { IsWithin quantity 125 }
+    requires wanted { WantsRegisters (query_of request.now) quantity }
+    ensures some { 1 ≤ result }
+    ensures few { result ≤ 253 }
+    ensures written { take result out.new ≡ answer_bytes (query_of request.now)
+        (if are_there table.now address quantity then Words (map kept_value (values_at table.now address quantity)) else Exception 2) }
+{
+    if has_all(table, address, quantity) {
+        let first = usize::from(address);
+        let mut bytes = [0; 250];
+        let count = pack_words(&table[first..first + usize::from(quantity)], &mut bytes);
+        encode_reply(request, &Reply::Words(&bytes[..count]), out)
+    } else {
+        encode_reply(request, &Reply::Exception(2), out)
+    }
+}
+
+// Carries out a write of one coil, and writes its answer.
+pub(crate) fn answer_coil(
+    table: &mut [Option<u16>],
+    request: &Request<'_>,
+    address: u16,
+    on: bool,
+    out: &mut [u8; 253],
+) -> usize
+    requires lawful { IsLawful request.now }
+    requires wanted { WantsHead (query_of request.now) }
+    ensures some { 1 ≤ result }
+    ensures few { result ≤ 253 }
+    ensures written { take result out.new ≡ answer_bytes (query_of request.now)
+        (if are_there table.old address 1 then Echo else Exception 2) }
+    ensures after { table.new ≡ (if are_there table.old address 1
+        then all_written table.old address (coil_number on ∷ []) else table.old) }
+{
+    if has_all(table, address, 1) {
+        table[usize::from(address)] = Some(u16::from(on));
+        encode_reply(request, &Reply::Echo, out)
+    } else {
+        encode_reply(request, &Reply::Exception(2), out)
+    }
+}
+
+// Carries out a write of coils, and writes its answer.
+pub(crate) fn answer_coils(
+    table: &mut [Option<u16>],
+    request: &Request<'_>,
+    address: u16,
+    quantity: u16,
+    bytes: &[u8],
+    out: &mut [u8; 253],
+) -> usize
+    requires lawful { IsLawful request.now }
+    requires count { length bytes.now ≡ bytes_for quantity }
+    requires wanted { WantsHead (query_of request.now) }
+    ensures some { 1 ≤ result }
+    ensures few { result ≤ 253 }
+    ensures written { take result out.new ≡ answer_bytes (query_of request.now)
+        (if are_there table.old address (length (coils_of quantity bytes.now)) then Echo else Exception 2) }
+    ensures after { table.new ≡ (if are_there table.old address (length (coils_of quantity bytes.now))
+        then all_written table.old address (map coil_number (coils_of quantity bytes.now)) else table.old) }
+{
+    if has_coils(table, address, quantity, bytes) {
+        write_coils(table, usize::from(address), quantity, bytes);
+        encode_reply(request, &Reply::Echo, out)
+    } else {
+        encode_reply(request, &Reply::Exception(2), out)
+    }
+}
+
+// Carries out a write of registers, and writes its answer.
+pub(crate) fn answer_registers(
+    table: &mut [Option<u16>],
+    request: &Request<'_>,
+    address: u16,
+    bytes: &[u8],
+    out: &mut [u8; 253],
+) -> usize
+    requires lawful { IsLawful request.now }
+    requires count { length bytes.now ≤ 246 }
+    requires wanted { WantsHead (query_of request.now) }
+    ensures some { 1 ≤ result }
+    ensures few { result ≤ 253 }
+    ensures written { take result out.new ≡ answer_bytes (query_of request.now)
+        (if are_there table.old address (length (words_of bytes.now)) then Echo else Exception 2) }
+    ensures after { table.new ≡ (if are_there table.old address (length (words_of bytes.now))
+        then all_written table.old address (words_of bytes.now) else table.old) }
+{
+    if has_words(table, address, bytes) {
+        write_words(table, usize::from(address), bytes);
+        encode_reply(request, &Reply::Echo, out)
+    } else {
+        encode_reply(request, &Reply::Exception(2), out)
+    }
+}

@@ -1,0 +1,235 @@
+// A device's values.
+ghost use Rattle.std.specs.Prelude.{◌≡◌, ◌≤◌, ◌<◌, ℕ, List, ◌↔◌, IsTrue, IfOk, Ok, Err, take, true, false, is_some, if◌then◌else◌, slice_index_or, length, None};
+ghost use Rattle.std.specs.List.{list_any};
+ghost use Rattle.mb_device.specs.Areas.{any_overlap, first_value, holds, is_out_of_range, overlap};
+ghost use Rattle.mb_wire.specs.Requests.{IsLawful, query_of};
+ghost use Rattle.mb_device.specs.Device.{answer_to, maps_after, maps_for, reply_for};
+ghost use Rattle.mb_device.specs.Maps.{Maps, kept, table_of, value_at, value_in, with_table, written};
+
+use crate::answer::{
+    answer_bits, answer_coil, answer_coils, answer_registers, answer_words, code_of, refuse,
+};
+use crate::kinds::{Area, BankFault, Kind};
+use mb_wire::{Request, decode_request};
+use std::alloc::{AllocError, Global};
+use std::marker::Model;
+
+/// The values of a device, each at its kind and address.
+#[derive(Drop)]
+pub struct Bank {
+    coils: Vec<Option<u16>>,
+    discretes: Vec<Option<u16>>,
+    holdings: Vec<Option<u16>>,
+    inputs: Vec<Option<u16>>,
+}
+
+impl Model for Bank {
+    ghost use Rattle.mb_device.specs.Maps.{Maps};
+
+    ghost Value = { Maps };
+
+    ghost view = { λ bank. record {
+      coils = bank.coils.items;
+      discretes = bank.discretes.items;
+      holdings = bank.holdings.items;
+      inputs = bank.inputs.items;
+    } };
+}
+
+// An area shares an address of its kind with one of the others.
+fn overlaps_any(area: &Area, others: &[Area]) -> bool
+    ensures { result ≡ list_any (λ other. overlap area.now other) others.now }
+{
+    others.iter().any(|other| area.overlaps(other))
+}
+
+// Two areas of one kind share an address.
+fn has_overlap(areas: &[Area]) -> bool
+    ensures { result ≡ any_overlap areas.now }
+{
+    match areas {
+        [] => false,
+        [area, others @ ..] => overlaps_any(area, others) || has_overlap(others),
+    }
+}
+
+// An area is empty, or reaches past the last address.
+fn has_out_of_range(areas: &[Area]) -> bool
+    ensures { result ≡ list_any is_out_of_range areas.now }
+{
+    areas.iter().any(|area| area.is_out_of_range())
+}
+
+// An area has the address.
+fn any_holds(areas: &[Area], kind: Kind, address: u64) -> bool
+    ensures { result ≡ list_any (λ area. holds kind address area) areas.now }
+{
+    areas.iter().any(|area| area.holds(kind, address))
+}
+
+// What stands at an address in the beginning.
+fn begin(areas: &[Area], kind: Kind, address: u64) -> Option<u16>
+    ensures { result ≡ first_value areas.now kind address }
+{
+    if any_holds(areas, kind, address) {
+        Some(0)
+    } else {
+        None
+    }
+}
+
+// The table of one kind.
+fn begin_table(alloc: Global, areas: &[Area], kind: Kind) -> Result<Vec<Option<u16>>, AllocError>
+    ensures values { IfOk result (λ table. (address : ℕ) → address < 65536 → value_in table.items address ≡ first_value areas.now kind address) }
+    ensures end { IfOk result (λ table. length table.items ≡ 65536) }
+{
+    let mut table = Vec::with_capacity(alloc, 65536)?;
+    for address in 0..65536u64 {
+        table.push(begin(areas, kind, address))?;
+    }
+    Ok(table)
+}
+
+// A table with another value at an address that it has, and whether it has it.
+fn write(table: &mut Vec<Option<u16>>, address: u16, value: u16) -> bool
+    ensures there { result ≡ is_some (value_in table.old.items address) }
+    ensures after { table.new.items ≡ written table.old.items address value }
+{
+    let place = usize::from(address);
+    if place < table.len() && table[place].is_some() {
+        table[place] = Some(value);
+        true
+    } else {
+        false
+    }
+}
+
+impl Bank {
+    /// The bank of these areas, with all values 0.
+    pub fn new(alloc: Global, areas: &[Area]) -> Result<Bank, BankFault>
+        ensures overlap { (result ≡ Err BankFault.AreasOverlap) ↔ (any_overlap areas.now ≡ true) }
+        ensures range { (result ≡ Err BankFault.OutOfRange) ↔ ((any_overlap areas.now ≡ false) × (list_any is_out_of_range areas.now ≡ true)) }
+        ensures values { IfOk result (λ bank. (kind : Kind) (address : ℕ) → address < 65536 → value_at bank kind address ≡ first_value areas.now kind address) }
+    {
+        if has_overlap(areas) {
+            return Err(BankFault::AreasOverlap);
+        }
+        if has_out_of_range(areas) {
+            return Err(BankFault::OutOfRange);
+        }
+        Bank::begin(alloc, areas).map_err(|_| BankFault::Memory)
+    }
+
+    fn begin(alloc: Global, areas: &[Area]) -> Result<Bank, AllocError>
+        ensures values { IfOk result (λ bank. (kind : Kind) (address : ℕ) → address < 65536 → value_at bank kind address ≡ first_value areas.now kind address) }
+    {
+        Ok(Bank {
+            coils: begin_table(alloc, areas, Kind::Coil)?,
+            discretes: begin_table(alloc, areas, Kind::Discrete)?,
+            holdings: begin_table(alloc, areas, Kind::Holding)?,
+            inputs: begin_table(alloc, areas, Kind::Input)?,
+        })
+    }
+
+    /// Keeps a value, and says whether there is such an address. A coil or a discrete input is on where
+    /// the value is not 0, and is then kept as 1.
+    pub fn set(&mut self, kind: Kind, address: u16, value: u16) -> bool
+        ensures there { result ≡ is_some (value_at self.old kind address) }
+        ensures after { self.new ≡ with_table self.old kind (written (table_of self.old kind) address (kept kind value)) }
+    {
+        match kind {
+            Kind::Coil => write(&mut self.coils, address, u16::from(value != 0)),
+            Kind::Discrete => write(&mut self.discretes, address, u16::from(value != 0)),
+            Kind::Holding => write(&mut self.holdings, address, value),
+            Kind::Input => write(&mut self.inputs, address, value),
+        }
+    }
+
+    /// The value at an address, if there is one: 0 or 1 of a coil or a discrete input.
+    pub fn get(&self, kind: Kind, address: u16) -> Option<u16>
+        ensures { result ≡ value_at self.now kind address }
+    {
+        let table = match kind {
+            Kind::Coil => self.coils.as_slice(),
+            Kind::Discrete => self.discretes.as_slice(),
+            Kind::Holding => self.holdings.as_slice(),
+            Kind::Input => self.inputs.as_slice(),
+        };
+        value_of(table, address)
+    }
+
+    /// Answers a PDU of 1 to 253 bytes at the front of `out`, and says how many bytes the answer has.
+    /// The function is looked at first, then the rest of the PDU, then the addresses; what is refused
+    /// changes nothing (Modbus Application Protocol V1.1b3, sections 6 and 7).
+    pub fn answer(&mut self, pdu: &[u8], out: &mut [u8; 253]) -> usize
+        requires some { 1 ≤ length pdu.now }
+        requires few { length pdu.now ≤ 253 }
+        ensures some { 1 ≤ result }
+        ensures few { result ≤ 253 }
+        ensures answered { take result out.new ≡ answer_to self.old pdu.now }
+        ensures after { self.new ≡ maps_after self.old pdu.now }
+    {
+        match decode_request(pdu) {
+            Ok(request) => self.carry_out(&request, out),
+            Err(fault) => refuse(pdu[0], code_of(fault), out),
+        }
+    }
+
+    // Carries out a request, and writes its answer.
+    fn carry_out(&mut self, request: &Request<'_>, out: &mut [u8; 253]) -> usize
+        requires { IsLawful request.now }
+        ensures some { 1 ≤ result }
+        ensures few { result ≤ 253 }
+        ensures answered { take result out.new ≡ reply_for self.old 0 (Ok (query_of request.now)) }
+        ensures after { self.new ≡ maps_for self.old (Ok (query_of request.now)) }
+    {
+        match *request {
+            Request::ReadCoils { address, quantity } => {
+                answer_bits(self.coils.as_slice(), request, address, quantity, out)
+            }
+            Request::ReadDiscrete { address, quantity } => {
+                answer_bits(self.discretes.as_slice(), request, address, quantity, out)
+            }
+            Request::ReadHolding { address, quantity } => {
+                answer_words(self.holdings.as_slice(), request, address, quantity, out)
+            }
+            Request::ReadInput { address, quantity } => {
+                answer_words(self.inputs.as_slice(), request, address, quantity, out)
+            }
+            Request::WriteCoil { address, on } => {
+                answer_coil(self.coils.as_mut_slice(), request, address, on, out)
+            }
+            Request::WriteRegister { address, value } => {
+                let bytes = value.to_be_bytes();
+                answer_registers(self.holdings.as_mut_slice(), request, address, &bytes, out)
+            }
+            Request::WriteCoils {
+                address,
+                quantity,
+                bytes,
+            } => answer_coils(
+                self.coils.as_mut_slice(),
+                request,
+                address,
+                quantity,
+                bytes,
+                out,
+            ),
+            Request::WriteRegisters { address, bytes } => {
+                answer_registers(self.holdings.as_mut_slice(), request, address, bytes, out)
+            }
+        }
+    }
+}
+
+// The value at an address of a table.
+fn value_of(table: &[Option<u16>], address: u16) -> Option<u16>
+    ensures { result ≡ value_in table.now address }
+{
+    let place = usize::from(address);
+    if place < table.len() {
+        table[place]
+    } else {
+        None
+    }
+}

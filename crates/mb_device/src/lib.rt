@@ -1,0 +1,14 @@
+//! A stand-in for a device on Modbus over TCP: it answers as the Modbus Application Protocol V1.1b3
+//! says, over coils and registers in memory.
+#![tactic(auto)]
+
+mod answer;
+mod bank;
+mod kinds;
+mod packing;
+
+pub use bank::Bank;
+pub use kinds::{Area, BankFault, Kind};
+
+#[cfg(test)]
+mod tests;
