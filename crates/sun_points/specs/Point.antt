@@ -1,5 +1,5 @@
 -- What the registers of a point say.
-use Rattle.std.specs.Prelude.{ℕ, ℤ, pos, ◌+◌, ◌*◌, Bool, ◌==◌, nat_le, if◌then◌else◌, List, slice_index}
+use Rattle.std.specs.Prelude.{ℕ, ℤ, ◌+◌, ◌*◌, Bool, ◌==◌, nat_le, if◌then◌else◌, List, slice_index}
 use Rattle.std.specs.Int.{w16, w32, cast_signed}
 use Rattle.std.specs.List.{list_all}
 use Rattle.sun_points.specs.declared.point_type.PointType.{PointType}

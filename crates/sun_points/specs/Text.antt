@@ -1,11 +1,12 @@
 -- Texts in registers, and how they are shown.
 use Rattle.std.specs.Prelude.{ℕ, ◌/◌, ◌%◌, true, ◌&&◌, ◌==◌, nat_le, if◌then◌else◌, List, [], ◌∷◌, ◌++◌, codes}
+use Rattle.std.specs.Int.{w16, to_be_bytes}
 use Rattle.std.specs.List.{flat_map, before_first}
 use Rattle.std.specs.Fmt.{digit_glyph}
 
 -- the bytes of the registers, two in each, the high byte first
 abbrev pub bytes_of : List ℕ → List ℕ
-bytes_of words = flat_map (λ w. w / 256 ∷ w % 256 ∷ []) words
+bytes_of words = flat_map (to_be_bytes w16) words
 
 -- a text ends before its first zero byte
 abbrev pub text_bytes : List ℕ → List ℕ

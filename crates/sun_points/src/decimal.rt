@@ -3,6 +3,7 @@ ghost use Rattle.std.specs.Fmt.{decimal};
 ghost use Rattle.std.specs.Io.KnownBytes.{Appends};
 ghost use Rattle.sun_points.specs.Decimal.{low_digits, magnitude_text, scaled_text};
 
+use crate::digits::fill_digits;
 use crate::scale::Scale;
 use std::io::{self, Write};
 
@@ -17,7 +18,12 @@ pub fn write_scaled<W: Write>(value: i64, scale: Scale, output: &mut W) -> io::R
     write_magnitude(value.unsigned_abs(), scale, output)
 }
 
-fn write_magnitude<W: Write>(magnitude: u64, scale: Scale, output: &mut W) -> io::Result<()>
+/// Writes `magnitude * 10 ^ scale`, as `write_scaled` does.
+pub(crate) fn write_magnitude<W: Write>(
+    magnitude: u64,
+    scale: Scale,
+    output: &mut W,
+) -> io::Result<()>
     ensures { OnOk result (Appends (W.contents output.old) (W.contents output.new) (magnitude_text magnitude scale)) }
 {
     let exponent = scale.exponent();
@@ -42,23 +48,12 @@ fn write_with_zeros<W: Write>(magnitude: u64, zeros: u8, output: &mut W) -> io::
 
 fn write_with_decimals<W: Write>(magnitude: u64, places: u8, output: &mut W) -> io::Result<()>
     requires { places ≤ 10 }
-    ensures { OnOk result (Appends (W.contents output.old) (W.contents output.new) (decimal (magnitude / 10 ^ places) ++ codes "." ++ low_digits places magnitude)) }
+    ensures { OnOk result (Appends (W.contents output.old) (W.contents output.new) (decimal (magnitude / 10 ^ places) ++ codes "." ++ low_digits 10 places magnitude)) }
 {
     let whole = magnitude / 10u64.pow(u32::from(places));
     write!(output, "{whole}.")?;
-    let digits = ten_digits(magnitude);
-    output.write_all(&digits[10 - usize::from(places)..])
-}
-
-// The ten lowest digits.
-fn ten_digits(magnitude: u64) -> [u8; 10]
-    ensures { result ≡ low_digits 10 magnitude }
-{
-    let mut digits = [b'0'; 10];
-    let mut rest = magnitude;
-    for place in 0..10 {
-        digits[9 - place] = b'0' + (rest % 10) as u8;
-        rest /= 10;
-    }
-    digits
+    let mut room = [b'0'; 10];
+    let digits = &mut room[..usize::from(places)];
+    fill_digits(magnitude, 10, digits);
+    output.write_all(digits)
 }

@@ -1,8 +1,10 @@
-//! SunSpec points: what a point's registers say, scale factors, and the exact decimal text of a scaled value.
+//! SunSpec points: what a point's registers say, scale factors, and the exact text of a scaled value.
 #![tactic(auto)]
 
 mod decimal;
+mod digits;
 mod point;
+mod point_text;
 mod point_type;
 mod scale;
 mod text;

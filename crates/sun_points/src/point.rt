@@ -8,7 +8,7 @@ use crate::point_type::PointType;
 use crate::text::Text;
 
 /// What a point's registers say. A text is lent from them.
-#[derive(Clone, Copy, Debug)]
+#[derive(Clone, Copy, Debug, PartialEq, Eq)]
 pub enum Point<'a> {
     /// The registers say that the device has no such value.
     Absent,
