@@ -14,3 +14,6 @@ pub use point::{Point, read_point};
 pub use point_type::{PointType, TextLength};
 pub use scale::Scale;
 pub use text::Text;
+
+#[cfg(test)]
+mod tests;
