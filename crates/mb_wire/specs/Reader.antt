@@ -1,0 +1,70 @@
+-- What a contract sees of a `FrameReader`, and what a `feed` tells.
+use Rattle.std.specs.Prelude.{◌≡◌, ℕ, ◌+◌, List, [], ◌∷◌, ◌++◌, length, Some, None}
+use Rattle.std.specs.declared.option.Option.{Option}
+use Rattle.mb_wire.specs.Bytes.{word}
+use Rattle.mb_wire.specs.Frames.{IsFrame, IsOwn, IsOpen, IsBad, tid_of, unit_of, pdu_of}
+use Rattle.mb_wire.specs.declared.frames.Frame.{Frame}
+use Rattle.mb_wire.specs.declared.frames.Framing.{Framing}
+use Rattle.mb_wire.specs.declared.frames.Framing.TheVariants.{Need, Whole, Foreign, Garbled}
+use Rattle.mb_wire.specs.declared.frames.State.{State}
+use Rattle.mb_wire.specs.declared.frames.State.TheVariants.{Reading, Ended, Stuck}
+
+-- the bytes since the last frame's end, and the frame of this protocol that the last feed ended
+pub record Held : Type 0 where
+  pub rest : List ℕ
+  pub frame : Option (List ℕ)
+
+abbrev pub held_in : State → List ℕ → Held
+held_in Reading bytes = record { rest = bytes; frame = None }
+held_in Ended bytes = record { rest = []; frame = Some bytes }
+held_in Stuck bytes = record { rest = bytes; frame = None }
+
+abbrev pub FitsState : State → List ℕ → Type 0
+FitsState Reading bytes = IsOpen bytes
+FitsState Ended bytes = IsFrame bytes × IsOwn bytes
+FitsState Stuck bytes = IsBad bytes × (length bytes ≡ 6)
+
+-- what the bytes since the last frame's end are, those taken now included
+abbrev pub Tells : Framing → List ℕ → Type 0
+Tells Need bytes = IsOpen bytes
+Tells Whole bytes = IsFrame bytes × IsOwn bytes
+Tells Foreign bytes = IsFrame bytes × (IsOwn bytes → ⊥)
+Tells Garbled bytes = IsBad bytes × (length bytes ≡ 6)
+
+-- a frame ended
+abbrev pub IsEnd : Framing → Type 0
+IsEnd Need = ⊥
+IsEnd Whole = Unit {0}
+IsEnd Foreign = Unit {0}
+IsEnd Garbled = ⊥
+
+-- what is held when these bytes since the last frame's end were told so
+abbrev pub held_after : Framing → List ℕ → Held
+held_after Need bytes = record { rest = bytes; frame = None }
+held_after Whole bytes = record { rest = []; frame = Some bytes }
+held_after Foreign bytes = record { rest = []; frame = None }
+held_after Garbled bytes = record { rest = bytes; frame = None }
+
+-- the frame that ended, if one did
+abbrev pub ended : Framing → List ℕ → List (List ℕ)
+ended Need bytes = []
+ended Whole bytes = bytes ∷ []
+ended Foreign bytes = bytes ∷ []
+ended Garbled bytes = []
+
+-- the fields of a frame
+pub record Fields : Type 0 where
+  pub tid : ℕ
+  pub unit : ℕ
+  pub pdu : List ℕ
+
+abbrev pub fields_of : List ℕ → Fields
+fields_of frame = record { tid = tid_of frame; unit = unit_of frame; pdu = pdu_of frame }
+
+-- a frame without where it lies in memory
+abbrev pub spelled : Frame → Fields
+spelled frame = record { tid = frame.tid; unit = frame.unit; pdu = frame.pdu.now }
+
+-- the one spelling of a frame
+abbrev pub spelling : ℕ → ℕ → List ℕ → List ℕ
+spelling tid unit pdu = word tid ++ word 0 ++ word (1 + length pdu) ++ unit ∷ pdu

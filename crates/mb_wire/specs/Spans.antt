@@ -1,0 +1,37 @@
+-- Registers of a device that are read together.
+use Rattle.std.specs.Prelude.{ℕ, ◌+◌, ◌≤◌}
+use Rattle.mb_wire.specs.declared.requests.Request.{Request}
+use Rattle.mb_wire.specs.declared.requests.Request.TheVariants.{ReadHolding, ReadInput}
+use Rattle.mb_wire.specs.declared.span.ReadFunction.{ReadFunction}
+use Rattle.mb_wire.specs.declared.span.ReadFunction.TheVariants.{HoldingRegisters, InputRegisters}
+use Rattle.mb_wire.specs.declared.span.ReadSpan.{ReadSpan}
+
+-- the function code
+abbrev pub code_of : ReadFunction → ℕ
+code_of HoldingRegisters = 3
+code_of InputRegisters = 4
+
+-- a function, an address and a count
+pub record Span : Type 0 where
+  pub function : ReadFunction
+  pub address : ℕ
+  pub count : ℕ
+
+abbrev pub span_view : ReadSpan → Span
+span_view span = record { function = span.function; address = span.address; count = span.count }
+
+-- function 3 or 4, and 1 to 125 registers inside the 65536 of a device
+pub record IsSpan (function address count : ℕ) : Type 0 where
+  pub low : 3 ≤ function
+  pub high : function ≤ 4
+  pub some : 1 ≤ count
+  pub few : count ≤ 125
+  pub inside : address + count ≤ 65536
+
+-- the request that reads these registers
+abbrev pub read_request : ReadFunction → ℕ → ℕ → Request
+read_request HoldingRegisters address count = ReadHolding address count
+read_request InputRegisters address count = ReadInput address count
+
+abbrev pub request_of : Span → Request
+request_of span = read_request span.function span.address span.count

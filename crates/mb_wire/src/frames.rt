@@ -1,0 +1,291 @@
+// Frames: an MBAP header and a PDU.
+ghost use Rattle.std.specs.Prelude.{◌≡◌, ◌≢◌, ℕ, ◌+◌, ◌*◌, ◌≤◌, ◌<◌, List, [], ◌∷◌, ◌++◌, length, take, drop, slice_index, IfSome, IsSome, MatchOption, ◌⊎◌, ◌↔◌};
+ghost use Rattle.std.specs.Option.{option_map};
+ghost use Rattle.mb_wire.specs.Frames.{IsOpen, IsBad, IsGoodSpan, span_of, tid_of, unit_of, pdu_of, protocol_of, IsFrame, IsOwn, Reads, frames, rest};
+ghost use Rattle.mb_wire.specs.Reader.{Held, Tells, IsEnd, held_after, ended, fields_of, spelled, spelling};
+ghost use Rattle.mb_wire.specs.Bytes.{word};
+
+use byteorder::{BigEndian, ByteOrder};
+use std::marker::Model;
+
+/// What a feed ended with.
+#[derive(Clone, Copy, Debug, PartialEq, Eq)]
+pub enum Framing {
+    /// All of the piece is taken, and no frame has ended.
+    Need,
+    /// The last byte taken ended a frame.
+    Whole,
+    /// The last byte taken ended a frame of another protocol.
+    Foreign,
+    /// The last byte taken is the low byte of a bad length. Nothing is taken from then on.
+    Garbled,
+}
+
+#[derive(Clone, Copy, Debug, PartialEq, Eq)]
+pub struct Fed {
+    pub taken: usize,
+    pub what: Framing,
+}
+
+/// A frame that is lent from the reader.
+#[derive(Clone, Copy, Debug)]
+pub struct Frame<'a> {
+    pub tid: u16,
+    pub unit: u8,
+    pub pdu: &'a [u8],
+}
+
+#[derive(Clone, Copy, Debug, PartialEq, Eq)]
+enum State {
+    Reading,
+    Ended,
+    Stuck,
+}
+
+/// Takes a stream of bytes apart, in whatever pieces it comes.
+#[derive(Drop)]
+pub struct FrameReader {
+    buf: [u8; 260],
+    len: usize,
+    state: State,
+}
+
+impl Model for FrameReader {
+    ghost use Rattle.std.specs.Prelude.{take, ◌≤◌};
+    ghost use Rattle.mb_wire.specs.Reader.{Held, held_in, FitsState};
+
+    ghost Value = { Held };
+
+    ghost view = { λ r. held_in r.state (take r.len r.buf) };
+
+    ghost invariant = { λ r. (r.len ≤ 260) × FitsState r.state (take r.len r.buf) };
+}
+
+// How far a step came: `len` bytes are held.
+#[derive(Drop)]
+struct Step {
+    len: usize,
+    fed: Fed,
+}
+
+// Copies bytes of the piece behind the first `len` of `buf`, up to `limit` in all, and says how many.
+fn top_up(buf: &mut [u8; 260], len: usize, piece: &[u8], limit: usize) -> usize
+    requires within { len ≤ limit }
+    requires fits { limit ≤ 260 }
+    ensures count { result ≤ length piece.now }
+    ensures limited { len + result ≤ limit }
+    ensures stops { (len + result ≡ limit) ⊎ (result ≡ length piece.now) }
+    ensures held { take (len + result) buf.new ≡ take len buf.old ++ take result piece.now }
+    ensures kept { take len buf.new ≡ take len buf.old }
+{
+    let count = (limit - len).min(piece.len());
+    buf[len..len + count].copy_from_slice(&piece[..count]);
+    count
+}
+
+// How many bytes follow the sixth.
+fn span_in(buf: &[u8; 260]) -> usize
+    ensures span { result ≡ span_of buf.now }
+    ensures fits { result < 65536 }
+{
+    usize::from(BigEndian::read_u16(&buf[4..6]))
+}
+
+// Copies bytes of the piece behind the first `len` of `buf`, until the header is whole, and says how many.
+fn top_up_header(buf: &mut [u8; 260], len: usize, piece: &[u8]) -> usize
+    requires fits { len ≤ 260 }
+    ensures count { result ≤ length piece.now }
+    ensures limited { len + result ≤ 260 }
+    ensures stops { (6 ≤ len + result) ⊎ (result ≡ length piece.now) }
+    ensures header { 6 < len + result → result ≡ 0 }
+    ensures held { take (len + result) buf.new ≡ take len buf.old ++ take result piece.now }
+    ensures kept { take len buf.new ≡ take len buf.old }
+{
+    if len < 6 {
+        top_up(buf, len, piece, 6)
+    } else {
+        0
+    }
+}
+
+// What the first `len` bytes of `buf` are, behind a good header.
+fn what_is(buf: &[u8; 260], len: usize, span: usize) -> Framing
+    requires span { span ≡ span_of buf.now }
+    requires good { IsGoodSpan span }
+    requires header { 6 ≤ len }
+    requires within { len ≤ 6 + span }
+    ensures tells { Tells result (take len buf.now) }
+    ensures need { result ≡ Framing.Need → len < 6 + span }
+    ensures full { IsEnd result → len ≡ 6 + span }
+{
+    if len < 6 + span {
+        Framing::Need
+    } else if buf[2] == 0 && buf[3] == 0 {
+        Framing::Whole
+    } else {
+        Framing::Foreign
+    }
+}
+
+// One feed of a reader that holds the open `len` bytes in front of `buf`.
+fn take_in(buf: &mut [u8; 260], len: usize, piece: &[u8]) -> Step
+    requires fits { len ≤ 260 }
+    requires before { IsOpen (take len buf.old) }
+    ensures len { result.len ≤ 260 }
+    ensures taken { result.fed.taken ≤ length piece.now }
+    ensures need { result.fed.what ≡ Framing.Need → result.fed.taken ≡ length piece.now }
+    ensures held { take result.len buf.new ≡ take len buf.old ++ take result.fed.taken piece.now }
+    ensures tells { Tells result.fed.what (take result.len buf.new) }
+    ensures moves { IsEnd result.fed.what → 0 < result.fed.taken }
+{
+    let head = top_up_header(buf, len, piece);
+    let reached = len + head;
+    if reached < 6 {
+        return Step {
+            len: reached,
+            fed: Fed {
+                taken: head,
+                what: Framing::Need,
+            },
+        };
+    }
+    let span = span_in(buf);
+    if span < 2 || span > 254 {
+        return Step {
+            len: reached,
+            fed: Fed {
+                taken: head,
+                what: Framing::Garbled,
+            },
+        };
+    }
+    let body = top_up(buf, reached, &piece[head..], 6 + span);
+    let len = reached + body;
+    Step {
+        len,
+        fed: Fed {
+            taken: head + body,
+            what: what_is(buf, len, span),
+        },
+    }
+}
+
+impl FrameReader {
+    pub fn new() -> Self
+        ensures nothing { result ≡ record { rest = []; frame = None } }
+        ensures reads { Reads [] [] result.rest }
+    {
+        FrameReader {
+            buf: [0; 260],
+            len: 0,
+            state: State::Reading,
+        }
+    }
+
+    /// Takes bytes of the piece, up to the end of the next frame.
+    pub fn feed(&mut self, piece: &[u8]) -> Fed
+        ensures taken { result.taken ≤ length piece.now }
+        ensures need { result.what ≡ Framing.Need → result.taken ≡ length piece.now }
+        ensures moves { IsEnd result.what → 0 < result.taken }
+        ensures tells { Tells result.what (self.old.rest ++ take result.taken piece.now) }
+        ensures after { self.new ≡ held_after result.what (self.old.rest ++ take result.taken piece.now) }
+        // Whatever bytes came before, they and those taken now read as the frames so far, the one that ended, and what is held.
+        ensures reads { (bytes : List ℕ) (before : List (List ℕ)) → Reads bytes before self.old.rest →
+            Reads (bytes ++ take result.taken piece.now) (before ++ ended result.what (self.old.rest ++ take result.taken piece.now)) self.new.rest }
+        ensures stuck { IsBad self.old.rest → (result.what ≡ Framing.Garbled) × (result.taken ≡ 0) }
+    {
+        self.advance(piece)
+    }
+
+    fn advance(&mut self, piece: &[u8]) -> Fed
+        ensures taken { result.taken ≤ length piece.now }
+        ensures need { result.what ≡ Framing.Need → result.taken ≡ length piece.now }
+        ensures moves { IsEnd result.what → 0 < result.taken }
+        ensures tells { Tells result.what (self.old.rest ++ take result.taken piece.now) }
+        ensures after { self.new ≡ held_after result.what (self.old.rest ++ take result.taken piece.now) }
+        ensures stuck { IsBad self.old.rest → (result.what ≡ Framing.Garbled) × (result.taken ≡ 0) }
+    {
+        match self.state {
+            State::Stuck => {
+                return Fed {
+                    taken: 0,
+                    what: Framing::Garbled,
+                };
+            }
+            State::Ended => {
+                self.len = 0;
+            }
+            State::Reading => {}
+        }
+        let step = take_in(&mut self.buf, self.len, piece);
+        self.len = step.len;
+        match step.fed.what {
+            Framing::Need => {
+                self.state = State::Reading;
+            }
+            Framing::Whole => {
+                self.state = State::Ended;
+            }
+            Framing::Foreign => {
+                self.len = 0;
+                self.state = State::Reading;
+            }
+            Framing::Garbled => {
+                self.state = State::Stuck;
+            }
+        }
+        step.fed
+    }
+
+    /// The frame of this protocol that the last feed ended.
+    pub fn frame(&self) -> Option<Frame<'_>>
+        ensures { option_map spelled result ≡ option_map fields_of self.now.frame }
+    {
+        match self.state {
+            State::Ended => {
+                let buf = &self.buf;
+                Some(Frame {
+                    tid: BigEndian::read_u16(&buf[0..2]),
+                    unit: buf[6],
+                    pdu: &buf[7..self.len],
+                })
+            }
+            _ => None,
+        }
+    }
+}
+
+/// Writes the frame of these, and says how many bytes it has.
+pub fn write_frame(tid: u16, unit: u8, pdu: &[u8], out: &mut [u8; 260]) -> usize
+    requires low { 1 ≤ length pdu.now }
+    requires high { length pdu.now ≤ 253 }
+    ensures count { result ≡ 7 + length pdu.now }
+    ensures written { take result out.new ≡ spelling tid unit pdu.now }
+{
+    let end = 7 + pdu.len();
+    let head = header(tid, unit, pdu.len() as u16 + 1);
+    out[..7].copy_from_slice(&head);
+    out[7..end].copy_from_slice(pdu);
+    end
+}
+
+fn header(tid: u16, unit: u8, span: u16) -> [u8; 7]
+    ensures { result ≡ word tid ++ word 0 ++ word span ++ unit ∷ [] }
+{
+    let [tid_high, tid_low] = tid.to_be_bytes();
+    let [span_high, span_low] = span.to_be_bytes();
+    [tid_high, tid_low, 0, 0, span_high, span_low, unit]
+}
+
+/// Each byte list has exactly one reading.
+pub fn one_reading()
+    ensures exists { (bytes : List ℕ) → Reads bytes (frames bytes) (rest bytes) }
+    ensures only { (bytes : List ℕ) (others : List (List ℕ)) (left : List ℕ) → Reads bytes others left →
+        (frames bytes ≡ others) × (rest bytes ≡ left) }
+{}
+
+/// What is written is a frame, and has these fields.
+pub fn one_spelling()
+    ensures frame { (tid unit : ℕ) (pdu : List ℕ) → tid < 65536 → 1 ≤ length pdu → length pdu ≤ 253 →
+        IsFrame (spelling tid unit pdu) × IsOwn (spelling tid unit pdu) × (fields_of (spelling tid unit pdu) ≡ record { tid = tid; unit = unit; pdu = pdu }) }
+{}

@@ -1,0 +1,81 @@
+// Registers to be read together.
+ghost use Rattle.std.specs.Prelude.{◌≡◌, ◌≤◌, ◌+◌, ◌↔◌, IsSome, IfSome};
+
+use crate::requests::Request;
+
+/// The functions that read registers.
+#[derive(Clone, Copy, Debug, PartialEq, Eq)]
+pub enum ReadFunction {
+    /// Function 3.
+    HoldingRegisters,
+    /// Function 4.
+    InputRegisters,
+}
+
+impl ReadFunction {
+    ghost use Rattle.mb_wire.specs.Spans.{code_of};
+
+    /// The function code of the standard.
+    pub fn code(self) -> u8
+        ensures { result ≡ code_of self }
+    {
+        match self {
+            ReadFunction::HoldingRegisters => 3,
+            ReadFunction::InputRegisters => 4,
+        }
+    }
+}
+
+/// 1 to 125 registers of one function, inside the 65536 of a device.
+#[derive(Clone, Copy, Debug, PartialEq, Eq)]
+pub struct ReadSpan {
+    pub function: ReadFunction,
+    pub address: u16,
+    pub count: u16,
+    pub ghost some: { 1 ≤ count },
+    pub ghost few: { count ≤ 125 },
+    pub ghost inside: { address + count ≤ 65536 },
+}
+
+impl ReadSpan {
+    ghost use Rattle.mb_wire.specs.Spans.{IsSpan, code_of, request_of, span_view};
+
+    /// The span of a function code, an address and a count that came from outside.
+    pub fn new(function: u8, address: u16, count: u16) -> Option<ReadSpan>
+        ensures lawful { IsSome result ↔ IsSpan function address count }
+        ensures function { IfSome result (λ span. code_of span.function ≡ function) }
+        ensures address { IfSome result (λ span. span.address ≡ address) }
+        ensures count { IfSome result (λ span. span.count ≡ count) }
+    {
+        let function = match function {
+            3 => ReadFunction::HoldingRegisters,
+            4 => ReadFunction::InputRegisters,
+            _ => return None,
+        };
+        if 1 <= count && count <= 125 && u32::from(address) + u32::from(count) <= 65536 {
+            Some(ReadSpan {
+                function,
+                address,
+                count,
+            })
+        } else {
+            None
+        }
+    }
+
+    /// The request that reads these registers.
+    pub fn request(self) -> Request
+        ensures { result ≡ request_of (span_view self) }
+    {
+        match self.function {
+            ReadFunction::HoldingRegisters => Request::ReadHolding {
+                address: self.address,
+                quantity: self.count,
+            },
+            ReadFunction::InputRegisters => Request::ReadInput {
+                address: self.address,
+                quantity: self.count,
+            },
+        }
+    }
+}
