@@ -1,0 +1,5 @@
+pub mod PointType
+pub mod Point
+pub mod Scale
+pub mod Decimal
+pub mod Text
