@@ -1,0 +1,10 @@
+//! Point lists: the registers of a device that an office reads, as a table of comma-separated values spells them.
+#![tactic(auto)]
+
+mod list;
+mod name;
+mod point;
+
+pub use list::PointList;
+pub use name::PointName;
+pub use point::{ListedPoint, PointScale, RegisterTable};

@@ -1,0 +1,43 @@
+//! Point lists.
+ghost use Rattle.std.specs.Prelude.{◌≡◌};
+
+use std::marker::Model;
+
+use crate::point::ListedPoint;
+
+/// At most 512 points of distinct names, each scale point among them and within one read of its point.
+#[derive(Debug, Drop)]
+pub struct PointList {
+    points: Vec<ListedPoint>,
+}
+
+impl Model for PointList {
+    ghost use Rattle.std.specs.Prelude.{List};
+    ghost use Rattle.point_list.specs.declared.point.ListedPoint.{ListedPoint};
+
+    ghost Value = { List ListedPoint };
+
+    ghost use Rattle.point_list.specs.Points.{IsPointList};
+
+    ghost view = { λ l. l.points.items };
+
+    ghost invariant = { λ l. IsPointList l.points.items };
+}
+
+impl PointList {
+    ghost use Rattle.point_list.specs.Points.{IsPointList};
+
+    pub fn points(&self) -> &[ListedPoint]
+        ensures points { result.now ≡ self.now }
+        ensures lawful { IsPointList self.now }
+    {
+        self.points.as_slice()
+    }
+
+    pub fn into_points(self) -> Vec<ListedPoint>
+        ensures points { result.items ≡ self }
+        ensures lawful { IsPointList self }
+    {
+        self.points
+    }
+}

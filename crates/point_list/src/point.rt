@@ -1,0 +1,51 @@
+//! The points of a list.
+ghost use Rattle.std.specs.Prelude.{◌≡◌};
+
+use sun_points::{PointType, Scale};
+
+use crate::name::PointName;
+
+/// The registers that a function reads.
+#[derive(Clone, Copy, Debug, PartialEq, Eq)]
+pub enum RegisterTable {
+    /// Holding registers, which function 3 reads.
+    Holding,
+    /// Input registers, which function 4 reads.
+    Input,
+}
+
+impl RegisterTable {
+    ghost use Rattle.point_list.specs.Points.{function_of};
+
+    /// The function that reads the registers.
+    pub fn function(self) -> u8
+        ensures { result ≡ function_of self }
+    {
+        match self {
+            RegisterTable::Holding => 3,
+            RegisterTable::Input => 4,
+        }
+    }
+}
+
+/// By which power of ten a point's value is multiplied.
+#[derive(Debug, Drop)]
+pub enum PointScale {
+    /// None: the value as it is.
+    Unscaled,
+    /// One for good.
+    Fixed(Scale),
+    /// The one that the sunssf point of this name says.
+    Named(PointName),
+}
+
+/// A point of a list: from `address` on in the registers of a function and an area number.
+#[derive(Debug, Drop)]
+pub struct ListedPoint {
+    pub name: PointName,
+    pub table: RegisterTable,
+    pub area: u8,
+    pub address: u16,
+    pub kind: PointType,
+    pub scale: PointScale,
+}
