@@ -5,11 +5,12 @@ use Rattle.std.proofs.lemmas.Bool.{cases_lt, cases_eq}
 use Rattle.std.proofs.lemmas.List.{get_or-take, get_or_default, get_or_push, length-take-le, length_push, take_more}
 use Rattle.std.proofs.lemmas.List.Elements.{All-push, All-weaker, Contains-append_left, Contains-push}
 use Rattle.std.proofs.lemmas.List.Quantifiers.{Any-push, all_pairs_push}
-use Rattle.read_plan.specs.declared.run.RegisterTable.{RegisterTable}
-use Rattle.read_plan.specs.declared.run.RegisterTable.TheVariants.{Holding, Input}
+use Rattle.point_list.specs.declared.point.RegisterTable.{RegisterTable}
+use Rattle.point_list.specs.declared.point.RegisterTable.TheVariants.{Holding, Input}
 use Rattle.read_plan.specs.declared.run.Run.{Run}
 use Rattle.read_plan.specs.Beginnings.{AreBeginnings, BeginsApart}
-use Rattle.read_plan.specs.Plans.{ComesBefore, IsReadable, LiesWithinReach, SameArea, function_of}
+use Rattle.point_list.specs.Points.{function_of}
+use Rattle.read_plan.specs.Plans.{ComesBefore, IsReadable, LiesWithinReach, SameArea}
 use Rattle.read_plan.proofs.PlanLemmas.{all-at, same_area-sym, same_area-trans}
 
 pub same-function : (a b : RegisterTable) → function_of a ≡ function_of b → a ≡ b

@@ -8,7 +8,8 @@ use Rattle.std.proofs.lemmas.Bool.Decides.{nat_tests}
 use Rattle.std.proofs.lemmas.List.{get_or_default}
 use Rattle.read_plan.specs.declared.run.Run.{Run}
 use Rattle.read_plan.specs.Beginnings.{IsGreatestEnd, ends_by}
-use Rattle.read_plan.specs.Plans.{EndsBefore, SameArea, function_of}
+use Rattle.point_list.specs.Points.{function_of}
+use Rattle.read_plan.specs.Plans.{EndsBefore, SameArea}
 use Rattle.read_plan.proofs.BeginningLemmas.{same-function}
 use Rattle.read_plan.proofs.PlanLemmas.{same_area-sym}
 

@@ -9,7 +9,7 @@ use Rattle.std.proofs.lemmas.Cmp.{nat_cmp_total, on_total, then_total}
 use Rattle.std.proofs.lemmas.Fn.{always_returns_same}
 use Rattle.std.proofs.lemmas.List.Sorted.{ranks_by, sorted_far}
 use Rattle.read_plan.specs.declared.run.Run.{Run}
-use Rattle.read_plan.specs.Plans.{function_of}
+use Rattle.point_list.specs.Points.{function_of}
 use denote.Param.Members.{Mut}
 
 abbrev pub Key : Type 0

@@ -1,14 +1,15 @@
 -- Reads from the beginnings to the greatest ends within reach are the rule's.
 use Rattle.std.proofs.Common.{◌≡◌, ◌≢◌, ◌∙◌, ℕ, ◌+◌, ◌-◌, ◌<◌, ◌≤◌, ◌⊎◌, List, length, get_or, take, sym, refl, ap, arith, inl, inr, subst}
-use Rattle.std.specs.List.{All, AllPairs, Any, Contains}
+use Rattle.std.specs.List.{All, AllPairs, AllZip, Any, Contains}
 use Rattle.std.specs.List.Sorted.{IsPermutation}
 use Rattle.std.proofs.lemmas.Bool.{cases_lt}
 use Rattle.std.proofs.lemmas.List.{get_or-take, get_or_default, length-take-le}
-use Rattle.std.proofs.lemmas.List.Sorted.{All-permutation, Contains-permutation}
-use Rattle.std.proofs.lemmas.List.Elements.{All-weaker}
+use Rattle.std.proofs.lemmas.List.Sorted.{All-permutation, Contains-permutation, IsPermutation-sym}
+use Rattle.std.proofs.lemmas.List.Elements.{All-weaker, AllZip-get_or, length_all_zip}
 use Rattle.read_plan.specs.declared.run.Run.{Run}
-use Rattle.read_plan.specs.Beginnings.{AreBeginnings, IsGreatestEnd}
-use Rattle.read_plan.specs.Plans.{BeginsAtFirstUnheld, ComesBefore, EndsAtLastInReach, FollowsRule, Holds, IsHeld, IsReadable, LiesWithinReach, SameArea, function_of}
+use Rattle.read_plan.specs.Beginnings.{AreBeginnings, IsGreatestEnd, ReadsFrom}
+use Rattle.point_list.specs.Points.{function_of}
+use Rattle.read_plan.specs.Plans.{BeginsAtFirstUnheld, ComesBefore, EndsAtLastInReach, FollowsRule, Holds, IsHeld, IsReadable, LiesWithinReach, SameArea}
 use Rattle.read_plan.proofs.PlanLemmas.{all-at, any-take, anything, first-before, same_area-sym, same_area-trans}
 
 any-permutation : (P : Run → Type 0) (xs ys : List Run) → IsPermutation xs ys → Any P xs → Any P ys
@@ -26,12 +27,6 @@ greatest-permutation xs ys begin end moved greatest = record {
   at_item = any-permutation (λ item. SameArea begin item × (item.end ≤ begin.first + 125) × (item.end ≡ end)) xs ys moved greatest.at_item;
   last = All-permutation (λ item. SameArea begin item → item.end ≤ begin.first + 125 → item.end ≤ end) xs ys moved greatest.last;
 }
-
--- the read begins at the beginning and ends at the greatest end
-pub record ReadsFrom (items : List Run) (begin read : Run) : Type 0 where
-  pub same_area : SameArea begin read
-  pub first : begin.first ≡ read.first
-  pub end : IsGreatestEnd items begin read.end
 
 before-moved : (a b x y : Run) → SameArea a x → a.first ≡ x.first → SameArea b y → b.first ≡ y.first → ComesBefore a b → ComesBefore x y
 before-moved a b x y sa ea sb eb (inl f) = let p = ap function_of sa.table in let q = ap function_of sb.table in inl (omega (arith, p, q, f))
@@ -171,3 +166,24 @@ module _ (items begins reads : List Run) (readable : All IsReadable items) (from
       (j, read_at j, omega (arith, w.2, same), get_or_default reads j (read_at j) anything (omega (arith, w.2, same)),
         holds-reach x (i, inside, get_or_default items i x d inside) j w.2 reach);
   }
+
+-- the same with the items in any order, and the reads zipped to the beginnings
+pub rule-of-sorted : (items sorted ended begins reads : List Run) → IsPermutation items sorted → IsPermutation items ended → All IsReadable items → AreBeginnings sorted begins
+    → AllZip (ReadsFrom ended) begins reads → FollowsRule items reads
+rule-of-sorted items sorted ended begins reads same-sorted same-ended readable from zipped =
+    let back = IsPermutation-sym items ended same-ended in
+    follows-rule items begins reads readable (beginnings-permutation sorted items begins (IsPermutation-sym items sorted same-sorted) from)
+      (sym (length_all_zip (ReadsFrom ended) begins reads zipped))
+      (λ k within.
+        let f = AllZip-get_or (ReadsFrom ended) begins reads k anything anything zipped within in
+        record { same_area = f.same_area; first = f.first; end = greatest-permutation ended items (get_or begins k anything) (get_or reads k anything).end back f.end })
+
+-- the beginnings are among the items in any order, so they keep what all items keep
+pub beginnings-among : (items sorted ended begins : List Run) → IsPermutation items sorted → IsPermutation items ended → AreBeginnings sorted begins → All (Contains ended) begins
+beginnings-among items sorted ended begins same-sorted same-ended from =
+    All-weaker (Contains sorted) (Contains ended)
+      (λ r w. Contains-permutation items ended r same-ended (Contains-permutation sorted items r (IsPermutation-sym items sorted same-sorted) w)) begins from.among
+
+pub beginnings-keep : (P : Run → Type 0) (items sorted begins : List Run) → IsPermutation items sorted → AreBeginnings sorted begins → All P items → All P begins
+beginnings-keep P items sorted begins same-sorted from all =
+    All-weaker (Contains sorted) P (λ r w. all-at P items all r (Contains-permutation sorted items r (IsPermutation-sym items sorted same-sorted) w)) begins from.among

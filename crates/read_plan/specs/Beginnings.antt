@@ -2,7 +2,8 @@
 use Rattle.std.specs.Prelude.{◌≡◌, ℕ, ◌+◌, ◌<◌, ◌≤◌, Bool, ◌==◌, nat_lt, nat_le, ◌&&◌, ◌||◌, List}
 use Rattle.std.specs.List.{All, AllPairs, Any, Contains}
 use Rattle.read_plan.specs.declared.run.Run.{Run}
-use Rattle.read_plan.specs.Plans.{ComesBefore, LiesWithinReach, SameArea, function_of}
+use Rattle.point_list.specs.Points.{function_of}
+use Rattle.read_plan.specs.Plans.{ComesBefore, LiesWithinReach, SameArea}
 
 -- b begins after a, and ends beyond the reach of a read that begins at a
 abbrev pub BeginsApart : Run → Run → Type 0
@@ -25,3 +26,9 @@ ends_by run limit =
 pub record IsGreatestEnd (items : List Run) (begin : Run) (end : ℕ) : Type 0 where
   pub at_item : Any (λ item. SameArea begin item × (item.end ≤ begin.first + 125) × (item.end ≡ end)) items
   pub last : All (λ item. SameArea begin item → item.end ≤ begin.first + 125 → item.end ≤ end) items
+
+-- a read from a beginning to the greatest end within reach
+pub record ReadsFrom (items : List Run) (begin read : Run) : Type 0 where
+  pub same_area : SameArea begin read
+  pub first : begin.first ≡ read.first
+  pub end : IsGreatestEnd items begin read.end

@@ -1,14 +1,8 @@
 -- Runs of registers, lawful plans of reads, and the rule by which one plan is chosen.
 use Rattle.std.specs.Prelude.{◌≡◌, ℕ, ◌+◌, ◌<◌, ◌≤◌, ◌⊎◌, List, length, take, slice_index_or}
 use Rattle.std.specs.List.{All, AllPairs, Any}
-use Rattle.read_plan.specs.declared.run.RegisterTable.{RegisterTable}
-use Rattle.read_plan.specs.declared.run.RegisterTable.TheVariants.{Holding, Input}
+use Rattle.point_list.specs.Points.{function_of}
 use Rattle.read_plan.specs.declared.run.Run.{Run}
-
--- the Modbus function that reads a table
-abbrev pub function_of : RegisterTable → ℕ
-function_of Holding = 3
-function_of Input = 4
 
 -- of one function and one area number
 pub record SameArea (a b : Run) : Type 0 where

@@ -4,7 +4,8 @@
 pub mod beginnings;
 mod least;
 pub mod order;
+pub mod reads;
 mod run;
 
 pub use least::rule_is_least;
-pub use run::{RegisterTable, Run};
+pub use run::Run;

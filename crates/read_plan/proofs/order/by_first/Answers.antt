@@ -1,7 +1,8 @@
 use Rattle.std.proofs.Common.{◌≡◌, ◌∙◌, ◌⊎◌, ◌<◌, ap, get_or, inl, inr, rules, sym}
 use Rattle.std.proofs.lemmas.Bool.{false≢true}
 use Rattle.read_plan.specs.declared.run.Run.{Run}
-use Rattle.read_plan.specs.Plans.{ComesBefore, function_of}
+use Rattle.point_list.specs.Points.{function_of}
+use Rattle.read_plan.specs.Plans.{ComesBefore}
 use Rattle.read_plan.proofs.OrderLemmas.{key_cmp-less, key_of, sorted-far}
 use Rattle.read_plan.proofs.order.by_first.Goals as goal
 
