@@ -7,4 +7,4 @@ mod point;
 
 pub use list::PointList;
 pub use name::PointName;
-pub use point::{ListedPoint, PointScale, RegisterTable};
+pub use point::{ListedPoint, PointScale, RegisterTable, find_scale};

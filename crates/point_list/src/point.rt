@@ -1,5 +1,7 @@
 //! The points of a list.
 ghost use Rattle.std.specs.Prelude.{◌≡◌};
+ghost use Rattle.std.specs.Option.{option_copied};
+ghost use Rattle.point_list.specs.Points.{is_sunssf, scale_point};
 
 use sun_points::{PointType, Scale};
 
@@ -48,4 +50,23 @@ pub struct ListedPoint {
     pub address: u16,
     pub kind: PointType,
     pub scale: PointScale,
+}
+
+/// Whether a point of the type says the scale of others.
+pub(crate) fn is_scale_type(kind: PointType) -> bool
+    ensures { result ≡ is_sunssf kind }
+{
+    match kind {
+        PointType::Sunssf => true,
+        _ => false,
+    }
+}
+
+/// The sunssf point of a name.
+pub fn find_scale<'a>(points: &'a [ListedPoint], name: &[u8]) -> Option<&'a ListedPoint>
+    ensures { option_copied result ≡ scale_point points.now name.now }
+{
+    points
+        .iter()
+        .find(|point| is_scale_type(point.kind) && point.name.as_bytes() == name)
 }

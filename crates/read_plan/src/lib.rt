@@ -1,11 +1,14 @@
 //! Plans of reads: the fewest lawful Modbus reads for a point list.
 #![tactic(auto)]
 
-pub mod beginnings;
+mod beginnings;
+mod items;
 mod least;
-pub mod order;
-pub mod reads;
+mod order;
+mod planned;
+mod reads;
 mod run;
+mod table;
 
 pub use least::rule_is_least;
-pub use run::Run;
+pub use planned::PlannedRead;
