@@ -56,5 +56,6 @@ pub record IsPointList (points : List ListedPoint) : Type 0 where
   pub few : length points ≤ 512
   pub named : All (λ point. IsTrue (is_name point.name)) points
   pub distinct : AllPairs (λ a b. a.name ≢ b.name) points
+  pub sized : All (λ point. (1 ≤ registers_of point.kind) × (registers_of point.kind ≤ 125)) points
   pub inside : All (λ point. end_of point ≤ 65536) points
   pub scaled : All (λ point. HasLawfulScale points point point.scale) points

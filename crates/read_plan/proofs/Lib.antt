@@ -1,5 +1,7 @@
 pub mod BeginningLemmas
 pub mod EndLemmas
+pub mod ItemLemmas
+pub mod LawfulLemmas
 pub mod Pigeons
 pub mod OrderLemmas
 pub mod PlanLemmas

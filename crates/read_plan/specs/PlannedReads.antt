@@ -20,3 +20,26 @@ read_run read = record { table = table_of read.span.function; area = read.area; 
 
 abbrev pub read_runs : List PlannedRead → List Run
 read_runs reads = map read_run reads
+
+-- a plan: for each point its first register and its item, and the reads
+pub record Planned : Type 0 where
+  pub starts : List ℕ
+  pub items : List Run
+  pub reads : List PlannedRead
+
+-- a point begins inside its item
+abbrev pub BeginsInside : Run → ℕ → Type 0
+BeginsInside item start = (item.first ≤ start) × (start < item.end)
+
+-- what every plan keeps
+pub record IsPlan (plan : Planned) : Type 0 where
+  pub begun : AllZip BeginsInside plan.items plan.starts
+  pub readable : All IsReadable plan.items
+  pub inside : All (λ item. item.end ≤ 65536) plan.items
+  pub rule : FollowsRule plan.items (read_runs plan.reads)
+
+-- the first read of the item's area that holds it
+pub record IsFirstHolding (reads : List Run) (item : Run) (place : ℕ) : Type 0 where
+  pub within : place < length reads
+  pub holds : (d : Run) → Holds (slice_index_or reads place d) item
+  pub first : ¬ IsHeld (take place reads) item

@@ -5,10 +5,14 @@ mod beginnings;
 mod items;
 mod least;
 mod order;
+mod placed;
 mod planned;
+mod planning;
 mod reads;
 mod run;
 mod table;
 
 pub use least::rule_is_least;
+pub use placed::{Place, Plan};
 pub use planned::PlannedRead;
+pub use planning::plan;
