@@ -1,9 +1,9 @@
 -- The items of a point list are readable, and lie in their areas.
 use Rattle.std.proofs.Common.{◌≡◌, ◌∙◌, ℕ, suc, [], ◌∷◌, ◌+◌, ◌<◌, ◌≤◌, Bool, true, List, length, map, max, min, get_or, sym, refl, ap, arith, inl, inr, subst, IsTrue, Some, None, IsSomeAnd}
 use Rattle.std.specs.declared.option.Option.{Option}
-use Rattle.std.specs.List.{All, AllZip, Any, Contains, find}
+use Rattle.std.specs.List.{All, Any, Contains, find}
 use Rattle.std.proofs.lemmas.Bool.{cases_lt, cases_Bool}
-use Rattle.std.proofs.lemmas.List.Elements.{All-head, All-map, All-tail}
+use Rattle.std.proofs.lemmas.List.Elements.{All-map}
 use Rattle.std.proofs.lemmas.Option.{same_Some}
 use Rattle.std.proofs.lemmas.List.{get_or-map, get_or_default, length-map}
 use Rattle.sun_points.specs.PointType.{registers_of}
@@ -109,9 +109,19 @@ module _ (points : List ListedPoint) (lawful : IsPointList points) where
   pub items-low : All (λ item. item.first < 65536) (items_of points)
   items-low = each-item (λ item. item.first < 65536) (λ p h. let a = h.readable.0 in let b = h.inside in omega (arith, a, b))
 
-  begun-each : (ps : List ListedPoint) → All (λ p. BeginsInside (item_of points p) p.address) ps → AllZip BeginsInside (map (item_of points) ps) (map (λ p. p.address) ps)
-  begun-each [] h = tt
-  begun-each (p ∷ ps) h = (All-head (λ q. BeginsInside (item_of points q) q.address) p ps h, begun-each ps (All-tail (λ q. BeginsInside (item_of points q) q.address) p ps h))
+  pub starts-each : length (map (λ (p : ListedPoint). p.address) points) ≡ length (items_of points)
+  starts-each = length-map points (λ (p : ListedPoint). p.address) ∙ sym (length-map points (item_of points))
 
-  pub items-begun : AllZip BeginsInside (items_of points) (map (λ p. p.address) points)
-  items-begun = begun-each points (λ k d within. (item-facts points lawful (get_or points k d) (k, within, get_or_default points k (get_or points k d) d within)).begun)
+  pub items-begun : (k : ℕ) (d : Run) → k < length (items_of points) → BeginsInside (get_or (items_of points) k d) (get_or (map (λ (p : ListedPoint). p.address) points) k 0)
+  items-begun k d within = at-first points refl
+    where
+      at-first : (ps : List ListedPoint) → ps ≡ points → BeginsInside (get_or (items_of points) k d) (get_or (map (λ (p : ListedPoint). p.address) points) k 0)
+      at-first [] e =
+          let none : length (items_of points) ≡ 0 = length-map points (item_of points) ∙ ap length (sym e) in
+          absurd (omega (arith, within, none))
+      at-first (q ∷ qs) e =
+          let size = length-map points (item_of points) in
+          let inside : k < length points = omega (arith, within, size) in
+          let p = get_or points k q in
+          let facts = item-facts points lawful p (k, inside, get_or_default points k p q inside) in
+          rw (get_or-map (item_of points) points k q d inside, get_or-map (λ (r : ListedPoint). r.address) points k q 0 inside) facts.begun

@@ -4,5 +4,6 @@ pub mod ItemLemmas
 pub mod LawfulLemmas
 pub mod Pigeons
 pub mod OrderLemmas
+pub mod PlaceLemmas
 pub mod PlanLemmas
 pub mod RuleLemmas

@@ -1,6 +1,6 @@
 -- What a plan holds.
-use Rattle.std.specs.Prelude.{ℕ, ◌≡◌, ◌+◌, ◌<◌, ◌≤◌, List, length, map, slice_index_or, take}
-use Rattle.std.specs.List.{All, AllZip}
+use Rattle.std.specs.Prelude.{ℕ, ◌≡◌, ◌+◌, ◌<◌, ◌≤◌, List, length, map, slice_index, slice_index_or, take}
+use Rattle.std.specs.List.{All}
 use Rattle.mb_wire.specs.declared.span.ReadFunction.{ReadFunction}
 use Rattle.mb_wire.specs.declared.span.ReadFunction.TheVariants.{HoldingRegisters, InputRegisters}
 use Rattle.point_list.specs.declared.point.RegisterTable.{RegisterTable}
@@ -33,7 +33,8 @@ BeginsInside item start = (item.first ≤ start) × (start < item.end)
 
 -- what every plan keeps
 pub record IsPlan (plan : Planned) : Type 0 where
-  pub begun : AllZip BeginsInside plan.items plan.starts
+  pub each : length plan.starts ≡ length plan.items
+  pub begun : (k : ℕ) (d : Run) → k < length plan.items → BeginsInside (slice_index_or plan.items k d) (slice_index plan.starts k)
   pub readable : All IsReadable plan.items
   pub inside : All (λ item. item.end ≤ 65536) plan.items
   pub rule : FollowsRule plan.items (read_runs plan.reads)

@@ -46,8 +46,8 @@ pub fn beginnings(alloc: Global, items: &[Run]) -> Result<Vec<Run>, AllocError>
     Ok(found)
 }
 
-// Whether a run ends by a limit, by function, then by area number, then by last register.
-fn ends_by_limit(run: &Run, limit: &Run) -> bool
+/// Whether a run ends by a limit, by function, then by area number, then by last register.
+pub fn ends_by_limit(run: &Run, limit: &Run) -> bool
     ensures { result ≡ ends_by run.now limit.now }
 {
     let function = run.table.function();

@@ -1,8 +1,9 @@
 //! Plans, and where points stand in them.
-ghost use Rattle.std.specs.Prelude.{◌≡◌};
+ghost use Rattle.std.specs.Prelude.{◌≡◌, ◌+◌, ◌<◌, length, slice_index, slice_index_or};
 
 use std::marker::Model;
 
+use crate::beginnings::ends_by_limit;
 use crate::planned::PlannedRead;
 use crate::run::Run;
 
@@ -36,7 +37,9 @@ impl Model for Plan {
 }
 
 impl Plan {
-    ghost use Rattle.read_plan.specs.PlannedReads.{IsPlan};
+    ghost use Rattle.read_plan.specs.PlannedReads.{IsFirstHolding, IsPlan, read_runs};
+    ghost use Rattle.read_plan.specs.declared.planned.PlannedRead.{PlannedRead};
+    ghost use Rattle.read_plan.specs.declared.run.Run.{Run};
 
     pub(crate) fn new(starts: Vec<u16>, items: Vec<Run>, reads: Vec<PlannedRead>) -> Plan
         requires { IsPlan (record { starts = starts.items; items = items.items; reads = reads.items }) }
@@ -56,5 +59,22 @@ impl Plan {
         ensures { result.now ≡ self.now.reads }
     {
         self.reads.as_slice()
+    }
+
+    /// Where the point of a number stands, the first of the list being 0: in the first read that holds its item.
+    pub fn place(&self, point: usize) -> Place
+        requires { point < length self.now.items }
+        ensures first { (d : Run) → IsFirstHolding (read_runs self.now.reads) (slice_index_or self.now.items point d) result.read }
+        ensures offset { (d : PlannedRead) → (slice_index_or self.now.reads result.read d).span.address + result.offset ≡ slice_index self.now.starts point }
+    {
+        let item = self.items[point];
+        let read = self
+            .reads
+            .partition_point(|read| !ends_by_limit(&item, &read.run()));
+        let address = self.reads[read].span.address;
+        Place {
+            read,
+            offset: self.starts[point] - address,
+        }
     }
 }

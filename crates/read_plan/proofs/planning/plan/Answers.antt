@@ -1,11 +1,11 @@
 use Rattle.std.proofs.Common.{◌≡◌, ◌∙◌, ◌<◌, ◌≤◌, List, length, map, sym, subst, arith, ap}
-use Rattle.std.specs.List.{All, AllZip}
+use Rattle.std.specs.List.{All}
 use Rattle.std.proofs.lemmas.List.{length-map}
 use Rattle.read_plan.specs.declared.run.Run.{Run}
 use Rattle.read_plan.specs.Items.{items_of, runs_of}
-use Rattle.read_plan.specs.PlannedReads.{BeginsInside, read_run, read_runs}
+use Rattle.read_plan.specs.PlannedReads.{read_run, read_runs}
 use Rattle.read_plan.specs.Plans.{FollowsRule, IsInArea, IsLawful, IsReadable}
-use Rattle.read_plan.proofs.ItemLemmas.{items-begun, items-in-areas, items-inside, items-low, items-readable}
+use Rattle.read_plan.proofs.ItemLemmas.{items-begun, items-in-areas, items-inside, items-low, items-readable, starts-each}
 use Rattle.read_plan.proofs.LawfulLemmas.{reads-inside, rule-lawful}
 use Rattle.read_plan.proofs.PlanLemmas.{fewest}
 use Rattle.read_plan.proofs.planning.plan.Goals as goal
@@ -41,6 +41,7 @@ new-requires c =
     let items = rw c.points-points.ensures.points at c.in_ok-items.ensures in
     let starts = rw c.points-points.ensures.points at c.in_ok-starts.ensures in
     record {
+      each = rw (items, starts) (starts-each points lawful);
       begun = rw (items, starts) (items-begun points lawful);
       readable = rw items (items-readable points lawful);
       inside = rw items (items-inside points lawful);
