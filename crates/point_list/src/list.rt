@@ -1,9 +1,9 @@
 //! Point lists.
-ghost use Rattle.std.specs.Prelude.{◌≡◌};
+ghost use Rattle.std.specs.Prelude.{◌≡◌, ◌↔◌, IsOk, IfOk, IfErr};
 
-use std::marker::Model;
-
+use crate::lawful::is_lawful;
 use crate::point::ListedPoint;
+use std::marker::Model;
 
 /// At most 512 points of distinct names, each scale point among them and within one read of its point.
 #[derive(Debug, Drop)]
@@ -27,6 +27,19 @@ impl Model for PointList {
 impl PointList {
     ghost use Rattle.point_list.specs.Points.{IsPointList};
 
+    /// The list of points that keep what every list keeps. Other points are handed back.
+    pub fn new(points: Vec<ListedPoint>) -> Result<Self, Vec<ListedPoint>>
+        ensures lawful { IsOk result ↔ IsPointList points.items }
+        ensures list { IfOk result (λ list. list ≡ points.items) }
+        ensures handed_back { IfErr result (λ back. back.items ≡ points.items) }
+    {
+        if is_lawful(&points) {
+            Ok(PointList { points })
+        } else {
+            Err(points)
+        }
+    }
+
     pub fn points(&self) -> &[ListedPoint]
         ensures points { result.now ≡ self.now }
         ensures lawful { IsPointList self.now }
@@ -38,6 +51,7 @@ impl PointList {
         ensures points { result.items ≡ self }
         ensures lawful { IsPointList self }
     {
-        self.points
+        let PointList { points } = self;
+        points
     }
 }

@@ -71,6 +71,7 @@ impl PointName {
         ensures bytes { result.items ≡ self }
         ensures lawful { IsTrue (is_name self) }
     {
-        self.bytes
+        let PointName { bytes } = self;
+        bytes
     }
 }

@@ -3,9 +3,8 @@ ghost use Rattle.std.specs.Prelude.{◌≡◌};
 ghost use Rattle.std.specs.Option.{option_copied};
 ghost use Rattle.point_list.specs.Points.{is_sunssf, scale_point};
 
-use sun_points::{PointType, Scale};
-
 use crate::name::PointName;
+use sun_points::{PointType, Scale};
 
 /// The registers that a function reads.
 #[derive(Clone, Copy, Debug, PartialEq, Eq)]
@@ -66,7 +65,5 @@ pub(crate) fn is_scale_type(kind: PointType) -> bool
 pub fn find_scale<'a>(points: &'a [ListedPoint], name: &[u8]) -> Option<&'a ListedPoint>
     ensures { option_copied result ≡ scale_point points.now name.now }
 {
-    points
-        .iter()
-        .find(|point| is_scale_type(point.kind) && point.name.as_bytes() == name)
+    points.iter().find(|point| is_scale_type(point.kind) && point.name.as_bytes() == name)
 }

@@ -113,13 +113,13 @@ beginnings-push sorted found n x within is ordered readable so_far beyond =
     let reaches : LiesWithinReach x x = record { same_area = record { table = refl; area = refl }; from_first = omega arith; in_reach = readable.1 } in
     subst (λ (xs : List Run). AreBeginnings xs (found ++ (x ∷ []))) (sym more) (record {
       among = All-push (Contains (take n sorted ++ (x ∷ []))) found x
-        (All-weaker (Contains (take n sorted)) (Contains (take n sorted ++ (x ∷ []))) (λ r w. Contains-append_left (take n sorted) (x ∷ []) r w) found so_far.among)
-        (Contains-push (take n sorted) x);
+          (All-weaker (Contains (take n sorted)) (Contains (take n sorted ++ (x ∷ []))) (λ r w. Contains-append_left (take n sorted) (x ∷ []) r w) found so_far.among)
+          (Contains-push (take n sorted) x);
       apart = all_pairs_push BeginsApart found x so_far.apart (apart-from-each sorted found n x within is ordered readable so_far beyond);
       reach = All-push (λ item. Any (λ begin. LiesWithinReach begin item) (found ++ (x ∷ []))) (take n sorted) x
-        (All-weaker (λ item. Any (λ begin. LiesWithinReach begin item) found) (λ item. Any (λ begin. LiesWithinReach begin item) (found ++ (x ∷ [])))
+          (All-weaker (λ item. Any (λ begin. LiesWithinReach begin item) found) (λ item. Any (λ begin. LiesWithinReach begin item) (found ++ (x ∷ [])))
           (λ item w. any-append (λ begin. LiesWithinReach begin item) found (x ∷ []) w) (take n sorted) so_far.reach)
-        (Any-push (λ begin. LiesWithinReach begin x) found x reaches);
+          (Any-push (λ begin. LiesWithinReach begin x) found x reaches);
     })
   where
     any-append : (P : Run → Type 0) (xs ys : List Run) → Any P xs → Any P (xs ++ ys)

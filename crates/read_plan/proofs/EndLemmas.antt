@@ -137,35 +137,35 @@ greatest-end ended begin limit count ordered area is among few bound point =
     let some : 0 < count = omega (arith, below) in (
       some,
       (λ d.
-        let m = count - 1 in
-        let last = get_or ended m d in
-        let inside : m < length ended = omega (arith, some, bound) in
-        let not-after : (x : Run) (j : ℕ) → j < count → get_or ended j x ≡ x → ¬ EndsBefore last x = λ x j front-j at before. elim (cases_eq j m) [
-          | inl e ↦
-              let same : last ≡ x = get_or_default ended m d x inside ∙ ap (λ (n : ℕ). get_or ended n x) (sym e) ∙ at in
-              irreflexive x (subst (λ (r : Run). EndsBefore r x) same before)
-          | inr other ↦
-              let at-d : get_or ended j d ≡ x = get_or_default ended j d x (omega (arith, front-j, bound)) ∙ at in
-              ordered j m d (omega (arith, front-j, other)) inside (subst (λ (r : Run). EndsBefore last r) (sym at-d) before)
-        ] in
-        let passes : ends_by last limit ≡ true = point.0 m d (omega arith) (omega (arith, some)) in
-        let same : SameArea begin last = area-between begin last limit area (ends_by-true last limit passes) (not-after begin k below among.2) in
-        let reach : last.end ≤ limit.end = elim (cases_lt limit.end last.end) [
-          | inl o ↦ absurd (ends_by-true last limit passes (inr (inr (record { table = sym area.table ∙ same.table; area = sym area.area ∙ same.area }, o))))
-          | inr le ↦ le
-        ] in
-        record {
-          at_item = (m, last, inside, get_or_default ended m last d inside, (same, omega (arith, reach, is), refl));
-          last = λ j e inside-j same-x fits.
-            let x = get_or ended j e in
-            let x-limit : SameArea x limit = record { table = sym same-x.table ∙ area.table; area = sym same-x.area ∙ area.area } in
-            let at : get_or ended j x ≡ x = get_or_default ended j x e inside-j in
-            let front-x = front x j inside-j at (ends_by-from x limit x-limit (omega (arith, fits, is))) in
-            elim (cases_lt last.end x.end) [
-              | inl o ↦ absurd (not-after x j front-x at (inr (inr (record { table = sym same.table ∙ same-x.table; area = sym same.area ∙ same-x.area }, o))))
-              | inr le ↦ le
-            ];
-        }),
+          let m = count - 1 in
+          let last = get_or ended m d in
+          let inside : m < length ended = omega (arith, some, bound) in
+          let not-after : (x : Run) (j : ℕ) → j < count → get_or ended j x ≡ x → ¬ EndsBefore last x = λ x j front-j at before. elim (cases_eq j m) [
+            | inl e ↦
+                let same : last ≡ x = get_or_default ended m d x inside ∙ ap (λ (n : ℕ). get_or ended n x) (sym e) ∙ at in
+                irreflexive x (subst (λ (r : Run). EndsBefore r x) same before)
+            | inr other ↦
+                let at-d : get_or ended j d ≡ x = get_or_default ended j d x (omega (arith, front-j, bound)) ∙ at in
+                ordered j m d (omega (arith, front-j, other)) inside (subst (λ (r : Run). EndsBefore last r) (sym at-d) before)
+          ] in
+          let passes : ends_by last limit ≡ true = point.0 m d (omega arith) (omega (arith, some)) in
+          let same : SameArea begin last = area-between begin last limit area (ends_by-true last limit passes) (not-after begin k below among.2) in
+          let reach : last.end ≤ limit.end = elim (cases_lt limit.end last.end) [
+            | inl o ↦ absurd (ends_by-true last limit passes (inr (inr (record { table = sym area.table ∙ same.table; area = sym area.area ∙ same.area }, o))))
+            | inr le ↦ le
+          ] in
+          record {
+            at_item = (m, last, inside, get_or_default ended m last d inside, (same, omega (arith, reach, is), refl));
+            last = λ j e inside-j same-x fits.
+                let x = get_or ended j e in
+                let x-limit : SameArea x limit = record { table = sym same-x.table ∙ area.table; area = sym same-x.area ∙ area.area } in
+                let at : get_or ended j x ≡ x = get_or_default ended j x e inside-j in
+                let front-x = front x j inside-j at (ends_by-from x limit x-limit (omega (arith, fits, is))) in
+                elim (cases_lt last.end x.end) [
+                  | inl o ↦ absurd (not-after x j front-x at (inr (inr (record { table = sym same.table ∙ same-x.table; area = sym same.area ∙ same-x.area }, o))))
+                  | inr le ↦ le
+                ];
+          }),
     )
   where
     irreflexive : (x : Run) → EndsBefore x x → ⊥

@@ -41,11 +41,11 @@ module _ (points items reads : List Run) (rule : FollowsRule items reads) (reada
       let is = end.4.1 in
       record {
         after_first = any-weaker (λ p. SameArea p b × p.first ≤ b.first) (λ p. SameArea p r × p.first ≤ r.first) points
-          (λ p h. let o = h.1 in (same_area-trans p b r h.0 (same_area-sym r b at.4.0), omega (arith, first, o)))
-          (all-at (IsInArea points) items areas b (at.0, at.2, at.3)).after_first;
+            (λ p h. let o = h.1 in (same_area-trans p b r h.0 (same_area-sym r b at.4.0), omega (arith, first, o)))
+            (all-at (IsInArea points) items areas b (at.0, at.2, at.3)).after_first;
         before_last = any-weaker (λ p. SameArea p i × i.end ≤ p.end) (λ p. SameArea p r × r.end ≤ p.end) points
-          (λ p h. let o = h.1 in (same_area-trans p i r h.0 (same_area-sym r i end.4.0.same_area), omega (arith, is, o)))
-          (all-at (IsInArea points) items areas i (end.0, end.2, end.3)).before_last;
+            (λ p h. let o = h.1 in (same_area-trans p i r h.0 (same_area-sym r i end.4.0.same_area), omega (arith, is, o)))
+            (all-at (IsInArea points) items areas i (end.0, end.2, end.3)).before_last;
       }
 
   pub rule-lawful : All (IsInArea points) items → IsLawful points items reads

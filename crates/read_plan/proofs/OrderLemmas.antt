@@ -34,7 +34,7 @@ pub sorted-far : (register : Run → ℕ) {F : Type 0} {g : Mut F (Bor Run × Un
 sorted-far register {g = g} {f = f} xs up h i j d below within =
     let key = key_of register in
     sorted_far (λ x y. is_lt (key_cmp (key x) (key y))) (ranks_by key_cmp-total key) xs
-      (up key (always_returns_same g (λ a r. r ≡ key a.0.now) f h)) i j d (omega (arith, below)) within
+    (up key (always_returns_same g (λ a r. r ≡ key a.0.now) f h)) i j d (omega (arith, below)) within
 
 nat_cmp-less : (a b : ℕ) → a < b → nat_cmp a b ≡ Less
 nat_cmp-less a b l = sym (nat_cmp_is a b Less l)

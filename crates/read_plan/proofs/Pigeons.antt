@@ -32,11 +32,11 @@ pigeonhole {Y} (suc n) H ys some apart =
     let i = own.0 in
     let one = length-remove ys i own.2 in
     let rest : n ≤ length (remove ys i) =
-      pigeonhole n H (remove ys i)
-        (λ k h.
-          let w = some k (omega (arith, h)) in
-          any-remove (H k) ys i own.2 w (λ e.
-            let same : own.1 ≡ w.1 = sym own.3 ∙ get_or_default ys i own.1 w.1 own.2 ∙ ap (λ (m : ℕ). get_or ys m w.1) (sym e) ∙ w.3 in
-            apart k n w.1 h (omega arith) w.4 (let P : Y → Type 0 = λ y. H n y in subst P same own.4)))
-        (λ j k y l h. apart j k y l (omega (arith, h))) in
+    pigeonhole n H (remove ys i)
+    (λ k h.
+    let w = some k (omega (arith, h)) in
+    any-remove (H k) ys i own.2 w (λ e.
+    let same : own.1 ≡ w.1 = sym own.3 ∙ get_or_default ys i own.1 w.1 own.2 ∙ ap (λ (m : ℕ). get_or ys m w.1) (sym e) ∙ w.3 in
+    apart k n w.1 h (omega arith) w.4 (let P : Y → Type 0 = λ y. H n y in subst P same own.4)))
+    (λ j k y l h. apart j k y l (omega (arith, h))) in
     omega (arith, one, rest)

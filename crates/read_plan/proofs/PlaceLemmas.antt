@@ -78,12 +78,12 @@ module _ (items runs : List Run) (rule : FollowsRule items runs) (readable : All
         within = within;
         holds = λ d. rw (get_or_default runs count d anything within) here;
         first = λ w.
-          let size = length-take-le count runs (omega (arith, within)) in
-          let j = w.0 in
-          let below : j < count = omega (arith, size, w.2) in
-          let inside : j < length runs = omega (arith, below, within) in
-          let is : run_at j ≡ w.1 = get_or_default runs j anything w.1 inside ∙ sym (get_or-take count runs j w.1 below) ∙ w.3 in
-          holds-ends (run_at j) x (subst (λ (s : Run). Holds s x) (sym is) w.4) (before j below inside);
+            let size = length-take-le count runs (omega (arith, within)) in
+            let j = w.0 in
+            let below : j < count = omega (arith, size, w.2) in
+            let inside : j < length runs = omega (arith, below, within) in
+            let is : run_at j ≡ w.1 = get_or_default runs j anything w.1 inside ∙ sym (get_or-take count runs j w.1 below) ∙ w.3 in
+            holds-ends (run_at j) x (subst (λ (s : Run). Holds s x) (sym is) w.4) (before j below inside);
       }
     where
       earlier : (s r x : Run) → ComesBefore r s → Holds s x → ¬ EndsBefore r x → Holds r x
@@ -135,12 +135,12 @@ module _ (items : List Run) (reads : List PlannedRead) (rule : FollowsRule items
       by-first (d ∷ ds) e =
           let size = length-map reads read_run in
           first-holding items (read_runs reads) rule readable x count held
-            (λ k below within.
-              let inside : k < length reads = omega (arith, within, size) in
-              subst (λ (r : Run). EndsBefore r x) (sym (at-run k d inside)) (ends-of (get_or reads k d) (point.0 k d (omega arith) below)))
-            (λ k above within ends.
-              let inside : k < length reads = omega (arith, within, size) in
-              ends-not (get_or reads k d) (point.1 k d above inside) (subst (λ (r : Run). EndsBefore r x) (at-run k d inside) ends))
+          (λ k below within.
+          let inside : k < length reads = omega (arith, within, size) in
+          subst (λ (r : Run). EndsBefore r x) (sym (at-run k d inside)) (ends-of (get_or reads k d) (point.0 k d (omega arith) below)))
+          (λ k above within ends.
+          let inside : k < length reads = omega (arith, within, size) in
+          ends-not (get_or reads k d) (point.1 k d above inside) (subst (λ (r : Run). EndsBefore r x) (at-run k d inside) ends))
 
 -- what a search among the reads of a plan finds
 pub record PlaceFacts (plan : Planned) (point count : ℕ) (x : Run) : Type 0 where
@@ -167,7 +167,7 @@ place-facts plan point count x is within at stop =
       point_within = omega (arith, within, same);
       first = found;
       before = λ e.
-        let is-run = get_or-map read_run plan.reads count e anything inside in
-        let first = subst (λ (r : Run). r.first ≤ x.first) is-run (found.holds anything).from_first in
-        omega (arith, first, low);
+          let is-run = get_or-map read_run plan.reads count e anything inside in
+          let first = subst (λ (r : Run). r.first ≤ x.first) is-run (found.holds anything).from_first in
+          omega (arith, first, low);
     }

@@ -20,9 +20,13 @@ same_area-trans a b c s t = record { table = s.table ∙ t.table; area = s.area 
 -- what holds of an element holds of some element of a front that reaches it
 pub any-take : {X : Type 0} (P : X → Type 0) (xs : List X) (k j : ℕ) (d : X) → j < k → k ≤ length xs → P (get_or xs j d) → Any P (take k xs)
 any-take {X} P xs k j d below within p =
-    let inside : j < length xs = omega (arith, below, within) in
-    (j, get_or xs j d, omega (arith, below, length-take-le k xs within),
-      get_or-take k xs j (get_or xs j d) below ∙ get_or_default xs j (get_or xs j d) d inside, p)
+    let inside : j < length xs = omega (arith, below, within) in (
+      j,
+      get_or xs j d,
+      omega (arith, below, length-take-le k xs within),
+      get_or-take k xs j (get_or xs j d) below ∙ get_or_default xs j (get_or xs j d) d inside,
+      p,
+    )
 
 -- of two runs of one area, the first has the lower first register
 pub first-before : (a b : Run) → ComesBefore a b → SameArea a b → a.first < b.first
@@ -72,16 +76,21 @@ beginnings-apart items reads rule j k y below within a b =
 pub fewest : (points items reads other : List Run) → FollowsRule items reads → IsLawful points items other → length reads ≤ length other
 fewest points items reads other rule lawful =
     pigeonhole (length reads) (HoldsBeginning items reads) other
-      (λ k within.
-        let at = (rule.begins k anything within).at_item in
-        let held : IsHeld other at.1 = all-at (IsHeld other) items lawful.held at.1 (at.0, at.2, at.3) in
-        (held.0, held.1, held.2, held.3, record {
-          item = at.1;
-          among = (at.0, at.2, at.3);
-          same_area = at.4.0;
-          at_first = at.4.1;
-          unheld = at.4.2;
-          holds = held.4;
-          readable = all-at IsReadable other lawful.readable held.1 (held.0, held.2, held.3);
-        }))
-      (beginnings-apart items reads rule)
+    (λ k within.
+    let at = (rule.begins k anything within).at_item in
+    let held : IsHeld other at.1 = all-at (IsHeld other) items lawful.held at.1 (at.0, at.2, at.3) in (
+      held.0,
+      held.1,
+      held.2,
+      held.3,
+      record {
+        item = at.1;
+        among = (at.0, at.2, at.3);
+        same_area = at.4.0;
+        at_first = at.4.1;
+        unheld = at.4.2;
+        holds = held.4;
+        readable = all-at IsReadable other lawful.readable held.1 (held.0, held.2, held.3);
+      },
+    ))
+    (beginnings-apart items reads rule)

@@ -54,7 +54,7 @@ module _ (items begins reads : List Run) (readable : All IsReadable items) (from
           | inl less ↦
               let r = reach.from_first in
               let o = first-before (begin_at k) (begin_at j) (from.apart k j anything less w.2).0
-                (same_area-trans (begin_at k) x (begin_at j) area (same_area-sym (begin_at j) x reach.same_area)) in
+              (same_area-trans (begin_at k) x (begin_at j) area (same_area-sym (begin_at j) x reach.same_area)) in
               absurd (omega (arith, lower, r, o))
           | inr le ↦
               let e : j ≡ k = omega (arith, above, le) in
@@ -106,11 +106,11 @@ module _ (items begins reads : List Run) (readable : All IsReadable items) (from
       record {
         at_item = (among.0, b, among.1, among.2, (same_area-sym b r f.same_area, f.first, unheld k within));
         first = λ i d inside area lower.
-          let x = get_or items i d in
-          let is = f.first in
-          let one = earlier x k within (same_area-trans b r x f.same_area area) (omega (arith, lower, is)) (from.reach i d inside) in
-          let within-j : one.0 < length begins = omega (arith, one.1, within) in
-          any-take (λ read. Holds read x) reads k one.0 anything one.1 (omega (arith, within, same))
+            let x = get_or items i d in
+            let is = f.first in
+            let one = earlier x k within (same_area-trans b r x f.same_area area) (omega (arith, lower, is)) (from.reach i d inside) in
+            let within-j : one.0 < length begins = omega (arith, one.1, within) in
+            any-take (λ read. Holds read x) reads k one.0 anything one.1 (omega (arith, within, same))
             (holds-reach x (i, inside, get_or_default items i x d inside) one.0 within-j one.2);
       }
 
@@ -126,7 +126,7 @@ module _ (items begins reads : List Run) (readable : All IsReadable items) (from
       let ends = w.4.2 in
       let among = from.among k anything within in
       let own : b.end ≤ r.end =
-        all-at (λ item. SameArea b item → item.end ≤ b.first + 125 → item.end ≤ r.end) items f.end.last b among (record { table = refl; area = refl }) (all-at IsReadable items readable b among).1 in
+      all-at (λ item. SameArea b item → item.end ≤ b.first + 125 → item.end ≤ r.end) items f.end.last b among (record { table = refl; area = refl }) (all-at IsReadable items readable b among).1 in
       let high : b.first ≤ x.first = elim (cases_lt x.first b.first) [
         | inr ge ↦ ge
         | inl lower ↦
@@ -135,36 +135,40 @@ module _ (items begins reads : List Run) (readable : All IsReadable items) (from
             let j = one.0 in
             let reach = one.2.in_reach in
             let far = (from.apart j k anything one.1 within).1
-              (same_area-trans (begin_at j) x b one.2.same_area (same_area-sym b x w.4.0)) in
+            (same_area-trans (begin_at j) x b one.2.same_area (same_area-sym b x w.4.0)) in
             absurd (omega (arith, reach, far, own, ends))
       ] in
       let area : SameArea r x = same_area-trans r b x (same_area-sym b r f.same_area) w.4.0 in
       record {
         at_item = (w.0, x, w.2, w.3, (record { same_area = area; from_first = omega (arith, high, is); in_reach = omega (arith, few, is) }, ends));
         last = λ i d inside reach.
-          let e = reach.in_reach in
-          f.end.last i d inside (same_area-trans b r (get_or items i d) f.same_area reach.same_area) (omega (arith, e, is));
+            let e = reach.in_reach in
+            f.end.last i d inside (same_area-trans b r (get_or items i d) f.same_area reach.same_area) (omega (arith, e, is));
       }
 
   pub follows-rule : FollowsRule items reads
   follows-rule = record {
     ordered = λ i j d below within.
-      let at-i : get_or reads i d ≡ read_at i = get_or_default reads i d anything (omega (arith, below, within)) in
-      let at-j : get_or reads j d ≡ read_at j = get_or_default reads j d anything within in
-      let within-j : j < length begins = omega (arith, within, same) in
-      let f = each i (omega (arith, below, within-j)) in
-      let g = each j within-j in
-      rw (at-i, at-j) (before-moved (begin_at i) (begin_at j) (read_at i) (read_at j) f.same_area f.first g.same_area g.first (from.apart i j anything below within-j).0);
+        let at-i : get_or reads i d ≡ read_at i = get_or_default reads i d anything (omega (arith, below, within)) in
+        let at-j : get_or reads j d ≡ read_at j = get_or_default reads j d anything within in
+        let within-j : j < length begins = omega (arith, within, same) in
+        let f = each i (omega (arith, below, within-j)) in
+        let g = each j within-j in
+        rw (at-i, at-j) (before-moved (begin_at i) (begin_at j) (read_at i) (read_at j) f.same_area f.first g.same_area g.first (from.apart i j anything below within-j).0);
     begins = λ k d within. rw (get_or_default reads k d anything within) (begins-first k (omega (arith, within, same)));
     ends = λ k d within. rw (get_or_default reads k d anything within) (ends-last k (omega (arith, within, same)));
     held = λ i d inside.
-      let x = get_or items i d in
-      let w = from.reach i d inside in
-      let j = w.0 in
-      let at : begin_at j ≡ w.1 = get_or_default begins j anything w.1 w.2 ∙ w.3 in
-      let reach : LiesWithinReach (begin_at j) x = subst (λ (b : Run). LiesWithinReach b x) (sym at) w.4 in
-      (j, read_at j, omega (arith, w.2, same), get_or_default reads j (read_at j) anything (omega (arith, w.2, same)),
-        holds-reach x (i, inside, get_or_default items i x d inside) j w.2 reach);
+        let x = get_or items i d in
+        let w = from.reach i d inside in
+        let j = w.0 in
+        let at : begin_at j ≡ w.1 = get_or_default begins j anything w.1 w.2 ∙ w.3 in
+        let reach : LiesWithinReach (begin_at j) x = subst (λ (b : Run). LiesWithinReach b x) (sym at) w.4 in (
+          j,
+          read_at j,
+          omega (arith, w.2, same),
+          get_or_default reads j (read_at j) anything (omega (arith, w.2, same)),
+          holds-reach x (i, inside, get_or_default items i x d inside) j w.2 reach,
+        );
   }
 
 -- the same with the items in any order, and the reads zipped to the beginnings
@@ -173,16 +177,16 @@ pub rule-of-sorted : (items sorted ended begins reads : List Run) → IsPermutat
 rule-of-sorted items sorted ended begins reads same-sorted same-ended readable from zipped =
     let back = IsPermutation-sym items ended same-ended in
     follows-rule items begins reads readable (beginnings-permutation sorted items begins (IsPermutation-sym items sorted same-sorted) from)
-      (sym (length_all_zip (ReadsFrom ended) begins reads zipped))
-      (λ k within.
-        let f = AllZip-get_or (ReadsFrom ended) begins reads k anything anything zipped within in
-        record { same_area = f.same_area; first = f.first; end = greatest-permutation ended items (get_or begins k anything) (get_or reads k anything).end back f.end })
+    (sym (length_all_zip (ReadsFrom ended) begins reads zipped))
+    (λ k within.
+    let f = AllZip-get_or (ReadsFrom ended) begins reads k anything anything zipped within in
+    record { same_area = f.same_area; first = f.first; end = greatest-permutation ended items (get_or begins k anything) (get_or reads k anything).end back f.end })
 
 -- the beginnings are among the items in any order, so they keep what all items keep
 pub beginnings-among : (items sorted ended begins : List Run) → IsPermutation items sorted → IsPermutation items ended → AreBeginnings sorted begins → All (Contains ended) begins
 beginnings-among items sorted ended begins same-sorted same-ended from =
     All-weaker (Contains sorted) (Contains ended)
-      (λ r w. Contains-permutation items ended r same-ended (Contains-permutation sorted items r (IsPermutation-sym items sorted same-sorted) w)) begins from.among
+    (λ r w. Contains-permutation items ended r same-ended (Contains-permutation sorted items r (IsPermutation-sym items sorted same-sorted) w)) begins from.among
 
 pub beginnings-keep : (P : Run → Type 0) (items sorted begins : List Run) → IsPermutation items sorted → AreBeginnings sorted begins → All P items → All P begins
 beginnings-keep P items sorted begins same-sorted from all =

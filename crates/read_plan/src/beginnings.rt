@@ -6,9 +6,8 @@ ghost use Rattle.read_plan.specs.declared.run.Run.{Run};
 ghost use Rattle.read_plan.specs.Beginnings.{AreBeginnings, IsGreatestEnd, ends_by};
 ghost use Rattle.read_plan.specs.Plans.{ComesBefore, EndsBefore, IsReadable, LiesWithinReach};
 
-use std::alloc::{AllocError, Global};
-
 use crate::run::{READ_LIMIT, Run};
+use std::alloc::{AllocError, Global};
 
 // Whether an item lies within the 125 registers from where a read begins.
 fn lies_within_reach(begin: &Run, item: &Run) -> bool

@@ -3,10 +3,9 @@ ghost use Rattle.std.specs.Prelude.{◌≡◌, ◌≤◌, IfOk, map};
 ghost use Rattle.point_list.specs.Points.{IsPointList, end_of};
 ghost use Rattle.read_plan.specs.Items.{item_of, items_of, joined, point_run};
 
+use crate::run::Run;
 use point_list::{ListedPoint, PointScale, find_scale};
 use std::alloc::{AllocError, Global};
-
-use crate::run::Run;
 
 // The registers of a point.
 fn run_of_point(point: &ListedPoint) -> Run
@@ -50,5 +49,8 @@ pub fn item(points: &[ListedPoint], point: &ListedPoint) -> Run
 pub fn items(alloc: Global, points: &[ListedPoint]) -> Result<Vec<Run>, AllocError>
     ensures { IfOk result (λ v. v.items ≡ items_of points.now) }
 {
-    points.iter().map(|point| item(points, point)).collect(alloc)
+    points
+        .iter()
+        .map(|point| item(points, point))
+        .collect(alloc)
 }

@@ -11,6 +11,8 @@ mod planning;
 mod reads;
 mod run;
 mod table;
+#[cfg(test)]
+mod tests;
 
 pub use least::rule_is_least;
 pub use placed::{Place, Plan};

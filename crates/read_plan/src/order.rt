@@ -4,9 +4,8 @@ ghost use Rattle.std.specs.List.{AllPairs};
 ghost use Rattle.std.specs.List.Sorted.{IsPermutation};
 ghost use Rattle.read_plan.specs.Plans.{ComesBefore, EndsBefore};
 
-use std::alloc::{AllocError, Global};
-
 use crate::run::Run;
+use std::alloc::{AllocError, Global};
 
 /// The runs by function, area number and first register.
 pub fn by_first(alloc: Global, runs: &[Run]) -> Result<Vec<Run>, AllocError>

@@ -1,11 +1,10 @@
 //! Plans, and where points stand in them.
 ghost use Rattle.std.specs.Prelude.{◌≡◌, ◌+◌, ◌<◌, length, slice_index, slice_index_or};
 
-use std::marker::Model;
-
 use crate::beginnings::ends_by_limit;
 use crate::planned::PlannedRead;
 use crate::run::Run;
+use std::marker::Model;
 
 /// Where a point stands in a plan.
 #[derive(Clone, Copy, Debug, PartialEq, Eq)]
@@ -59,6 +58,13 @@ impl Plan {
         ensures { result.now ≡ self.now.reads }
     {
         self.reads.as_slice()
+    }
+
+    /// How many points the plan places.
+    pub fn point_count(&self) -> usize
+        ensures { result ≡ length self.now.items }
+    {
+        self.items.len()
     }
 
     /// Where the point of a number stands, the first of the list being 0: in the first read that holds its item.

@@ -3,11 +3,10 @@ ghost use Rattle.std.specs.Prelude.{◌≡◌, ◌≤◌, IfOk, map};
 ghost use Rattle.std.specs.List.{All};
 ghost use Rattle.read_plan.specs.Plans.{IsReadable};
 
-use mb_wire::ReadSpan;
-use std::alloc::{AllocError, Global};
-
 use crate::run::Run;
 use crate::table::table_read_by;
+use mb_wire::ReadSpan;
+use std::alloc::{AllocError, Global};
 
 /// One read of a plan: registers of an area.
 #[derive(Clone, Copy, Debug, PartialEq, Eq)]

@@ -5,13 +5,12 @@ ghost use Rattle.read_plan.specs.PlannedReads.{read_runs};
 ghost use Rattle.read_plan.specs.Plans.{FollowsRule, IsLawful};
 ghost use Rattle.read_plan.specs.declared.run.Run.{Run};
 
-use point_list::{ListedPoint, PointList};
-use std::alloc::{AllocError, Global};
-
 use crate::items::items;
 use crate::placed::Plan;
 use crate::planned::PlannedRead;
 use crate::reads::rule_reads;
+use point_list::{ListedPoint, PointList};
+use std::alloc::{AllocError, Global};
 
 // The first register of each point.
 fn starts(alloc: Global, points: &[ListedPoint]) -> Result<Vec<u16>, AllocError>
@@ -26,6 +25,7 @@ fn starts(alloc: Global, points: &[ListedPoint]) -> Result<Vec<u16>, AllocError>
 pub fn plan(alloc: Global, list: &PointList) -> Result<Plan, AllocError>
     ensures starts { IfOk result (λ plan. plan.starts ≡ map (λ point. point.address) list.now) }
     ensures items { IfOk result (λ plan. plan.items ≡ items_of list.now) }
+    ensures placed { IfOk result (λ plan. length plan.items ≡ length list.now) }
     ensures rule { IfOk result (λ plan. FollowsRule (items_of list.now) (read_runs plan.reads)) }
     ensures lawful { IfOk result (λ plan. IsLawful (runs_of list.now) (items_of list.now) (read_runs plan.reads)) }
     ensures fewest { IfOk result (λ plan. (other : List Run) → IsLawful (runs_of list.now) (items_of list.now) other → length plan.reads ≤ length other) }

@@ -4,11 +4,10 @@ ghost use Rattle.std.specs.List.{All, AllPairs, AllZip, Contains};
 ghost use Rattle.read_plan.specs.Beginnings.{ReadsFrom};
 ghost use Rattle.read_plan.specs.Plans.{EndsBefore, FollowsRule, IsReadable};
 
-use std::alloc::{AllocError, Global};
-
 use crate::beginnings::{beginnings, end_within_reach};
 use crate::order::{by_end, by_first};
 use crate::run::Run;
+use std::alloc::{AllocError, Global};
 
 // A read from each beginning, the items being in order of their ends.
 fn reads_from(alloc: Global, items: &[Run], begins: &[Run]) -> Result<Vec<Run>, AllocError>

@@ -19,7 +19,7 @@ loop-item-preserved c =
           let pushed = w.in_ok-push.ensures.items in
           let beyond = rw c.deref.ensures.value at w.if-not-is_reached.ensures.beyond in
           rw (w.found-is, pushed)
-            (beginnings-push items c.loop-item.found.items n x within is c.requires.ordered (c.requires.readable n anything within) c.loop-item.invariant beyond)
+          (beginnings-push items c.loop-item.found.items n x within is c.requires.ordered (c.requires.readable n anything within) c.loop-item.invariant beyond)
       | else-not-is_reached w ↦
           let reached = rw c.deref.ensures.value at w.if-not-is_reached.ensures.reached in
           rw w.found-is (beginnings-skip items c.loop-item.found.items n x within is c.loop-item.invariant reached)

@@ -2,7 +2,7 @@ use Rattle.std.proofs.Common.{◌≡◌, ◌∙◌, ◌<◌, ◌≤◌, List, le
 use Rattle.std.specs.List.{All}
 use Rattle.std.proofs.lemmas.List.{length-map}
 use Rattle.read_plan.specs.declared.run.Run.{Run}
-use Rattle.read_plan.specs.Items.{items_of, runs_of}
+use Rattle.read_plan.specs.Items.{item_of, items_of, runs_of}
 use Rattle.read_plan.specs.PlannedReads.{read_run, read_runs}
 use Rattle.read_plan.specs.Plans.{FollowsRule, IsInArea, IsLawful, IsReadable}
 use Rattle.read_plan.proofs.ItemLemmas.{items-begun, items-in-areas, items-inside, items-low, items-readable, starts-each}
@@ -22,7 +22,7 @@ of_runs-requires-clause-readable c =
     let lawful = c.points-points.ensures.lawful in
     let rule = rw (c.deref.ensures.value, c.in_ok-items.ensures, c.points-points.ensures.points) at c.in_ok-runs.ensures in
     rw c.deref-2.ensures.value
-      (rule-lawful (runs_of points) (items_of points) c.in_ok-runs.runs.items rule (items-readable points lawful) (items-in-areas points lawful)).readable
+    (rule-lawful (runs_of points) (items_of points) c.in_ok-runs.runs.items rule (items-readable points lawful) (items-in-areas points lawful)).readable
 
 pub of_runs-requires-clause-inside : goal.of_runs-requires-clause-inside
 of_runs-requires-clause-inside c =
@@ -30,7 +30,7 @@ of_runs-requires-clause-inside c =
     let lawful = c.points-points.ensures.lawful in
     let rule = rw (c.deref.ensures.value, c.in_ok-items.ensures, c.points-points.ensures.points) at c.in_ok-runs.ensures in
     rw c.deref-2.ensures.value
-      (reads-inside (runs_of points) (items_of points) c.in_ok-runs.runs.items rule (items-readable points lawful) (items-inside points lawful))
+    (reads-inside (runs_of points) (items_of points) c.in_ok-runs.runs.items rule (items-readable points lawful) (items-inside points lawful))
 
 pub new-requires : goal.new-requires
 new-requires c =
@@ -47,6 +47,9 @@ new-requires c =
       inside = rw items (items-inside points lawful);
       rule = rw (items, same) rule;
     }
+
+pub returns-clause-placed : goal.returns-clause-placed
+returns-clause-placed c = rw (c.new.ensures.items, c.in_ok-items.ensures, c.points-points.ensures.points) (length-map c.args.list.now (item_of c.args.list.now))
 
 pub returns-clause-lawful : goal.returns-clause-lawful
 returns-clause-lawful c =
