@@ -1,0 +1,5 @@
+pub mod Faults
+pub mod Fields
+pub mod Names
+pub mod Points
+pub mod Rows
