@@ -18,3 +18,6 @@ pub use fault::{ChainFault, ImageFault};
 pub use image::Image;
 pub use model::Model;
 pub use named_point::{NamedPoint, PointScale};
+
+#[cfg(test)]
+mod tests;
