@@ -1,0 +1,13 @@
+pub mod Names
+pub mod Padding
+pub mod Numbers
+pub mod Facts
+pub mod Readings
+pub mod Sessions
+pub mod History
+pub mod Refusals
+pub mod Notes
+pub mod Lawful
+pub mod Meters
+pub mod Headline
+pub mod BooksFaults
