@@ -27,7 +27,7 @@ use Rattle.office_facts.proofs.Lookups.{same_text, none_parts, none_from_is_some
 use Rattle.office_facts.proofs.KeptFacts.{settled_on_all, settled_is, as_lost, lost_is}
 use Rattle.office_facts.proofs.DeviceLines.{HaveSameDevices, same_devices, same_names}
 use Rattle.office_facts.proofs.Times.{times, times-permutation}
-use Rattle.office_facts.proofs.SettledOnce.{settled_numbers, settled_at_most}
+use Rattle.office_facts.proofs.SettledOnce.{SettlesPending, settled_numbers, settled_at_most}
 use Rattle.office_facts.proofs.Fitting.{outcomes_fit, open_once, poll_numbers}
 
 -- what is known of an event that is not refused
@@ -138,11 +138,11 @@ poll_fits lines facts at c (Some line) devices h e =
 abbrev HaveSamePending : List Line → List Fact → Type 0
 HaveSamePending lines facts = (n : ℕ) → times n (flat_map pending_on lines) ≡ times n (poll_numbers (pending_in facts))
 
-settled_fit : (number at : ℕ) (e : Event) (lines : List Line) (facts : List Fact) → HaveSamePending lines facts → AreLawful facts
+settled_fit : SettlesPending → (number at : ℕ) (e : Event) (lines : List Line) (facts : List Fact) → HaveSamePending lines facts → AreLawful facts
     → AreLawful (with_settled number at e lines facts)
-settled_fit number at e lines facts pending h =
+settled_fit law number at e lines facts pending h =
     let at_most : (n : ℕ) → times n (settled_numbers (settled_on_all number at e lines)) ≤ times n (poll_numbers (pending_in facts)) =
-    λ n. omega (arith, settled_at_most n number at e lines, pending n) in
+    λ n. omega (arith, settled_at_most law n number at e lines, pending n) in
     subst AreLawful (sym (settled_is number at e lines facts))
     (outcomes_fit at (settled_on_all number at e lines) facts h (open_once facts (settled_numbers (settled_on_all number at e lines)) h at_most))
 
@@ -157,30 +157,30 @@ lost_fit at facts h =
     (outcomes_fit at all facts h
     (open_once facts (settled_numbers all) h (λ n. omega (arith, ap (times n) (lost_numbers (pending_in facts))))))
 
-after_event : (past : History) (at : ℕ) (e : Event) → IsTaken past at e → HaveSamePending (lines_of past) (facts_of past)
+after_event : SettlesPending → (past : History) (at : ℕ) (e : Event) → IsTaken past at e → HaveSamePending (lines_of past) (facts_of past)
     → AreLawful (facts_of past) → AreLawful (facts_of (Fed at e ∷ past))
-after_event past at (event.Connected given) taken pending h = h
-after_event past at (event.Bytes given piece) taken pending h =
-    settled_fit (next_poll (facts_of past)) at (event.Bytes given piece) (lines_of past) (facts_of past) pending h
-after_event past at event.Tick taken pending h =
-    settled_fit (next_poll (facts_of past)) at event.Tick (lines_of past) (facts_of past) pending h
-after_event past at (event.Gone given closing) taken pending h =
-    settled_fit (next_poll (facts_of past)) at (event.Gone given closing) (lines_of past) (facts_of past) pending h
-after_event past at (event.Command (command.AddDevice c)) taken pending h =
+after_event law past at (event.Connected given) taken pending h = h
+after_event law past at (event.Bytes given piece) taken pending h =
+    settled_fit law (next_poll (facts_of past)) at (event.Bytes given piece) (lines_of past) (facts_of past) pending h
+after_event law past at event.Tick taken pending h =
+    settled_fit law (next_poll (facts_of past)) at event.Tick (lines_of past) (facts_of past) pending h
+after_event law past at (event.Gone given closing) taken pending h =
+    settled_fit law (next_poll (facts_of past)) at (event.Gone given closing) (lines_of past) (facts_of past) pending h
+after_event law past at (event.Command (command.AddDevice c)) taken pending h =
     device_fits (lines_of past) (facts_of past) c c.name (same_devices past) h taken.new taken.fields
-after_event past at (event.Command (command.AddRegister c)) taken pending h =
+after_event law past at (event.Command (command.AddRegister c)) taken pending h =
     register_fits (lines_of past) (facts_of past) c c.name c.device (same_devices past) h taken.known taken.new
-after_event past at (event.Command (command.Install c)) taken pending h =
+after_event law past at (event.Command (command.Install c)) taken pending h =
     opening_fits (facts_of past) at c c.register c.meter h taken.known taken.new taken.scale taken.fields
-after_event past at (event.Command (command.StartPoll c)) taken pending h =
+after_event law past at (event.Command (command.StartPoll c)) taken pending h =
     poll_fits (lines_of past) (facts_of past) at c (line_of (lines_of past) c.device) (same_devices past) h refl
 
--- The facts are lawful, if each poll ends once.
-pub lawful : ((history : History) → AreAccepted history → PollsEndOnce history) → (history : History) → AreAccepted history
+-- The facts are lawful, where sessions settle what waits and each poll ends once.
+pub lawful : SettlesPending → ((history : History) → AreAccepted history → PollsEndOnce history) → (history : History) → AreAccepted history
     → AreLawful (facts_of history)
-lawful once [] h = tt
-lawful once (Opened at ∷ past) h = lost_fit at (facts_of past) (lawful once past h.1)
-lawful once (Fed at e ∷ past) h =
+lawful law once [] h = tt
+lawful law once (Opened at ∷ past) h = lost_fit at (facts_of past) (lawful law once past h.1)
+lawful law once (Fed at e ∷ past) h =
     let same_pending : HaveSamePending (lines_of past) (facts_of past) =
     λ n. times-permutation n (poll_numbers (pending_in (facts_of past))) (flat_map pending_on (lines_of past)) (once past h.1).pending in
-    after_event past at e (is_taken past at e h.0) same_pending (lawful once past h.1)
+    after_event law past at e (is_taken past at e h.0) same_pending (lawful law once past h.1)

@@ -6,11 +6,13 @@ ghost use Rattle.office_facts.specs.Meters.{NamesAreDistinct, EntriesAreOfReadin
 
 use crate::endings::polls_end_once;
 use energy_core::{accounts_are_sound, readings_keep_accounts, truth_is_booked};
+use poll_core::one_event_more;
 
 /// Whatever the office accepted, each of its facts may follow those before it.
 pub fn facts_are_lawful()
     ensures { (history : History) → AreAccepted history → AreLawful (facts_of history) }
 {
+    one_event_more();
     polls_end_once();
 }
 
