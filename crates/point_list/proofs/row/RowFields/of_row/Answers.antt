@@ -38,4 +38,4 @@ returns c =
     let fields = fields_of c.args.row.now in
     let size : length fields ≡ 6 = omega (arith, c.len.ensures) in
     sym (six-of-fields fields c.in_ok-get.field-0.now c.in_ok-get-2.field-0.now c.in_ok-get-3.field-0.now c.in_ok-get-4.field-0.now c.in_ok-get-5.field-0.now c.in_ok-get-6.field-0.now size
-      (sym c.in_ok-get.ensures.value) (sym c.in_ok-get-2.ensures.value) (sym c.in_ok-get-3.ensures.value) (sym c.in_ok-get-4.ensures.value) (sym c.in_ok-get-5.ensures.value) (sym c.in_ok-get-6.ensures.value))
+    (sym c.in_ok-get.ensures.value) (sym c.in_ok-get-2.ensures.value) (sym c.in_ok-get-3.ensures.value) (sym c.in_ok-get-4.ensures.value) (sym c.in_ok-get-5.ensures.value) (sym c.in_ok-get-6.ensures.value))
