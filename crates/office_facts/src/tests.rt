@@ -1,3 +1,6 @@
+ghost use Rattle.std.specs.Prelude.{IsTrue};
+ghost use Rattle.office_facts.specs.BooksFaults.{IsSound};
+
 use crate::{
     BooksFault, Installation, Name, Opening, Piece, Refusal, StoreCause, Timeout, Window,
     facts_are_lawful, names_are_distinct, polls_end_once,
@@ -57,14 +60,11 @@ fn refusals_have_their_numbers(rt: HostRuntime) {
     assert_eq!(rt; Refusal::Stopped.number(), 15);
 }
 
-#[test]
-fn installations_go_on(rt: HostRuntime) -> Result<(), Fail> {
-    facts_are_lawful();
-    polls_end_once();
-    names_are_distinct();
-    let meter = Name::new(b"m1").ok_or("no name")?;
-    let register = Name::new(b"main").ok_or("no name")?;
-    let row = Installation {
+// A meter that showed 5000 at 1000.
+fn opened() -> Option<Installation> {
+    let meter = Name::new(b"m1")?;
+    let register = Name::new(b"main")?;
+    Some(Installation {
         opening: Opening {
             meter,
             register,
@@ -79,7 +79,22 @@ fn installations_go_on(rt: HostRuntime) -> Result<(), Fail> {
             sf: 0,
         },
         total: 0,
-    };
+    })
+}
+
+// Whether its next reading can be judged: its numbers are in their ranges.
+fn is_sound(row: &Installation) -> bool
+    ensures { IsTrue result → IsSound row.now }
+{
+    let ceiling = row.opening.ceiling;
+    let is_scale = -3 <= row.last.sf && row.last.sf <= 3;
+    1 <= ceiling && ceiling <= 1000000000 && is_scale && row.total <= 4000000000000000000
+}
+
+#[test]
+fn a_reading_is_accepted(rt: HostRuntime) -> Result<(), Fail> {
+    let row = opened().ok_or("no name")?;
+    assert!(rt; is_sound(&row));
     let reading = Reading {
         at: 1900,
         raw: 5200,
@@ -90,19 +105,42 @@ fn installations_go_on(rt: HostRuntime) -> Result<(), Fail> {
         step: 200000,
     };
     assert_eq!(rt; row.judge(&reading), accepted);
-    let unread = Reading {
+    Ok(())
+}
+
+#[test]
+fn a_reading_of_nothing_is_held(rt: HostRuntime) -> Result<(), Fail> {
+    let row = opened().ok_or("no name")?;
+    assert!(rt; is_sound(&row));
+    let reading = Reading {
         at: 1900,
         raw: 0,
         sf: 0,
     };
-    assert_eq!(rt; row.judge(&unread), Verdict::Held(Cause::NotAccumulated));
-    let after = row.after(&Entry::Step {
+    assert_eq!(rt; row.judge(&reading), Verdict::Held(Cause::NotAccumulated));
+    Ok(())
+}
+
+#[test]
+fn an_entry_adds_its_energy(rt: HostRuntime) -> Result<(), Fail> {
+    let row = opened().ok_or("no name")?;
+    assert!(rt; is_sound(&row));
+    let entry = Entry::Step {
         at: 1900,
         raw: 5200,
         rolls: 0,
-    });
-    assert_eq!(rt; after.total, 200000);
-    assert_eq!(rt; after.last.raw, 5200);
-    assert_eq!(rt; after.last.at, 1900);
+    };
+    let after = row.after(&entry);
+    assert_eq!(rt;
+        (after.total, after.last.raw, after.last.at),
+        (200000, 5200, 1900)
+    );
     Ok(())
+}
+
+#[test]
+fn laws_are_called() {
+    facts_are_lawful();
+    polls_end_once();
+    names_are_distinct();
 }
