@@ -18,3 +18,8 @@ pub mod OverLines
 pub mod ApartLines
 pub mod QuietEvents
 pub mod EndOnce
+pub mod Lists
+pub mod LawfulRows
+pub mod NumberedPolls
+pub mod ListedFacts
+pub mod Booking

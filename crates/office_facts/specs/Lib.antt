@@ -11,3 +11,5 @@ pub mod Lawful
 pub mod Meters
 pub mod Headline
 pub mod BooksFaults
+pub mod Listing
+pub mod Listed

@@ -7,7 +7,10 @@ mod commands;
 mod endings;
 mod events;
 mod facts;
+mod installation_rows;
 mod lawfulness;
+mod list_books;
+mod listing;
 mod naming;
 mod questions;
 mod refusals;
@@ -26,6 +29,7 @@ pub use lawfulness::{
     entries_are_of_readings, facts_are_lawful, installations_are_kept, meters_are_kept,
     names_are_distinct, truth_is_recorded,
 };
+pub use list_books::ListBooks;
 pub use naming::Name;
 pub use questions::{Installation, PollRow};
 pub use refusals::{Refusal, StoreCause};

@@ -1,6 +1,7 @@
 //! Names of devices, registers and meters.
 ghost use Rattle.std.specs.Prelude.{◌≡◌, ℕ, ◌≤◌, ◌-◌, ◌++◌, ◌↔◌, List, length, take, drop, replicate, IsTrue, IsSome, IfSome};
 ghost use Rattle.std.specs.List.{list_all};
+ghost use Rattle.std.specs.Str.{bytes_eq};
 ghost use Rattle.office_facts.specs.Names as specs_names;
 
 use std::marker::Model;
@@ -83,6 +84,13 @@ impl Name {
         } else {
             None
         }
+    }
+
+    /// Whether this is the same name.
+    pub(crate) fn is(&self, other: &Name) -> bool
+        ensures { result ≡ bytes_eq self.now other.now }
+    {
+        self.as_bytes() == other.as_bytes()
     }
 
     /// The bytes of the name.

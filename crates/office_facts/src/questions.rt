@@ -22,6 +22,7 @@ impl Installation {
     ghost use Rattle.energy_core.specs.Entering.{entered};
     ghost use Rattle.energy_core.specs.declared.entries.Last.{Last};
     ghost use Rattle.energy_core.specs.declared.entries.Step.{Step};
+    ghost use Rattle.energy_core.specs.declared.entering.TermFault.{TermFault};
     ghost use Rattle.office_facts.specs.BooksFaults.{IsSound};
     ghost use Rattle.office_facts.specs.Readings.{range_of, judgement};
 
@@ -51,6 +52,7 @@ impl Installation {
         ensures opening { result.opening ≡ self.opening }
         ensures entered { (next : Last) (step : Step) → entered (range_of self.opening) self.total self.last entry.now ≡ Ok (next, step)
             → result ≡ record { opening = self.opening; last = next; total = self.total + step.mwh } }
+        ensures refused { (fault : TermFault) → entered (range_of self.opening) self.total self.last entry.now ≡ Err fault → result ≡ self }
     {
         match enter(&Acc32, &self.terms(), &self.last, entry) {
             Ok((last, step)) => Installation {
