@@ -1,5 +1,5 @@
 -- Examples, computed from the definitions.
-use Rattle.std.proofs.Common.{◌≡◌, ℕ, ◌<◌, pos, List, [], ◌∷◌, ◌++◌, Some, None, refl, lit≤, arith}
+use Rattle.std.proofs.Common.{◌≡◌, ℕ, pos, List, [], ◌∷◌, Some, None, refl, lit≤}
 use Rattle.std.specs.Option.{option_map}
 use Rattle.energy_core.specs.Value.{unit_of}
 use Rattle.energy_core.specs.declared.entries.Entry.TheVariants.{Step}
@@ -12,9 +12,7 @@ use Rattle.poll_core.specs.declared.outcome.Outcome.{Outcome}
 use Rattle.poll_core.specs.declared.outcome.Outcome.TheVariants as outcome
 use Rattle.poll_core.specs.declared.outcome.LostCause.TheVariants as cause
 use Rattle.poll_core.specs.declared.outcome.Closing.TheVariants as closing
-use Rattle.office_facts.specs.declared.facts.Device.{Device}
 use Rattle.office_facts.specs.declared.facts.Opening.{Opening}
-use Rattle.office_facts.specs.declared.facts.Poll.{Poll}
 use Rattle.office_facts.specs.declared.facts.ScaleSource.TheVariants as source
 use Rattle.office_facts.specs.declared.facts.EntryKind.TheVariants as kind
 use Rattle.office_facts.specs.declared.facts.Fact.{Fact}

@@ -1,5 +1,5 @@
 -- What books promise of their failures.
-use Rattle.std.specs.Prelude.{◌≡◌, ℕ, ◌+◌, ◌≤◌, ◌*◌, ◌^◌, min, Result, Ok, Err}
+use Rattle.std.specs.Prelude.{ℕ, ◌+◌, ◌≤◌, ◌*◌, ◌^◌, min, Result, Ok, Err}
 use Rattle.energy_core.specs.Account.{IsScale}
 use Rattle.office_facts.specs.declared.books.BooksFault.{BooksFault}
 use Rattle.office_facts.specs.declared.books.BooksFault.TheVariants.{Store, Memory}

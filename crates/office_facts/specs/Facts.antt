@@ -3,7 +3,6 @@ use Rattle.std.specs.Prelude.{ℕ, ◌==◌, max, Bool, false, List, [], ◌∷�
 use Rattle.std.specs.List.{find, filter, filter_map}
 use Rattle.std.specs.Str.{bytes_eq}
 use Rattle.energy_core.specs.Account.{moment_of}
-use Rattle.energy_core.specs.declared.entries.Last.{Last}
 use Rattle.energy_core.specs.declared.entries.Entry.{Entry}
 use Rattle.office_facts.specs.declared.facts.Device.{Device}
 use Rattle.office_facts.specs.declared.facts.Register.{Register}

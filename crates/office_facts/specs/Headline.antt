@@ -9,11 +9,9 @@ use Rattle.poll_core.specs.declared.outcome.Outcome.TheVariants.{Lost}
 use Rattle.poll_core.specs.declared.outcome.LostCause.TheVariants.{Restart}
 use Rattle.office_facts.specs.declared.facts.Device.{Device}
 use Rattle.office_facts.specs.declared.facts.Poll.{Poll}
-use Rattle.office_facts.specs.declared.facts.Fact.{Fact}
 use Rattle.office_facts.specs.Facts.{polls_in, ends_of, pending_in}
 use Rattle.office_facts.specs.Sessions.{Line, EndedSession}
 use Rattle.office_facts.specs.History.{History, facts_of, lines_of, outcome_of}
-use Rattle.office_facts.specs.Refusals.{AreAccepted}
 
 -- How a poll of a session ended: as the events of the session settle it; where they do not and the office was opened anew,
 -- it is lost.

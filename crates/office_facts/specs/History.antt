@@ -1,5 +1,5 @@
 -- The accepted events, and what the books record of them.
-use Rattle.std.specs.Prelude.{ℕ, ℤ, ◌+◌, ◌==◌, List, [], ◌∷◌, ◌++◌, map, reverse, Option, Some, None, length, if◌then◌else◌}
+use Rattle.std.specs.Prelude.{ℕ, ◌+◌, ◌==◌, List, [], ◌∷◌, ◌++◌, map, reverse, Option, Some, None, length, if◌then◌else◌}
 use Rattle.std.specs.Option.{option_map, option_and_then}
 use Rattle.poll_core.specs.Settling as session
 use Rattle.poll_core.specs.declared.outcome.Outcome.{Outcome}
@@ -22,7 +22,7 @@ use Rattle.office_facts.specs.declared.commands.Command.{Command}
 use Rattle.office_facts.specs.declared.commands.Command.TheVariants as command
 use Rattle.office_facts.specs.declared.events.Event.{Event}
 use Rattle.office_facts.specs.declared.events.Event.TheVariants as event
-use Rattle.office_facts.specs.Facts.{is_named, polls_in, poll_of, pending_in}
+use Rattle.office_facts.specs.Facts.{polls_in, poll_of, pending_in}
 use Rattle.office_facts.specs.Readings.{with_reply}
 use Rattle.office_facts.specs.Sessions.{Line, line_of, reaches, device_by, lines_after, line_restarted}
 

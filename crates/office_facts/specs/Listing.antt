@@ -1,5 +1,5 @@
 -- Books that keep each kind of fact in a list of its own, the earliest first.
-use Rattle.std.specs.Prelude.{◌≡◌, ℕ, ◌+◌, ◌-◌, ◌==◌, ◌≤◌, List, Option, Some, None, Result, Ok, Err, slice_get, if◌then◌else◌}
+use Rattle.std.specs.Prelude.{ℕ, ◌+◌, ◌-◌, ◌==◌, ◌≤◌, List, Option, Some, None, Result, Ok, Err, slice_get, if◌then◌else◌}
 use Rattle.energy_core.specs.Account.{IsScale}
 use Rattle.energy_core.specs.Entering.{entered}
 use Rattle.energy_core.specs.declared.entries.Last.{Last}

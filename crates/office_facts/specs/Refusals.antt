@@ -1,7 +1,7 @@
 -- Which events are refused, and why: for each refusal when it applies, and the order in which they are looked at.
-use Rattle.std.specs.Prelude.{◌≡◌, ℕ, ℤ, pos, negsuc, ◌+◌, ◌-◌, ◌==◌, nat_lt, nat_le, int_lt, Bool, true, false, not, ◌&&◌, ◌||◌, min, max, List, [], ◌∷◌, Option, Some, None, is_none, is_some, length, if◌then◌else◌}
+use Rattle.std.specs.Prelude.{◌≡◌, ℕ, ℤ, pos, negsuc, ◌+◌, ◌-◌, nat_lt, nat_le, int_lt, Bool, false, not, ◌||◌, min, max, List, [], ◌∷◌, Option, Some, None, is_none, is_some, length, if◌then◌else◌}
 use Rattle.std.specs.Option.{option_and_then}
-use Rattle.std.specs.List.{find, filter}
+use Rattle.std.specs.List.{find}
 use Rattle.office_facts.specs.declared.commands.GivenScale.{GivenScale}
 use Rattle.office_facts.specs.declared.commands.GivenScale.TheVariants as given
 use Rattle.office_facts.specs.declared.commands.StartPoll.{StartPoll}

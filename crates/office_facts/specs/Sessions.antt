@@ -1,5 +1,5 @@
 -- The devices of the office in the order in which they were added, and all that happened on their sessions.
-use Rattle.std.specs.Prelude.{ℕ, Bool, true, false, List, [], ◌∷◌, ◌++◌, map, Option, Some, None, is_some, if◌then◌else◌}
+use Rattle.std.specs.Prelude.{ℕ, Bool, true, false, List, [], ◌∷◌, ◌++◌, map, Option, Some, None, if◌then◌else◌}
 use Rattle.std.specs.Option.{option_map, option_and_then}
 use Rattle.std.specs.List.{find}
 use Rattle.mb_wire.specs.Spans.{span_view}
@@ -8,7 +8,6 @@ use Rattle.poll_core.specs.Standing.{last_moment}
 use Rattle.poll_core.specs.Starting.{start_fault}
 use Rattle.office_facts.specs.declared.facts.Device.{Device}
 use Rattle.office_facts.specs.declared.commands.AddDevice.{AddDevice}
-use Rattle.office_facts.specs.declared.commands.Command.{Command}
 use Rattle.office_facts.specs.declared.commands.Command.TheVariants as command
 use Rattle.office_facts.specs.declared.events.Event.{Event}
 use Rattle.office_facts.specs.declared.events.Event.TheVariants as event
