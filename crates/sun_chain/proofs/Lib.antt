@@ -1,4 +1,6 @@
 pub mod Chains
+pub mod OneChain
 pub mod Readings
 pub mod Rows
 pub mod Splices
+pub mod TableRules
