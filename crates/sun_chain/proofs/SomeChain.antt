@@ -3,7 +3,7 @@ use Rattle.std.proofs.Common.{◌≡◌, ◌≢◌, ℕ, ◌⊎◌, zero, suc, �
 use Rattle.std.proofs.lemmas.Bool.{eqb-true, eqb-false, leb-false, ltb-false}
 use Rattle.sun_chain.specs.Image.{Words}
 use Rattle.sun_chain.specs.Chain.{base_in, next_after, Stands, IsLawful}
-use Rattle.sun_chain.specs.Walk.{first_lack, Fails}
+use Rattle.sun_chain.specs.Walk.{first_lack}
 use Rattle.sun_chain.specs.Laws.{ChainOrFault, HasChain, HasFault}
 use Rattle.sun_chain.specs.declared.model.Model.{Model}
 use Rattle.sun_chain.specs.declared.fault.ChainFault.{ChainFault}
