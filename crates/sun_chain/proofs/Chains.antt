@@ -24,7 +24,7 @@ no_lack word count model stands few =
     let inside : nat_lt 65536 (model.address + 2 + model.length) ≡ false = le-ltb 65536 (model.address + 2 + model.length) stands.inside in
     rw (in_space, stands.id) (rw (other, room, behind, stands.length) (rw inside refl))
 
-some_same : (a b : ℕ) (found : Option ℕ) → found ≡ Some a → found ≡ Some b → a ≡ b
+pub some_same : {X : Type 0} (a b : X) (found : Option X) → found ≡ Some a → found ≡ Some b → a ≡ b
 some_same a b found is_a is_b = cc
 
 -- Models at one address have one length.

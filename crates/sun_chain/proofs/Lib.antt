@@ -1,4 +1,7 @@
 pub mod Chains
+pub mod OneChain
 pub mod Readings
 pub mod Rows
+pub mod SomeChain
 pub mod Splices
+pub mod TableRules

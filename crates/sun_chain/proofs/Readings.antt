@@ -12,11 +12,11 @@ first_read : (read : List Bool) (start count : ℕ) → start < length read →
     all_read read start (suc count) ≡ get_or read start false && all_read read (start + 1) count
 first_read read start count inside = rw (drop-cons read start false, add-one) refl
 
-and-left : (a b : Bool) → a && b ≡ true → a ≡ true
+pub and-left : (a b : Bool) → a && b ≡ true → a ≡ true
 and-left true b both = refl
 and-left false b both = both
 
-and-right : (a b : Bool) → a && b ≡ true → b ≡ true
+pub and-right : (a b : Bool) → a && b ≡ true → b ≡ true
 and-right true b both = both
 and-right false b both = absurd (true≢false (sym both))
 

@@ -5,3 +5,5 @@ pub mod Walk
 pub mod Tables
 pub mod Points
 pub mod Common
+pub mod TableRules
+pub mod Laws

@@ -6,6 +6,7 @@ mod chain_walk;
 mod common;
 mod fault;
 mod image;
+mod laws;
 mod model;
 mod named_point;
 mod points;
@@ -16,8 +17,11 @@ pub use chain_walk::walk;
 pub use common::Common;
 pub use fault::{ChainFault, ImageFault};
 pub use image::Image;
+pub use laws::{chain_or_fault_is_one, tables_are_lawful};
 pub use model::Model;
 pub use named_point::{NamedPoint, PointScale};
 
+#[cfg(test)]
+mod table_tests;
 #[cfg(test)]
 mod tests;

@@ -3,6 +3,7 @@ ghost use Rattle.std.specs.Option.{option_map};
 ghost use Rattle.sun_chain.specs.Chain.{words_of};
 ghost use Rattle.sun_chain.specs.Points.{point_in, points_in, register_in, registers_in, scale_word_in, seen, value_in};
 ghost use Rattle.sun_points.specs.Point.{seen as point_seen};
+ghost use Rattle.sun_chain.specs.TableRules.{StandInOrder};
 ghost use Rattle.sun_chain.specs.Tables.{row_of};
 
 use crate::chain::Chain;
@@ -16,7 +17,8 @@ impl<'a> Chain<'a> {
     /// The points of a model that lie wholly inside it and were read, in order of address. A model that
     /// is not known has none.
     pub fn points(&self, model: &Model) -> Result<Vec<NamedPoint<'a>>, AllocError>
-        ensures { IfOk result (λ points. map seen points.items ≡ points_in (words_of self.now) model.now) }
+        ensures points { IfOk result (λ points. map seen points.items ≡ points_in (words_of self.now) model.now) }
+        ensures in_order { IfOk result (λ points. StandInOrder (model.now.address + 2) (map seen points.items)) }
     {
         let mut points = Vec::new(*self.models.allocator());
         for entry in table(model.id) {

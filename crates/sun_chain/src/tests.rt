@@ -4,7 +4,7 @@ use std::test::Fail;
 use sun_points::{PointType, Text};
 
 // The image of these lines: an address, and words from there on.
-fn image_of(alloc: Global, lines: &[(u16, &[u16])]) -> Result<Image, Fail> {
+pub(crate) fn image_of(alloc: Global, lines: &[(u16, &[u16])]) -> Result<Image, Fail> {
     let mut image = Image::new(alloc);
     for (address, words) in lines {
         image.put(*address, words).ok().ok_or("not put")?;
@@ -23,7 +23,7 @@ fn value_text(alloc: Global, point: &NamedPoint<'_>) -> Result<Vec<u8>, Fail> {
     Ok(output)
 }
 
-fn type_text(ty: PointType) -> &'static str {
+pub(crate) fn type_text(ty: PointType) -> &'static str {
     match ty {
         PointType::Int16 => "int16",
         PointType::Uint16 => "uint16",

@@ -1,4 +1,5 @@
 pub mod Appending
 pub mod Decimals
+pub mod Examples
 pub mod LowDigits
 pub mod Texts

@@ -1,0 +1,61 @@
+-- The rules that the tables keep, and the order of points.
+use Rattle.std.specs.Prelude.{ℕ, ◌+◌, ◌≤◌, ◌==◌, ◌&&◌, nat_le, Bool, true, false, IsTrue, if◌then◌else◌, List, [], ◌∷◌, option_map, unwrap_or}
+use Rattle.std.specs.List.{list_all, list_any}
+use Rattle.sun_points.specs.PointType.{registers_of}
+use Rattle.sun_points.specs.declared.point_type.PointType.{PointType}
+use Rattle.sun_points.specs.declared.point_type.PointType.TheVariants.{Int16, Uint16, Enum16, Int32, Uint32, Bitfield32, Acc32, Sunssf, Text}
+use Rattle.sun_chain.specs.Tables.{Row, table_of}
+use Rattle.sun_chain.specs.Points.{Named}
+
+-- the register behind a point's last one
+abbrev pub end_of_row : Row → ℕ
+end_of_row row = row.offset + registers_of row.ty
+
+-- each point begins at or behind the end of the one before, and the first at or behind this register
+abbrev pub ascends_from : ℕ → List Row → Bool
+ascends_from from [] = true
+ascends_from from (row ∷ rows) = nat_le from row.offset && ascends_from (end_of_row row) rows
+
+-- a point lies inside a model of this length
+abbrev pub lies_inside : ℕ → Row → Bool
+lies_inside length row = nat_le (end_of_row row) (2 + length)
+
+abbrev pub is_sunssf : PointType → Bool
+is_sunssf Int16 = false
+is_sunssf Uint16 = false
+is_sunssf Enum16 = false
+is_sunssf Int32 = false
+is_sunssf Uint32 = false
+is_sunssf Bitfield32 = false
+is_sunssf Acc32 = false
+is_sunssf Sunssf = true
+is_sunssf (Text registers) = false
+
+-- a point that may scale others, at this offset
+abbrev pub is_scale_point : ℕ → Row → Bool
+is_scale_point offset row = is_sunssf row.ty && row.offset == offset
+
+-- the point that scales this one, if any does, is in the table
+abbrev pub has_its_scale : List Row → Row → Bool
+has_its_scale rows row = unwrap_or (option_map (λ offset. list_any (is_scale_point offset) rows) row.scale) true
+
+-- a table for models of this length: behind the ID and the length, its points stand in order, inside the model, with their scale points
+abbrev pub is_lawful_table : ℕ → List Row → Bool
+is_lawful_table length rows = ascends_from 2 rows && list_all (lies_inside length) rows && list_all (has_its_scale rows) rows
+
+-- the length of a known model; model 1 may have one more register, for padding
+abbrev pub length_of_known : ℕ → ℕ
+length_of_known id =
+    if id == 1 then 65
+    else if nat_le 101 id && nat_le id 103 then 50
+    else if nat_le 201 id && nat_le id 204 then 105
+    else 0
+
+-- The table of each ID is lawful.
+abbrev pub TablesAreLawful : Type 0
+TablesAreLawful = (id : ℕ) → IsTrue (is_lawful_table (length_of_known id) (table_of id))
+
+-- each point begins at or behind the end of the one before, and the first at or behind this address
+abbrev pub StandInOrder : ℕ → List Named → Type 0
+StandInOrder from [] = Unit {0}
+StandInOrder from (point ∷ points) = (from ≤ point.address) × StandInOrder (point.address + registers_of point.ty) points
