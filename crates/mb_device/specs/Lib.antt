@@ -1,3 +1,4 @@
 pub mod Maps
 pub mod Areas
 pub mod Device
+pub mod Serving

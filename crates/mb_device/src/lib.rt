@@ -6,9 +6,13 @@ mod answer;
 mod bank;
 mod kinds;
 mod packing;
+mod serving;
 
 pub use bank::Bank;
 pub use kinds::{Area, BankFault, Kind};
+pub use serving::{ServeFault, Server, Turned};
 
+#[cfg(test)]
+mod serving_tests;
 #[cfg(test)]
 mod tests;

@@ -1,0 +1,17 @@
+use Rattle.std.proofs.Common.{◌≡◌, ℕ, ◌+◌, ◌*◌, ◌^◌, ◌<◌, ◌≤◌, List, true}
+use Rattle.mb_device.specs.Serving.{Holds, Served, around, is_serving}
+use Rattle.mb_device.proofs.serving.Server.serve.Given as goal
+
+abbrev pub invariant-loop-turn : goal.invariant-loop-turn
+invariant-loop-turn g l = record {
+  served : (held : List ℕ) → l.fn.self ≡ Holds held → Served held l.answered
+      (around (g.L.Link.remaining l.fn.link) (g.L.Link.given l.fn.link) l.fn.bank)
+      (around (g.L.Link.remaining l.link) (g.L.Link.given l.link) l.bank)
+      l.self;
+  serving : is_serving l.self ≡ true;
+  from_serving : is_serving l.fn.self ≡ true;
+  few : l.answered ≤ 260 * l._turn;
+  failures : g.L.Link.failed l.link ≡ g.L.Link.failed l.fn.link;
+  takes : g.L.Link.taken l.link ≤ g.L.Link.taken l.fn.link + l._turn;
+  all_takes : g.L.Link.taken l.fn.link + l._turn < 2 ^ 64 → g.L.Link.taken l.link ≡ g.L.Link.taken l.fn.link + l._turn;
+}
