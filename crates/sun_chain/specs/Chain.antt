@@ -1,0 +1,58 @@
+-- The chain of models that stands in a device's words.
+use Rattle.std.specs.Prelude.{◌≡◌, ◌≢◌, ℕ, ◌+◌, ◌≤◌, Bool, false, ◌&&◌, ◌==◌, List, [], ◌∷◌, length, Some, option_map, unwrap_or, find}
+use Rattle.std.specs.declared.option.Option.{Option}
+use Rattle.sun_chain.specs.Image.{Words, word_in}
+use Rattle.sun_chain.specs.declared.chain.Chain.{Chain}
+use Rattle.sun_chain.specs.declared.model.Model.{Model}
+
+-- a word that was read, and has this value
+abbrev pub is_word : Option ℕ → ℕ → Bool
+is_word found value = unwrap_or (option_map (λ word. word == value) found) false
+
+-- the mark: `Su` and `nS`
+abbrev pub is_marked : Words → ℕ → Bool
+is_marked word address = is_word (word address) 0x5375 && is_word (word (address + 1)) 0x6E53
+
+-- the first of these addresses that has the mark
+abbrev pub base_in : Words → Option ℕ
+base_in word = find (is_marked word) (40000 ∷ 50000 ∷ 0 ∷ [])
+
+-- a model: its ID, which is not that of the end, its length, and all of its registers below 65536
+pub record Stands (word : Words) (model : Model) : Type 0 where
+  pub id : word model.address ≡ Some model.id
+  pub no_end : model.id ≢ 0xFFFF
+  pub length : word (model.address + 1) ≡ Some model.length
+  pub inside : model.address + 2 + model.length ≤ 65536
+
+abbrev pub next_after : Model → ℕ
+next_after model = model.address + 2 + model.length
+
+-- models stand one after another, the first at an address, and another address follows them
+abbrev pub Follow : Words → ℕ → List Model → ℕ → Type 0
+Follow word from [] next = from ≡ next
+Follow word from (model ∷ models) next = (model.address ≡ from) × Stands word model × Follow word (next_after model) models next
+
+-- at most 64 models from behind the mark on
+pub record IsLawful (word : Words) (base : ℕ) (models : List Model) (next : ℕ) : Type 0 where
+  pub marked : base_in word ≡ Some base
+  pub follow : Follow word (base + 2) models next
+  pub few : length models ≤ 64
+
+-- a chain: its models, and the address of the end's ID behind them
+pub record IsChain (word : Words) (base : ℕ) (models : List Model) (end : ℕ) : Type 0 where
+  pub lawful : IsLawful word base models end
+  pub ends : word end ≡ Some 0xFFFF
+  pub inside : end ≤ 65535
+
+-- what a walk found
+abbrev pub words_of : Chain → Words
+words_of chain = word_in chain.image.now
+
+abbrev pub base_of : Chain → ℕ
+base_of chain = chain.base
+
+abbrev pub models_of : Chain → List Model
+models_of chain = chain.models.items
+
+abbrev pub end_of : Chain → ℕ
+end_of chain = chain.end

@@ -1,0 +1,103 @@
+ghost use Rattle.std.specs.Prelude.{◌≡◌, ◌↔◌, ℕ, ◌+◌, ◌<◌, ◌≤◌, length, None, OnOk, OnErr, ◌++◌, ◌-◌, take, drop, replicate, true, vec_len};
+ghost use Rattle.std.specs.Option.{option_map};
+
+use crate::fault::ImageFault;
+use std::alloc::{AllocError, Global};
+
+/// How many addresses there are.
+pub(crate) const ADDRESSES: u32 = 65536;
+
+/// The words that were read from a device, by address.
+#[derive(Drop)]
+pub struct Image {
+    words: Vec<u16>,
+    // Whether the word at the same place was read.
+    read: Vec<bool>,
+    ghost sized: { vec_len read ≤ vec_len words },
+    ghost few: { vec_len read ≤ 65536 },
+}
+
+impl Image {
+    ghost use Rattle.sun_chain.specs.Image.{put_words, word_in, words_in};
+
+    /// No word was read.
+    pub fn new(alloc: Global) -> Self
+        ensures { (address : ℕ) → word_in result address ≡ None }
+    {
+        Image {
+            words: Vec::new(alloc),
+            read: Vec::new(alloc),
+        }
+    }
+
+    /// Puts words at an address and the ones behind it, in place of what stood there.
+    pub fn put(&mut self, address: u16, words: &[u16]) -> Result<(), ImageFault>
+        ensures past_end { (result ≡ Err ImageFault.PastEnd) ↔ (65536 < address + length words.now) }
+        ensures put { OnOk result ((at : ℕ) → word_in self.new at ≡ put_words (word_in self.old) address words.now at) }
+        ensures err { OnErr result ((at : ℕ) → word_in self.new at ≡ word_in self.old at) }
+    {
+        let start = usize::from(address);
+        if words.len() > ADDRESSES as usize - start {
+            return Err(ImageFault::PastEnd);
+        }
+        let end = start + words.len();
+        if self.make_room(end).is_err() {
+            return Err(ImageFault::Memory);
+        }
+        self.overwrite(start, words);
+        Ok(())
+    }
+
+    // Room for the words below this address.
+    fn make_room(&mut self, end: usize) -> Result<(), AllocError>
+        requires { end ≤ 65536 }
+        ensures room { OnOk result (end ≤ vec_len self.new.read) }
+        ensures same { (at : ℕ) → word_in self.new at ≡ word_in self.old at }
+    {
+        pad(&mut self.words, end, 0)?;
+        pad(&mut self.read, end, false)
+    }
+
+    fn overwrite(&mut self, start: usize, words: &[u16])
+        requires { start + length words.now ≤ vec_len self.old.read }
+        ensures { (at : ℕ) → word_in self.new at ≡ put_words (word_in self.old) start words.now at }
+    {
+        copy_at(&mut self.words, start, words);
+        mark_at(&mut self.read, start, words.len());
+    }
+
+    /// The word at the address, if it was read.
+    pub fn word(&self, address: u16) -> Option<u16>
+        ensures { result ≡ word_in self.now address }
+    {
+        match self.read.get(usize::from(address)) {
+            Some(true) => self.words.get(usize::from(address)).copied(),
+            _ => None,
+        }
+    }
+}
+
+// Makes a list at least so long, by more of the value at its end.
+fn pad<T: Copy>(items: &mut Vec<T>, size: usize, value: T) -> Result<(), AllocError>
+    ensures longer { OnOk result (items.new.items ≡ items.old.items ++ replicate (size - vec_len items.old) value) }
+    ensures err { OnErr result (items.new.items ≡ items.old.items) }
+{
+    if items.len() < size {
+        items.resize(size, value)?;
+    }
+    Ok(())
+}
+
+fn copy_at(items: &mut Vec<u16>, start: usize, words: &[u16])
+    requires { start + length words.now ≤ vec_len items.old }
+    ensures { items.new.items ≡ take start items.old.items ++ (words.now ++ drop (length words.now) (drop start items.old.items)) }
+{
+    items[start..start + words.len()].copy_from_slice(words);
+}
+
+fn mark_at(marks: &mut Vec<bool>, start: usize, count: usize)
+    requires { start + count ≤ vec_len marks.old }
+    ensures { marks.new.items ≡ take start marks.old.items ++ (replicate count true ++ drop count (drop start marks.old.items)) }
+{
+    marks[start..start + count].fill(true);
+}

@@ -1,0 +1,14 @@
+//! SunSpec models: a device's memory image, and the chain of models that stands in it.
+#![tactic(auto)]
+
+mod chain;
+mod chain_walk;
+mod fault;
+mod image;
+mod model;
+
+pub use chain::Chain;
+pub use chain_walk::walk;
+pub use fault::{ChainFault, ImageFault};
+pub use image::Image;
+pub use model::Model;

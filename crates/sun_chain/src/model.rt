@@ -1,0 +1,20 @@
+ghost use Rattle.std.specs.Prelude.{◌≡◌};
+
+/// A model: the address of its ID register, its ID, and how many registers follow its ID and its length.
+#[derive(Clone, Copy, Debug, PartialEq, Eq)]
+pub struct Model {
+    pub address: u16,
+    pub id: u16,
+    pub length: u16,
+}
+
+impl Model {
+    ghost use Rattle.sun_chain.specs.Chain.{next_after};
+
+    /// The address behind its last register.
+    pub fn next(&self) -> u32
+        ensures { result ≡ next_after self.now }
+    {
+        u32::from(self.address) + 2 + u32::from(self.length)
+    }
+}

@@ -1,0 +1,4 @@
+pub mod Appending
+pub mod Decimals
+pub mod LowDigits
+pub mod Texts

@@ -1,0 +1,6 @@
+pub mod PointType
+pub mod Point
+pub mod PointText
+pub mod Scale
+pub mod Decimal
+pub mod Text

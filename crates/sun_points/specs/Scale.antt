@@ -1,0 +1,15 @@
+-- Scale factors: powers of ten in sunssf registers.
+use Rattle.std.specs.Prelude.{ℕ, ℤ, pos, negsuc, Bool, ◌&&◌, ◌==◌, int_le, if◌then◌else◌, Some, None}
+use Rattle.std.specs.Int.{w16, cast_signed}
+use Rattle.std.specs.declared.option.Option.{Option}
+
+-- -10 to 10
+abbrev pub is_exponent : ℤ → Bool
+is_exponent z = int_le (negsuc 9) z && int_le z (pos 10)
+
+-- the scale that a register says: 0 where it is not implemented, its own number from -10 to 10, and none else
+abbrev pub scale_of : ℕ → Option ℤ
+scale_of word =
+    if word == 0x8000 then Some (pos 0)
+    else if is_exponent (cast_signed w16 word) then Some (cast_signed w16 word)
+    else None

@@ -1,0 +1,79 @@
+ghost use Rattle.std.specs.Prelude.{◌≡◌, ◌≤◌, ◌↔◌, IsSome, IfSome};
+ghost use Rattle.sun_points.specs.PointType.{registers_of};
+
+use std::marker::Model;
+
+/// How many registers a text takes: 1 to 125, the most that one read can ask for.
+#[derive(Clone, Copy, Debug, PartialEq, Eq)]
+pub struct TextLength {
+    registers: u16,
+}
+
+impl Model for TextLength {
+    ghost use Rattle.std.specs.Prelude.{ℕ, ◌≤◌};
+
+    ghost Value = { ℕ };
+
+    ghost view = { λ l. l.registers };
+
+    ghost invariant = { λ l. (1 ≤ l.registers) × (l.registers ≤ 125) };
+
+    ghost inverse = { λ n. record { registers = n } };
+}
+
+impl TextLength {
+    pub const EIGHT: TextLength = TextLength { registers: 8 };
+
+    pub const SIXTEEN: TextLength = TextLength { registers: 16 };
+
+    pub fn new(registers: u16) -> Option<Self>
+        ensures lawful { IsSome result ↔ ((1 ≤ registers) × (registers ≤ 125)) }
+        ensures value { IfSome result (λ length. length ≡ registers) }
+    {
+        if 1 <= registers && registers <= 125 {
+            Some(TextLength { registers })
+        } else {
+            None
+        }
+    }
+
+    pub fn registers(self) -> u16
+        ensures value { result ≡ self }
+        ensures some { 1 ≤ result }
+        ensures few { result ≤ 125 }
+    {
+        self.registers
+    }
+}
+
+/// How a point's registers are read. A value of 32 bits stands in two registers, its high word first.
+#[derive(Clone, Copy, Debug, PartialEq, Eq)]
+pub enum PointType {
+    Int16,
+    Uint16,
+    Enum16,
+    Int32,
+    Uint32,
+    Bitfield32,
+    /// A counter that goes up, and turns over to 0.
+    Acc32,
+    /// A power of ten for other points.
+    Sunssf,
+    /// Two characters in a register, the high byte first.
+    Text(TextLength),
+}
+
+impl PointType {
+    /// How many registers a point of this type takes.
+    pub fn registers(self) -> u16
+        ensures value { result ≡ registers_of self }
+        ensures some { 1 ≤ result }
+        ensures few { result ≤ 125 }
+    {
+        match self {
+            PointType::Int16 | PointType::Uint16 | PointType::Enum16 | PointType::Sunssf => 1,
+            PointType::Int32 | PointType::Uint32 | PointType::Bitfield32 | PointType::Acc32 => 2,
+            PointType::Text(length) => length.registers(),
+        }
+    }
+}
