@@ -1,0 +1,48 @@
+-- What the fields of a row spell.
+use Rattle.std.specs.Prelude.{ℕ, zero, suc, ◌+◌, ◌-◌, ◌*◌, ℤ, pos, Bool, ◌==◌, nat_le, ◌&&◌, ◌||◌, if◌then◌else◌, List, [], ◌∷◌, length, drop, fold, codes, Some, None}
+use Rattle.std.specs.Char.{is_ascii_digit}
+use Rattle.std.specs.declared.option.Option.{Option}
+use Rattle.std.specs.List.{list_all, starts_with}
+use Rattle.std.specs.Option.{option_and_then}
+use Rattle.std.specs.Str.{bytes_eq}
+use Rattle.sun_points.specs.declared.point_type.PointType.{PointType}
+use Rattle.sun_points.specs.declared.point_type.PointType.TheVariants as kind
+use Rattle.point_list.specs.declared.point.RegisterTable.{RegisterTable}
+use Rattle.point_list.specs.declared.point.RegisterTable.TheVariants.{Holding, Input}
+
+-- the number that digits spell, the ones last
+abbrev pub digits_value : List ℕ → ℕ
+digits_value digits = fold (λ n digit. 10 * n + (digit - 48)) 0 digits
+
+-- a whole number: one to ten digits
+abbrev pub number_of : List ℕ → Option ℕ
+number_of field =
+    if nat_le 1 (length field) && nat_le (length field) 10 && list_all is_ascii_digit field then Some (digits_value field) else None
+
+-- a whole number from low to high
+abbrev pub number_within : ℕ → ℕ → List ℕ → Option ℕ
+number_within low high field = option_and_then (λ n. if nat_le low n && nat_le n high then Some n else None) (number_of field)
+
+-- the registers that function 3 or 4 reads
+abbrev pub table_read_by : ℕ → Option RegisterTable
+table_read_by n = if n == 3 then Some Holding else if n == 4 then Some Input else None
+
+abbrev pub table_of : List ℕ → Option RegisterTable
+table_of field = option_and_then table_read_by (number_of field)
+
+-- `string` and 1 to 125
+abbrev pub text_type_of : List ℕ → Option PointType
+text_type_of field =
+    if starts_with (λ a b. a == b) field (codes "string") then option_and_then (λ n. Some (kind.Text n)) (number_within 1 125 (drop 6 field)) else None
+
+abbrev pub type_of : List ℕ → Option PointType
+type_of field =
+    if bytes_eq field (codes "int16") then Some kind.Int16
+    else if bytes_eq field (codes "uint16") then Some kind.Uint16
+    else if bytes_eq field (codes "enum16") then Some kind.Enum16
+    else if bytes_eq field (codes "int32") then Some kind.Int32
+    else if bytes_eq field (codes "uint32") then Some kind.Uint32
+    else if bytes_eq field (codes "bitfield32") then Some kind.Bitfield32
+    else if bytes_eq field (codes "acc32") then Some kind.Acc32
+    else if bytes_eq field (codes "sunssf") then Some kind.Sunssf
+    else text_type_of field

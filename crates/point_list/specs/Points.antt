@@ -1,0 +1,61 @@
+-- Lists of points.
+use Rattle.std.specs.Prelude.{ℕ, ℤ, ◌≡◌, ◌≢◌, ◌+◌, ◌≤◌, Bool, true, false, ◌&&◌, List, length, max, min, IsTrue, IsSomeAnd, int_le, pos, negsuc}
+use Rattle.std.specs.declared.option.Option.{Option}
+use Rattle.std.specs.List.{All, AllPairs, find}
+use Rattle.std.specs.Str.{bytes_eq}
+use Rattle.sun_points.specs.declared.point_type.PointType.{PointType}
+use Rattle.sun_points.specs.declared.point_type.PointType.TheVariants as kind
+use Rattle.sun_points.specs.PointType.{registers_of}
+use Rattle.point_list.specs.Names.{is_name}
+use Rattle.point_list.specs.declared.point.ListedPoint.{ListedPoint}
+use Rattle.point_list.specs.declared.point.PointScale.{PointScale}
+use Rattle.point_list.specs.declared.point.PointScale.TheVariants.{Unscaled, Fixed, Named}
+use Rattle.point_list.specs.declared.point.RegisterTable.{RegisterTable}
+use Rattle.point_list.specs.declared.point.RegisterTable.TheVariants.{Holding, Input}
+
+-- the Modbus function that reads the registers
+abbrev pub function_of : RegisterTable → ℕ
+function_of Holding = 3
+function_of Input = 4
+
+abbrev pub is_sunssf : PointType → Bool
+is_sunssf kind.Sunssf = true
+is_sunssf _ = false
+
+-- the types that take a scale
+abbrev pub takes_scale : PointType → Bool
+takes_scale kind.Int16 = true
+takes_scale kind.Uint16 = true
+takes_scale kind.Int32 = true
+takes_scale kind.Uint32 = true
+takes_scale kind.Acc32 = true
+takes_scale _ = false
+
+-- the register after the last of a point
+abbrev pub end_of : ListedPoint → ℕ
+end_of point = point.address + registers_of point.kind
+
+-- the sunssf point of a name
+abbrev pub scale_point : List ListedPoint → List ℕ → Option ListedPoint
+scale_point points name = find (λ point. is_sunssf point.kind && bytes_eq point.name name) points
+
+-- a point and its scale point lie in one area, within 125 registers
+pub record IsGroup (point scale : ListedPoint) : Type 0 where
+  pub table : point.table ≡ scale.table
+  pub area : point.area ≡ scale.area
+  pub narrow : max (end_of point) (end_of scale) ≤ min point.address scale.address + 125
+
+-- a scale is for a type that takes one; a named one is that of a sunssf point of the list, in one group with the point
+abbrev pub HasLawfulScale : List ListedPoint → ListedPoint → PointScale → Type 0
+HasLawfulScale points point Unscaled = Unit {0}
+HasLawfulScale points point (Fixed exponent) = IsTrue (takes_scale point.kind) × IsTrue (int_le (negsuc 9) exponent && int_le exponent (pos 10))
+HasLawfulScale points point (Named name) = IsTrue (takes_scale point.kind) × IsSomeAnd (scale_point points name) (IsGroup point)
+
+-- what every point list keeps
+pub record IsPointList (points : List ListedPoint) : Type 0 where
+  pub few : length points ≤ 512
+  pub named : All (λ point. IsTrue (is_name point.name)) points
+  pub distinct : AllPairs (λ a b. a.name ≢ b.name) points
+  pub sized : All (λ point. (1 ≤ registers_of point.kind) × (registers_of point.kind ≤ 125)) points
+  pub inside : All (λ point. end_of point ≤ 65536) points
+  pub scaled : All (λ point. HasLawfulScale points point point.scale) points

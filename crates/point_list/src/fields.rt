@@ -1,0 +1,96 @@
+//! What the fields of a row spell.
+ghost use Rattle.std.specs.Prelude.{◌≡◌, ◌≤◌, IsTrue, length};
+ghost use Rattle.std.specs.List.{list_all};
+ghost use Rattle.std.specs.Char.{is_ascii_digit};
+ghost use Rattle.point_list.specs.Fields.{digits_value, number_of, number_within, table_of, text_type_of, type_of};
+
+use crate::point::RegisterTable;
+use sun_points::{PointType, TextLength};
+
+// The number that at most ten digits spell, the ones last.
+fn digits_value(digits: &[u8]) -> u64
+    requires few { length digits.now ≤ 10 }
+    requires digits { IsTrue (list_all is_ascii_digit digits.now) }
+    ensures { result ≡ digits_value digits.now }
+{
+    let mut value = 0;
+    for digit in digits {
+        value = 10 * value + u64::from(*digit - b'0');
+    }
+    value
+}
+
+fn are_digits(field: &[u8]) -> bool
+    ensures { result ≡ list_all is_ascii_digit field.now }
+{
+    field.iter().all(|byte| byte.is_ascii_digit())
+}
+
+// A whole number: one to ten digits.
+fn number(field: &[u8]) -> Option<u64>
+    ensures { result ≡ number_of field.now }
+{
+    if 1 <= field.len() && field.len() <= 10 && are_digits(field) {
+        Some(digits_value(field))
+    } else {
+        None
+    }
+}
+
+/// A whole number from `low` to `high`.
+pub fn number_in(low: u64, high: u64, field: &[u8]) -> Option<u64>
+    ensures { result ≡ number_within low high field.now }
+{
+    match number(field) {
+        Some(value) if low <= value && value <= high => Some(value),
+        _ => None,
+    }
+}
+
+/// The registers of function 3 or 4.
+pub fn table(field: &[u8]) -> Option<RegisterTable>
+    ensures { result ≡ table_of field.now }
+{
+    match number(field) {
+        Some(3) => Some(RegisterTable::Holding),
+        Some(4) => Some(RegisterTable::Input),
+        _ => None,
+    }
+}
+
+// A text of 1 to 125 registers.
+fn text_type(field: &[u8]) -> Option<PointType>
+    ensures { result ≡ text_type_of field.now }
+{
+    if !field.starts_with(b"string") {
+        return None;
+    }
+    let registers = number_in(1, 125, &field[6..])?;
+    let length = TextLength::new(registers as u16)?;
+    Some(PointType::Text(length))
+}
+
+/// The type of a point.
+pub fn point_type(field: &[u8]) -> Option<PointType>
+    ensures { result ≡ type_of field.now }
+{
+    if field == b"int16".as_slice() {
+        Some(PointType::Int16)
+    } else if field == b"uint16".as_slice() {
+        Some(PointType::Uint16)
+    } else if field == b"enum16".as_slice() {
+        Some(PointType::Enum16)
+    } else if field == b"int32".as_slice() {
+        Some(PointType::Int32)
+    } else if field == b"uint32".as_slice() {
+        Some(PointType::Uint32)
+    } else if field == b"bitfield32".as_slice() {
+        Some(PointType::Bitfield32)
+    } else if field == b"acc32".as_slice() {
+        Some(PointType::Acc32)
+    } else if field == b"sunssf".as_slice() {
+        Some(PointType::Sunssf)
+    } else {
+        text_type(field)
+    }
+}

@@ -1,0 +1,127 @@
+//! Whether points make a list.
+ghost use Rattle.std.specs.Prelude.{◌≡◌, ◌≢◌, ◌+◌, ◌≤◌, ◌↔◌, IsTrue, length};
+ghost use Rattle.std.specs.List.{All, AllPairs};
+ghost use Rattle.point_list.specs.Names.{is_name};
+ghost use Rattle.point_list.specs.Points.{HasLawfulScale, IsGroup, IsPointList, end_of, takes_scale};
+ghost use Rattle.sun_points.specs.PointType.{registers_of};
+
+use crate::name::is_point_name;
+use crate::point::{ListedPoint, PointScale, find_scale};
+use sun_points::PointType;
+
+/// The most points of a list.
+pub const POINT_LIMIT: usize = 512;
+
+/// Whether points of the type take a scale.
+pub fn is_scaled_type(kind: PointType) -> bool
+    ensures { result ≡ takes_scale kind }
+{
+    match kind {
+        PointType::Int16
+        | PointType::Uint16
+        | PointType::Int32
+        | PointType::Uint32
+        | PointType::Acc32 => true,
+        _ => false,
+    }
+}
+
+// The register after the last of a point.
+fn end(point: &ListedPoint) -> u32
+    ensures { result ≡ end_of point.now }
+{
+    u32::from(point.address) + u32::from(point.kind.registers())
+}
+
+/// Whether a point and its scale point lie in one area, within 125 registers.
+pub fn is_group(point: &ListedPoint, scale: &ListedPoint) -> bool
+    ensures { IsTrue result ↔ IsGroup point.now scale.now }
+{
+    let first = u32::from(point.address).min(u32::from(scale.address));
+    let last = end(point).max(end(scale));
+    point.table == scale.table && point.area == scale.area && last <= first + 125
+}
+
+fn has_lawful_scale(points: &[ListedPoint], point: &ListedPoint) -> bool
+    ensures { IsTrue result ↔ HasLawfulScale points.now point.now point.now.scale }
+{
+    match &point.scale {
+        PointScale::Unscaled => true,
+        PointScale::Fixed(scale) => {
+            let exponent = scale.exponent();
+            is_scaled_type(point.kind) && -10 <= exponent && exponent <= 10
+        }
+        PointScale::Named(name) => match find_scale(points, name.as_bytes()) {
+            Some(scale) => is_scaled_type(point.kind) && is_group(point, scale),
+            None => false,
+        },
+    }
+}
+
+fn has_registers(point: &ListedPoint) -> bool
+    ensures { IsTrue result ↔ ((1 ≤ registers_of point.now.kind) × (registers_of point.now.kind ≤ 125)) }
+{
+    let registers = point.kind.registers();
+    1 <= registers && registers <= 125
+}
+
+fn has_other_name(point: &ListedPoint, name: &[u8]) -> bool
+    ensures { IsTrue result ↔ (point.now.name ≢ name.now) }
+{
+    point.name.as_bytes() != name
+}
+
+fn have_other_names(points: &[ListedPoint], name: &[u8]) -> bool
+    ensures { IsTrue result ↔ All (λ point. point.name ≢ name.now) points.now }
+{
+    points.iter().all(|point| has_other_name(point, name))
+}
+
+fn have_distinct_names(points: &[ListedPoint]) -> bool
+    ensures { IsTrue result ↔ AllPairs (λ a b. a.name ≢ b.name) points.now }
+{
+    for i in 0..points.len() {
+        if !have_other_names(&points[..i], points[i].name.as_bytes()) {
+            return false;
+        }
+    }
+    true
+}
+
+fn are_named(points: &[ListedPoint]) -> bool
+    ensures { IsTrue result ↔ All (λ point. IsTrue (is_name point.name)) points.now }
+{
+    points
+        .iter()
+        .all(|point| is_point_name(point.name.as_bytes()))
+}
+
+fn all_have_registers(points: &[ListedPoint]) -> bool
+    ensures { IsTrue result ↔ All (λ point. (1 ≤ registers_of point.kind) × (registers_of point.kind ≤ 125)) points.now }
+{
+    points.iter().all(|point| has_registers(point))
+}
+
+fn are_inside(points: &[ListedPoint]) -> bool
+    ensures { IsTrue result ↔ All (λ point. end_of point ≤ 65536) points.now }
+{
+    points.iter().all(|point| end(point) <= 65536)
+}
+
+fn are_scaled(points: &[ListedPoint]) -> bool
+    ensures { IsTrue result ↔ All (λ point. HasLawfulScale points.now point point.scale) points.now }
+{
+    points.iter().all(|point| has_lawful_scale(points, point))
+}
+
+/// Whether points make a list.
+pub fn is_lawful(points: &[ListedPoint]) -> bool
+    ensures { IsTrue result ↔ IsPointList points.now }
+{
+    points.len() <= POINT_LIMIT
+        && are_named(points)
+        && have_distinct_names(points)
+        && all_have_registers(points)
+        && are_inside(points)
+        && are_scaled(points)
+}

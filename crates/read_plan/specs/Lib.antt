@@ -1,0 +1,4 @@
+pub mod Beginnings
+pub mod Items
+pub mod PlannedReads
+pub mod Plans

@@ -1,0 +1,46 @@
+-- What a plan holds.
+use Rattle.std.specs.Prelude.{ℕ, ◌≡◌, ◌+◌, ◌<◌, ◌≤◌, List, length, map, slice_index, slice_index_or, take}
+use Rattle.std.specs.List.{All}
+use Rattle.mb_wire.specs.declared.span.ReadFunction.{ReadFunction}
+use Rattle.mb_wire.specs.declared.span.ReadFunction.TheVariants.{HoldingRegisters, InputRegisters}
+use Rattle.point_list.specs.declared.point.RegisterTable.{RegisterTable}
+use Rattle.point_list.specs.declared.point.RegisterTable.TheVariants.{Holding, Input}
+use Rattle.read_plan.specs.declared.planned.PlannedRead.{PlannedRead}
+use Rattle.read_plan.specs.declared.run.Run.{Run}
+use Rattle.read_plan.specs.Plans.{FollowsRule, Holds, IsHeld, IsReadable}
+
+-- the registers that a function reads
+abbrev pub table_of : ReadFunction → RegisterTable
+table_of HoldingRegisters = Holding
+table_of InputRegisters = Input
+
+-- the registers of a read
+abbrev pub read_run : PlannedRead → Run
+read_run read = record { table = table_of read.span.function; area = read.area; first = read.span.address; end = read.span.address + read.span.count }
+
+abbrev pub read_runs : List PlannedRead → List Run
+read_runs reads = map read_run reads
+
+-- a plan: for each point its first register and its item, and the reads
+pub record Planned : Type 0 where
+  pub starts : List ℕ
+  pub items : List Run
+  pub reads : List PlannedRead
+
+-- a point begins inside its item
+abbrev pub BeginsInside : Run → ℕ → Type 0
+BeginsInside item start = (item.first ≤ start) × (start < item.end)
+
+-- what every plan keeps
+pub record IsPlan (plan : Planned) : Type 0 where
+  pub each : length plan.starts ≡ length plan.items
+  pub begun : (k : ℕ) (d : Run) → k < length plan.items → BeginsInside (slice_index_or plan.items k d) (slice_index plan.starts k)
+  pub readable : All IsReadable plan.items
+  pub inside : All (λ item. item.end ≤ 65536) plan.items
+  pub rule : FollowsRule plan.items (read_runs plan.reads)
+
+-- the first read of the item's area that holds it
+pub record IsFirstHolding (reads : List Run) (item : Run) (place : ℕ) : Type 0 where
+  pub within : place < length reads
+  pub holds : (d : Run) → Holds (slice_index_or reads place d) item
+  pub first : ¬ IsHeld (take place reads) item

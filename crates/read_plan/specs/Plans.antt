@@ -1,0 +1,72 @@
+-- Runs of registers, lawful plans of reads, and the rule by which one plan is chosen.
+use Rattle.std.specs.Prelude.{◌≡◌, ℕ, ◌+◌, ◌<◌, ◌≤◌, ◌⊎◌, List, length, take, slice_index_or}
+use Rattle.std.specs.List.{All, AllPairs, Any}
+use Rattle.point_list.specs.Points.{function_of}
+use Rattle.read_plan.specs.declared.run.Run.{Run}
+
+-- of one function and one area number
+pub record SameArea (a b : Run) : Type 0 where
+  pub table : a.table ≡ b.table
+  pub area : a.area ≡ b.area
+
+-- a read holds the items of its own area that lie inside it, and no others
+pub record Holds (read item : Run) : Type 0 where
+  pub same_area : SameArea read item
+  pub from_first : read.first ≤ item.first
+  pub to_end : item.end ≤ read.end
+
+-- some read of the list holds the item
+abbrev pub IsHeld : List Run → Run → Type 0
+IsHeld reads item = Any (λ read. Holds read item) reads
+
+-- 1 to 125 registers
+abbrev pub IsReadable : Run → Type 0
+IsReadable run = (run.first < run.end) × (run.end ≤ run.first + 125)
+
+-- inside its area, which runs from the first to the last register of the points of one function and area number
+pub record IsInArea (points : List Run) (run : Run) : Type 0 where
+  pub after_first : Any (λ point. SameArea point run × point.first ≤ run.first) points
+  pub before_last : Any (λ point. SameArea point run × run.end ≤ point.end) points
+
+-- the lawful plans for points and the items made of them
+pub record IsLawful (points items reads : List Run) : Type 0 where
+  pub readable : All IsReadable reads
+  pub in_areas : All (IsInArea points) reads
+  pub held : All (IsHeld reads) items
+
+-- before, by function, then by area number, then by first register
+abbrev pub ComesBefore : Run → Run → Type 0
+ComesBefore a b =
+    (function_of a.table < function_of b.table)
+    ⊎ ((a.table ≡ b.table) × (a.area < b.area))
+    ⊎ (SameArea a b × a.first < b.first)
+
+-- before, by function, then by area number, then by last register
+abbrev pub EndsBefore : Run → Run → Type 0
+EndsBefore a b =
+    (function_of a.table < function_of b.table)
+    ⊎ ((a.table ≡ b.table) × (a.area < b.area))
+    ⊎ (SameArea a b × a.end < b.end)
+
+-- the item lies within the 125 registers from the read's first
+pub record LiesWithinReach (read item : Run) : Type 0 where
+  pub same_area : SameArea read item
+  pub from_first : read.first ≤ item.first
+  pub in_reach : item.end ≤ read.first + 125
+
+-- a read begins at the first register of the first item of its area that no earlier read holds
+pub record BeginsAtFirstUnheld (items earlier : List Run) (read : Run) : Type 0 where
+  pub at_item : Any (λ item. SameArea read item × (item.first ≡ read.first) × ¬ IsHeld earlier item) items
+  pub first : All (λ item. SameArea read item → item.first < read.first → IsHeld earlier item) items
+
+-- a read ends at the greatest last register of the items within its reach
+pub record EndsAtLastInReach (items : List Run) (read : Run) : Type 0 where
+  pub at_item : Any (λ item. LiesWithinReach read item × (item.end ≡ read.end)) items
+  pub last : All (λ item. LiesWithinReach read item → item.end ≤ read.end) items
+
+-- the plan of the rule
+pub record FollowsRule (items reads : List Run) : Type 0 where
+  pub ordered : AllPairs ComesBefore reads
+  pub begins : (k : ℕ) (d : Run) → k < length reads → BeginsAtFirstUnheld items (take k reads) (slice_index_or reads k d)
+  pub ends : All (EndsAtLastInReach items) reads
+  pub held : All (IsHeld reads) items

@@ -1,0 +1,73 @@
+//! Where reads begin, and where each ends.
+ghost use Rattle.std.specs.Prelude.{◌≡◌, ◌+◌, ◌-◌, ◌<◌, ◌≤◌, ◌↔◌, IfOk, IsTrue, length, slice_index_or};
+ghost use Rattle.std.specs.Bool.{OnTrue, OnFalse};
+ghost use Rattle.std.specs.List.{All, AllPairs, Any, Contains};
+ghost use Rattle.read_plan.specs.declared.run.Run.{Run};
+ghost use Rattle.read_plan.specs.Beginnings.{AreBeginnings, IsGreatestEnd, ends_by};
+ghost use Rattle.read_plan.specs.Plans.{ComesBefore, EndsBefore, IsReadable, LiesWithinReach};
+
+use crate::run::{READ_LIMIT, Run};
+use std::alloc::{AllocError, Global};
+
+// Whether an item lies within the 125 registers from where a read begins.
+fn lies_within_reach(begin: &Run, item: &Run) -> bool
+    ensures { IsTrue result ↔ LiesWithinReach begin.now item.now }
+{
+    begin.table == item.table
+        && begin.area == item.area
+        && begin.first <= item.first
+        && item.end.saturating_sub(READ_LIMIT) <= begin.first
+}
+
+// Whether an item lies within reach of the last beginning.
+fn is_reached(found: &[Run], item: &Run) -> bool
+    ensures reached { OnTrue result (Any (λ begin. LiesWithinReach begin item.now) found.now) }
+    ensures beyond { OnFalse result ((d : Run) → 0 < length found.now → ¬ LiesWithinReach (slice_index_or found.now (length found.now - 1) d) item.now) }
+{
+    match found.last() {
+        Some(begin) => lies_within_reach(begin, item),
+        None => false,
+    }
+}
+
+/// The items, of those in order, at which reads begin: each is the first beyond the reach of the one before.
+pub fn beginnings(alloc: Global, items: &[Run]) -> Result<Vec<Run>, AllocError>
+    requires ordered { AllPairs (λ a b. ¬ ComesBefore b a) items.now }
+    requires readable { All IsReadable items.now }
+    ensures { IfOk result (λ v. AreBeginnings items.now v.items) }
+{
+    let mut found: Vec<Run> = Vec::new(alloc);
+    for item in items {
+        if !is_reached(&found, item) {
+            found.push(*item)?;
+        }
+    }
+    Ok(found)
+}
+
+/// Whether a run ends by a limit, by function, then by area number, then by last register.
+pub fn ends_by_limit(run: &Run, limit: &Run) -> bool
+    ensures { result ≡ ends_by run.now limit.now }
+{
+    let function = run.table.function();
+    let last = limit.table.function();
+    function < last
+        || function == last
+            && (run.area < limit.area || run.area == limit.area && run.end <= limit.end)
+}
+
+/// The greatest last register of the items within reach of a beginning, the items being in order of their ends.
+pub fn end_within_reach(items: &[Run], begin: &Run) -> u32
+    requires ordered { AllPairs (λ a b. ¬ EndsBefore b a) items.now }
+    requires among { Contains items.now begin.now }
+    requires few { begin.now.end ≤ begin.now.first + 125 }
+    requires fits { begin.now.first < 65536 }
+    ensures { IsGreatestEnd items.now begin.now result }
+{
+    let limit = Run {
+        end: begin.first + READ_LIMIT,
+        ..*begin
+    };
+    let count = items.partition_point(|item| ends_by_limit(item, &limit));
+    items[count - 1].end
+}

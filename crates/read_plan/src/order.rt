@@ -1,0 +1,28 @@
+//! Runs in the order of a plan.
+ghost use Rattle.std.specs.Prelude.{◌≡◌, IfOk};
+ghost use Rattle.std.specs.List.{AllPairs};
+ghost use Rattle.std.specs.List.Sorted.{IsPermutation};
+ghost use Rattle.read_plan.specs.Plans.{ComesBefore, EndsBefore};
+
+use crate::run::Run;
+use std::alloc::{AllocError, Global};
+
+/// The runs by function, area number and first register.
+pub fn by_first(alloc: Global, runs: &[Run]) -> Result<Vec<Run>, AllocError>
+    ensures same { IfOk result (λ v. IsPermutation runs.now v.items) }
+    ensures ordered { IfOk result (λ v. AllPairs (λ a b. ¬ ComesBefore b a) v.items) }
+{
+    let mut sorted = runs.to_vec(alloc)?;
+    sorted.sort_by_key(|run| (run.table.function(), run.area, run.first))?;
+    Ok(sorted)
+}
+
+/// The runs by function, area number and end.
+pub fn by_end(alloc: Global, runs: &[Run]) -> Result<Vec<Run>, AllocError>
+    ensures same { IfOk result (λ v. IsPermutation runs.now v.items) }
+    ensures ordered { IfOk result (λ v. AllPairs (λ a b. ¬ EndsBefore b a) v.items) }
+{
+    let mut sorted = runs.to_vec(alloc)?;
+    sorted.sort_by_key(|run| (run.table.function(), run.area, run.end))?;
+    Ok(sorted)
+}

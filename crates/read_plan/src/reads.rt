@@ -1,0 +1,38 @@
+//! The reads of the rule.
+ghost use Rattle.std.specs.Prelude.{◌≡◌, ◌+◌, ◌<◌, ◌≤◌, IfOk};
+ghost use Rattle.std.specs.List.{All, AllPairs, AllZip, Contains};
+ghost use Rattle.read_plan.specs.Beginnings.{ReadsFrom};
+ghost use Rattle.read_plan.specs.Plans.{EndsBefore, FollowsRule, IsReadable};
+
+use crate::beginnings::{beginnings, end_within_reach};
+use crate::order::{by_end, by_first};
+use crate::run::Run;
+use std::alloc::{AllocError, Global};
+
+// A read from each beginning, the items being in order of their ends.
+fn reads_from(alloc: Global, items: &[Run], begins: &[Run]) -> Result<Vec<Run>, AllocError>
+    requires ordered { AllPairs (λ a b. ¬ EndsBefore b a) items.now }
+    requires among { All (Contains items.now) begins.now }
+    requires readable { All IsReadable begins.now }
+    requires inside { All (λ item. item.first < 65536) begins.now }
+    ensures { IfOk result (λ v. AllZip (ReadsFrom items.now) begins.now v.items) }
+{
+    let mut reads = Vec::new(alloc);
+    for begin in begins {
+        let end = end_within_reach(items, begin);
+        reads.push(Run { end, ..*begin })?;
+    }
+    Ok(reads)
+}
+
+/// The reads of the rule for items of 1 to 125 registers.
+pub fn rule_reads(alloc: Global, items: &[Run]) -> Result<Vec<Run>, AllocError>
+    requires readable { All IsReadable items.now }
+    requires inside { All (λ item. item.first < 65536) items.now }
+    ensures { IfOk result (λ v. FollowsRule items.now v.items) }
+{
+    let in_order = by_first(alloc, items)?;
+    let begins = beginnings(alloc, &in_order)?;
+    let by_ends = by_end(alloc, items)?;
+    reads_from(alloc, &by_ends, &begins)
+}

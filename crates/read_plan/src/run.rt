@@ -1,0 +1,15 @@
+//! Runs of registers.
+
+use point_list::RegisterTable;
+
+/// The most registers that one read holds.
+pub const READ_LIMIT: u32 = 125;
+
+/// A run of registers of one function and area number: from `first` up to, and without, `end`.
+#[derive(Clone, Copy, Debug, PartialEq, Eq)]
+pub struct Run {
+    pub table: RegisterTable,
+    pub area: u8,
+    pub first: u32,
+    pub end: u32,
+}
