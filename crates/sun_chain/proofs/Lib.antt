@@ -1,2 +1,4 @@
 pub mod Chains
+pub mod Readings
+pub mod Rows
 pub mod Splices

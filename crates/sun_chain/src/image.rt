@@ -1,5 +1,6 @@
-ghost use Rattle.std.specs.Prelude.{◌≡◌, ◌↔◌, ℕ, ◌+◌, ◌<◌, ◌≤◌, length, None, OnOk, OnErr, ◌++◌, ◌-◌, take, drop, replicate, true, vec_len};
+ghost use Rattle.std.specs.Prelude.{◌≡◌, ◌↔◌, ℕ, ◌+◌, ◌<◌, ◌≤◌, length, None, IfSome, IsSome, OnOk, OnErr, ◌++◌, ◌-◌, take, drop, replicate, true, vec_len};
 ghost use Rattle.std.specs.Option.{option_map};
+ghost use Rattle.std.specs.List.{list_all};
 
 use crate::fault::ImageFault;
 use std::alloc::{AllocError, Global};
@@ -70,11 +71,40 @@ impl Image {
     pub fn word(&self, address: u16) -> Option<u16>
         ensures { result ≡ word_in self.now address }
     {
-        match self.read.get(usize::from(address)) {
-            Some(true) => self.words.get(usize::from(address)).copied(),
+        self.word_at(u32::from(address))
+    }
+
+    /// The word at an address, which may be past the last one.
+    pub(crate) fn word_at(&self, address: u32) -> Option<u16>
+        ensures { result ≡ word_in self.now address }
+    {
+        match self.read.get(address as usize) {
+            Some(true) => self.words.get(address as usize).copied(),
             _ => None,
         }
     }
+
+    /// So many words from an address on, if all of them were read.
+    pub(crate) fn words_at(&self, address: u32, count: u16) -> Option<&[u16]>
+        requires { 1 ≤ count }
+        ensures words { option_map (λ words. words.now) result ≡ words_in (word_in self.now) address count }
+        ensures length { IfSome result (λ words. length words.now ≡ count) }
+        ensures inside { IsSome result → address + count ≤ 65536 }
+    {
+        let start = address as usize;
+        let end = start + usize::from(count);
+        if end <= self.read.len() && is_all_true(&self.read[start..end]) {
+            Some(&self.words[start..end])
+        } else {
+            None
+        }
+    }
+}
+
+fn is_all_true(marks: &[bool]) -> bool
+    ensures { result ≡ list_all (λ mark. mark) marks.now }
+{
+    marks.iter().all(|mark| *mark)
 }
 
 // Makes a list at least so long, by more of the value at its end.

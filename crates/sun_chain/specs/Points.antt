@@ -1,0 +1,91 @@
+-- The points of a model in a device's words.
+use Rattle.std.specs.Prelude.{ℕ, ℤ, pos, ◌+◌, nat_le, if◌then◌else◌, List, Some, None, option_map, unwrap_or, filter_map, codes}
+use Rattle.std.specs.declared.option.Option.{Option}
+use Rattle.sun_points.specs.PointType.{registers_of}
+use Rattle.sun_points.specs.Point.{Value, Absent, Signed, Unsigned, Bits, Text, value_of}
+use Rattle.sun_points.specs.Point.{seen as point_seen}
+use Rattle.sun_points.specs.PointText.{point_text}
+use Rattle.sun_points.specs.Scale.{scale_of}
+use Rattle.sun_points.specs.declared.point_type.PointType.{PointType}
+use Rattle.sun_chain.specs.Image.{Words, words_in}
+use Rattle.sun_chain.specs.Tables.{Row, table_of, type_of}
+use Rattle.sun_chain.specs.declared.model.Model.{Model}
+use Rattle.sun_chain.specs.declared.named_point.PointScale.{PointScale}
+use Rattle.sun_chain.specs.declared.named_point.PointScale.TheVariants.{Unscaled, Scaled, Faulty}
+use Rattle.sun_chain.specs.declared.named_point.NamedPoint.{NamedPoint}
+
+-- a point without where its name and its text lie in memory
+pub record Named : Type 0 where
+  pub name : List ℕ
+  pub address : ℕ
+  pub ty : PointType
+  pub value : Value
+  pub scale : PointScale
+
+-- the scale that a scale point's word says
+abbrev pub scaled_or_faulty : Option ℤ → PointScale
+scaled_or_faulty None = Faulty
+scaled_or_faulty (Some exponent) = Scaled exponent
+
+abbrev pub scale_said : ℕ → PointScale
+scale_said word = scaled_or_faulty (scale_of word)
+
+abbrev pub point_scale : Option ℕ → PointScale
+point_scale None = Unscaled
+point_scale (Some word) = scale_said word
+
+abbrev pub seen : NamedPoint → Named
+seen point = record {
+  name = point.name.now;
+  address = point.address;
+  ty = type_of point.ty;
+  value = point_seen point.value;
+  scale = point_scale point.scale_word;
+}
+
+-- so many registers of a model, if they lie inside it and were read
+abbrev pub registers_in : Words → Model → ℕ → ℕ → Option (List ℕ)
+registers_in word model offset count =
+    if nat_le (offset + count) (2 + model.length) then words_in word (model.address + offset) count else None
+
+-- a register of a model, if it lies inside it and was read
+abbrev pub register_in : Words → Model → ℕ → Option ℕ
+register_in word model offset =
+    if nat_le (offset + 1) (2 + model.length) then word (model.address + offset) else None
+
+-- the word of a scale point, by its register: 0 where it isn't there
+abbrev pub scale_word_in : Words → Model → Option ℕ → Option ℕ
+scale_word_in word model scale = option_map (λ offset. unwrap_or (register_in word model offset) 0) scale
+
+-- the value of a point of the table, if all of its registers are there
+abbrev pub value_in : Words → Model → Row → Option Value
+value_in word model row = option_map (value_of row.ty) (registers_in word model row.offset (registers_of row.ty))
+
+abbrev pub point_in : Words → Model → Row → Option Named
+point_in word model row =
+    option_map
+    (λ value. record {
+      name = row.name;
+      address = model.address + row.offset;
+      ty = row.ty;
+      value = value;
+      scale = point_scale (scale_word_in word model row.scale);
+    })
+    (value_in word model row)
+
+-- the points of a model, in the order of its table
+abbrev pub points_in : Words → Model → List Named
+points_in word model = filter_map (point_in word model) (table_of model.id)
+
+-- the text of a point's value: a number at its scale
+abbrev pub faulty_text : Value → List ℕ
+faulty_text Absent = codes "absent"
+faulty_text (Signed value) = codes "faulty"
+faulty_text (Unsigned value) = codes "faulty"
+faulty_text (Bits bits) = codes "faulty"
+faulty_text (Text words) = codes "faulty"
+
+abbrev pub value_text : Value → PointScale → List ℕ
+value_text value Unscaled = point_text value (pos 0)
+value_text value (Scaled exponent) = point_text value exponent
+value_text value Faulty = faulty_text value

@@ -1,0 +1,95 @@
+ghost use Rattle.std.specs.Prelude.{◌≡◌, OnOk};
+ghost use Rattle.std.specs.Io.KnownBytes.{Appends};
+ghost use Rattle.sun_chain.specs.Points.{faulty_text, scale_said, seen, value_text};
+ghost use Rattle.sun_points.specs.Point.{seen as point_seen};
+
+use crate::tables::EntryType;
+use std::io::{self, Write};
+use sun_points::{Point, PointType, Scale};
+
+/// What scales a point.
+#[derive(Clone, Copy, Debug, PartialEq, Eq)]
+pub enum PointScale {
+    /// The point has no scale point.
+    Unscaled,
+    Scaled(Scale),
+    /// The scale point's register says no scale.
+    Faulty,
+}
+
+/// A point of a model. Its text is lent from the image.
+#[derive(Clone, Copy, Debug)]
+pub struct NamedPoint<'a> {
+    pub(crate) name: &'a str,
+    pub(crate) address: u16,
+    pub(crate) ty: EntryType,
+    pub(crate) value: Point<'a>,
+    pub(crate) scale_word: Option<u16>,
+}
+
+impl<'a> NamedPoint<'a> {
+    pub fn name(&self) -> &'a str
+        ensures { result.now ≡ (seen self.now).name }
+    {
+        self.name
+    }
+
+    /// The address of its first register.
+    pub fn address(&self) -> u16
+        ensures { result ≡ (seen self.now).address }
+    {
+        self.address
+    }
+
+    pub fn ty(&self) -> PointType
+        ensures { result ≡ (seen self.now).ty }
+    {
+        self.ty.point_type()
+    }
+
+    pub fn value(&self) -> Point<'a>
+        ensures { point_seen result ≡ (seen self.now).value }
+    {
+        self.value
+    }
+
+    /// What scales it. A scale point that isn't there counts as 0.
+    pub fn scale(&self) -> PointScale
+        ensures { result ≡ (seen self.now).scale }
+    {
+        match self.scale_word {
+            None => PointScale::Unscaled,
+            Some(word) => scale_of_word(word),
+        }
+    }
+
+    /// Writes the value: `faulty` where there is one and its scale is, else as `Point::write` does.
+    /// After an error the writer may hold a part.
+    pub fn write_value<W: Write>(&self, output: &mut W) -> io::Result<()>
+        ensures { OnOk result (Appends (W.contents output.old) (W.contents output.new) (value_text (seen self.now).value (seen self.now).scale)) }
+    {
+        match self.scale() {
+            PointScale::Unscaled => self.value.write(Scale::default(), output),
+            PointScale::Scaled(scale) => self.value.write(scale, output),
+            PointScale::Faulty => write_faulty(self.value, output),
+        }
+    }
+}
+
+fn scale_of_word(word: u16) -> PointScale
+    ensures { result ≡ scale_said word }
+{
+    match Scale::new(word) {
+        Some(scale) => PointScale::Scaled(scale),
+        None => PointScale::Faulty,
+    }
+}
+
+fn write_faulty<W: Write>(value: Point<'_>, output: &mut W) -> io::Result<()>
+    ensures { OnOk result (Appends (W.contents output.old) (W.contents output.new) (faulty_text (point_seen value.entry))) }
+{
+    match value {
+        Point::Absent => output.write_all(b"absent"),
+        _ => output.write_all(b"faulty"),
+    }
+}
