@@ -1,1 +1,7 @@
+pub mod ChainText
+pub mod ImageLines
 pub mod Input
+pub mod Lines
+pub mod Seen
+pub mod Statuses
+pub mod Values

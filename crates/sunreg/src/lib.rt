@@ -1,6 +1,17 @@
 //! The program's commands over a reader and a writer.
 #![tactic(auto)]
 
+mod chain_printing;
+mod image_lines;
+mod lines;
 mod reading;
+mod status;
+mod values;
+mod words;
 
+pub use chain_printing::chain_text;
+pub use lines::{InputLine, InputLines};
 pub use reading::{MOST_BYTES, ReadFault, read_whole};
+pub use status::Status;
+pub use values::{hex_bytes, number};
+pub use words::Words;
