@@ -15,3 +15,6 @@ pub use reading::{MOST_BYTES, ReadFault, read_whole};
 pub use status::Status;
 pub use values::{hex_bytes, number};
 pub use words::Words;
+
+#[cfg(test)]
+mod tests;
