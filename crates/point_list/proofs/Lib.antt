@@ -1,2 +1,4 @@
 pub mod DistinctLemmas
 pub mod RowFacts
+pub mod SixLemmas
+pub mod AnyLemmas

@@ -1,15 +1,18 @@
 //! Point lists: the registers of a device that an office reads, as a table of comma-separated values spells them.
 #![tactic(auto)]
 
+mod fault;
 mod fields;
 mod lawful;
 mod list;
 mod name;
 mod point;
+mod row;
 mod rows;
 #[cfg(test)]
 mod tests;
 
+pub use fault::RowFault;
 pub use list::PointList;
 pub use name::PointName;
 pub use point::{ListedPoint, PointScale, RegisterTable, find_scale};

@@ -1,0 +1,97 @@
+-- What a row may lack.
+use Rattle.std.specs.Prelude.{ℕ, ◌+◌, ◌==◌, Bool, true, false, nat_le, nat_lt, not, ◌&&◌, ◌||◌, if◌then◌else◌, List, [], ◌∷◌, Some, None, is_none, IsTrue}
+use Rattle.std.specs.declared.option.Option.{Option}
+use Rattle.std.specs.List.{list_any}
+use Rattle.std.specs.Option.{option_map_or}
+use Rattle.std.specs.Str.{bytes_eq}
+use Rattle.sun_points.specs.declared.point_type.PointType.{PointType}
+use Rattle.sun_points.specs.PointType.{registers_of}
+use Rattle.point_list.specs.declared.fault.RowFault.{RowFault}
+use Rattle.point_list.specs.declared.fault.RowFault.TheVariants.{Csv, Header, Name, DoubleName, Function, Area, Address, «Type», Scale, NoSuchScale, GroupTooWide, TooMany}
+use Rattle.point_list.specs.declared.row.RowFields.{RowFields}
+use Rattle.point_list.specs.Fields.{number_of, number_within, table_of, type_of}
+use Rattle.point_list.specs.Names.{is_name}
+use Rattle.point_list.specs.Points.{takes_scale}
+
+-- the number under which a fault is told
+abbrev pub fault_number : RowFault → ℕ
+fault_number Csv = 1
+fault_number Header = 2
+fault_number Name = 3
+fault_number DoubleName = 4
+fault_number Function = 5
+fault_number Area = 6
+fault_number Address = 7
+fault_number «Type» = 8
+fault_number Scale = 9
+fault_number NoSuchScale = 10
+fault_number GroupTooWide = 11
+fault_number TooMany = 12
+
+-- the fields of a row
+pub record RowText : Type 0 where
+  pub name : List ℕ
+  pub function : List ℕ
+  pub area : List ℕ
+  pub address : List ℕ
+  pub kind : List ℕ
+  pub scale : List ℕ
+
+abbrev pub six_fields : List (List ℕ) → Option RowText
+six_fields (a ∷ b ∷ c ∷ d ∷ e ∷ f ∷ []) = Some (record { name = a; function = b; area = c; address = d; kind = e; scale = f })
+six_fields _ = None
+
+-- a row of six fields of which the first is the name
+abbrev pub has_name : List ℕ → List (List ℕ) → Bool
+has_name name fields = option_map_or (λ row. bytes_eq row.name name) (six_fields fields) false
+
+-- no whole number from low to high
+abbrev pub is_no_number : ℕ → ℕ → List ℕ → Bool
+is_no_number low high field = is_none (number_within low high field)
+
+-- a type that is good takes the point past the last register
+abbrev pub reaches_past : Option ℕ → Option PointType → Bool
+reaches_past (Some address) (Some kind) = nat_lt 65536 (address + registers_of kind)
+reaches_past _ _ = false
+
+-- -10 to 10, with a `-` before a number below 0
+abbrev pub is_fixed_scale : List ℕ → Bool
+is_fixed_scale [] = false
+is_fixed_scale (first ∷ rest) = if first == 45 then not (is_no_number 0 10 rest) else not (is_no_number 0 10 (first ∷ rest))
+
+-- a scale that is neither empty, nor a number from -10 to 10, nor a name, or one for a type that takes none
+abbrev pub is_bad_scale : List ℕ → Option PointType → Bool
+is_bad_scale [] kind = false
+is_bad_scale (first ∷ rest) kind =
+    not (is_fixed_scale (first ∷ rest) || is_name (first ∷ rest)) || option_map_or (λ k. not (takes_scale k)) kind false
+
+-- the first of the faults whose condition holds
+abbrev pub first_of : List (RowFault × Bool) → Option RowFault
+first_of [] = None
+first_of (fault ∷ faults) = if fault.1 then Some fault.0 else first_of faults
+
+-- what each fault means for a row of six fields, after `place` others below the header, an earlier one of which has taken its name or not
+abbrev pub conditions_where : Bool → ℕ → RowText → List (RowFault × Bool)
+conditions_where taken place row =
+    (Name, not (is_name row.name))
+    ∷ (DoubleName, taken)
+    ∷ (Function, is_none (table_of row.function))
+    ∷ (Area, is_no_number 0 255 row.area)
+    ∷ (Address, is_no_number 0 65535 row.address || reaches_past (number_within 0 65535 row.address) (type_of row.kind))
+    ∷ («Type», is_none (type_of row.kind))
+    ∷ (Scale, is_bad_scale row.scale (type_of row.kind))
+    ∷ (TooMany, nat_le 512 place)
+    ∷ []
+
+-- the same, `earlier` being the rows above
+abbrev pub conditions : ℕ → List (List (List ℕ)) → RowText → List (RowFault × Bool)
+conditions place earlier row = conditions_where (list_any (has_name row.name) earlier) place row
+
+-- the least fault of a row that no other row enters into but by its name
+abbrev pub least_fault : ℕ → List (List (List ℕ)) → List (List ℕ) → Option RowFault
+least_fault place earlier fields = option_map_or (λ row. first_of (conditions place earlier row)) (six_fields fields) (Some Csv)
+
+-- the fields as slices, seen as lists
+abbrev pub seen_row : RowFields → RowText
+seen_row row =
+    record { name = row.name.now; function = row.function.now; area = row.area.now; address = row.address.now; kind = row.kind.now; scale = row.scale.now }

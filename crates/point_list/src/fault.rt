@@ -1,0 +1,55 @@
+//! What a row may lack.
+ghost use Rattle.std.specs.Prelude.{◌≡◌};
+
+/// Why a row is no point, in the order in which faults are looked for.
+#[derive(Clone, Copy, Debug, PartialEq, Eq)]
+pub enum RowFault {
+    /// Not six fields.
+    Csv,
+    /// The header is not `name,function,area,address,type,scale`.
+    Header,
+    /// The name is not 1 to 32 letters, digits, `_` and `.`, a letter first.
+    Name,
+    /// An earlier row has the name.
+    DoubleName,
+    /// The function is not 3 or 4.
+    Function,
+    /// The area is not 0 to 255.
+    Area,
+    /// The address is not 0 to 65535, or the point reaches past 65535.
+    Address,
+    /// The type is unknown.
+    Type,
+    /// The scale is not empty, -10 to 10 or a name, or is given for a type that takes none.
+    Scale,
+    /// No sunssf point has the scale's name.
+    NoSuchScale,
+    /// The point and its scale point differ in function or area, or span over 125 registers.
+    GroupTooWide,
+    /// The row is the 513th after the header.
+    TooMany,
+}
+
+impl RowFault {
+    ghost use Rattle.point_list.specs.Faults.{fault_number};
+
+    /// The number of the fault, from 1.
+    pub fn number(self) -> u8
+        ensures { result ≡ fault_number self }
+    {
+        match self {
+            RowFault::Csv => 1,
+            RowFault::Header => 2,
+            RowFault::Name => 3,
+            RowFault::DoubleName => 4,
+            RowFault::Function => 5,
+            RowFault::Area => 6,
+            RowFault::Address => 7,
+            RowFault::Type => 8,
+            RowFault::Scale => 9,
+            RowFault::NoSuchScale => 10,
+            RowFault::GroupTooWide => 11,
+            RowFault::TooMany => 12,
+        }
+    }
+}
