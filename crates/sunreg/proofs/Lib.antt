@@ -1,0 +1,4 @@
+pub mod Appending
+pub mod Breaks
+pub mod PlanLines
+pub mod Puts

@@ -1,0 +1,22 @@
+-- What words spell.
+use Rattle.std.specs.Prelude.{ℕ, ◌+◌, ◌-◌, ◌*◌, nat_le, ◌&&◌, if◌then◌else◌, List, length, fold, Some, None}
+use Rattle.std.specs.Char.{is_ascii_digit}
+use Rattle.std.specs.declared.option.Option.{Option}
+use Rattle.std.specs.List.{list_all}
+use Rattle.std.specs.Result.{result_ok}
+use Rattle.hex.specs.Hex.{decode_of}
+
+-- the number that digits spell, the ones last
+abbrev pub digits_value : List ℕ → ℕ
+digits_value digits = fold (λ n digit. 10 * n + (digit - 48)) 0 digits
+
+-- a number: one to nineteen digits, of at most 2 ^ 63 - 1
+abbrev pub number_of : List ℕ → Option ℕ
+number_of word =
+    if nat_le 1 (length word) && nat_le (length word) 19 && list_all is_ascii_digit word && nat_le (digits_value word) 9223372036854775807
+    then Some (digits_value word) else None
+
+-- the bytes that pairs of hex digits spell: one to 65,536 of them
+abbrev pub bytes_of : List ℕ → Option (List ℕ)
+bytes_of word =
+    if nat_le 1 (length word) && nat_le (length word) 131072 then result_ok (decode_of word) else None

@@ -1,0 +1,229 @@
+//! Inputs, and what is printed of them.
+use super::*;
+use std::alloc::Global;
+use std::io::{self, ErrorKind, Read, Write};
+use std::process::Abort;
+use std::test::Fail;
+
+// Gives its text a byte at a time, and one call of `read` fails.
+#[derive(Drop)]
+struct Slow<'a> {
+    text: &'a [u8],
+    calls: usize,
+    failing: Option<usize>,
+    kind: ErrorKind,
+}
+
+impl<'a> Slow<'a> {
+    fn of(text: &'a [u8], failing: Option<usize>, kind: ErrorKind) -> Slow<'a> {
+        Slow {
+            text,
+            calls: 0,
+            failing,
+            kind,
+        }
+    }
+}
+
+impl Read for Slow<'_> {
+    fn read(&mut self, buf: &mut [u8]) -> io::Result<usize> {
+        self.calls = self.calls.saturating_add(1);
+        if self.failing == Some(self.calls) {
+            return Err(io::Error::from(self.kind));
+        }
+        match (self.text, buf.first_mut()) {
+            ([first, rest @ ..], Some(place)) => {
+                *place = *first;
+                self.text = rest;
+                Ok(1)
+            }
+            _ => Ok(0),
+        }
+    }
+}
+
+// Keeps what is written, and one call of `write` fails.
+#[derive(Drop)]
+struct Kept {
+    got: Vec<u8>,
+    calls: usize,
+    failing: usize,
+}
+
+impl Write for Kept {
+    fn write(&mut self, buf: &[u8]) -> io::Result<usize> {
+        self.calls = self.calls.saturating_add(1);
+        if self.failing == self.calls {
+            return Err(io::Error::from(ErrorKind::BrokenPipe));
+        }
+        self.got.extend_from_slice(buf)?;
+        Ok(buf.len())
+    }
+
+    fn flush(&mut self) -> io::Result<()> {
+        Ok(())
+    }
+}
+
+fn chain_prints(
+    rt: &impl Abort,
+    alloc: Global,
+    input: &[u8],
+    output: &[u8],
+    status: Status,
+) -> Result<(), Fail> {
+    let mut printed = Vec::new(alloc);
+    let mut unread = input;
+    let ended = chain_text(alloc, &mut unread, &mut printed);
+    assert_eq!(rt; ended, status);
+    assert_eq!(rt; printed.as_slice(), output);
+    Ok(())
+}
+
+const METER: &[u8] =
+    b"40000 53756e5300010042\n40070 00670032\n40094 000f42400000\n40122 00cb0069\n40229 ffff\n";
+
+const METER_PRINTED: &[u8] =
+    b"base 40000\nmodel 40002 1 66\nmodel 40070 103 50\npoint WH 1000000\npoint WH_SF 0\nmodel 40122 203 105\nend 40229\n";
+
+#[test]
+fn prints_chains(rt: HostRuntime) -> Result<(), Fail> {
+    let cases: [(&[u8], &[u8]); 6] = [
+        (METER, METER_PRINTED),
+        (
+            b"40000 53756e5300010041\n40069 00670032\n40093 000f42400000\n40121 00cb0069\n40228 ffff",
+            b"base 40000\nmodel 40002 1 65\nmodel 40069 103 50\npoint WH 1000000\npoint WH_SF 0\nmodel 40121 203 105\nend 40228\n",
+        ),
+        (
+            b"40000 53756e5300010042\n40070 00670032\n40094 000f4240000b\n40122 00cb0069\n40229 ffff\n",
+            b"base 40000\nmodel 40002 1 66\nmodel 40070 103 50\npoint WH faulty\npoint WH_SF 11\nmodel 40122 203 105\nend 40229\n",
+        ),
+        (b"40000 53756e53ffff", b"base 40000\nend 40002\n"),
+        (
+            b"# a meter\r\n\r\n40000 53756E53\r\n40002\r\n040002 FFFF\r\n",
+            b"base 40000\nend 40002\n",
+        ),
+        (b"0 53756e53ffff\n65535 0000\n65535", b"base 0\nend 2\n"),
+    ];
+    for (input, output) in cases {
+        chain_prints(&rt, rt.alloc(), input, output, Status::Fine)?;
+    }
+    Ok(())
+}
+
+#[test]
+fn prints_refusals(rt: HostRuntime) -> Result<(), Fail> {
+    let cases: [(&[u8], &[u8]); 19] = [
+        (b"", b"fault 1\n"),
+        (b"40000 53756e5300010042\n40002 0001ffff", b"fault 3\n"),
+        (b"40000 53756e53", b"fault 2 40002\n"),
+        (b"40000 53756e530001", b"fault 2 40003\n"),
+        (b"x", b"bad line 1\n"),
+        (b"\n# x\n\n40000 53\n", b"bad line 4\n"),
+        (b"40000 537\n", b"bad line 1\n"),
+        (b"40000 \n", b"bad line 1\n"),
+        (b"40000  5375\n", b"bad line 1\n"),
+        (b" 40000 5375\n", b"bad line 1\n"),
+        (b"40000 5375 \n", b"bad line 1\n"),
+        (b"40000 5375 6e53\n", b"bad line 1\n"),
+        (b"40000 5375\n65536\n", b"bad line 2\n"),
+        (b"65536 0000\n", b"bad line 1\n"),
+        (b"65535 00000000\n", b"bad line 1\n"),
+        (b"00000000000000040000\n", b"bad line 1\n"),
+        (b"-1 0000\n", b"bad line 1\n"),
+        (b"40000 53g5\n", b"bad line 1\n"),
+        (b"40000 53756e53ffff\r", b"bad line 1\n"),
+    ];
+    for (input, output) in cases {
+        chain_prints(&rt, rt.alloc(), input, output, Status::Refused)?;
+    }
+    Ok(())
+}
+
+#[test]
+fn each_failing_read_and_write_ends_the_run(rt: HostRuntime) -> Result<(), Fail> {
+    for kind in [ErrorKind::Interrupted, ErrorKind::BrokenPipe] {
+        for failing in 1..METER.len() + 2 {
+            let mut input = Slow::of(METER, Some(failing), kind);
+            let mut output = Vec::new(rt.alloc());
+            assert_eq!(rt;
+                chain_text(rt.alloc(), &mut input, &mut output),
+                Status::Failed
+            );
+            assert!(rt; output.is_empty());
+            assert_eq!(rt; input.calls, failing);
+        }
+    }
+    let mut whole = false;
+    for failing in 1..200 {
+        let mut input = Slow::of(METER, None, ErrorKind::Other);
+        let mut output = Kept {
+            got: Vec::new(rt.alloc()),
+            calls: 0,
+            failing,
+        };
+        let ended = chain_text(rt.alloc(), &mut input, &mut output);
+        whole = output.calls < failing;
+        assert!(rt; METER_PRINTED.starts_with(&output.got));
+        if whole {
+            assert_eq!(rt; ended, Status::Fine);
+            assert_eq!(rt; output.got.as_slice(), METER_PRINTED);
+            break;
+        }
+        assert_eq!(rt; ended, Status::Failed);
+    }
+    assert!(rt; whole);
+    Ok(())
+}
+
+#[test]
+fn inputs_have_at_most_4194304_bytes(rt: HostRuntime) -> Result<(), Fail> {
+    let mut text = Vec::new(rt.alloc());
+    text.resize(4_194_304, b'\n')?;
+    let read = read_whole(rt.alloc(), &mut text.as_slice());
+    assert!(rt; matches!(&read, Ok(whole) if whole.len() == 4_194_304));
+    let mut slow = Slow::of(&text, None, ErrorKind::Other);
+    chain_prints(&rt, rt.alloc(), &text, b"fault 1\n", Status::Refused)?;
+    assert!(rt; read_whole(rt.alloc(), &mut slow).is_ok());
+    assert_eq!(rt; slow.calls, 4_194_305);
+    text.push(b'\n')?;
+    let mut slow = Slow::of(&text, None, ErrorKind::Other);
+    assert!(rt; matches!(read_whole(rt.alloc(), &mut slow), Err(ReadFault::TooLong)));
+    assert_eq!(rt; slow.calls, 4_194_305);
+    chain_prints(&rt, rt.alloc(), &text, b"too long\n", Status::Refused)
+}
+
+#[test]
+fn words_and_values(rt: HostRuntime) -> Result<(), Fail> {
+    assert_eq!(rt;
+        number(b"9223372036854775807"),
+        Some(9_223_372_036_854_775_807)
+    );
+    assert_eq!(rt; number(b"9223372036854775808"), None);
+    assert_eq!(rt; number(b"00000000000000000007"), None);
+    assert_eq!(rt; number(b"0000000000000000007"), Some(7));
+    assert_eq!(rt; number(b""), None);
+    let mut hex = Vec::new(rt.alloc());
+    hex.resize(131_072, b'0')?;
+    let bytes = hex_bytes(rt.alloc(), &hex)?;
+    assert!(rt; matches!(&bytes, Some(bytes) if bytes.len() == 65_536));
+    hex.extend_from_slice(b"00")?;
+    assert!(rt; hex_bytes(rt.alloc(), &hex)?.is_none());
+    let mut words = Words::of(b"a  b");
+    assert_eq!(rt; words.next_word(), Some(&b"a"[..]));
+    assert_eq!(rt; words.next_word(), Some(&b""[..]));
+    assert_eq!(rt; words.next_word(), Some(&b"b"[..]));
+    assert_eq!(rt; words.next_word(), None);
+    let mut lines = InputLines::of(b"#\n\nx\r\ny\r");
+    let first = lines.next_line();
+    assert!(rt; matches!(&first, Some(line) if line.number == 3 && line.text == b"x".as_slice()));
+    let second = lines.next_line();
+    assert!(rt;
+        matches!(&second, Some(line) if line.number == 4 && line.text == b"y\r".as_slice())
+    );
+    assert!(rt; lines.next_line().is_none());
+    assert_eq!(rt; Status::Failed.number(), 3);
+    assert_eq!(rt; Status::Refused.number(), 1);
+    assert_eq!(rt; Status::Fine.number(), 0);
+    Ok(())
+}
