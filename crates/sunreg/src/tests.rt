@@ -1,9 +1,11 @@
 //! Inputs, and what is printed of them.
 use super::*;
+use point_list::{ListedPoint, PointList, PointName, PointScale, RegisterTable};
 use std::alloc::Global;
 use std::io::{self, ErrorKind, Read, Write};
 use std::process::Abort;
 use std::test::Fail;
+use sun_points::PointType;
 
 // Gives its text a byte at a time, and one call of `read` fails.
 #[derive(Drop)]
@@ -225,5 +227,85 @@ fn words_and_values(rt: HostRuntime) -> Result<(), Fail> {
     assert_eq!(rt; Status::Failed.number(), 3);
     assert_eq!(rt; Status::Refused.number(), 1);
     assert_eq!(rt; Status::Fine.number(), 0);
+    Ok(())
+}
+
+fn point_name(alloc: Global, text: &str) -> Result<PointName, Fail> {
+    let bytes = text.as_bytes().to_vec(alloc)?;
+    Ok(PointName::new(bytes).ok().ok_or("no name")?)
+}
+
+// Adds a counter of holding registers and area 0, and its scale point where it has one.
+fn add_counter(
+    alloc: Global,
+    points: &mut Vec<ListedPoint>,
+    counter: (&'static str, u16),
+    scale: Option<(&'static str, u16)>,
+) -> Result<(), Fail> {
+    let named = match scale {
+        None => PointScale::Unscaled,
+        Some((name, _)) => PointScale::Named(point_name(alloc, name)?),
+    };
+    points.push(ListedPoint {
+        name: point_name(alloc, counter.0)?,
+        table: RegisterTable::Holding,
+        area: 0,
+        address: counter.1,
+        kind: PointType::Acc32,
+        scale: named,
+    })?;
+    if let Some((name, address)) = scale {
+        points.push(ListedPoint {
+            name: point_name(alloc, name)?,
+            table: RegisterTable::Holding,
+            area: 0,
+            address,
+            kind: PointType::Sunssf,
+            scale: PointScale::Unscaled,
+        })?;
+    }
+    Ok(())
+}
+
+#[test]
+fn prints_plans(rt: HostRuntime) -> Result<(), Fail> {
+    let mut meter = Vec::new(rt.alloc());
+    add_counter(rt.alloc(), &mut meter, ("wh", 40094), Some(("whsf", 40096)))?;
+    add_counter(
+        rt.alloc(),
+        &mut meter,
+        ("imp", 40168),
+        Some(("impsf", 40176)),
+    )?;
+    let mut apart = Vec::new(rt.alloc());
+    add_counter(rt.alloc(), &mut apart, ("a", 0), None)?;
+    add_counter(rt.alloc(), &mut apart, ("b", 200), None)?;
+    let cases: [(Vec<ListedPoint>, &[u8]); 3] = [
+        (
+            meter,
+            b"read 1 3 0 40094 83\npoint wh 1 0\npoint whsf 1 2\npoint imp 1 74\npoint impsf 1 82\n",
+        ),
+        (
+            apart,
+            b"read 1 3 0 0 2\nread 2 3 0 200 2\npoint a 1 0\npoint b 2 0\n",
+        ),
+        (Vec::new(rt.alloc()), b""),
+    ];
+    for (points, output) in cases {
+        let list = PointList::new(points).ok().ok_or("no list")?;
+        let mut printed = Vec::new(rt.alloc());
+        assert_eq!(rt; print_plan(rt.alloc(), &list, &mut printed), Status::Fine);
+        assert_eq!(rt; printed.as_slice(), output);
+        for failing in 1..200 {
+            let mut kept = Kept {
+                got: Vec::new(rt.alloc()),
+                calls: 0,
+                failing,
+            };
+            let ended = print_plan(rt.alloc(), &list, &mut kept);
+            assert!(rt; output.starts_with(&kept.got));
+            assert_eq!(rt; ended == Status::Fine, kept.calls < failing);
+        }
+    }
     Ok(())
 }
