@@ -2,7 +2,7 @@
 use Rattle.std.proofs.Common.{◌≡◌, ℕ, zero, suc, ◌+◌, ◌-◌, ◌*◌, ◌<◌, ◌≤◌, min, inl, inr, Bool, List, [], ◌∷◌, ◌++◌, length, take, drop, map, set, get_or, slice_get, Option, Some, true, subst, refl, sym, ap, ◌∙◌, arith, append_assoc, length-drop, length-take-le}
 use Rattle.std.proofs.lemmas.Bool.{cases_lt, and_parts, leb-true}
 use Rattle.std.specs.Option.{option_map}
-use Rattle.std.proofs.lemmas.List.{take_more_set, take_more, drop_more, drop-drop, take-map, drop-map, take_all, length-map, map_more, drop_all, append-nil}
+use Rattle.std.proofs.lemmas.List.{take_more_set, drop_more, drop-drop, take-map, drop-map, take_all, length-map, map_more, drop_all, append-nil}
 use Rattle.mb_wire.specs.Bytes.{word, word_bytes, words_of}
 use Rattle.mb_wire.specs.Coils.{coils_of, number_of, packed, packed_in}
 use Rattle.mb_wire.specs.Requests.{Query}

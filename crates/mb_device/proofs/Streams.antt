@@ -1,13 +1,13 @@
 -- Streams that come in pieces: their frames, and the answers to them.
 use Rattle.std.proofs.Common.{◌≡◌, ℕ, ◌+◌, ◌-◌, ◌≤◌, ◌<◌, ◌⊎◌, inl, inr, Bool, true, false, not, List, [], ◌∷◌, ◌++◌, length, take, drop, Option, Some, None, Result, Ok, Err, refl, sym, ap, ◌∙◌, subst, arith, append_assoc, length-append, length-take, lit<}
-use Rattle.std.specs.List.{flat_map, filter, AllByRecursion}
+use Rattle.std.specs.List.{flat_map, filter}
 use Rattle.std.specs.Io.KnownBytes.{Appends, Consumes, IsAtEnd, Keeps}
 use Rattle.std.proofs.KnownBytes.{Appends-trans, Consumes-kept, Consumes-trans, Keeps-refl}
 use Rattle.std.proofs.lemmas.List.{append-nil, take-append-drop, take_all, take_rest}
 use Rattle.std.proofs.lemmas.List.Concat.{flat_map-append}
 use Rattle.std.proofs.lemmas.List.Elements.{filter-append}
 use Rattle.std.proofs.lemmas.Bool.{cond-true, cond-false, eq-eqb, ne_eqb}
-use Rattle.mb_wire.specs.Frames.{span_of, IsFrame, IsOpen, IsBad, IsOwn, Reads, frames, rest, pdu_of}
+use Rattle.mb_wire.specs.Frames.{span_of, IsFrame, IsOpen, IsBad, frames, rest, pdu_of}
 use Rattle.std.specs.Option.{option_map}
 use Rattle.mb_wire.specs.Reader.{Fields, Held, Tells, fields_of, held_after, spelled, spelling}
 use Rattle.mb_wire.specs.declared.frames.Frame.{Frame}

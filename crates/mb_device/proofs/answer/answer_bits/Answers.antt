@@ -1,4 +1,4 @@
-use Rattle.std.proofs.Common.{◌≡◌, ◌+◌, ◌≤◌, ◌∙◌, true, take, map, length, ap, sym}
+use Rattle.std.proofs.Common.{◌≡◌, ◌∙◌, true, map, ap, sym}
 use Rattle.std.proofs.lemmas.Bool.{cond-true}
 use Rattle.mb_wire.specs.Requests.{query_of}
 use Rattle.mb_wire.specs.Replies.{Bits, Exception, answer_bytes}

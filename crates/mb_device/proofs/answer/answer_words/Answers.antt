@@ -1,6 +1,5 @@
-use Rattle.std.proofs.Common.{◌≡◌, ◌+◌, ◌≤◌, ◌∙◌, true, take, map, length, ap, sym}
+use Rattle.std.proofs.Common.{◌≡◌, ◌∙◌, true, map, ap, sym}
 use Rattle.std.proofs.lemmas.Bool.{cond-true}
-use Rattle.mb_wire.specs.Bytes.{words_of}
 use Rattle.mb_wire.specs.Requests.{query_of}
 use Rattle.mb_wire.specs.Replies.{Words, Exception, answer_bytes}
 use Rattle.mb_device.specs.Device.{kept_value}

@@ -1,5 +1,5 @@
-use Rattle.std.proofs.Common.{◌≡◌, ◌-◌, ◌*◌, ◌++◌, take, drop, map, length}
-use Rattle.mb_wire.specs.Coils.{bytes_for, packed_in}
+use Rattle.std.proofs.Common.{◌≡◌, ◌-◌, ◌*◌, ◌++◌, take, drop, map}
+use Rattle.mb_wire.specs.Coils.{packed_in}
 use Rattle.mb_device.specs.Device.{is_kept_on}
 use Rattle.mb_device.proofs.packing.pack_coils.Given as goal
 

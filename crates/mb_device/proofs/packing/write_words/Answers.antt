@@ -1,4 +1,4 @@
-use Rattle.std.proofs.Common.{arith, sym}
+use Rattle.std.proofs.Common.{arith}
 use Rattle.mb_wire.specs.Bytes.{words_of}
 use Rattle.mb_wire.proofs.Words.{length-words_of}
 use Rattle.mb_device.proofs.Gathering.{written_more, written_all}

@@ -1,5 +1,5 @@
-use Rattle.std.proofs.Common.{rules, ◌≡◌, ℕ, List, ◌+◌, ◌++◌, length, subst, sym, ap, ◌∙◌, arith, Err, length-append}
-use Rattle.mb_wire.specs.Frames.{IsOpen, rest}
+use Rattle.std.proofs.Common.{rules, ◌≡◌, ℕ, ◌++◌, length, subst, sym, ap, ◌∙◌, arith, Err, length-append}
+use Rattle.mb_wire.specs.Frames.{IsOpen}
 use Rattle.mb_device.proofs.Streams.{AllAnswered-same, Answered-then, all_then_all, from, garbled_piece, held_fault, need_piece, piece_fault, piece_frames}
 use Rattle.mb_device.specs.Serving.{Answered, PieceTells, around, own_frames, held_frames}
 use Rattle.mb_device.proofs.serving.+answer_piece.Goals as goal

@@ -1,7 +1,7 @@
-use Rattle.std.proofs.Common.{rules, ◌≡◌, ℕ, ◌+◌, ◌-◌, ◌^◌, min, Bool, true, Err, refl, sym, ap, ◌∙◌, subst, arith}
+use Rattle.std.proofs.Common.{rules, ◌≡◌, ◌+◌, ◌-◌, ◌^◌, min, Bool, Err, refl, sym, ap, ◌∙◌, subst, arith}
 use Rattle.mb_wire.specs.Links.{risen}
 use Rattle.mb_device.proofs.Streams.{Served-more, Served-none, Serves-end, Serves-fault, Serves-used, has_not_failed, turn_is_no_end, turn_serves}
-use Rattle.mb_device.specs.Serving.{Serves, around, is_serving}
+use Rattle.mb_device.specs.Serving.{Serves, around}
 use Rattle.mb_device.proofs.serving.Server.serve.Goals as goal
 
 pub loop-turn-init : goal.loop-turn-init
