@@ -1,3 +1,3 @@
 pub mod Gathering
 pub mod Streams
-pub mod Rows
+pub mod Examples
