@@ -9,4 +9,4 @@ pub returns : goal.returns
 returns g c =
     appends_before c.print_points.result _ _ _ (model_line c.args.model.now) (flat_map point_line (map seen c.deref.result.now)) _
     c.in_ok-print_model_line.ensures c.print_points.ensures
-    (ap (λ (points : List Named). model_line c.args.model.now ++ flat_map point_line points) (ap (map seen) c.deref.ensures.value ∙ c.in_ok-points.ensures))
+    (ap (λ (points : List Named). model_line c.args.model.now ++ flat_map point_line points) (ap (map seen) c.deref.ensures.value ∙ c.in_ok-points.ensures.points))
