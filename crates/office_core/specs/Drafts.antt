@@ -1,18 +1,16 @@
--- An event that is being settled: the facts and notes that it adds to the facts that the books hold.
-use Rattle.std.specs.Prelude.{◌≡◌, ℕ, List, [], ◌∷◌, ◌++◌, reverse, Option}
-use Rattle.std.specs.Option.{option_or}
+-- An event that is being settled: what it adds to the facts that the books hold, and what it tells.
+use Rattle.std.specs.Prelude.{◌≡◌, List, [], ◌∷◌, ◌++◌, reverse}
 use Rattle.office_facts.specs.declared.facts.Fact.{Fact}
 use Rattle.office_facts.specs.declared.facts.Fact.TheVariants as fact
 use Rattle.office_facts.specs.declared.answers.Note.{Note}
-use Rattle.office_facts.specs.declared.questions.Installation.{Installation}
-use Rattle.office_facts.specs.Readings.{installation_at}
-use Rattle.office_core.specs.Rows.{latest_at}
+use Rattle.office_facts.specs.Lawful.{AreLawful}
+use Rattle.office_core.specs.declared.drafts.Draft.{Draft}
 
--- what a draft has added so far, oldest first, in front of the facts that are held
-abbrev pub so_far : (added held : List Fact) → List Fact
-so_far added held = reverse added ++ held
+-- the facts that are held, with those of the draft in front
+abbrev pub so_far : Draft → (held : List Fact) → List Fact
+so_far draft held = reverse draft.facts.items ++ held
 
--- an event that settles adds outcomes, entries and held readings, and nothing else
+-- an event that settles polls adds outcomes and readings, and nothing else
 abbrev pub IsTold : Fact → Type 0
 IsTold (fact.Outcome ended) = Unit {0}
 IsTold (fact.Entry booked) = Unit {0}
@@ -23,8 +21,13 @@ abbrev pub AreTold : List Fact → Type 0
 AreTold [] = Unit {0}
 AreTold (f ∷ facts) = IsTold f × AreTold facts
 
--- A draft goes on from the facts that are held: it adds only what is told, and its rows are the installations as they stand
--- behind it.
-pub record GoesOn (held : List Fact) (added : List Fact) (rows : List Installation) : Type 0 where
-  pub told : AreTold added
-  pub rows_are : (name : List ℕ) → option_or (latest_at rows name) (installation_at held name) ≡ installation_at (so_far added held) name
+-- The facts go on as they are said to, and these notes more are told.
+pub record IsAdded (held : List Fact) (old new : Draft) (more : List Fact → List Fact) (notes : List Fact → List Note) : Type 0 where
+  pub facts : so_far new held ≡ more (so_far old held)
+  pub notes : new.notes.items ≡ old.notes.items ++ notes (so_far old held)
+  pub told : AreTold new.facts.items
+
+-- So it is for all facts that the books hold, if none of their answers was wrong and the facts so reached are lawful.
+abbrev pub GoesOn : (holds : List Fact → Type 0) (clean : Type 0) (old new : Draft) → (List Fact → List Fact) → (List Fact → List Note) → Type 0
+GoesOn holds clean old new more notes =
+    (held : List Fact) → holds held → clean → AreTold old.facts.items → AreLawful (more (so_far old held)) → IsAdded held old new more notes

@@ -1,4 +1,4 @@
-pub mod Rows
-pub mod Drafts
 pub mod Idle
 pub mod Keeping
+pub mod Drafts
+pub mod Settling

@@ -3,6 +3,5 @@
 
 mod drafts;
 mod lines;
-mod readings;
-mod rows;
+mod reading;
 mod settling;

@@ -1,0 +1,41 @@
+-- What an event settles, session by session.
+use Rattle.std.specs.Prelude.{◌≡◌, ℕ, ◌≤◌, List, [], ◌∷◌, ◌++◌, Option, Some, None}
+use Rattle.poll_core.specs.Settling as session
+use Rattle.poll_core.specs.Standing.{State, Stands, last_moment}
+use Rattle.office_facts.specs.declared.facts.Fact.{Fact}
+use Rattle.office_facts.specs.declared.events.Event.{Event}
+use Rattle.office_facts.specs.declared.events.Event.TheVariants as event
+use Rattle.office_facts.specs.Sessions as sessions
+use Rattle.office_facts.specs.History.{with_outcomes}
+use Rattle.office_facts.specs.Notes.{outcomes_notes}
+use Rattle.office_core.specs.declared.drafts.Draft.{Draft}
+use Rattle.office_core.specs.Drafts.{GoesOn}
+
+-- the events that settle polls
+abbrev pub IsSettling : Event → Type 0
+IsSettling (event.Connected given) = ⊥
+IsSettling (event.Bytes given piece) = Unit {0}
+IsSettling event.Tick = Unit {0}
+IsSettling (event.Gone given closing) = Unit {0}
+IsSettling (event.Command c) = ⊥
+
+-- nothing on the session of the line is later than this moment
+abbrev pub IsBefore : ℕ → sessions.Line → Type 0
+IsBefore at line = none_later line.present
+  where
+    none_later : Option (List session.Event) → Type 0
+    none_later None = Unit {0}
+    none_later (Some events) = last_moment events ≤ at
+
+abbrev pub AreBefore : ℕ → List sessions.Line → Type 0
+AreBefore at [] = Unit {0}
+AreBefore at (line ∷ lines) = IsBefore at line × AreBefore at lines
+
+-- what an event on the session settles is told to its end
+pub record Tells (holds : List Fact → Type 0) (clean : Type 0) (before after : State) (happening : session.Event) (old new : Draft) : Type 0 where
+  pub timeout : after.timeout ≡ before.timeout
+  pub window : after.window ≡ before.window
+  pub stands : (events : List session.Event) → Stands before events → Stands after (events ++ happening ∷ [])
+  pub told : (events : List session.Event) → Stands before events
+      → GoesOn holds clean old new (with_outcomes (session.moment_of happening) (session.outcomes_at before.timeout events happening))
+          (outcomes_notes (session.moment_of happening) (session.outcomes_at before.timeout events happening))
