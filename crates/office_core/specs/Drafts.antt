@@ -22,12 +22,12 @@ AreTold [] = Unit {0}
 AreTold (f ∷ facts) = IsTold f × AreTold facts
 
 -- The facts go on as they are said to, and these notes more are told.
-pub record IsAdded (held : List Fact) (old new : Draft) (more : List Fact → List Fact) (notes : List Fact → List Note) : Type 0 where
+pub record IsAdded (held : List Fact) (old new : Draft) (more : List Fact → List Fact) (tells : List Fact → List Note) : Type 0 where
   pub facts : so_far new held ≡ more (so_far old held)
-  pub notes : new.notes.items ≡ old.notes.items ++ notes (so_far old held)
+  pub notes : new.notes.items ≡ old.notes.items ++ tells (so_far old held)
   pub told : AreTold new.facts.items
 
 -- So it is for all facts that the books hold, if none of their answers was wrong and the facts so reached are lawful.
 abbrev pub GoesOn : (holds : List Fact → Type 0) (clean : Type 0) (old new : Draft) → (List Fact → List Fact) → (List Fact → List Note) → Type 0
-GoesOn holds clean old new more notes =
-    (held : List Fact) → holds held → clean → AreTold old.facts.items → AreLawful (more (so_far old held)) → IsAdded held old new more notes
+GoesOn holds clean old new more tells =
+    (held : List Fact) → holds held → clean → AreTold old.facts.items → AreLawful (more (so_far old held)) → IsAdded held old new more tells
