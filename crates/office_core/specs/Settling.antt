@@ -31,6 +31,11 @@ abbrev pub AreBefore : ℕ → List sessions.Line → Type 0
 AreBefore at [] = Unit {0}
 AreBefore at (line ∷ lines) = IsBefore at line × AreBefore at lines
 
+-- no poll of the session is settled by this
+abbrev pub SettlesNothing : State → session.Event → Type 0
+SettlesNothing kept happening =
+    (events : List session.Event) × Stands kept events × (session.outcomes_at kept.timeout events happening ≡ [])
+
 -- what an event on the session settles is told to its end
 pub record Tells (holds : List Fact → Type 0) (clean : Type 0) (before after : State) (happening : session.Event) (old new : Draft) : Type 0 where
   pub timeout : after.timeout ≡ before.timeout
