@@ -3,5 +3,6 @@
 
 mod drafts;
 mod lines;
+mod places;
 mod reading;
 mod settling;
