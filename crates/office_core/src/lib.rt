@@ -5,4 +5,5 @@ mod drafts;
 mod lines;
 mod places;
 mod reading;
+mod refusing;
 mod settling;

@@ -23,9 +23,7 @@ pub fn is_named(given: &Option<Name>, device: &Device) -> bool
 fn position_of(lines: &[Line], given: &Option<Name>) -> Option<usize>
     ensures { result ≡ position (λ line. facts.is_named given.now line.device.name) lines.now }
 {
-    lines
-        .iter()
-        .position(|line| is_named(given, &line.device))
+    lines.iter().position(|line| is_named(given, &line.device))
 }
 
 /// Where the line of the device of a name stands.
