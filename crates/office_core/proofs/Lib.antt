@@ -1,4 +1,6 @@
+pub mod Keeping
 pub mod Words
 pub mod Rows
 pub mod Drafting
 pub mod Turning
+pub mod SettledLines

@@ -1,5 +1,5 @@
 -- The sessions that the office keeps, one line for each device, in the order in which they were added.
-use Rattle.std.specs.Prelude.{◌≡◌, ℕ, Bool, true, false, List, [], ◌∷◌, Option, Some, None, is_none}
+use Rattle.std.specs.Prelude.{◌≡◌, List, [], ◌∷◌, Option, Some, None}
 use Rattle.poll_core.specs.Settling as session
 use Rattle.poll_core.specs.Standing as standing
 use Rattle.office_facts.specs.declared.facts.Device.{Device}

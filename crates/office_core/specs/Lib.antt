@@ -1,4 +1,5 @@
 pub mod Idle
 pub mod Keeping
+pub mod Asking
 pub mod Drafts
 pub mod Settling

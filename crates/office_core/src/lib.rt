@@ -3,5 +3,7 @@
 
 mod drafts;
 mod lines;
+mod places;
 mod reading;
+mod refusing;
 mod settling;
