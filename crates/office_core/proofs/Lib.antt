@@ -4,3 +4,5 @@ pub mod Rows
 pub mod Drafting
 pub mod Turning
 pub mod SettledLines
+pub mod Moments
+pub mod Happened

@@ -3,3 +3,4 @@ pub mod Keeping
 pub mod Asking
 pub mod Drafts
 pub mod Settling
+pub mod Standing

@@ -1,19 +1,19 @@
 -- What an event settles, session by session.
-use Rattle.std.specs.Prelude.{◌≡◌, ℕ, ◌≤◌, List, [], ◌∷◌, ◌++◌, Option, Some, None}
+use Rattle.std.specs.Prelude.{◌≡◌, ℕ, ◌≤◌, Bool, false, List, [], ◌∷◌, ◌++◌, Option, Some, None}
 use Rattle.poll_core.specs.Settling as session
 use Rattle.poll_core.specs.Standing.{State, Stands, last_moment}
 use Rattle.office_facts.specs.declared.facts.Fact.{Fact}
 use Rattle.office_facts.specs.declared.events.Event.{Event}
 use Rattle.office_facts.specs.declared.events.Event.TheVariants as event
 use Rattle.office_facts.specs.Sessions as sessions
-use Rattle.office_facts.specs.History.{with_outcomes}
+use Rattle.office_facts.specs.History.{with_outcomes, settled_by}
 use Rattle.office_facts.specs.Notes.{outcomes_notes}
 use Rattle.office_core.specs.declared.drafts.Draft.{Draft}
 use Rattle.office_core.specs.Drafts.{GoesOn}
 
--- the events that settle polls
+-- the events that come from devices and their connections, and a tick
 abbrev pub IsSettling : Event → Type 0
-IsSettling (event.Connected given) = ⊥
+IsSettling (event.Connected given) = Unit {0}
 IsSettling (event.Bytes given piece) = Unit {0}
 IsSettling event.Tick = Unit {0}
 IsSettling (event.Gone given closing) = Unit {0}
@@ -44,3 +44,22 @@ pub record Tells (holds : List Fact → Type 0) (clean : Type 0) (before after :
   pub told : (events : List session.Event) → Stands before events
       → GoesOn holds clean old new (with_outcomes (session.moment_of happening) (session.outcomes_at before.timeout events happening))
           (outcomes_notes (session.moment_of happening) (session.outcomes_at before.timeout events happening))
+
+-- the same of an event of the office, where it reaches the session; else nothing changes
+abbrev pub TellsReached : (holds : List Fact → Type 0) (clean : Type 0) (before after : State) → Option session.Event → (old new : Draft) → Type 0
+TellsReached holds clean before after None old new = (after ≡ before) × (new ≡ old)
+TellsReached holds clean before after (Some happening) old new = Tells holds clean before after happening old new
+
+abbrev pub ReachesQuietly : State → Option session.Event → Type 0
+ReachesQuietly kept None = Unit {0}
+ReachesQuietly kept (Some happening) = SettlesNothing kept happening
+
+-- the event reaches the session and ends it
+abbrev pub ends_session : Option session.Event → Bool
+ends_session None = false
+ends_session (Some happening) = sessions.is_close happening
+
+-- the event settles no poll of any of these
+abbrev pub SettleNothing : (number at : ℕ) → Event → List sessions.Line → Type 0
+SettleNothing number at e [] = Unit {0}
+SettleNothing number at e (line ∷ lines) = (settled_by number at e line ≡ []) × SettleNothing number at e lines

@@ -2,8 +2,13 @@
 #![tactic(auto)]
 
 mod drafts;
+mod commands;
+mod device_events;
 mod lines;
+mod office;
+mod outgoing;
 mod places;
 mod reading;
 mod refusing;
 mod settling;
+mod starting;
