@@ -1,5 +1,7 @@
 pub mod Idle
 pub mod Keeping
 pub mod Asking
+pub mod Refused
+pub mod Opening
 pub mod Drafts
 pub mod Settling

@@ -3,6 +3,7 @@
 
 mod drafts;
 mod lines;
+mod opening;
 mod places;
 mod reading;
 mod refusing;
