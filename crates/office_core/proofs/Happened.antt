@@ -9,7 +9,11 @@ use Rattle.office_facts.specs.declared.events.Event.{Event}
 use Rattle.office_facts.specs.declared.events.Event.TheVariants as event
 use Rattle.office_facts.specs.Sessions as sessions
 use Rattle.office_facts.specs.Sessions.{line_after, lines_after}
-use Rattle.office_facts.specs.History.{settled_by, settled_on, with_outcomes, with_settled, facts_after}
+use Rattle.office_facts.specs.History.{History, Fed, facts_of, lines_of, next_poll, settled_by, settled_on, with_outcomes, with_settled, facts_after}
+use Rattle.office_facts.specs.Lawful.{AreLawful}
+use Rattle.office_facts.specs.Refusals.{AreAccepted, refusal_of}
+use Rattle.office_core.specs.declared.drafts.Draft.{Draft}
+use Rattle.office_core.specs.Drafts.{so_far, AreTold, GoesOn}
 use Rattle.office_facts.specs.Notes.{outcomes_notes, settled_notes, notes_of}
 use Rattle.office_core.specs.declared.lines.Line.{Line}
 use Rattle.office_core.specs.Keeping.{KeepsLines}
@@ -58,3 +62,36 @@ notes_happened number at (event.Bytes given piece) s lines facts = refl
 notes_happened number at event.Tick s lines facts = refl
 notes_happened number at (event.Gone given closing) s lines facts = refl
 notes_happened number at (event.Command c) s lines facts = absurd s
+
+pub keeps_happened : (now : List Line) (past : History) (at : ℕ) (e : Event) → IsSettling e
+    → KeepsLines now (map (line_after (next_poll (facts_of past)) at e) (lines_of past)) → KeepsLines now (lines_of (Fed at e ∷ past))
+keeps_happened now past at e s keeps =
+    subst (KeepsLines now) (lines_happened (next_poll (facts_of past)) at e s (lines_of past)) keeps
+
+-- A draft of an event: behind it stand the facts of the event.
+pub record DraftStands (past : History) (at : ℕ) (e : Event) (draft : Draft) : Type 0 where
+  pub facts : so_far draft (facts_of past) ≡ facts_of (Fed at e ∷ past)
+  pub notes : draft.notes.items ≡ notes_of (next_poll (facts_of past)) at e (lines_of past) (facts_of past)
+  pub lawful : AreLawful (so_far draft (facts_of past))
+
+pub draft_stands : ((history : History) → AreAccepted history → AreLawful (facts_of history)) → (past : History) (at : ℕ) (e : Event) → IsSettling e
+    → AreAccepted past → refusal_of past at e ≡ None → (holds : List Fact → Type 0) (clean : Type 0) (first draft : Draft)
+    → first.facts.items ≡ [] → first.notes.items ≡ []
+    → GoesOn holds clean first draft (with_settled (next_poll (facts_of past)) at e (lines_of past)) (settled_notes (next_poll (facts_of past)) at e (lines_of past))
+    → holds (facts_of past) → clean → DraftStands past at e draft
+draft_stands law past at e s accepted none holds clean first draft no_facts no_notes on h c =
+    let F : List Fact = facts_of past in
+    let lines : List sessions.Line = lines_of past in
+    let number : ℕ = next_poll F in
+    let start : so_far first F ≡ F = ap (λ (fs : List Fact). reverse fs ++ F) no_facts in
+    let final : with_settled number at e lines (so_far first F) ≡ facts_of (Fed at e ∷ past) =
+    ap (with_settled number at e lines) start ∙ facts_happened number at e s lines F in
+    let all = on F h c (subst AreTold (sym no_facts) tt) (subst AreLawful (sym final) (law (Fed at e ∷ past) (none, accepted))) in
+    let facts : so_far draft F ≡ facts_of (Fed at e ∷ past) = all.facts ∙ final in
+    record {
+      facts = facts;
+      notes =
+          all.notes ∙ ap (λ (ns : List Note). ns ++ settled_notes number at e lines (so_far first F)) no_notes
+          ∙ ap (settled_notes number at e lines) start ∙ notes_happened number at e s lines F;
+      lawful = subst AreLawful (sym facts) (law (Fed at e ∷ past) (none, accepted));
+    }

@@ -16,7 +16,7 @@ use Rattle.office_facts.specs.Sessions.{connects, reaches, is_close, with_happen
 use Rattle.office_facts.specs.History.{History, Accepted, Opened, Fed, facts_of, lines_of, latest_of, next_poll}
 use Rattle.office_facts.specs.Refusals.{AreAccepted, refusal_of, refuses, reasons}
 use Rattle.office_facts.proofs.ApartLines.{not_found_if}
-use Rattle.std.proofs.lemmas.Bool.{cases_Bool, cond_both}
+use Rattle.std.proofs.lemmas.Bool.{cond_both, ltb-false}
 use Rattle.office_core.specs.Settling.{IsBefore, AreBefore}
 
 -- an accepted event isn't back
@@ -26,8 +26,7 @@ not_back past at e h =
     let a = not_found_if (r refusal.NotFound) refusal.NotFound (find r (refusal.Exists ∷ refusal.ClockBack ∷ refusal.BadScale ∷ refusal.Busy ∷ refusal.Limit ∷ [])) h in
     let b = not_found_if (r refusal.Exists) refusal.Exists (find r (refusal.ClockBack ∷ refusal.BadScale ∷ refusal.Busy ∷ refusal.Limit ∷ [])) a.1 in
     let c = not_found_if (r refusal.ClockBack) refusal.ClockBack (find r (refusal.BadScale ∷ refusal.Busy ∷ refusal.Limit ∷ [])) b.1 in
-    let back : nat_lt at (latest_of past) ≡ false = c.0 in
-    omega (arith, back)
+    ltb-false at (latest_of past) c.0
 
 pub before_later : (at later : ℕ) → at ≤ later → (lines : List sessions.Line) → AreBefore at lines → AreBefore later lines
 before_later at later h [] all = tt

@@ -3,7 +3,7 @@ ghost use Rattle.std.specs.Prelude.{◌≡◌, ◌≤◌, ◌+◌, ◌∷◌, �
 ghost use Rattle.mb_wire.specs.Spans.{span_view, request_of};
 ghost use Rattle.mb_wire.specs.Requests.{request_bytes};
 ghost use Rattle.mb_wire.specs.Reader.{spelling};
-ghost use Rattle.poll_core.specs.Settling as session;
+ghost use Rattle.poll_core.specs.Settling as happening;
 ghost use Rattle.poll_core.specs.Standing as standing;
 ghost use Rattle.poll_core.specs.Starting.{start_fault};
 ghost use Rattle.office_facts.specs.declared.facts.Fact.{Fact};
@@ -33,10 +33,10 @@ fn start_session<B: Books>(
 ) -> Result<Outgoing, BooksFault>
     requires limit { poll.now.at ≤ 4102444800 }
     requires rests { session.old.settling ≡ None }
-    ensures started { (events : List session.Event) → standing.Stands session.old events → start_fault session.old.timeout session.old.window events poll.now.at ≡ None
-        → OnOk result (standing.Stands session.new (events ++ session.Start poll.now.at poll.now.number poll.now.unit (span_view poll.now.span) ∷ [])) }
-    ensures sent { (events : List session.Event) → standing.Stands session.old events → start_fault session.old.timeout session.old.window events poll.now.at ≡ None
-        → IfOk result (λ bytes. bytes ≡ spelling (session.next_id events) poll.now.unit (request_bytes (request_of (span_view poll.now.span)))) }
+    ensures started { (events : List happening.Event) → standing.Stands session.old events → start_fault session.old.timeout session.old.window events poll.now.at ≡ None
+        → OnOk result (standing.Stands session.new (events ++ happening.Start poll.now.at poll.now.number poll.now.unit (span_view poll.now.span) ∷ [])) }
+    ensures sent { (events : List happening.Event) → standing.Stands session.old events → start_fault session.old.timeout session.old.window events poll.now.at ≡ None
+        → IfOk result (λ bytes. bytes ≡ spelling (happening.next_id events) poll.now.unit (request_bytes (request_of (span_view poll.now.span)))) }
     ensures terms { (session.new.timeout ≡ session.old.timeout) × (session.new.window ≡ session.old.window) }
     ensures rests { session.new.settling ≡ None }
     ensures err { OnErr result (session.new ≡ session.old) }
