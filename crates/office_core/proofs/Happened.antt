@@ -11,10 +11,11 @@ use Rattle.office_facts.specs.Sessions as sessions
 use Rattle.office_facts.specs.Sessions.{line_after, lines_after}
 use Rattle.office_facts.specs.History.{History, Fed, facts_of, lines_of, next_poll, settled_by, settled_on, with_outcomes, with_settled, facts_after}
 use Rattle.office_facts.specs.Lawful.{AreLawful}
-use Rattle.office_facts.specs.Refusals.{AreAccepted, refusal_of}
+use Rattle.office_facts.specs.Refusals.{AreAccepted, refusal_of, answer_of}
+use Rattle.office_facts.specs.declared.answers.Answer.TheVariants as answer
 use Rattle.office_core.specs.declared.drafts.Draft.{Draft}
 use Rattle.office_core.specs.Drafts.{so_far, AreTold, GoesOn}
-use Rattle.office_facts.specs.Notes.{outcomes_notes, settled_notes, notes_of}
+use Rattle.office_facts.specs.Notes.{outcomes_notes, settled_notes, notes_of, outgoing_of}
 use Rattle.office_core.specs.declared.lines.Line.{Line}
 use Rattle.office_core.specs.Keeping.{KeepsLines}
 use Rattle.office_core.specs.Settling.{IsSettling}
@@ -95,3 +96,18 @@ draft_stands law past at e s accepted none holds clean first draft no_facts no_n
           ∙ ap (settled_notes number at e lines) start ∙ notes_happened number at e s lines F;
       lawful = subst AreLawful (sym facts) (law (Fed at e ∷ past) (none, accepted));
     }
+
+-- an event of a device is noted, and wants nothing sent
+pub noted : (facts : List Fact) (e : Event) → IsSettling e → answer.Noted ≡ answer_of facts e
+noted facts (event.Connected given) s = refl
+noted facts (event.Bytes given piece) s = refl
+noted facts event.Tick s = refl
+noted facts (event.Gone given closing) s = refl
+noted facts (event.Command c) s = absurd s
+
+pub unsent : (lines : List sessions.Line) (e : Event) → IsSettling e → [] ≡ outgoing_of e lines
+unsent lines (event.Connected given) s = refl
+unsent lines (event.Bytes given piece) s = refl
+unsent lines event.Tick s = refl
+unsent lines (event.Gone given closing) s = refl
+unsent lines (event.Command c) s = absurd s

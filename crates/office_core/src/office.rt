@@ -2,7 +2,6 @@
 ghost use Rattle.std.specs.Prelude.{◌≡◌, ◌≤◌, ◌↔◌, ◌⊎◌, ◌||◌, true, false, [], None, Err, IfOk, IfErr, IsOk, MatchResult, Some};
 ghost use Rattle.std.specs.Option.{option_and_then};
 ghost use Rattle.office_facts.specs.declared.refusals.Refusal.TheVariants as why;
-ghost use Rattle.office_facts.specs.declared.answers.Answer.TheVariants as answers;
 ghost use Rattle.office_facts.specs.declared.events.Event.TheVariants as events;
 ghost use Rattle.office_facts.specs.History.{History, facts_of, lines_of, next_poll};
 ghost use Rattle.office_facts.specs.Readings.{meter_of, poll_row_of};
@@ -42,7 +41,7 @@ impl<B: Books> Office<B> {
         ensures outgoing { (past : History) → Stands B.holds past self.old → B.is_clean (books_in self.new) → outgoing_in self.new ≡ outgoing_after past event.now result }
         ensures stops { is_stopped self.new ≡ stopped_after (is_stopped self.old) event.now result }
         ensures stopped { (result ≡ Err why.Stopped) ↔ (is_stopped self.old ≡ true) }
-        ensures quiet { (past : History) → Stands B.holds past self.old → AsksNoBooks event.now → SettleNothing (next_poll (facts_of past)) moment event.now (lines_of past)
+        ensures quiet { (past : History) → Stands B.holds past self.old → B.is_clean (books_in self.new) → AsksNoBooks event.now → SettleNothing (next_poll (facts_of past)) moment event.now (lines_of past)
             → (books_in self.new ≡ books_in self.old) × IfErr result (λ r. IsFailure r → ⊥) }
         ensures clean { B.is_clean (books_in self.new) → B.is_clean (books_in self.old) }
         ensures faults { (past : History) → Stands B.holds past self.old → B.is_clean (books_in self.new)
@@ -58,8 +57,10 @@ impl<B: Books> Office<B> {
             return Err(reason);
         }
         match event {
-            Event::Command(command) => self.obey(moment, command),
-            _ => self.settle(moment, event),
+            Event::Command(asked) => self.obey(moment, asked),
+            Event::Connected(_) | Event::Bytes(_, _) | Event::Tick | Event::Gone(_, _) => {
+                self.settle(moment, event)
+            }
         }
     }
 
@@ -69,10 +70,11 @@ impl<B: Books> Office<B> {
         requires limit { moment ≤ 4102444800 }
         ensures stands { (past : History) → Stands B.holds past self.old → is_stopped self.old ≡ false → refusal_of past moment event.now ≡ None
             → B.is_clean (books_in self.new) → Stands B.holds (with_answer past moment event.now result) self.new }
-        ensures answer { MatchResult result (λ answer. answer ≡ answers.Noted) IsFailure }
+        ensures answer { (past : History) → IfOk result (λ answer. answer ≡ answer_of (facts_of past) event.now) }
+        ensures failure { IfErr result IsFailure }
         ensures notes { (past : History) → Stands B.holds past self.old → is_stopped self.old ≡ false → refusal_of past moment event.now ≡ None
             → B.is_clean (books_in self.new) → notes_in self.old ≡ [] → notes_in self.new ≡ notes_after past moment event.now result }
-        ensures outgoing { outgoing_in self.new ≡ outgoing_in self.old }
+        ensures outgoing { (past : History) → outgoing_in self.old ≡ [] → outgoing_in self.new ≡ outgoing_after past event.now result }
         ensures stops { is_stopped self.new ≡ (is_stopped self.old || is_failure result) }
         ensures quiet { (past : History) → Stands B.holds past self.old → is_stopped self.old ≡ false → refusal_of past moment event.now ≡ None
             → SettleNothing (next_poll (facts_of past)) moment event.now (lines_of past) → IsOk result × (books_in self.new ≡ books_in self.old) }
