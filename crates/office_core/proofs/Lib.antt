@@ -1,4 +1,5 @@
 pub mod Keeping
+pub mod Opened
 pub mod Words
 pub mod Rows
 pub mod Drafting

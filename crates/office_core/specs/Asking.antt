@@ -2,8 +2,6 @@
 use Rattle.std.specs.Prelude.{◌≡◌, ℕ, ◌≤◌, false}
 use Rattle.office_facts.specs.declared.events.Event.{Event}
 use Rattle.office_facts.specs.declared.events.Event.TheVariants as event
-use Rattle.office_facts.specs.declared.refusals.Refusal.{Refusal}
-use Rattle.office_facts.specs.declared.refusals.Refusal.TheVariants as refusal
 use Rattle.office_facts.specs.Refusals.{moment_limit, has_bad_scale, has_bad_field}
 
 -- Whether an event is refused is asked of the sessions alone, unless it is a command.
@@ -20,10 +18,3 @@ pub record IsInRange (latest at : ℕ) (e : Event) : Type 0 where
   pub moment : at ≤ moment_limit
   pub scale : has_bad_scale e ≡ false
   pub field : has_bad_field e ≡ false
-
--- a reason that lies in the event, and not in the books or in memory
-abbrev pub IsOfEvent : Refusal → Type 0
-IsOfEvent (refusal.Store cause) = ⊥
-IsOfEvent refusal.Memory = ⊥
-IsOfEvent refusal.Stopped = ⊥
-IsOfEvent _ = Unit {0}

@@ -6,6 +6,7 @@ mod commands;
 mod device_events;
 mod lines;
 mod office;
+mod opening;
 mod outgoing;
 mod places;
 mod reading;

@@ -13,7 +13,8 @@ ghost use Rattle.office_facts.specs.Sessions as sessions;
 ghost use Rattle.office_facts.specs.History.{History, facts_of, lines_of, latest_of};
 ghost use Rattle.office_facts.specs.Refusals as refusals;
 ghost use Rattle.office_core.specs.Keeping.{KeepsLines, KeepsPresent};
-ghost use Rattle.office_core.specs.Asking.{AsksNoBooks, IsInRange, IsOfEvent};
+ghost use Rattle.office_core.specs.Asking.{AsksNoBooks, IsInRange};
+ghost use Rattle.office_core.specs.Refused.{IsOfEvent};
 
 use crate::lines::Line;
 use crate::places::place_of;
