@@ -7,3 +7,4 @@ pub mod Turning
 pub mod SettledLines
 pub mod Moments
 pub mod Happened
+pub mod Runs

@@ -6,3 +6,4 @@ pub mod Opening
 pub mod Drafts
 pub mod Settling
 pub mod Standing
+pub mod Running
