@@ -9,3 +9,4 @@ pub mod Moments
 pub mod Happened
 pub mod Commanded
 pub mod Started
+pub mod Runs

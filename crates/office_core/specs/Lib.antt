@@ -7,3 +7,4 @@ pub mod Drafts
 pub mod Settling
 pub mod Standing
 pub mod Starting
+pub mod Running

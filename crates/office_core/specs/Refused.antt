@@ -1,5 +1,5 @@
 -- What a refusal tells of the books.
-use Rattle.std.specs.Prelude.{ℕ, ◌+◌, min, Result, Err}
+use Rattle.std.specs.Prelude.{ℕ, ◌+◌, min, Result, Ok, Err}
 use Rattle.office_facts.specs.declared.refusals.Refusal.{Refusal}
 use Rattle.office_facts.specs.declared.refusals.Refusal.TheVariants as refusal
 
@@ -10,8 +10,12 @@ IsOfEvent refusal.Memory = ⊥
 IsOfEvent refusal.Stopped = ⊥
 IsOfEvent _ = Unit {0}
 
--- The count of the store's failures after an event: one more where it is refused since the store failed, up to the
--- greatest number.
+-- The count of the store's failures after a refusal: one more where the store failed, up to the greatest number.
+abbrev pub faults_told : Refusal → ℕ → ℕ
+faults_told (refusal.Store cause) n = min (n + 1) 18446744073709551615
+faults_told _ n = n
+
+-- the same after an event
 abbrev pub faults_with : {T : Type 0} → Result T Refusal → ℕ → ℕ
-faults_with (Err (refusal.Store cause)) n = min (n + 1) 18446744073709551615
-faults_with _ n = n
+faults_with (Ok value) n = n
+faults_with (Err why) n = faults_told why n

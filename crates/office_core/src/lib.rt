@@ -11,5 +11,7 @@ mod outgoing;
 mod places;
 mod reading;
 mod refusing;
+mod results;
+mod running;
 mod settling;
 mod starting;

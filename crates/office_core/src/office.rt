@@ -1,18 +1,21 @@
 //! The office.
-ghost use Rattle.std.specs.Prelude.{◌≡◌, ◌≤◌, ◌↔◌, ◌⊎◌, ◌||◌, true, false, [], None, Err, IfOk, IfErr, IsOk, MatchResult, Some};
+ghost use Rattle.std.specs.Prelude.{◌≡◌, ◌≤◌, ◌↔◌, ◌⊎◌, ◌||◌, true, false, List, [], ◌∷◌, None, Err, IfOk, IfErr, IsOk, MatchResult, Some};
 ghost use Rattle.std.specs.Option.{option_and_then};
+ghost use Rattle.office_facts.specs.declared.facts.Fact.{Fact};
 ghost use Rattle.office_facts.specs.declared.refusals.Refusal.TheVariants as why;
 ghost use Rattle.office_facts.specs.declared.events.Event.TheVariants as events;
-ghost use Rattle.office_facts.specs.History.{History, facts_of, lines_of, next_poll};
+ghost use Rattle.office_facts.specs.History.{History, Opened, facts_of, lines_of, next_poll};
 ghost use Rattle.office_facts.specs.Readings.{meter_of, poll_row_of};
-ghost use Rattle.office_facts.specs.Refusals.{refusal_of, answer_of, has_bad_field, has_bad_scale};
+ghost use Rattle.office_facts.specs.Refusals.{AreAccepted, opening_refusal_of, refusal_of, answer_of, has_bad_field, has_bad_scale};
 ghost use Rattle.office_core.specs.Asking.{AsksNoBooks};
+ghost use Rattle.office_core.specs.Refused.{faults_told};
 ghost use Rattle.office_core.specs.Settling.{IsSettling, SettleNothing};
 ghost use Rattle.office_core.specs.Standing.{Stands, Goes, with_answer, IsAnswer, IsOutside, IsFailure, AreFaultsOf, IsPastLimit, notes_after, outgoing_after, stopped_after, is_failure, books_in, is_stopped, notes_in, outgoing_in};
 
 use crate::commands::carry_out;
 use crate::device_events::settle_event;
 use crate::lines::Line;
+use crate::opening::book_opening;
 use crate::outgoing::Outgoing;
 use crate::refusing::refusal;
 use office_facts::{Answer, Books, Command, Event, Installation, Name, Note, PollRow, Refusal};
@@ -31,6 +34,34 @@ pub struct Office<B: Books> {
 }
 
 impl<B: Books> Office<B> {
+    /// Opens an office over books; each poll that has no outcome is lost, and no device is connected. A refusal hands the
+    /// books back.
+    pub fn open(alloc: Global, mut books: B, moment: u64) -> Result<Office<B>, (B, Refusal)>
+        ensures stands { (past : History) → AreAccepted past → B.holds books (facts_of past)
+            → IfOk result (λ office. B.is_clean (books_in office) → Stands B.holds (Opened moment ∷ past) office) }
+        ensures goes { IfOk result (λ office. is_stopped office ≡ false) }
+        ensures told { IfOk result (λ office. (notes_in office ≡ []) × (outgoing_in office ≡ [])) }
+        ensures refused { (held : List Fact) → B.holds books held
+            → IfErr result (λ e. B.is_clean e.0 → IsFailure e.1 ⊎ (opening_refusal_of held moment ≡ Some e.1)) }
+        ensures kept { (held : List Fact) → B.holds books held → IfErr result (λ e. B.holds e.0 held) }
+        ensures clean { MatchResult result (λ office. B.is_clean (books_in office) → B.is_clean books) (λ e. B.is_clean e.0 → B.is_clean books) }
+        ensures faults { MatchResult result (λ office. B.fault_count (books_in office) ≡ B.fault_count books)
+            (λ e. B.fault_count e.0 ≡ faults_told e.1 (B.fault_count books)) }
+    {
+        match book_opening(alloc, &mut books, moment) {
+            Err(reason) => Err((books, reason)),
+            Ok(lines) => Ok(Office {
+                alloc,
+                books,
+                latest: moment,
+                lines,
+                stopped: false,
+                outgoing: Outgoing::none(),
+                notes: Vec::new(alloc),
+            }),
+        }
+    }
+
     /// Takes an event. A refused one changes nothing, save that nothing is told and nothing wants to be sent; where the books
     /// or memory fail while an event of a device is settled, the office stops, and refuses whatever comes until it is opened
     /// again.

@@ -1,5 +1,5 @@
 //! The opening of an office: no device is connected, and each poll that has no outcome is lost.
-ghost use Rattle.std.specs.Prelude.{◌≡◌, ◌≤◌, List, map, reverse, Some, None, IfSome, IfOk, IfErr, OnOk, OnErr};
+ghost use Rattle.std.specs.Prelude.{◌≡◌, ◌≤◌, ◌⊎◌, List, map, reverse, Some, None, IfSome, IfOk, IfErr, OnOk, OnErr};
 ghost use Rattle.office_facts.specs.declared.facts.Fact.{Fact};
 ghost use Rattle.office_facts.specs.BooksFaults.{faults_after};
 ghost use Rattle.office_facts.specs.Facts.{devices_in};
@@ -8,6 +8,7 @@ ghost use Rattle.office_facts.specs.History.{History, facts_of, with_lost};
 ghost use Rattle.office_facts.specs.Lawful.{AreLawful};
 ghost use Rattle.office_facts.specs.Refusals.{AreAccepted, opening_refusal_of};
 ghost use Rattle.office_core.specs.Refused.{IsOfEvent, faults_with};
+ghost use Rattle.office_core.specs.Standing.{IsFailure};
 ghost use Rattle.office_core.specs.Opening as opening;
 
 use crate::lines::Line;
@@ -107,7 +108,7 @@ pub fn book_opening<B: Books>(
         → IfOk result (λ lines. opening.IsOpened (B.holds books.new) past moment lines.items) }
     ensures in_time { IfOk result (λ lines. moment ≤ 4102444800) }
     ensures refused { (held : List Fact) → B.holds books.old held → B.is_clean books.new
-        → IfErr result (λ r. IsOfEvent r → opening_refusal_of held moment ≡ Some r) }
+        → IfErr result (λ r. IsFailure r ⊎ (opening_refusal_of held moment ≡ Some r)) }
     ensures kept { (held : List Fact) → B.holds books.old held → OnErr result (B.holds books.new held) }
     ensures clean { B.is_clean books.new → B.is_clean books.old }
     ensures faults { B.fault_count books.new ≡ faults_with result (B.fault_count books.old) }
