@@ -10,3 +10,4 @@ pub mod Happened
 pub mod Commanded
 pub mod Started
 pub mod Runs
+pub mod Answered
