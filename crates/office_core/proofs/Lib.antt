@@ -8,3 +8,4 @@ pub mod SettledLines
 pub mod Moments
 pub mod Happened
 pub mod Runs
+pub mod PollsOnce
