@@ -9,3 +9,4 @@ pub mod Moments
 pub mod Happened
 pub mod Runs
 pub mod PollsOnce
+pub mod Energy

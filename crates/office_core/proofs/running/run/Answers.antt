@@ -4,6 +4,7 @@ use Rattle.office_core.specs.Standing.{Stands, is_stopped}
 use Rattle.office_core.specs.Running.{history_after}
 use Rattle.office_core.proofs.Runs.{history_more, answers_more, stops_more, fails_more}
 use Rattle.office_core.proofs.PollsOnce.{ends_once}
+use Rattle.office_core.proofs.Energy.{booked_energy}
 use Rattle.office_core.proofs.running.run.Goals as goal
 
 pub loop-moment-preserved : goal.loop-moment-preserved
@@ -48,6 +49,6 @@ returns-clause-recorded g c past accepted holds clean =
     (stands.books, record {
       polls_end = ends;
       polls = ends_once history ends;
-      meters = λ opening installed. c.meters_are_kept.ensures (facts_of history) opening lawful installed;
+      meters = λ opening installed. booked_energy (facts_of history) opening lawful (c.meters_are_kept.ensures (facts_of history) opening lawful installed);
       truth = λ opening first items installed shows. c.truth_is_recorded.ensures (facts_of history) opening first items lawful installed shows;
     })
