@@ -11,3 +11,5 @@ pub mod Commanded
 pub mod Started
 pub mod Runs
 pub mod Answered
+pub mod PollsOnce
+pub mod Energy

@@ -45,11 +45,11 @@ stops_push before after (f ∷ events) (b ∷ results) e r h k = (h.0, stops_pus
 fails_push : (past : History) (before between after : ℕ) (events : Events) (results : Results) (e : ℕ × Event) (r : Result Answer Refusal)
     → FailsInTurn past before between events results → AreFaultsOf between after (IsPastLimit (history_after past events results) e.1) r
     → FailsInTurn past before after (events ++ e ∷ []) (results ++ r ∷ [])
-fails_push past before between after [] [] e r h k = (after, (rw (sym h) k, refl))
+fails_push past before between after [] [] e r h k = (after, rw (sym h) k, refl)
 fails_push past before between after [] (b ∷ results) e r h k = absurd h
 fails_push past before between after (f ∷ events) [] e r h k = absurd h
 fails_push past before between after (f ∷ events) (b ∷ results) e r h k =
-    (h.0, (h.1.0, fails_push (with_answer past f.0 f.1 b) h.0 between after events results e r h.1.1 k))
+    (h.0, h.1, fails_push (with_answer past f.0 f.1 b) h.0 between after events results e r h.2 k)
 
 pub history_more : (past : History) (events : Events) (i : ℕ) (e : ℕ × Event) (results results' : Results) (r : Result Answer Refusal)
     → i < length events → e ≡ get_or events i e → results' ≡ results ++ r ∷ []

@@ -1,6 +1,9 @@
 -- A run of events: what was accepted in the end, and what is recorded of it.
-use Rattle.std.specs.Prelude.{◌≡◌, ◌↔◌, ◌⊎◌, ℕ, Bool, true, List, [], ◌∷◌, map, Some, None, All, Contains, Result, Err}
+use Rattle.std.specs.Prelude.{◌≡◌, ◌↔◌, ◌⊎◌, ℕ, ◌+◌, ◌*◌, Bool, true, List, [], ◌∷◌, map, Some, None, All, Contains, Result, Err}
 use Rattle.std.specs.List.{flat_map}
+use Rattle.energy_core.specs.declared.entries.Entry.{Entry}
+use Rattle.energy_core.specs.declared.entries.Entry.TheVariants as entry
+use Rattle.energy_core.specs.Value.{unit_of, value_of}
 use Rattle.energy_core.specs.TrueRun.{Item}
 use Rattle.poll_core.specs.declared.outcome.Outcome.{Outcome}
 use Rattle.office_facts.specs.declared.facts.Opening.{Opening}
@@ -10,7 +13,8 @@ use Rattle.office_facts.specs.declared.answers.Answer.{Answer}
 use Rattle.office_facts.specs.declared.events.Event.{Event}
 use Rattle.office_facts.specs.declared.refusals.Refusal.{Refusal}
 use Rattle.office_facts.specs.declared.refusals.Refusal.TheVariants.{Stopped}
-use Rattle.office_facts.specs.Facts.{polls_in, ends_of}
+use Rattle.office_facts.specs.Facts.{polls_in, ends_of, entries_of}
+use Rattle.office_facts.specs.Readings.{range_of, opened, installation_of}
 use Rattle.office_facts.specs.History.{History, facts_of, lines_of}
 use Rattle.office_facts.specs.Headline.{PollsEndOnce, outcome_in, pending_on}
 use Rattle.office_facts.specs.Meters.{IsInstalled, IsKept, ShowsTrueRun, IsRecordedTruly}
@@ -61,11 +65,24 @@ pub record IsPending (history : History) (number : ℕ) : Type 0 where
 abbrev pub EndsOnce : History → Poll → Type 0
 EndsOnce history poll = ((outcome : Outcome) × HasEnded history poll.number outcome) ⊎ IsPending history poll.number
 
--- The headline: each started poll has exactly one recorded outcome, or is pending; the energy of each installed meter is
--- the whole energy of its entries, and what its steps add up to; and where a meter tells the truth, it is the truth.
+-- how often the counter turned over, as the entries record it
+abbrev pub rollovers : List Entry → ℕ
+rollovers [] = 0
+rollovers (entry.Step at raw rolls ∷ entries) = rolls + rollovers entries
+rollovers (entry.Change at before after sf ∷ entries) = rollovers entries
+
+-- The energy of a meter is its last accepted reading less its first, plus one full range for each recorded rollover; and it
+-- is what its steps add up to.
+pub record IsBookedEnergy (facts : List Fact) (opening : Opening) : Type 0 where
+  pub kept : IsKept facts opening
+  pub energy : (installation_of facts opening).total + value_of (opened opening)
+      ≡ value_of (installation_of facts opening).last + rollovers (entries_of facts opening.meter) * (range_of opening * unit_of opening.sf)
+
+-- The headline: each started poll has exactly one recorded outcome, or is pending; each installed meter has its booked
+-- energy; and where a meter tells the truth, it is the truth.
 pub record IsRecorded (history : History) : Type 0 where
   pub polls_end : PollsEndOnce history
   pub polls : All (EndsOnce history) (polls_in (facts_of history))
-  pub meters : (opening : Opening) → IsInstalled (facts_of history) opening → IsKept (facts_of history) opening
+  pub meters : (opening : Opening) → IsInstalled (facts_of history) opening → IsBookedEnergy (facts_of history) opening
   pub truth : (opening : Opening) (first : Item) (items : List Item) → IsInstalled (facts_of history) opening
       → ShowsTrueRun (facts_of history) opening first items → IsRecordedTruly (facts_of history) opening first items
