@@ -1,5 +1,6 @@
 pub mod Faults
 pub mod Fields
+pub mod Lists
 pub mod Names
 pub mod Points
 pub mod Rows

@@ -7,12 +7,15 @@ mod lawful;
 mod list;
 mod name;
 mod point;
+mod reading;
 mod row;
 mod rows;
+mod spelled;
 #[cfg(test)]
 mod tests;
 
-pub use fault::RowFault;
+pub use fault::{FaultyRow, FaultyRows, ListFault, RowFault};
 pub use list::PointList;
 pub use name::PointName;
 pub use point::{ListedPoint, PointScale, RegisterTable, find_scale};
+pub use reading::read_list;
