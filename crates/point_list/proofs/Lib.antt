@@ -1,6 +1,9 @@
 pub mod DistinctLemmas
+pub mod FaultlessLists
 pub mod ListLemmas
 pub mod RowFacts
 pub mod SixLemmas
 pub mod SoundRows
+pub mod SpelledRows
+pub mod TextLemmas
 pub mod AnyLemmas
