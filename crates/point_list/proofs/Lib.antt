@@ -6,4 +6,7 @@ pub mod SixLemmas
 pub mod SoundRows
 pub mod SpelledRows
 pub mod TextLemmas
+pub mod WrittenFields
+pub mod WrittenLists
+pub mod WrittenRows
 pub mod AnyLemmas

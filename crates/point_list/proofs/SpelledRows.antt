@@ -37,6 +37,7 @@ scale-there (first ∷ rest) kind h = by (fixed_scale_of (first ∷ rest)) refl
   where
     parts : (not (is_some (fixed_scale_of (first ∷ rest)) || is_name (first ∷ rest)) ≡ false) × (not (takes_scale kind) ≡ false)
     parts = or-first _ _ h
+
     by : (o : Option ℤ) → fixed_scale_of (first ∷ rest) ≡ o → (s : PointScale) × (scale_spelled (first ∷ rest) ≡ Some s) × Suits kind s
     by (Some exponent) e = (Fixed exponent, rw e refl, (not-false _ parts.1, fixed-bounds (first ∷ rest) exponent e))
     by None e =
@@ -63,8 +64,7 @@ spelled taken place row s =
     let addressed = or-first (is_no_number 0 65535 row.address) (reaches_past (number_within 0 65535 row.address) (type_of row.kind)) s.address in
     let address = there (number_within 0 65535 row.address) addressed.0 in
     let kind = there (type_of row.kind) s.kind in
-    let scale = scale-there row.scale kind.0 (rw kind.1 at s.scale) in
-    (
+    let scale = scale-there row.scale kind.0 (rw kind.1 at s.scale) in (
       record { name = row.name; table = table.0; area = area.0; address = address.0; kind = kind.0; scale = scale.0 },
       record {
         spells = spells-with row _ named refl table.1 area.1 address.1 kind.1 scale.1;

@@ -4,3 +4,4 @@ pub mod Lists
 pub mod Names
 pub mod Points
 pub mod Rows
+pub mod Written

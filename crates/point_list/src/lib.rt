@@ -8,14 +8,19 @@ mod list;
 mod name;
 mod point;
 mod reading;
+#[cfg(test)]
+mod reading_tests;
 mod row;
 mod rows;
 mod spelled;
 #[cfg(test)]
 mod tests;
+mod writing;
+mod written;
 
 pub use fault::{FaultyRow, FaultyRows, ListFault, RowFault};
 pub use list::PointList;
 pub use name::PointName;
 pub use point::{ListedPoint, PointScale, RegisterTable, find_scale};
 pub use reading::read_list;
+pub use writing::{WriteListFault, write_list};
