@@ -16,6 +16,8 @@ mod spelled;
 #[cfg(test)]
 mod tests;
 mod writing;
+#[cfg(test)]
+mod writing_tests;
 mod written;
 
 pub use fault::{FaultyRow, FaultyRows, ListFault, RowFault};

@@ -1,6 +1,8 @@
 //! Texts of point lists, and the faults of their rows.
 
-use crate::{ListFault, PointList, PointScale, RegisterTable, read_list};
+use crate::{
+    FaultyRow, FaultyRows, ListFault, PointList, PointScale, RegisterTable, RowFault, read_list,
+};
 use std::alloc::Global;
 use std::process::Abort;
 use std::test::Fail;
@@ -8,26 +10,33 @@ use sun_points::{PointType, TextLength};
 
 const HEADER: &[u8] = b"name,function,area,address,type,scale\n";
 
-// Rows below the header.
-fn read_rows(alloc: Global, rows: &[u8]) -> Result<Result<PointList, ListFault>, Fail> {
+// A text of rows below the header.
+fn text_of(alloc: Global, rows: &[u8]) -> Result<Vec<u8>, Fail> {
     let mut text = HEADER.to_vec(alloc)?;
     text.extend_from_slice(rows)?;
-    Ok(read_list(alloc, &text))
+    Ok(text)
+}
+
+fn list_of(alloc: Global, text: &[u8]) -> Result<PointList, Fail> {
+    Ok(read_list(alloc, text).ok().ok_or("no list")?)
+}
+
+// Each row with the number of its fault.
+fn numbers(alloc: Global, rows: &[FaultyRow]) -> Result<Vec<(usize, u8)>, Fail> {
+    let mut numbers = Vec::new(alloc);
+    for faulty in rows {
+        numbers.push((faulty.row, faulty.fault.number()))?;
+    }
+    Ok(numbers)
 }
 
 // The faulty rows of a text, each with the number of its fault.
-fn faults_of(alloc: Global, read: Result<PointList, ListFault>) -> Result<Vec<(usize, u8)>, Fail> {
-    let mut faults = Vec::new(alloc);
-    match read {
-        Ok(_) => {}
-        Err(ListFault::Memory) => return Err("no memory".into()),
-        Err(ListFault::Faults(rows)) => {
-            for faulty in rows.into_rows() {
-                faults.push((faulty.row, faulty.fault.number()))?;
-            }
-        }
+fn faults_of(alloc: Global, text: &[u8]) -> Result<Vec<(usize, u8)>, Fail> {
+    match read_list(alloc, text) {
+        Ok(_list) => Ok(Vec::new(alloc)),
+        Err(ListFault::Memory) => Err("no memory".into()),
+        Err(ListFault::Faults(faulty)) => numbers(alloc, faulty.rows()),
     }
-    Ok(faults)
 }
 
 fn rows_lack(
@@ -36,14 +45,14 @@ fn rows_lack(
     rows: &[u8],
     faults: &[(usize, u8)],
 ) -> Result<(), Fail> {
-    let found = faults_of(alloc, read_rows(alloc, rows)?)?;
+    let found = faults_of(alloc, &text_of(alloc, rows)?)?;
     assert_eq!(rt; found.as_slice(), faults);
     Ok(())
 }
 
 // Whether a text spells the list of a counter and its scale point.
-fn spells_counter(rt: &impl Abort, read: Result<PointList, ListFault>) -> Result<(), Fail> {
-    let list = read.ok().ok_or("no list")?;
+fn spells_counter(rt: &impl Abort, alloc: Global, text: &[u8]) -> Result<(), Fail> {
+    let list = list_of(alloc, text)?;
     let [counter, scale] = list.points() else {
         return Err("not two points".into());
     };
@@ -73,7 +82,7 @@ fn reads_a_counter(rt: HostRuntime) -> Result<(), Fail> {
         // leading zeros up to ten digits
         b"name,function,area,address,type,scale\nwh,0000000003,000,0000040094,acc32,whsf\nwhsf,3,0,40096,sunssf,\n",
     ] {
-        spells_counter(&rt, read_list(alloc, text))?;
+        spells_counter(&rt, alloc, text)?;
     }
     Ok(())
 }
@@ -81,11 +90,11 @@ fn reads_a_counter(rt: HostRuntime) -> Result<(), Fail> {
 #[test]
 fn reads_values(rt: HostRuntime) -> Result<(), Fail> {
     let alloc = rt.alloc();
-    let read = read_rows(
+    let text = text_of(
         alloc,
         b"a,4,255,65535,int16,-10\nb,3,0,0,string125,\nc,3,0,0,uint32,-0\nd,3,0,0,int32,10\n",
     )?;
-    let list = read.ok().ok_or("no list")?;
+    let list = list_of(alloc, &text)?;
     let [a, b, c, d] = list.points() else {
         return Err("not four points".into());
     };
@@ -102,7 +111,7 @@ fn reads_values(rt: HostRuntime) -> Result<(), Fail> {
 
 #[test]
 fn header_alone(rt: HostRuntime) -> Result<(), Fail> {
-    let list = read_list(rt.alloc(), HEADER).ok().ok_or("no list")?;
+    let list = list_of(rt.alloc(), HEADER)?;
     assert_eq!(rt; list.points().len(), 0);
     Ok(())
 }
@@ -120,7 +129,7 @@ fn other_headers(rt: HostRuntime) -> Result<(), Fail> {
         b"Name,function,area,address,type,scale\n",
         b"name,function,area,address,type, scale\n",
     ] {
-        let found = faults_of(alloc, read_list(alloc, text))?;
+        let found = faults_of(alloc, text)?;
         assert_eq!(rt; found.as_slice(), [(1, 2)].as_slice());
     }
     Ok(())
@@ -248,9 +257,8 @@ fn many_rows(alloc: Global, count: usize) -> Result<Vec<u8>, Fail> {
 #[test]
 fn as_many_as_may_be(rt: HostRuntime) -> Result<(), Fail> {
     let alloc = rt.alloc();
-    let list = read_rows(alloc, &many_rows(alloc, 512)?)?
-        .ok()
-        .ok_or("no list")?;
+    let rows = many_rows(alloc, 512)?;
+    let list = list_of(alloc, &text_of(alloc, &rows)?)?;
     assert_eq!(rt; list.points().len(), 512);
     Ok(())
 }
@@ -266,4 +274,25 @@ fn too_many(rt: HostRuntime) -> Result<(), Fail> {
     let mut rows = many_rows(alloc, 512)?;
     rows.extend_from_slice(b"1x,3,0,0,int16,\n")?;
     rows_lack(&rt, alloc, &rows, &[(514, 3)])
+}
+
+#[test]
+fn faults_are_kept(rt: HostRuntime) -> Result<(), Fail> {
+    let mut rows = Vec::new(rt.alloc());
+    rows.push(FaultyRow {
+        row: 7,
+        fault: RowFault::Name,
+    })?;
+    let faults = FaultyRows::new(rows);
+    assert_eq!(rt; faults.rows().len(), 1);
+    let rows = faults.into_rows();
+    assert_eq!(rt;
+        rows.as_slice(),
+        [FaultyRow {
+            row: 7,
+            fault: RowFault::Name
+        }]
+        .as_slice()
+    );
+    Ok(())
 }
