@@ -1,3 +1,6 @@
+pub mod ChainLists
+pub mod ChainPoints
+pub mod ChainTables
 pub mod DistinctLemmas
 pub mod FaultlessLists
 pub mod ListLemmas

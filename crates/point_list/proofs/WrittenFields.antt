@@ -40,7 +40,7 @@ folds-digits = record {
       ap (λ (m : ℕ). fold (λ (k : ℕ) (digit : ℕ). 10 * k + (digit - 48)) m cs) same;
 }
 
-numerals : IsNumeralModel (λ ds. list_all is_ascii_digit ds ≡ true) digits_value
+pub numerals : IsNumeralModel (λ ds. list_all is_ascii_digit ds ≡ true) digits_value
 numerals = numerals_by_fold (λ ds. list_all is_ascii_digit ds ≡ true) tells-digits (λ n digits. fold (λ n digit. 10 * n + (digit - 48)) n digits) folds-digits
 
 number-if : (field : List ℕ) (n : ℕ) → 1 ≤ length field → length field ≤ 10 → list_all is_ascii_digit field ≡ true → digits_value field ≡ n → number_of field ≡ Some n

@@ -1,3 +1,4 @@
+pub mod ChainPoints
 pub mod Faults
 pub mod Fields
 pub mod Lists

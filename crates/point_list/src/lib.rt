@@ -1,6 +1,7 @@
 //! Point lists: the registers of a device that an office reads, as a table of comma-separated values spells them.
 #![tactic(auto)]
 
+mod chain_points;
 mod fault;
 mod fields;
 mod lawful;
@@ -20,6 +21,7 @@ mod writing;
 mod writing_tests;
 mod written;
 
+pub use chain_points::from_chain;
 pub use fault::{FaultyRow, FaultyRows, ListFault, RowFault};
 pub use list::PointList;
 pub use name::PointName;
