@@ -2,6 +2,8 @@
 #![tactic(auto)]
 
 mod chain_points;
+#[cfg(test)]
+mod chain_tests;
 mod fault;
 mod fields;
 mod lawful;
