@@ -2,6 +2,7 @@ pub mod ChainText
 pub mod ImageLines
 pub mod Input
 pub mod Lines
+pub mod ListText
 pub mod PlanText
 pub mod Seen
 pub mod Statuses

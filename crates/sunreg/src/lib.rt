@@ -4,6 +4,7 @@
 mod chain_printing;
 mod image_lines;
 mod lines;
+mod list_printing;
 mod plan_printing;
 mod reading;
 mod status;
@@ -12,6 +13,7 @@ mod words;
 
 pub use chain_printing::chain_text;
 pub use lines::{InputLine, InputLines};
+pub use list_printing::plan_text;
 pub use plan_printing::print_plan;
 pub use reading::{MOST_BYTES, ReadFault, read_whole};
 pub use status::Status;
