@@ -1,5 +1,5 @@
 -- Words that are read have a form.
-use Rattle.std.proofs.Common.{◌≡◌, ◌⊎◌, inl, inr, ℕ, ℤ, Bool, true, false, List, [], ◌∷◌, Some, None, Option, refl, sym, ap, ◌∙◌, subst}
+use Rattle.std.proofs.Common.{◌≡◌, ◌⊎◌, inl, inr, ℕ, Bool, true, false, List, [], ◌∷◌, Some, None, Option, refl, sym, ap, ◌∙◌, subst}
 use Rattle.std.specs.Prelude.{if◌then◌else◌, nat_le, ◌&&◌, length, codes, option_map, Result, Ok, Err}
 use Rattle.std.specs.Result.{result_ok}
 use Rattle.std.specs.Str.{bytes_eq}
@@ -10,14 +10,13 @@ use Rattle.hex.proofs.HexLemmas.{decode_of-ok}
 use Rattle.office_facts.specs.declared.commands.Command.TheVariants as command
 use Rattle.office_facts.specs.declared.events.Event.{Event}
 use Rattle.office_facts.specs.declared.events.Event.TheVariants as event
-use Rattle.poll_core.specs.declared.outcome.Closing.{Closing}
 use Rattle.poll_core.specs.declared.outcome.Closing.TheVariants as closing
 use Rattle.sunreg.specs.declared.forms.Verb.{Verb}
 use Rattle.sunreg.specs.declared.forms.Verb.TheVariants as verb
 use Rattle.sunreg.specs.declared.script.GivenStart.{GivenStart}
 use Rattle.sunreg.specs.declared.script.ScriptLine.{ScriptLine}
 use Rattle.sunreg.specs.declared.script.ScriptLine.TheVariants as line
-use Rattle.sunreg.specs.ScriptForms.{Field, Word, Name, Number, Signed, Scale, Hex, Spell, HasForm, IsLine, hex_form, event_form, form_of}
+use Rattle.sunreg.specs.ScriptForms.{Name, Number, Spell, HasForm, IsLine, hex_form, event_form}
 use Rattle.sunreg.specs.ScriptReading.{◌>>=◌, one, four, five, name_said, number_said, tick_said, device_said, register_said, install_said, start_said, piece_of, bytes_said, verb_of, plain_said, event_said, timed_said, question_said, said_from, line_said}
 use Rattle.sunreg.specs.ScriptWords.{name_of, scale_of, signed_of}
 use Rattle.sunreg.specs.Values.{bytes_of, number_of}

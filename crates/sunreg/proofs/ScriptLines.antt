@@ -1,6 +1,6 @@
 -- What reading a script line tells of the forms.
-use Rattle.std.proofs.Common.{◌≡◌, ℕ, List, Option, Some, None, true, refl, sym, ◌∙◌}
-use Rattle.std.specs.Prelude.{IsSome, is_some, option_map}
+use Rattle.std.proofs.Common.{◌≡◌, ℕ, List, Option, Some, None, refl, sym, ◌∙◌}
+use Rattle.std.specs.Prelude.{IsSome, option_map}
 use Rattle.sunreg.specs.declared.script.ScriptLine.{ScriptLine}
 use Rattle.sunreg.specs.ScriptForms.{IsLine}
 use Rattle.sunreg.specs.ScriptReading.{line_said}

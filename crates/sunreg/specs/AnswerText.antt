@@ -1,5 +1,5 @@
 -- What is printed of the office's answers, and of what it tells.
-use Rattle.std.specs.Prelude.{ℕ, List, [], ◌++◌, flat_map, Some, None, codes}
+use Rattle.std.specs.Prelude.{ℕ, List, ◌++◌, flat_map, Some, None, codes}
 use Rattle.std.specs.declared.option.Option.{Option}
 use Rattle.std.specs.Fmt.{decimal, signed_decimal}
 use Rattle.hex.specs.Hex.{encode_lower}

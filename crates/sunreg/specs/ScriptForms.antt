@@ -1,7 +1,6 @@
 -- The forms of a script's lines: what the words of each line spell, one after the other.
 use Rattle.std.specs.Prelude.{◌≡◌, ℕ, ℤ, List, [], ◌∷◌, Some, None, codes, option_map}
 use Rattle.std.specs.declared.option.Option.{Option}
-use Rattle.office_facts.specs.declared.commands.Command.{Command}
 use Rattle.office_facts.specs.declared.commands.Command.TheVariants.{AddDevice, AddRegister, Install, StartPoll}
 use Rattle.office_facts.specs.declared.commands.GivenScale.{GivenScale}
 use Rattle.office_facts.specs.declared.events.Event.{Event}

@@ -69,9 +69,7 @@ pub(crate) fn four<'a>(words: &mut Words<'a>) -> Option<(&'a [u8], &'a [u8], &'a
 }
 
 /// The five words that are left.
-fn five<'a>(
-    words: &mut Words<'a>,
-) -> Option<(&'a [u8], &'a [u8], &'a [u8], &'a [u8], &'a [u8])>
+fn five<'a>(words: &mut Words<'a>) -> Option<(&'a [u8], &'a [u8], &'a [u8], &'a [u8], &'a [u8])>
     ensures { option_map (λ w. (w.0.now, w.1.now, w.2.now, w.3.now, w.4.now)) result ≡ five words.old }
 {
     let a = words.next_word()?;

@@ -15,7 +15,9 @@ mod status;
 mod values;
 mod words;
 
-pub use answer_printing::{print_accepted, print_bad_line, print_meter, print_note, print_poll, print_refusal};
+pub use answer_printing::{
+    print_accepted, print_bad_line, print_meter, print_note, print_poll, print_refusal,
+};
 pub use chain_printing::chain_text;
 pub use line_fault::LineFault;
 pub use lines::{InputLine, InputLines};

@@ -160,11 +160,7 @@ fn given_start(words: &mut Words<'_>) -> Option<GivenStart>
 }
 
 // The event whose form begins with a word.
-fn event(
-    alloc: Global,
-    word: &[u8],
-    words: &mut Words<'_>,
-) -> Result<Option<Event>, AllocError>
+fn event(alloc: Global, word: &[u8], words: &mut Words<'_>) -> Result<Option<Event>, AllocError>
     ensures value { IfOk result (λ found. found ≡ event_said word.now words.old) }
     ensures memory { IsErr result → IsSome (event_said word.now words.old) }
 {

@@ -15,12 +15,18 @@ fn script_line(alloc: Global, line: &[u8]) -> Result<ScriptLine, Fail> {
     Ok(ScriptLine::read(alloc, line).ok().ok_or("no line")?)
 }
 
+fn is_bad(alloc: Global, line: &[u8]) -> bool {
+    let read = ScriptLine::read(alloc, line);
+    matches!(&read, Err(LineFault::Bad))
+}
+
 fn command(alloc: Global, line: &[u8]) -> Result<(u64, Command), Fail> {
-    match script_line(alloc, line)? {
+    let said = script_line(alloc, line)?;
+    match &said {
         ScriptLine::Event {
             at,
             event: Event::Command(command),
-        } => Ok((at, command)),
+        } => Ok((*at, *command)),
         _ => Err("no command".into()),
     }
 }
@@ -110,34 +116,47 @@ fn reads_commands(rt: HostRuntime) -> Result<(), Fail> {
     Ok(())
 }
 
+// The moment, the kind and the device of an event that has no other field.
+fn device_of(alloc: Global, line: &[u8]) -> Result<(u64, char, Option<Name>), Fail> {
+    let said = script_line(alloc, line)?;
+    match &said {
+        ScriptLine::Event { at, event } => match event {
+            Event::Connected(device) => Ok((*at, 'c', *device)),
+            Event::Tick => Ok((*at, 't', None)),
+            Event::Gone(device, Closing::Gone) => Ok((*at, 'g', *device)),
+            Event::Gone(device, Closing::Failed) => Ok((*at, 'f', *device)),
+            _ => Err("another event".into()),
+        },
+        _ => Err("no event".into()),
+    }
+}
+
 #[test]
 fn reads_events(rt: HostRuntime) -> Result<(), Fail> {
-    let inv = Name::new(b"inv");
-    assert!(rt; matches!(
-        script_line(rt.alloc(), b"1898 connect inv")?,
-        ScriptLine::Event { at: 1898, event: Event::Connected(device) } if device == inv
-    ));
-    assert!(rt; matches!(
-        script_line(rt.alloc(), b"1903 tick")?,
-        ScriptLine::Event { at: 1903, event: Event::Tick }
-    ));
-    assert!(rt; matches!(
-        script_line(rt.alloc(), b"1905 gone inv")?,
-        ScriptLine::Event { at: 1905, event: Event::Gone(device, Closing::Gone) } if device == inv
-    ));
-    assert!(rt; matches!(
-        script_line(rt.alloc(), b"1905 failed inv")?,
-        ScriptLine::Event { at: 1905, event: Event::Gone(device, Closing::Failed) } if device == inv
-    ));
+    let cases: [(&[u8], u64, char); 3] = [
+        (b"1898 connect inv", 1898, 'c'),
+        (b"1905 gone inv", 1905, 'g'),
+        (b"1906 failed inv", 1906, 'f'),
+    ];
+    for (line, at, kind) in cases {
+        let said = device_of(rt.alloc(), line)?;
+        assert_eq!(rt; said.0, at);
+        assert_eq!(rt; said.1, kind);
+        assert_eq!(rt; said.2, Name::new(b"inv"));
+    }
+    let said = device_of(rt.alloc(), b"1903 tick")?;
+    assert_eq!(rt; said.0, 1903);
+    assert_eq!(rt; said.1, 't');
     Ok(())
 }
 
 fn sent(alloc: Global, line: &[u8], bytes: &[u8]) -> Result<bool, Fail> {
-    match script_line(alloc, line)? {
+    let said = script_line(alloc, line)?;
+    match &said {
         ScriptLine::Event {
             at: 1900,
             event: Event::Bytes(device, piece),
-        } => Ok(device == Name::new(b"inv") && piece.as_slice() == bytes),
+        } => Ok(*device == Name::new(b"inv") && piece.as_slice() == bytes),
         _ => Ok(false),
     }
 }
@@ -145,7 +164,13 @@ fn sent(alloc: Global, line: &[u8], bytes: &[u8]) -> Result<bool, Fail> {
 #[test]
 fn reads_pieces(rt: HostRuntime) -> Result<(), Fail> {
     let reply = b"\x00\x00\x00\x00\x00\x09\x01\x03\x06\x00\x00\x14\x50\x00\x00";
-    assert!(rt; sent(rt.alloc(), b"1900 bytes inv 000000000009010306000014500000", reply)?);
+    assert!(rt;
+        sent(
+            rt.alloc(),
+            b"1900 bytes inv 000000000009010306000014500000",
+            reply
+        )?
+    );
     assert!(rt; sent(rt.alloc(), b"1900 bytes inv aBfF", b"\xab\xff")?);
     assert!(rt; sent(rt.alloc(), b"1900 bytes inv", b"")?);
     let mut line = b"1900 bytes inv ".to_vec(rt.alloc())?;
@@ -155,18 +180,21 @@ fn reads_pieces(rt: HostRuntime) -> Result<(), Fail> {
     zeros.resize(65_536, 0)?;
     assert!(rt; sent(rt.alloc(), &line, &zeros)?);
     line.extend_from_slice(b"00")?;
-    assert!(rt; matches!(ScriptLine::read(rt.alloc(), &line), Err(LineFault::Bad)));
+    assert!(rt; is_bad(rt.alloc(), &line));
     Ok(())
+}
+
+fn start_of(alloc: Global, line: &[u8]) -> Result<GivenStart, Fail> {
+    let said = script_line(alloc, line)?;
+    match &said {
+        ScriptLine::Start { at: 1898, start } => Ok(*start),
+        _ => Err("no start".into()),
+    }
 }
 
 #[test]
 fn reads_starts(rt: HostRuntime) -> Result<(), Fail> {
-    let ScriptLine::Start { at, start } =
-        script_line(rt.alloc(), b"1898 start inv 3 40094 3")?
-    else {
-        return Err("no start".into());
-    };
-    assert_eq!(rt; at, 1898);
+    let start = start_of(rt.alloc(), b"1898 start inv 3 40094 3")?;
     assert_eq!(rt; start.device, Name::new(b"inv"));
     assert_eq!(rt; start.span(), ReadSpan::new(3, 40094, 3));
     let lawful: [(u64, u64, u64, bool); 12] = [
@@ -195,20 +223,28 @@ fn reads_starts(rt: HostRuntime) -> Result<(), Fail> {
     Ok(())
 }
 
+fn meter_of(alloc: Global, line: &[u8]) -> Result<Option<Name>, Fail> {
+    let said = script_line(alloc, line)?;
+    match &said {
+        ScriptLine::Meter { name } => Ok(*name),
+        _ => Err("no meter".into()),
+    }
+}
+
+fn poll_of(alloc: Global, line: &[u8]) -> Result<u64, Fail> {
+    let said = script_line(alloc, line)?;
+    match &said {
+        ScriptLine::Poll { number } => Ok(*number),
+        _ => Err("no poll".into()),
+    }
+}
+
 #[test]
 fn reads_questions(rt: HostRuntime) -> Result<(), Fail> {
-    assert!(rt; matches!(
-        script_line(rt.alloc(), b"meter m1")?,
-        ScriptLine::Meter { name } if name == Name::new(b"m1")
-    ));
-    assert!(rt; matches!(
-        script_line(rt.alloc(), b"meter seventeen-letters")?,
-        ScriptLine::Meter { name: None }
-    ));
-    assert!(rt; matches!(
-        script_line(rt.alloc(), b"poll 3")?,
-        ScriptLine::Poll { number: 3 }
-    ));
+    assert_eq!(rt; meter_of(rt.alloc(), b"meter m1")?, Name::new(b"m1"));
+    assert_eq!(rt; meter_of(rt.alloc(), b"meter seventeen-letters")?, None);
+    assert_eq!(rt; poll_of(rt.alloc(), b"poll 3")?, 3);
+    assert_eq!(rt; poll_of(rt.alloc(), b"poll 0")?, 0);
     Ok(())
 }
 
@@ -287,7 +323,7 @@ fn reads_no_other_lines(rt: HostRuntime) -> Result<(), Fail> {
         b"poll 1 2",
     ];
     for line in lines {
-        assert!(rt; matches!(ScriptLine::read(rt.alloc(), line), Err(LineFault::Bad)));
+        assert!(rt; is_bad(rt.alloc(), line));
     }
     Ok(())
 }
@@ -311,7 +347,7 @@ fn reads_no_later_forms(rt: HostRuntime) -> Result<(), Fail> {
         b"area holding 0 1",
     ];
     for line in lines {
-        assert!(rt; matches!(ScriptLine::read(rt.alloc(), line), Err(LineFault::Bad)));
+        assert!(rt; is_bad(rt.alloc(), line));
     }
     assert_eq!(rt; LineFault::Bad.number(), 1);
     assert_eq!(rt; LineFault::Memory.number(), 2);
@@ -393,7 +429,10 @@ fn prints_notes(rt: HostRuntime) -> Result<(), Fail> {
     };
     let mut printed = Vec::new(rt.alloc());
     print_note(&held, &mut printed)?;
-    assert_eq!(rt; printed.as_slice(), b"held m1 4294967295 cause 6\n".as_slice());
+    assert_eq!(rt;
+        printed.as_slice(),
+        b"held m1 4294967295 cause 6\n".as_slice()
+    );
     Ok(())
 }
 
@@ -474,8 +513,10 @@ fn prints_rows_of_meters_and_polls(rt: HostRuntime) -> Result<(), Fail> {
         at: 1905,
         outcome: Outcome::Lost(LostCause::Gone),
     };
-    let polls: [(Option<EndedPoll>, &[u8]); 2] =
-        [(None, b"poll 2 pending\n"), (Some(ended), b"poll 2 lost 1\n")];
+    let polls: [(Option<EndedPoll>, &[u8]); 2] = [
+        (None, b"poll 2 pending\n"),
+        (Some(ended), b"poll 2 lost 1\n"),
+    ];
     for (ended, output) in polls {
         let mut printed = Vec::new(rt.alloc());
         print_poll(&PollRow { poll, ended }, &mut printed)?;
