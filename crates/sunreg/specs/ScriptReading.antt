@@ -1,4 +1,4 @@
--- How the words of a script line are read, form by form.
+-- What the private readers of a script line answer, word by word. What a line is stands in `ScriptForms`.
 use Rattle.std.specs.Prelude.{ℕ, if◌then◌else◌, List, [], ◌∷◌, Some, None, codes, option_map}
 use Rattle.std.specs.declared.option.Option.{Option}
 use Rattle.std.specs.Str.{bytes_eq}
