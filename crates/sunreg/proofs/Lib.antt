@@ -6,4 +6,5 @@ pub mod HexText
 pub mod HexWords
 pub mod PlanLines
 pub mod Puts
+pub mod ScriptExamples
 pub mod ScriptLines
