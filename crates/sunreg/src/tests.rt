@@ -1,6 +1,8 @@
 //! Inputs, and what is printed of them.
 use super::*;
+use office_facts::{Answer, Note};
 use point_list::{ListedPoint, PointList, PointName, PointScale, RegisterTable};
+use poll_core::Outcome;
 use std::alloc::Global;
 use std::io::{self, ErrorKind, Read, Write};
 use std::process::Abort;
@@ -404,5 +406,35 @@ fn lists_over_failing_streams(rt: HostRuntime) -> Result<(), Fail> {
             assert_eq!(rt; printed.len(), 0);
         }
     }
+
+#[test]
+fn each_failing_write_of_an_answer_is_told(rt: HostRuntime) -> Result<(), Fail> {
+    let notes = [Note::Outcome {
+        poll: 1,
+        outcome: Outcome::Answered,
+    }];
+    let started = Answer::Started {
+        first: 1,
+        count: 1,
+        of: 2,
+    };
+    let output = b"poll 1 answered\nstarted 1 1 2 00ff\n".as_slice();
+    let mut whole = false;
+    for failing in 1..200 {
+        let mut kept = Kept {
+            got: Vec::new(rt.alloc()),
+            calls: 0,
+            failing,
+        };
+        let ended = print_accepted(&started, &notes, b"\x00\xff", &mut kept);
+        whole = kept.calls < failing;
+        assert!(rt; output.starts_with(&kept.got));
+        assert_eq!(rt; ended.is_ok(), whole);
+        assert_eq!(rt; kept.got.as_slice() == output, whole);
+        if whole {
+            break;
+        }
+    }
+    assert!(rt; whole);
     Ok(())
 }
