@@ -406,6 +406,8 @@ fn lists_over_failing_streams(rt: HostRuntime) -> Result<(), Fail> {
             assert_eq!(rt; printed.len(), 0);
         }
     }
+    Ok(())
+}
 
 #[test]
 fn each_failing_write_of_an_answer_is_told(rt: HostRuntime) -> Result<(), Fail> {
