@@ -22,6 +22,7 @@ use Rattle.office_facts.specs.declared.questions.Installation.{Installation}
 use Rattle.office_facts.specs.Facts.{same, openings_in, opening_of, entries_of}
 use Rattle.office_facts.specs.Readings.{range_of, opened, installation_of, judgement}
 use Rattle.office_facts.specs.Lawful.{EntryFits, AreLawful}
+use Rattle.office_facts.specs.Meters.{InstallationsGoOn}
 use Rattle.office_facts.specs.Listing.{with_entry, with_result, row_with}
 
 -- the laws of entries
@@ -282,3 +283,15 @@ rows_step laws facts b h fits (o ∷ os) all =
 pub rows_entered : EntryLaws → (facts : List Fact) (b : BookedEntry) → AreLawful (fact.Entry b ∷ facts)
     → map (row_with b) (map (installation_of facts) (openings_in facts)) ≡ map (installation_of (fact.Entry b ∷ facts)) (openings_in facts)
 rows_entered laws facts b h = rows_step laws facts b h.1 h.0 (openings_in facts) (all_only facts b.meter h.1)
+
+-- an installation after one more fact
+pub installations_go_on : EntryLaws → InstallationsGoOn
+installations_go_on laws (fact.Device d) facts o h installed = refl
+installations_go_on laws (fact.Register r) facts o h installed = refl
+installations_go_on laws (fact.Opening p) facts o h installed = refl
+installations_go_on laws (fact.Entry b) facts o h installed =
+    row_entered laws facts b h.1 h.0 o
+    (λ e. subst (λ (t : List ℕ). opening_of facts t ≡ Some o) (same_text o.meter b.meter e) installed)
+installations_go_on laws (fact.Hold b) facts o h installed = refl
+installations_go_on laws (fact.Poll p) facts o h installed = refl
+installations_go_on laws (fact.Outcome e) facts o h installed = refl

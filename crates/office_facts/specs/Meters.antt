@@ -1,5 +1,5 @@
 -- What lawful facts say of meters: by their names they are found, their accounts are kept, and the truth is recorded.
-use Rattle.std.specs.Prelude.{◌≡◌, ◌≢◌, ℕ, ℤ, List, [], map, Option, Some, None, All, if◌then◌else◌}
+use Rattle.std.specs.Prelude.{◌≡◌, ◌≢◌, ℕ, ℤ, List, [], ◌∷◌, map, Option, Some, None, All, if◌then◌else◌}
 use Rattle.std.specs.List.{filter, filter_map, AllPairs}
 use Rattle.energy_core.specs.declared.entries.Entry.{Entry}
 use Rattle.energy_core.specs.declared.entries.Entry.TheVariants as entry
@@ -18,6 +18,7 @@ use Rattle.office_facts.specs.declared.questions.Installation.{Installation}
 use Rattle.office_facts.specs.Facts.{same, devices_in, registers_in, openings_in, holds_in, device_of, register_of, opening_of, installed_at, entries_of}
 use Rattle.office_facts.specs.Readings.{range_of, opened, installation_of, meter_of, installation_at}
 use Rattle.office_facts.specs.BooksFaults.{IsSound}
+use Rattle.office_facts.specs.Listing.{row_with}
 use Rattle.office_facts.specs.Lawful.{AreLawful}
 
 -- the opening is that of its meter
@@ -91,6 +92,15 @@ pub record AnswersAreKept (facts : List Fact) : Type 0 where
 
 abbrev pub InstallationsAreKept : Type 0
 InstallationsAreKept = (facts : List Fact) → AreLawful facts → AnswersAreKept facts
+
+-- an installation after one more fact: an entry of its meter is added, and nothing else changes it
+abbrev pub installation_with : Fact → Installation → Installation
+installation_with (fact.Entry booked) row = row_with booked row
+installation_with _ row = row
+
+abbrev pub InstallationsGoOn : Type 0
+InstallationsGoOn = (f : Fact) (facts : List Fact) (opening : Opening) → AreLawful (f ∷ facts) → IsInstalled facts opening
+    → installation_with f (installation_of facts opening) ≡ installation_of (f ∷ facts) opening
 
 -- The opening and all readings of a meter, held ones too, are one for one what a true run shows, and it is read often enough.
 pub record ShowsTrueRun (facts : List Fact) (opening : Opening) (first : Item) (items : List Item) : Type 0 where

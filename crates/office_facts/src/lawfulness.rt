@@ -2,10 +2,13 @@
 ghost use Rattle.office_facts.specs.History.{History, facts_of};
 ghost use Rattle.office_facts.specs.Refusals.{AreAccepted};
 ghost use Rattle.office_facts.specs.Lawful.{AreLawful};
-ghost use Rattle.office_facts.specs.Meters.{NamesAreDistinct, EntriesAreOfReadings, MetersAreKept, InstallationsAreKept, TruthIsRecorded};
+ghost use Rattle.office_facts.specs.Meters.{NamesAreDistinct, EntriesAreOfReadings, MetersAreKept, InstallationsAreKept, InstallationsGoOn, TruthIsRecorded};
 
 use crate::endings::polls_end_once;
-use energy_core::{accounts_are_sound, readings_keep_accounts, truth_is_booked};
+use energy_core::{
+    accepted_is_entered, accounts_are_sound, accounts_begin, accounts_go_on, entered_is_booked,
+    readings_keep_accounts, truth_is_booked,
+};
 use poll_core::one_event_more;
 
 /// Whatever the office accepted, each of its facts may follow those before it.
@@ -42,6 +45,17 @@ pub fn installations_are_kept()
 {
     readings_keep_accounts();
     accounts_are_sound();
+}
+
+/// In lawful facts an installation changes by the entries of its meter alone, and each may be entered.
+pub fn installations_go_on()
+    ensures { InstallationsGoOn }
+{
+    accounts_begin();
+    accounts_go_on();
+    accounts_are_sound();
+    accepted_is_entered();
+    entered_is_booked();
 }
 
 /// Where a meter tells the truth and is read often enough, none of its readings is held, and its steps and its total

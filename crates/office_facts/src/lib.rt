@@ -26,8 +26,8 @@ pub use facts::{
     ScaleSource,
 };
 pub use lawfulness::{
-    entries_are_of_readings, facts_are_lawful, installations_are_kept, meters_are_kept,
-    names_are_distinct, truth_is_recorded,
+    entries_are_of_readings, facts_are_lawful, installations_are_kept, installations_go_on,
+    meters_are_kept, names_are_distinct, truth_is_recorded,
 };
 pub use list_books::ListBooks;
 pub use naming::Name;

@@ -87,7 +87,7 @@ impl Name {
     }
 
     /// Whether this is the same name.
-    pub(crate) fn is(&self, other: &Name) -> bool
+    pub fn is(&self, other: &Name) -> bool
         ensures { result ≡ bytes_eq self.now other.now }
     {
         self.as_bytes() == other.as_bytes()

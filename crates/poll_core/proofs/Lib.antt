@@ -12,3 +12,4 @@ pub mod Readiness
 pub mod Accounts
 pub mod Afterwards
 pub mod WholeAnswers
+pub mod LongerPieces

@@ -5,9 +5,11 @@ ghost use Rattle.std.specs.List.Sorted.{IsPermutation};
 ghost use Rattle.std.specs.Option.{option_to_list};
 ghost use Rattle.mb_wire.specs.Replies.{Answer, word_at};
 ghost use Rattle.poll_core.specs.Polls.{Poll};
-ghost use Rattle.poll_core.specs.Settling.{Event, Answered, settled_by, started, outcomes_at, pending, results, answer, words_in};
+ghost use Rattle.poll_core.specs.Settling.{Event, Piece, Answered, settled_by, started, outcomes_at, pending, results, answer, words_in};
 ghost use Rattle.poll_core.specs.Standing.{is_over};
 ghost use Rattle.poll_core.specs.Laws.{outcomes_by_poll, outcomes_by_event, numbers_started, numbers_settled, numbers_pending, settled_among, with_event, new_result, Waits, AcceptsAll};
+
+use mb_wire::one_reading;
 
 /// Each poll that was started is settled once or is pending. What the events settle, event by event,
 /// is the outcome of each poll that has one.
@@ -51,3 +53,11 @@ pub fn whole_answers()
     ensures words { (answer : Answer) (i : ℕ) → word_at answer i ≡ slice_get (words_in answer) i }
     ensures count { (poll : Poll) (frame words : List ℕ) → answer poll frame ≡ Answered words → length words ≡ poll.span.count }
 {}
+
+/// What a piece settles, a longer one that begins with it settles too.
+pub fn longer_pieces_settle()
+    ensures { (timeout : ℕ) (events : List Event) (moment : ℕ) (piece more : List ℕ) →
+        outcomes_at timeout events (Piece moment (piece ++ more)) ≡ [] → outcomes_at timeout events (Piece moment piece) ≡ [] }
+{
+    one_reading();
+}

@@ -12,7 +12,9 @@ mod table;
 
 pub use answers::{ClockBack, Ready, Settled, StartFault, Turn};
 pub use call::Call;
-pub use laws::{each_once, one_event_more, over_for_good, pending_waits, whole_answers};
+pub use laws::{
+    each_once, longer_pieces_settle, one_event_more, over_for_good, pending_waits, whole_answers,
+};
 pub use outcome::{Closing, LostCause, Malformation, Outcome};
 pub use session::Session;
 

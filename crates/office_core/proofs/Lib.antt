@@ -1,0 +1,13 @@
+pub mod Keeping
+pub mod Opened
+pub mod Words
+pub mod Rows
+pub mod Drafting
+pub mod Turning
+pub mod SettledLines
+pub mod Moments
+pub mod Happened
+pub mod Commanded
+pub mod Started
+pub mod Runs
+pub mod Answered
