@@ -18,9 +18,12 @@ few-read f header rows items all are read =
     let more : length items ≡ suc (length rows) = ap length are in
     omega (arith, size, more)
 
-first-nil : (a b : List FaultyRow) → or_else a b ≡ [] → a ≡ []
+pub first-nil : (a b : List FaultyRow) → or_else a b ≡ [] → a ≡ []
 first-nil [] b h = refl
 first-nil (x ∷ xs) b h = absurd (cc h)
+
+pub second-nil : (a b : List FaultyRow) → a ≡ [] → or_else a b ≡ [] → b ≡ []
+second-nil a b none h = rw none at h
 
 -- fewer rows than are read at most are all rows
 all-read : {X : Type 0} (xs ys : List X) → take 514 xs ≡ ys → length ys < 514 → xs ≡ ys
