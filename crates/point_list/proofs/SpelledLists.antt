@@ -4,7 +4,7 @@ use Rattle.std.proofs.lemmas.Option.{same_Some}
 use Rattle.std.specs.Prelude.{slice_index_or}
 use Rattle.point_list.specs.declared.point.ListedPoint.{ListedPoint}
 use Rattle.point_list.specs.Laws.{FaultlessTextsSpell, SpelledListIsOne, SpelledListsAreLawful}
-use Rattle.point_list.specs.Lists.{SpellEach, SpellsList, faults_below, faulty_rows, is_header, list_faults, no_header, points_of, row_fault, row_faults, rows_read, scale_faults}
+use Rattle.point_list.specs.Lists.{SpellsList, faults_below, faulty_rows, is_header, list_faults, points_of, row_faults, rows_read, scale_faults}
 use Rattle.point_list.specs.Points.{IsPointList}
 use Rattle.point_list.proofs.FaultlessLists.{faultless-each, faultless-lawful, none-told}
 use Rattle.point_list.proofs.TextLemmas.{first-nil, second-nil, spells-list}
