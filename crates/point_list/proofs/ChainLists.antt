@@ -1,7 +1,7 @@
 -- The points of a chain make a list.
-use Rattle.std.proofs.Common.{◌≡◌, ◌≢◌, ◌+◌, ◌≤◌, ◌<◌, ◌^◌, ◌∙◌, ℕ, zero, suc, Bool, true, false, IsTrue, List, [], ◌∷◌, ◌++◌, Some, None, Option, length, map, max, min, drop, filter_map, get_or, take, refl, sym, ap, arith, inl, inr, subst, length-append, append_assoc, append-nil}
-use Rattle.std.specs.Prelude.{◌==◌, ◌&&◌, ◌||◌, nat_le, not, codes, find, if◌then◌else◌, IsSomeAnd, IfSome}
-use Rattle.std.specs.Char.{is_ascii_alphabetic, is_ascii_digit}
+use Rattle.std.proofs.Common.{◌≡◌, ◌≢◌, ◌+◌, ◌≤◌, ◌<◌, ◌^◌, ◌∙◌, ℕ, zero, suc, Bool, true, false, IsTrue, List, [], ◌∷◌, ◌++◌, Some, None, Option, length, map, max, min, drop, get_or, take, refl, sym, ap, arith, inl, inr, subst, length-append, append_assoc, append-nil}
+use Rattle.std.specs.Prelude.{◌&&◌, ◌||◌, nat_le, not, if◌then◌else◌, IsSomeAnd, IfSome}
+use Rattle.std.specs.Char.{is_ascii_digit}
 use Rattle.std.specs.Fmt.{decimal}
 use Rattle.std.specs.List.{All, AllPairs, Any, list_all, list_any}
 use Rattle.std.specs.Option.{option_map_or}
@@ -13,7 +13,7 @@ use Rattle.std.proofs.lemmas.List.Elements.{All-append, All-cons}
 use Rattle.std.proofs.lemmas.List.Folds.{Any-from_list_any, list_all-append}
 use Rattle.std.proofs.lemmas.Slice.Eq.{bytes_eq-Decides}
 use Rattle.sun_points.specs.PointType.{registers_of}
-use Rattle.sun_chain.specs.Chain.{Follow, IsChain, Stands, next_after}
+use Rattle.sun_chain.specs.Chain.{next_after}
 use Rattle.sun_chain.specs.Image.{Words}
 use Rattle.sun_chain.specs.Points.{points_in, seen}
 use Rattle.sun_chain.specs.declared.named_point.NamedPoint.{NamedPoint}
@@ -23,12 +23,11 @@ use Rattle.sun_chain.specs.TableRules.{end_of_row}
 use Rattle.sun_chain.specs.declared.model.Model.{Model}
 use Rattle.point_list.specs.ChainPoints.{chain_name, chain_scale, listed, model_points, points_from}
 use Rattle.point_list.specs.declared.point.ListedPoint.{ListedPoint}
-use Rattle.point_list.specs.declared.point.PointScale.{PointScale}
 use Rattle.point_list.specs.declared.point.PointScale.TheVariants.{Unscaled, Named}
 use Rattle.point_list.specs.Names.{is_name, is_name_byte}
 use Rattle.point_list.specs.Points.{HasLawfulScale, IsGroup, IsPointList, end_of, is_sunssf, scale_point, takes_scale}
 use Rattle.point_list.proofs.ChainPoints.{FromRow, from-rows, other-names, pairs-cons}
-use Rattle.point_list.proofs.ChainTables.{good-tables, have_other_names, is_good_row, is_good_table, is_scaled_by, is_short}
+use Rattle.point_list.proofs.ChainTables.{good-tables, have_other_names, is_good_row, is_scaled_by, is_short}
 use Rattle.point_list.proofs.WrittenFields.{numerals}
 
 and-two : (a b : Bool) → (a && b) ≡ true → (a ≡ true) × (b ≡ true)

@@ -1,14 +1,14 @@
 -- The points of a model, and where they come from.
-use Rattle.std.proofs.Common.{◌≡◌, ◌≢◌, ◌+◌, ◌≤◌, ◌<◌, ◌∙◌, ℕ, zero, suc, Bool, true, false, IsTrue, List, [], ◌∷◌, ◌++◌, Some, None, Option, length, map, filter_map, get_or, option_map, refl, sym, ap, arith, inl, inr, subst}
-use Rattle.std.specs.Prelude.{◌==◌, ◌&&◌, ◌||◌, nat_le, not, if◌then◌else◌}
-use Rattle.std.specs.List.{All, AllPairs, list_all, list_any}
+use Rattle.std.proofs.Common.{◌≡◌, ◌≢◌, ◌+◌, ◌≤◌, ◌∙◌, ℕ, zero, suc, Bool, true, false, List, [], ◌∷◌, Some, None, Option, filter_map, refl, arith}
+use Rattle.std.specs.Prelude.{◌&&◌, nat_le, not}
+use Rattle.std.specs.List.{All, AllPairs, list_all}
 use Rattle.std.specs.Str.{bytes_eq}
 use Rattle.std.proofs.lemmas.List.Elements.{All-cons}
 use Rattle.std.proofs.lemmas.Slice.Eq.{bytes_eq-Decides}
 use Rattle.sun_points.specs.PointType.{registers_of}
-use Rattle.sun_points.specs.Point.{Value, value_of}
-use Rattle.sun_chain.specs.Image.{Words, words_in}
-use Rattle.sun_chain.specs.Points.{point_in, registers_in, value_in}
+use Rattle.sun_points.specs.Point.{Value}
+use Rattle.sun_chain.specs.Image.{Words}
+use Rattle.sun_chain.specs.Points.{point_in, value_in}
 use Rattle.sun_chain.specs.Points.{Named as ModelPoint}
 use Rattle.sun_chain.specs.Tables.{Row}
 use Rattle.sun_chain.specs.declared.model.Model.{Model}

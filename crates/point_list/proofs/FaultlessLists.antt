@@ -1,9 +1,8 @@
 -- Rows none of which has a fault spell the points of a list.
-use Rattle.std.proofs.Common.{◌≡◌, ◌≢◌, ◌+◌, ◌≤◌, ◌<◌, ◌∙◌, ℕ, zero, suc, Bool, true, false, IsTrue, List, [], ◌∷◌, ◌++◌, Some, None, Option, length, map, take, get_or, refl, sym, ap, arith, inl, inr, subst, length-append}
+use Rattle.std.proofs.Common.{◌≡◌, ◌≢◌, ◌+◌, ◌≤◌, ◌<◌, ◌∙◌, ℕ, zero, suc, Bool, true, false, List, [], ◌∷◌, ◌++◌, Some, None, Option, length, map, take, get_or, refl, sym, ap, arith, inl, inr, subst}
 use Rattle.std.specs.Prelude.{nat_le, ◌==◌, ◌&&◌, ◌⊎◌, IsSomeAnd, IfOk, IfErr, Ok, Err}
 use Rattle.std.specs.declared.result.Result.{Result}
-use Rattle.std.specs.List.{All, AllPairs, list_any}
-use Rattle.std.specs.Option.{option_and_then, option_map_or, option_to_list}
+use Rattle.std.specs.List.{All, list_any}
 use Rattle.std.specs.Str.{bytes_eq}
 use Rattle.std.proofs.lemmas.Bool.{cases_Bool}
 use Rattle.std.proofs.lemmas.List.{get_or-map, get_or-take, get_or_default, length-map, length-take-le}
@@ -11,20 +10,17 @@ use Rattle.std.proofs.lemmas.List.Elements.{All-cons}
 use Rattle.std.proofs.lemmas.List.Folds.{list_any-from_Any}
 use Rattle.std.proofs.lemmas.Option.{same_Some}
 use Rattle.std.proofs.lemmas.Slice.Eq.{bytes_eq-Decides}
-use Rattle.sun_points.specs.PointType.{registers_of}
 use Rattle.point_list.specs.declared.fault.FaultyRow.{FaultyRow}
 use Rattle.point_list.specs.declared.fault.ListFault.{ListFault}
 use Rattle.point_list.specs.declared.fault.RowFault.{RowFault}
-use Rattle.point_list.specs.declared.fault.RowFault.TheVariants.{Csv}
 use Rattle.point_list.specs.declared.point.ListedPoint.{ListedPoint}
 use Rattle.point_list.specs.declared.point.RegisterTable.{RegisterTable}
 use Rattle.point_list.specs.declared.point.RegisterTable.TheVariants.{Holding, Input}
 use Rattle.point_list.specs.declared.point.PointScale.{PointScale}
 use Rattle.point_list.specs.declared.point.PointScale.TheVariants.{Unscaled, Fixed, Named}
-use Rattle.point_list.specs.Faults.{RowText, conditions, first_of, has_name, least_fault, six_fields}
-use Rattle.point_list.specs.Lists.{ExplainsList, SpellEach, faults_below, faulty_rows, or_else, is_one_group, group_fault, point_of_row, point_spelled, points_of, row_fault, row_faults, scale_fault, scale_faults}
-use Rattle.point_list.specs.Names.{is_name}
-use Rattle.point_list.specs.Points.{HasLawfulScale, IsGroup, IsPointList, end_of, function_of, scale_point}
+use Rattle.point_list.specs.Faults.{RowText, has_name, six_fields}
+use Rattle.point_list.specs.Lists.{ExplainsList, SpellEach, faults_below, faulty_rows, or_else, is_one_group, group_fault, point_of_row, points_of, row_fault, row_faults, scale_fault, scale_faults}
+use Rattle.point_list.specs.Points.{HasLawfulScale, IsGroup, IsPointList, function_of, scale_point}
 use Rattle.point_list.proofs.ListLemmas.{faulty-push}
 use Rattle.point_list.proofs.SoundRows.{Sound, sound}
 use Rattle.point_list.proofs.SpelledRows.{Spelled, Suits, spelled}

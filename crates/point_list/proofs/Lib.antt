@@ -7,6 +7,7 @@ pub mod ListLemmas
 pub mod RowFacts
 pub mod SixLemmas
 pub mod SoundRows
+pub mod SpelledLists
 pub mod SpelledRows
 pub mod TextLemmas
 pub mod WrittenFields

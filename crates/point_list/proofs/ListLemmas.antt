@@ -1,5 +1,5 @@
 -- Faulty rows, row by row.
-use Rattle.std.proofs.Common.{◌≡◌, ◌+◌, ◌<◌, ◌∙◌, ℕ, zero, suc, List, [], ◌∷◌, ◌++◌, Some, None, Option, length, map, take, get_or, refl, sym, ap, arith, append_assoc, append-nil, length-append, add-one}
+use Rattle.std.proofs.Common.{◌≡◌, ◌+◌, ◌<◌, ◌∙◌, ℕ, zero, suc, List, [], ◌∷◌, ◌++◌, Some, None, Option, length, map, take, get_or, refl, sym, ap, arith, length-append, add-one}
 use Rattle.std.proofs.lemmas.List.{length-map, length-take-le, map-append, take_more}
 use Rattle.point_list.specs.declared.fault.FaultyRow.{FaultyRow}
 use Rattle.point_list.specs.declared.fault.RowFault.{RowFault}

@@ -1,6 +1,6 @@
 -- The rows that were read one by one are the first of `records`.
-use Rattle.std.specs.Prelude.{map, ◌==◌, Bool, true, false, zero, suc}
-use Rattle.std.proofs.Common.{◌≡◌, ◌≤◌, ◌<◌, ◌+◌, ◌-◌, ◌∙◌, ℕ, List, [], ◌∷◌, ◌++◌, Some, None, length, take, refl, sym, ap, arith, inl, inr, append_assoc, zero-add}
+use Rattle.std.specs.Prelude.{◌==◌, Bool, true, false, zero, suc}
+use Rattle.std.proofs.Common.{◌≡◌, ◌≤◌, ◌<◌, ◌+◌, ◌-◌, ◌∙◌, ℕ, List, [], ◌∷◌, ◌++◌, Some, None, length, take, refl, sym, ap, arith, inl, inr, zero-add}
 use Rattle.std.proofs.lemmas.Bool.{cases_Bool}
 use Rattle.std.proofs.lemmas.List.{append-nil, take-append-le, take_all}
 use Rattle.std.proofs.lemmas.Option.{same_Some}

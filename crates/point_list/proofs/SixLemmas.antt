@@ -1,9 +1,8 @@
 -- Six fields, read one by one.
-use Rattle.std.proofs.Common.{◌≡◌, ◌<◌, ℕ, zero, suc, List, [], ◌∷◌, Some, None, length, refl, sym, arith, map, Bool, ap}
-use Rattle.std.specs.List.{list_any}
+use Rattle.std.proofs.Common.{◌≡◌, ◌<◌, ℕ, zero, suc, List, [], ◌∷◌, Some, None, length, refl, arith}
 use Rattle.std.proofs.lemmas.Option.{same_Some}
 use Rattle.csv.specs.Records.{field_at}
-use Rattle.point_list.specs.Faults.{RowText, six_fields}
+use Rattle.point_list.specs.Faults.{six_fields}
 
 -- a field within a row is there
 pub field-there : (fields : List (List ℕ)) (i : ℕ) → i < length fields → field_at fields i ≡ None → ⊥

@@ -1,6 +1,6 @@
 -- A row that lacks nothing spells a point.
-use Rattle.std.proofs.Common.{◌≡◌, ◌≢◌, ◌+◌, ◌≤◌, ◌<◌, ◌∙◌, ℕ, zero, suc, ℤ, pos, negsuc, Bool, true, false, IsTrue, List, [], ◌∷◌, ◌++◌, Some, None, Option, length, drop, refl, sym, ap, arith, inl, inr, rules}
-use Rattle.std.specs.Prelude.{◌==◌, nat_le, nat_lt, not, if◌then◌else◌, ◌&&◌, ◌||◌, is_none, int_le, codes}
+use Rattle.std.proofs.Common.{◌≡◌, ◌≤◌, ℕ, zero, suc, ℤ, pos, negsuc, Bool, true, false, IsTrue, List, [], ◌∷◌, Some, None, Option, drop, refl, arith, inl, inr, rules}
+use Rattle.std.specs.Prelude.{◌==◌, nat_le, not, if◌then◌else◌, ◌&&◌, ◌||◌, is_none, int_le, codes}
 use Rattle.std.specs.Option.{option_and_then, option_map}
 use Rattle.std.specs.List.{starts_with}
 use Rattle.std.specs.Str.{bytes_eq}
@@ -11,14 +11,9 @@ use Rattle.sun_points.specs.declared.point_type.PointType.TheVariants as kind
 use Rattle.sun_points.specs.PointType.{registers_of}
 use Rattle.point_list.specs.declared.fault.RowFault.{RowFault}
 use Rattle.point_list.specs.declared.fault.RowFault.TheVariants as fault
-use Rattle.point_list.specs.declared.point.ListedPoint.{ListedPoint}
-use Rattle.point_list.specs.declared.point.PointScale.{PointScale}
-use Rattle.point_list.specs.declared.point.PointScale.TheVariants.{Unscaled, Fixed, Named}
-use Rattle.point_list.specs.Faults.{RowText, conditions_where, first_of, is_bad_scale, is_fixed_scale, is_no_number, reaches_past}
+use Rattle.point_list.specs.Faults.{RowText, conditions_where, first_of, is_bad_scale, is_no_number, reaches_past}
 use Rattle.point_list.specs.Fields.{fixed_scale_of, minus, number_of, number_within, table_of, text_type_of, type_of}
-use Rattle.point_list.specs.Lists.{point_spelled, scale_spelled}
 use Rattle.point_list.specs.Names.{is_name}
-use Rattle.point_list.specs.Points.{takes_scale}
 
 -- what six fields are that lack nothing
 pub record Sound (taken : Bool) (place : ℕ) (row : RowText) : Type 0 where

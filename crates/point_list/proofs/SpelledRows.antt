@@ -1,9 +1,6 @@
 -- The point of a row that lacks nothing.
-use Rattle.std.proofs.Common.{◌≡◌, ◌≢◌, ◌+◌, ◌≤◌, ◌<◌, ◌∙◌, ℕ, zero, suc, ℤ, pos, negsuc, Bool, true, false, IsTrue, List, [], ◌∷◌, ◌++◌, Some, None, Option, length, refl, sym, ap, arith, inl, inr}
-use Rattle.std.specs.Prelude.{◌==◌, nat_le, nat_lt, not, ◌&&◌, ◌||◌, is_none, is_some, int_le, if◌then◌else◌}
-use Rattle.std.specs.Option.{option_and_then, option_map, option_or}
-use Rattle.std.proofs.lemmas.Bool.{cases_Bool}
-use Rattle.std.proofs.lemmas.Option.{same_Some}
+use Rattle.std.proofs.Common.{◌≡◌, ◌+◌, ◌≤◌, ℕ, ℤ, pos, negsuc, Bool, true, false, IsTrue, List, [], ◌∷◌, Some, None, Option, refl, arith}
+use Rattle.std.specs.Prelude.{nat_lt, not, ◌&&◌, ◌||◌, is_some, int_le}
 use Rattle.sun_points.specs.declared.point_type.PointType.{PointType}
 use Rattle.sun_points.specs.PointType.{registers_of}
 use Rattle.point_list.specs.declared.point.ListedPoint.{ListedPoint}
@@ -11,7 +8,7 @@ use Rattle.point_list.specs.declared.point.PointScale.{PointScale}
 use Rattle.point_list.specs.declared.point.PointScale.TheVariants.{Unscaled, Fixed, Named}
 use Rattle.point_list.specs.Faults.{RowText, is_bad_scale, is_no_number, reaches_past}
 use Rattle.point_list.specs.Fields.{fixed_scale_of, number_within, table_of, type_of}
-use Rattle.point_list.specs.Lists.{named_scale, point_spelled, scale_spelled}
+use Rattle.point_list.specs.Lists.{point_spelled, scale_spelled}
 use Rattle.point_list.specs.Names.{is_name}
 use Rattle.point_list.specs.Points.{end_of, takes_scale}
 use Rattle.point_list.proofs.SoundRows.{Sound, fixed-bounds, not-false, or-first, there, type-sized}

@@ -1,10 +1,10 @@
 -- The rows of a text that were read, and all of its rows.
-use Rattle.std.proofs.Common.{◌≡◌, ◌+◌, ◌≤◌, ◌<◌, ◌∙◌, ℕ, suc, true, List, [], ◌∷◌, length, map, min, take, drop, refl, sym, ap, arith, subst}
+use Rattle.std.proofs.Common.{◌≡◌, ◌≤◌, ◌<◌, ◌∙◌, ℕ, suc, true, List, [], ◌∷◌, length, map, min, take, drop, refl, sym, ap, arith, subst}
 use Rattle.std.proofs.lemmas.Grind.{common_steps}
 use Rattle.std.proofs.lemmas.List.{length-map, take_all}
 use Rattle.point_list.specs.declared.fault.FaultyRow.{FaultyRow}
 use Rattle.point_list.specs.declared.point.ListedPoint.{ListedPoint}
-use Rattle.point_list.specs.Lists.{SpellEach, SpellsList, faults_below, faulty_rows, is_header, list_faults, no_header, or_else, point_of_row, points_of, row_faults, rows_read, scale_faults}
+use Rattle.point_list.specs.Lists.{SpellEach, SpellsList, faults_below, faulty_rows, is_header, list_faults, or_else, points_of, row_faults, rows_read, scale_faults}
 use Rattle.point_list.specs.Rows.{csv_rows}
 use Rattle.point_list.proofs.FaultlessLists.{faultless-each, faultless-few, as-many, none-told}
 
@@ -18,9 +18,12 @@ few-read f header rows items all are read =
     let more : length items ≡ suc (length rows) = ap length are in
     omega (arith, size, more)
 
-first-nil : (a b : List FaultyRow) → or_else a b ≡ [] → a ≡ []
+pub first-nil : (a b : List FaultyRow) → or_else a b ≡ [] → a ≡ []
 first-nil [] b h = refl
 first-nil (x ∷ xs) b h = absurd (cc h)
+
+pub second-nil : (a b : List FaultyRow) → a ≡ [] → or_else a b ≡ [] → b ≡ []
+second-nil a b none h = rw none at h
 
 -- fewer rows than are read at most are all rows
 all-read : {X : Type 0} (xs ys : List X) → take 514 xs ≡ ys → length ys < 514 → xs ≡ ys

@@ -1,27 +1,25 @@
 -- A written list lacks nothing, and spells the same list.
-use Rattle.std.proofs.Common.{◌≡◌, ◌≢◌, ◌+◌, ◌≤◌, ◌<◌, ◌^◌, ◌∙◌, ℕ, zero, suc, Bool, true, false, IsTrue, List, [], ◌∷◌, ◌++◌, Some, None, Option, length, map, max, min, take, drop, get_or, refl, sym, ap, arith, inl, inr, subst}
-use Rattle.std.specs.Prelude.{nat_le, nat_lt, not, ◌==◌, ◌||◌, is_none, is_some, IsSomeAnd}
+use Rattle.std.proofs.Common.{◌≡◌, ◌≢◌, ◌+◌, ◌≤◌, ◌<◌, ◌∙◌, ℕ, zero, suc, Bool, true, false, IsTrue, List, [], ◌∷◌, Some, None, Option, length, map, max, min, take, drop, get_or, refl, sym, ap, arith, inl, inr, subst}
+use Rattle.std.specs.Prelude.{nat_le, nat_lt, ◌==◌, is_some, IsSomeAnd}
 use Rattle.std.specs.Prelude.{IfOk, Ok, Err}
 use Rattle.std.specs.declared.result.Result.{Result}
 use Rattle.std.specs.Fmt.{decimal}
 use Rattle.std.specs.List.{All, AllPairs, list_any}
-use Rattle.std.specs.Option.{option_to_list}
 use Rattle.std.specs.Str.{bytes_eq}
 use Rattle.std.proofs.lemmas.Bool.{cases_Bool}
 use Rattle.std.proofs.lemmas.List.{get_or-map, get_or_default, length-map, take-map, take_all}
 use Rattle.std.proofs.lemmas.List.Folds.{list_any_none}
 use Rattle.std.proofs.lemmas.Slice.Eq.{bytes_eq-Decides}
 use Rattle.csv.specs.Writing.{read_back}
-use Rattle.sun_points.specs.declared.point_type.PointType.{PointType}
 use Rattle.sun_points.specs.PointType.{registers_of}
 use Rattle.point_list.specs.declared.fault.FaultyRow.{FaultyRow}
 use Rattle.point_list.specs.declared.fault.RowFault.{RowFault}
 use Rattle.point_list.specs.declared.point.ListedPoint.{ListedPoint}
 use Rattle.point_list.specs.declared.point.PointScale.{PointScale}
 use Rattle.point_list.specs.declared.point.PointScale.TheVariants.{Unscaled, Fixed, Named}
-use Rattle.point_list.specs.Faults.{RowText, conditions, first_of, has_name, is_bad_scale, is_no_number, least_fault, reaches_past}
+use Rattle.point_list.specs.Faults.{RowText, has_name, is_bad_scale, least_fault}
 use Rattle.point_list.specs.Fields.{number_within, table_of, type_of}
-use Rattle.point_list.specs.Lists.{SpellEach, SpellsList, faults_below, faulty_rows, group_fault, is_one_group, list_faults, or_else, point_of_row, point_spelled, points_of, row_fault, row_faults, rows_read, scale_fault, scale_faults, scale_spelled}
+use Rattle.point_list.specs.Lists.{SpellsList, faults_below, faulty_rows, group_fault, is_one_group, list_faults, or_else, point_of_row, points_of, row_fault, row_faults, rows_read, scale_fault, scale_faults, scale_spelled}
 use Rattle.point_list.specs.Names.{is_name}
 use Rattle.point_list.specs.Points.{HasLawfulScale, IsGroup, IsPointList, end_of, function_of, is_sunssf, scale_point}
 use Rattle.point_list.specs.Rows.{csv_rows}

@@ -1,5 +1,5 @@
 -- What a row may lack.
-use Rattle.std.specs.Prelude.{ℕ, ◌+◌, ◌==◌, Bool, true, false, nat_le, nat_lt, not, ◌&&◌, ◌||◌, if◌then◌else◌, List, [], ◌∷◌, Some, None, is_none, is_some, IsTrue}
+use Rattle.std.specs.Prelude.{ℕ, ◌+◌, Bool, false, nat_le, nat_lt, not, ◌||◌, if◌then◌else◌, List, [], ◌∷◌, Some, None, is_none, is_some}
 use Rattle.std.specs.declared.option.Option.{Option}
 use Rattle.std.specs.List.{list_any}
 use Rattle.std.specs.Option.{option_map_or}
@@ -9,7 +9,7 @@ use Rattle.sun_points.specs.PointType.{registers_of}
 use Rattle.point_list.specs.declared.fault.RowFault.{RowFault}
 use Rattle.point_list.specs.declared.fault.RowFault.TheVariants.{Csv, Header, Name, DoubleName, Function, Area, Address, «Type», Scale, NoSuchScale, GroupTooWide, TooMany}
 use Rattle.point_list.specs.declared.row.RowFields.{RowFields}
-use Rattle.point_list.specs.Fields.{fixed_scale_of, number_of, number_within, table_of, type_of}
+use Rattle.point_list.specs.Fields.{fixed_scale_of, number_within, table_of, type_of}
 use Rattle.point_list.specs.Names.{is_name}
 use Rattle.point_list.specs.Points.{takes_scale}
 

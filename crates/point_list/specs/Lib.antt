@@ -1,6 +1,7 @@
 pub mod ChainPoints
 pub mod Faults
 pub mod Fields
+pub mod Laws
 pub mod Lists
 pub mod Names
 pub mod Points

@@ -1,5 +1,5 @@
 -- Lists of points.
-use Rattle.std.specs.Prelude.{ℕ, ℤ, ◌≡◌, ◌≢◌, ◌+◌, ◌≤◌, Bool, true, false, ◌&&◌, List, length, max, min, IsTrue, IsSomeAnd, int_le, pos, negsuc}
+use Rattle.std.specs.Prelude.{ℕ, ◌≡◌, ◌≢◌, ◌+◌, ◌≤◌, Bool, true, false, ◌&&◌, List, length, max, min, IsTrue, IsSomeAnd, int_le, pos, negsuc}
 use Rattle.std.specs.declared.option.Option.{Option}
 use Rattle.std.specs.List.{All, AllPairs, find}
 use Rattle.std.specs.Str.{bytes_eq}

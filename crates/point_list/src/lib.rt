@@ -7,6 +7,7 @@ mod chain_tests;
 mod fault;
 mod fields;
 mod lawful;
+mod laws;
 mod list;
 mod name;
 mod point;
@@ -25,6 +26,7 @@ mod written;
 
 pub use chain_points::from_chain;
 pub use fault::{FaultyRow, FaultyRows, ListFault, RowFault};
+pub use laws::texts_spell_one_list;
 pub use list::PointList;
 pub use name::PointName;
 pub use point::{ListedPoint, PointScale, RegisterTable, find_scale};

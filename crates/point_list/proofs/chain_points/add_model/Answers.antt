@@ -1,10 +1,9 @@
-use Rattle.std.proofs.Common.{◌≡◌, ◌∙◌, ◌++◌, List, map, take, ap, subst}
+use Rattle.std.proofs.Common.{◌≡◌, ◌∙◌, ◌++◌, List, map, ap, subst}
 use Rattle.std.specs.Prelude.{OnOk}
 use Rattle.sun_chain.specs.Chain.{words_of}
 use Rattle.sun_chain.specs.Points.{points_in, seen}
 use Rattle.sun_chain.specs.declared.named_point.NamedPoint.{NamedPoint}
 use Rattle.point_list.specs.declared.point.ListedPoint.{ListedPoint}
-use Rattle.point_list.specs.ChainPoints.{listed, model_points}
 use Rattle.point_list.proofs.ChainLists.{listed-each, model-seen}
 use Rattle.point_list.proofs.chain_points.add_model.Goals as goal
 

@@ -1,9 +1,9 @@
-use Rattle.std.proofs.Common.{◌≡◌, ◌∙◌, ◌<◌, ◌++◌, ◌+◌, List, ap, arith, get_or, length, sym}
+use Rattle.std.proofs.Common.{◌≡◌, ◌∙◌, ◌<◌, ◌++◌, ◌+◌, List, ap, arith, get_or, length}
 use Rattle.std.proofs.lemmas.List.{get_or_default}
 use Rattle.sun_chain.specs.Chain.{models_of, words_of}
 use Rattle.sun_chain.specs.declared.model.Model.{Model}
 use Rattle.point_list.specs.declared.point.ListedPoint.{ListedPoint}
-use Rattle.point_list.specs.ChainPoints.{model_points, points_from}
+use Rattle.point_list.specs.ChainPoints.{model_points}
 use Rattle.point_list.proofs.ChainLists.{points-next}
 use Rattle.point_list.proofs.chain_points.chain_points.Goals as goal
 

@@ -1,6 +1,5 @@
-use Rattle.std.proofs.Common.{◌≡◌, ◌≤◌, ◌∙◌, List, length, ap, arith, subst, sym}
+use Rattle.std.proofs.Common.{◌≡◌, ◌≤◌, length, ap, arith, subst, sym}
 use Rattle.sun_chain.specs.Chain.{models_of, words_of}
-use Rattle.point_list.specs.declared.point.ListedPoint.{ListedPoint}
 use Rattle.point_list.specs.ChainPoints.{points_of_chain}
 use Rattle.point_list.specs.Points.{IsPointList}
 use Rattle.point_list.proofs.ChainLists.{chain-list}

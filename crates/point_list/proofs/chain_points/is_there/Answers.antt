@@ -1,4 +1,4 @@
-use Rattle.std.proofs.Common.{◌≡◌, ◌∙◌, sym}
+use Rattle.std.proofs.Common.{◌∙◌, sym}
 use Rattle.std.specs.Str.{bytes_eq}
 use Rattle.sun_chain.specs.Points.{seen}
 use Rattle.point_list.proofs.AnyLemmas.{list_any-map}

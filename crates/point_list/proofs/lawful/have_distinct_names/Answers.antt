@@ -1,4 +1,4 @@
-use Rattle.std.proofs.Common.{◌≡◌, ◌≢◌, ◌∙◌, ◌<◌, ◌≤◌, ℕ, List, IsTrue, ap, arith, false, get_or, length, rules, subst, sym, take, true}
+use Rattle.std.proofs.Common.{◌≡◌, ◌≢◌, ◌∙◌, ℕ, List, IsTrue, ap, false, rules, subst, sym, take, true}
 use Rattle.std.specs.List.{All, AllPairs}
 use Rattle.std.proofs.lemmas.List.{take_all}
 use Rattle.point_list.specs.declared.point.ListedPoint.{ListedPoint}

@@ -1,10 +1,8 @@
-use Rattle.std.proofs.Common.{◌≡◌, ◌≤◌, ◌<◌, ◌∙◌, ℕ, List, [], None, length, map, ap, arith, rules, subst, sym}
+use Rattle.std.proofs.Common.{◌≡◌, List, [], length, map, ap, arith, subst, sym}
 use Rattle.std.proofs.lemmas.List.{length-map}
-use Rattle.std.proofs.lemmas.Grind.{common_steps}
-use Rattle.csv.specs.Records.{Row, fields_of}
-use Rattle.point_list.specs.declared.fault.FaultyRow.{FaultyRow}
+use Rattle.csv.specs.Records.{fields_of}
 use Rattle.point_list.specs.declared.point.ListedPoint.{ListedPoint}
-use Rattle.point_list.specs.Lists.{faulty_rows, points_of, row_fault, scale_faults}
+use Rattle.point_list.specs.Lists.{faulty_rows, points_of, scale_faults}
 use Rattle.point_list.specs.Points.{IsPointList}
 use Rattle.point_list.proofs.FaultlessLists.{below-list, faultless-few, faultless-lawful, no-items, none-below}
 use Rattle.point_list.proofs.reading.list_below.Goals as goal

@@ -1,7 +1,7 @@
-use Rattle.std.proofs.Common.{◌≡◌, ◌∙◌, ◌+◌, ◌++◌, ◌∷◌, [], List, Option, ap, sym, take}
+use Rattle.std.proofs.Common.{◌∙◌, ◌+◌, ◌++◌, ◌∷◌, [], List, Option, ap, sym, take}
 use Rattle.point_list.specs.declared.fault.FaultyRow.{FaultyRow}
 use Rattle.point_list.specs.declared.fault.RowFault.{RowFault}
-use Rattle.point_list.specs.Lists.{faulty_rows, scale_fault, scale_faults}
+use Rattle.point_list.specs.Lists.{faulty_rows, scale_faults}
 use Rattle.point_list.proofs.ListLemmas.{scale-more}
 use Rattle.point_list.proofs.reading.scale_faults.Goals as goal
 

@@ -1,9 +1,7 @@
-use Rattle.std.proofs.Common.{◌≡◌, ◌∙◌, Bool, Some, None, ap, map, sym}
-use Rattle.std.specs.List.{list_any}
+use Rattle.std.proofs.Common.{◌∙◌, Bool, Some, ap, map, sym}
 use Rattle.std.specs.Option.{option_map_or}
 use Rattle.std.specs.declared.option.Option.{Option}
 use Rattle.csv.specs.Records.{fields_of}
-use Rattle.point_list.specs.declared.fault.RowFault.{RowFault}
 use Rattle.point_list.specs.declared.fault.RowFault.TheVariants.{Csv}
 use Rattle.point_list.specs.Faults.{RowText, conditions, conditions_where, first_of, has_name, seen_row}
 use Rattle.point_list.proofs.AnyLemmas.{list_any-map}

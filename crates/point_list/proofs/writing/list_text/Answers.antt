@@ -1,12 +1,9 @@
-use Rattle.std.proofs.Common.{◌≡◌, ◌∙◌, ◌≤◌, ◌∷◌, ℕ, List, Ok, Err, map, ap, sym, subst}
-use Rattle.std.specs.Prelude.{IfOk}
+use Rattle.std.proofs.Common.{◌≡◌, ◌∙◌, ◌≤◌, ◌∷◌, List, map, ap, subst}
 use Rattle.std.specs.List.{All}
 use Rattle.csv.specs.Records.{Row, fields_of}
 use Rattle.point_list.specs.declared.point.ListedPoint.{ListedPoint}
-use Rattle.point_list.specs.Lists.{SpellsList}
-use Rattle.point_list.specs.Points.{IsPointList}
-use Rattle.point_list.specs.Written.{header_row, row_of, rows_text}
-use Rattle.point_list.proofs.WrittenLists.{spells-written, written-list}
+use Rattle.point_list.specs.Written.{header_row, row_of}
+use Rattle.point_list.proofs.WrittenLists.{spells-written}
 use Rattle.point_list.proofs.writing.list_text.Goals as goal
 
 pub returns : goal.returns

@@ -1,4 +1,4 @@
-use Rattle.std.proofs.Common.{◌≡◌, ◌<◌, length, arith, sym, refl}
+use Rattle.std.proofs.Common.{◌≡◌, length, arith, sym}
 use Rattle.csv.specs.Records.{fields_of}
 use Rattle.point_list.proofs.SixLemmas.{field-there, six-of-fields}
 use Rattle.point_list.proofs.row.RowFields.of_row.Goals as goal
