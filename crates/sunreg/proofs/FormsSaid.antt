@@ -149,7 +149,7 @@ decoded : (r : Result (List ℕ) FromHexError) (bytes : List ℕ) → result_ok 
 decoded (Ok read) bytes h = ap Ok (same read bytes h)
 decoded (Err e) bytes h = cc h
 
-no_hex : (hex : List ℕ) → bytes_of hex ≡ Some [] → ⊥
+pub no_hex : (hex : List ℕ) → bytes_of hex ≡ Some [] → ⊥
 no_hex hex h =
     elim (chosen (nat_le 1 (length hex) && nat_le (length hex) 131072) (result_ok (decode_of hex)) None [] h) [
       | inl here ↦

@@ -1,5 +1,5 @@
 -- What the private readers of a script line answer, word by word. What a line is stands in `ScriptForms`.
-use Rattle.std.specs.Prelude.{ℕ, if◌then◌else◌, List, [], ◌∷◌, Some, None, codes, option_map}
+use Rattle.std.specs.Prelude.{ℕ, Bool, true, false, if◌then◌else◌, List, [], ◌∷◌, Some, None, codes, option_map}
 use Rattle.std.specs.declared.option.Option.{Option}
 use Rattle.std.specs.Str.{bytes_eq}
 use Rattle.office_facts.specs.declared.commands.Command.TheVariants as command
@@ -139,3 +139,18 @@ said_from (Some at) word words = timed_said at words
 abbrev pub line_said : List (List ℕ) → Option ScriptLine
 line_said [] = None
 line_said (word ∷ words) = said_from (number_of word) word words
+
+-- one byte or more
+abbrev pub has_bytes : Option (List ℕ) → Bool
+has_bytes None = false
+has_bytes (Some []) = false
+has_bytes (Some (byte ∷ bytes)) = true
+
+-- bytes came from a device
+abbrev pub brings_bytes : Option Event → Bool
+brings_bytes (Some (event.Bytes device piece)) = has_bytes (Some piece)
+brings_bytes _ = false
+
+abbrev pub tells_bytes : Option ScriptLine → Bool
+tells_bytes (Some (line.Event at event)) = brings_bytes (Some event)
+tells_bytes _ = false

@@ -1,6 +1,6 @@
 //! The forms of a script's lines, behind their first words.
-ghost use Rattle.std.specs.Prelude.{◌≡◌, IfOk, IsErr, IsSome, option_map};
-ghost use Rattle.sunreg.specs.ScriptReading.{bytes_said, device_said, five, four, install_said, name_said, number_said, one, piece_of, plain_said, register_said, tick_said, verb_of};
+ghost use Rattle.std.specs.Prelude.{◌≡◌, IfOk, IsErr, IsTrue, option_map};
+ghost use Rattle.sunreg.specs.ScriptReading.{brings_bytes, bytes_said, device_said, five, four, has_bytes, install_said, name_said, number_said, one, piece_of, plain_said, register_said, tick_said, verb_of};
 
 use crate::fields::{any_name, given_scale, signed_number};
 use crate::values::{hex_bytes, number};
@@ -178,9 +178,10 @@ pub(crate) fn plain_event(verb: Verb, words: &mut Words<'_>) -> Option<Event>
 }
 
 // Hex, which may be missing for no bytes.
+#[tactic(auto, using(crate::proofs::ScriptLines::hex_has_bytes))]
 fn piece(alloc: Global, words: &mut Words<'_>) -> Result<Option<Piece>, AllocError>
     ensures value { IfOk result (λ found. found ≡ piece_of words.old) }
-    ensures memory { IsErr result → IsSome (piece_of words.old) }
+    ensures memory { IsErr result → IsTrue (has_bytes (piece_of words.old)) }
 {
     let Some(hex) = words.next_word() else {
         return Ok(Some(Piece::new(Vec::new(alloc))));
@@ -192,9 +193,10 @@ fn piece(alloc: Global, words: &mut Words<'_>) -> Result<Option<Piece>, AllocErr
 }
 
 /// `DEVICE HEX`.
+#[tactic(auto, using(crate::proofs::ScriptLines::bytes_brought))]
 pub(crate) fn bytes(alloc: Global, words: &mut Words<'_>) -> Result<Option<Event>, AllocError>
     ensures value { IfOk result (λ found. found ≡ bytes_said words.old) }
-    ensures memory { IsErr result → IsSome (bytes_said words.old) }
+    ensures memory { IsErr result → IsTrue (brings_bytes (bytes_said words.old)) }
 {
     let Some(name) = words.next_word() else {
         return Ok(None);

@@ -1,7 +1,7 @@
 //! The lines of a script.
-ghost use Rattle.std.specs.Prelude.{◌≡◌, ◌↔◌, ◌∷◌, IfOk, IfSome, IsErr, IsSome, option_map};
+ghost use Rattle.std.specs.Prelude.{◌≡◌, ◌↔◌, ◌∷◌, IfOk, IfSome, IsErr, IsSome, IsTrue, option_map};
 ghost use Rattle.sunreg.specs.Lines.{words_of};
-ghost use Rattle.sunreg.specs.ScriptReading.{event_said, line_said, question_said, start_said, timed_said};
+ghost use Rattle.sunreg.specs.ScriptReading.{brings_bytes, event_said, line_said, question_said, start_said, tells_bytes, timed_said};
 
 use crate::fields::any_name;
 use crate::forms::{bytes, four, name_alone, number_alone, plain_event, verb_of};
@@ -39,7 +39,7 @@ impl GivenStart {
     }
 }
 
-/// A line of a script. Moments are seconds since 1970-01-01 UTC, with numbers as they were written.
+/// A line of a script. Moments are seconds since 1970-01-01 UTC; numbers are as they were written.
 #[derive(Drop)]
 pub enum ScriptLine {
     /// Something comes to the office.
@@ -72,7 +72,7 @@ impl ScriptLine {
 // The line that a text spells.
 fn line_in(alloc: Global, line: &[u8]) -> Result<Option<ScriptLine>, AllocError>
     ensures value { IfOk result (λ found. found ≡ line_said (words_of line.now)) }
-    ensures memory { IsErr result → IsSome (line_said (words_of line.now)) }
+    ensures memory { IsErr result → IsTrue (tells_bytes (line_said (words_of line.now))) }
 {
     let mut words = Words::of(line);
     match words.next_word() {
@@ -88,7 +88,7 @@ fn line_from(
     words: &mut Words<'_>,
 ) -> Result<Option<ScriptLine>, AllocError>
     ensures value { IfOk result (λ found. found ≡ line_said (first.now ∷ words.old)) }
-    ensures memory { IsErr result → IsSome (line_said (first.now ∷ words.old)) }
+    ensures memory { IsErr result → IsTrue (tells_bytes (line_said (first.now ∷ words.old))) }
 {
     match number(first) {
         Some(at) => timed_line(alloc, at, words),
@@ -114,14 +114,14 @@ fn question(first: &[u8], words: &mut Words<'_>) -> Option<ScriptLine>
 }
 
 // The line of a moment.
-#[tactic(auto, using(crate::proofs::ScriptLines::some_mapped))]
+#[tactic(auto, using(crate::proofs::ScriptLines::bytes_told))]
 fn timed_line(
     alloc: Global,
     at: u64,
     words: &mut Words<'_>,
 ) -> Result<Option<ScriptLine>, AllocError>
     ensures value { IfOk result (λ found. found ≡ timed_said at words.old) }
-    ensures memory { IsErr result → IsSome (timed_said at words.old) }
+    ensures memory { IsErr result → IsTrue (tells_bytes (timed_said at words.old)) }
 {
     let Some(word) = words.next_word() else {
         return Ok(None);
@@ -162,7 +162,7 @@ fn given_start(words: &mut Words<'_>) -> Option<GivenStart>
 // The event whose form begins with a word.
 fn event(alloc: Global, word: &[u8], words: &mut Words<'_>) -> Result<Option<Event>, AllocError>
     ensures value { IfOk result (λ found. found ≡ event_said word.now words.old) }
-    ensures memory { IsErr result → IsSome (event_said word.now words.old) }
+    ensures memory { IsErr result → IsTrue (brings_bytes (event_said word.now words.old)) }
 {
     if word == b"bytes".as_slice() {
         return bytes(alloc, words);
