@@ -7,6 +7,9 @@ pub mod Turning
 pub mod SettledLines
 pub mod Moments
 pub mod Happened
+pub mod Commanded
+pub mod Started
 pub mod Runs
+pub mod Answered
 pub mod PollsOnce
 pub mod Energy

@@ -6,4 +6,5 @@ pub mod Opening
 pub mod Drafts
 pub mod Settling
 pub mod Standing
+pub mod Starting
 pub mod Running

@@ -16,6 +16,7 @@ ghost use Rattle.office_core.specs.Keeping.{KeepsLines};
 ghost use Rattle.office_core.specs.Standing.{AreFaultsOf, IsFailure, IsPastLimit};
 
 use crate::lines::Line;
+use crate::opening::opened;
 use crate::outgoing::Outgoing;
 use crate::starting::start_poll;
 use mb_wire::ReadFunction;
@@ -36,6 +37,13 @@ fn device_by(add: &AddDevice) -> Option<Device>
         timeout: Timeout::new(add.timeout)?,
         window: Window::new(add.window)?,
     })
+}
+
+/// The fact of a device.
+fn device_fact(device: &Device) -> Fact
+    ensures { result ≡ fact.Device device.now }
+{
+    Fact::Device(*device)
 }
 
 fn function_by(function: u64) -> ReadFunction
@@ -114,11 +122,8 @@ fn add_device<B: Books>(
         return Ok(());
     };
     lines.reserve(1)?;
-    books.book(&[Fact::Device(device)])?;
-    lines.push_reserved(Line {
-        device,
-        session: None,
-    });
+    books.book(&[device_fact(&device)])?;
+    lines.push_reserved(opened(&device));
     Ok(())
 }
 

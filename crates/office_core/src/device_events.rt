@@ -1,10 +1,12 @@
 //! What comes from the devices and their connections.
-ghost use Rattle.std.specs.Prelude.{◌≡◌, ◌≤◌, ◌∷◌, List, None, OnOk, OnErr, IsOk, IfOk};
+ghost use Rattle.std.specs.Prelude.{◌≡◌, ◌≤◌, ◌∷◌, [], List, None, OnOk, OnErr, IsOk, IfOk};
 ghost use Rattle.office_facts.specs.declared.facts.Fact.{Fact};
 ghost use Rattle.office_facts.specs.BooksFaults.{faults_after};
 ghost use Rattle.office_facts.specs.History.{History, Fed, facts_of, lines_of, next_poll};
 ghost use Rattle.office_facts.specs.Notes.{notes_of};
 ghost use Rattle.office_facts.specs.Refusals.{AreAccepted, refusal_of};
+ghost use Rattle.office_facts.specs.Lawful.{AreLawful};
+ghost use Rattle.office_core.specs.Drafts.{so_far};
 ghost use Rattle.office_core.specs.Keeping.{KeepsLines};
 ghost use Rattle.office_core.specs.Settling.{IsSettling, SettleNothing};
 
@@ -13,6 +15,20 @@ use crate::lines::Line;
 use crate::settling::settle_lines;
 use office_facts::{Books, BooksFault, Event, facts_are_lawful};
 use std::alloc::Global;
+
+/// Books what a draft adds, if it adds anything.
+fn book_draft<B: Books>(books: &mut B, draft: &Draft) -> Result<(), BooksFault>
+    ensures booked { (held : List Fact) → B.holds books.old held → AreLawful (so_far draft.now held) → OnOk result (B.holds books.new (so_far draft.now held)) }
+    ensures quiet { draft.now.facts.items ≡ [] → IsOk result × (books.new ≡ books.old) }
+    ensures kept { (held : List Fact) → B.holds books.old held → OnErr result (B.holds books.new held) }
+    ensures clean { B.is_clean books.new → B.is_clean books.old }
+    ensures faults { B.fault_count books.new ≡ faults_after result (B.fault_count books.old) }
+{
+    if draft.facts.is_empty() {
+        return Ok(());
+    }
+    books.book(&draft.facts)
+}
 
 /// Brings an event to the sessions, and books what it settles, all at once; an event that settles nothing asks no books.
 /// What is told is answered.
@@ -41,8 +57,6 @@ pub fn settle_event<B: Books>(
     facts_are_lawful();
     let mut draft = Draft::new(alloc);
     settle_lines(lines, books, &mut draft, moment, event)?;
-    if !draft.facts.is_empty() {
-        books.book(&draft.facts)?;
-    }
+    book_draft(books, &draft)?;
     Ok(draft)
 }

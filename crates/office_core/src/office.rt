@@ -1,17 +1,16 @@
 //! The office.
-ghost use Rattle.std.specs.Prelude.{◌≡◌, ◌↔◌, ◌⊎◌, true, false, List, [], ◌∷◌, None, Err, IfOk, IfErr, MatchResult, Some};
+ghost use Rattle.std.specs.Prelude.{◌≡◌, ◌≤◌, ◌↔◌, ◌⊎◌, ◌||◌, true, false, List, [], ◌∷◌, None, Err, IfOk, IfErr, IsOk, MatchResult, Some};
 ghost use Rattle.std.specs.Option.{option_and_then};
 ghost use Rattle.office_facts.specs.declared.facts.Fact.{Fact};
 ghost use Rattle.office_facts.specs.declared.refusals.Refusal.TheVariants as why;
-ghost use Rattle.office_facts.specs.declared.answers.Answer.TheVariants as answers;
 ghost use Rattle.office_facts.specs.declared.events.Event.TheVariants as events;
 ghost use Rattle.office_facts.specs.History.{History, Opened, facts_of, lines_of, next_poll};
 ghost use Rattle.office_facts.specs.Readings.{meter_of, poll_row_of};
-ghost use Rattle.office_facts.specs.Refusals.{AreAccepted, opening_refusal_of, refusal_of, has_bad_field, has_bad_scale};
+ghost use Rattle.office_facts.specs.Refusals.{AreAccepted, opening_refusal_of, refusal_of, answer_of, has_bad_field, has_bad_scale};
 ghost use Rattle.office_core.specs.Asking.{AsksNoBooks};
 ghost use Rattle.office_core.specs.Refused.{faults_told};
 ghost use Rattle.office_core.specs.Settling.{IsSettling, SettleNothing};
-ghost use Rattle.office_core.specs.Standing.{Stands, Goes, with_answer, IsAnswer, IsOutside, IsFailure, AreFaultsOf, IsPastLimit, notes_after, outgoing_after, stopped_after, books_in, is_stopped, notes_in, outgoing_in};
+ghost use Rattle.office_core.specs.Standing.{Stands, Goes, with_answer, IsAnswer, IsOutside, IsFailure, AreFaultsOf, IsPastLimit, notes_after, outgoing_after, stopped_after, is_failure, books_in, is_stopped, notes_in, outgoing_in};
 
 use crate::commands::carry_out;
 use crate::device_events::settle_event;
@@ -73,7 +72,7 @@ impl<B: Books> Office<B> {
         ensures outgoing { (past : History) → Stands B.holds past self.old → B.is_clean (books_in self.new) → outgoing_in self.new ≡ outgoing_after past event.now result }
         ensures stops { is_stopped self.new ≡ stopped_after (is_stopped self.old) event.now result }
         ensures stopped { (result ≡ Err why.Stopped) ↔ (is_stopped self.old ≡ true) }
-        ensures quiet { (past : History) → Stands B.holds past self.old → AsksNoBooks event.now → SettleNothing (next_poll (facts_of past)) moment event.now (lines_of past)
+        ensures quiet { (past : History) → Stands B.holds past self.old → B.is_clean (books_in self.new) → AsksNoBooks event.now → SettleNothing (next_poll (facts_of past)) moment event.now (lines_of past)
             → (books_in self.new ≡ books_in self.old) × IfErr result (λ r. IsFailure r → ⊥) }
         ensures clean { B.is_clean (books_in self.new) → B.is_clean (books_in self.old) }
         ensures faults { (past : History) → Stands B.holds past self.old → B.is_clean (books_in self.new)
@@ -89,13 +88,30 @@ impl<B: Books> Office<B> {
             return Err(reason);
         }
         match event {
-            Event::Command(command) => self.obey(moment, command),
-            _ => self.settle(moment, event),
+            Event::Command(asked) => self.obey(moment, asked),
+            Event::Connected(_) | Event::Bytes(_, _) | Event::Tick | Event::Gone(_, _) => {
+                self.settle(moment, event)
+            }
         }
     }
 
     /// Settles an event of a device that is accepted.
-    fn settle(&mut self, moment: u64, event: &Event) -> Result<Answer, Refusal> {
+    fn settle(&mut self, moment: u64, event: &Event) -> Result<Answer, Refusal>
+        requires settling { IsSettling event.now }
+        requires limit { moment ≤ 4102444800 }
+        ensures stands { (past : History) → Stands B.holds past self.old → is_stopped self.old ≡ false → refusal_of past moment event.now ≡ None
+            → B.is_clean (books_in self.new) → Stands B.holds (with_answer past moment event.now result) self.new }
+        ensures answer { (past : History) → IfOk result (λ answer. answer ≡ answer_of (facts_of past) event.now) }
+        ensures failure { IfErr result IsFailure }
+        ensures notes { (past : History) → Stands B.holds past self.old → is_stopped self.old ≡ false → refusal_of past moment event.now ≡ None
+            → B.is_clean (books_in self.new) → notes_in self.old ≡ [] → notes_in self.new ≡ notes_after past moment event.now result }
+        ensures outgoing { (past : History) → outgoing_in self.old ≡ [] → outgoing_in self.new ≡ outgoing_after past event.now result }
+        ensures stops { is_stopped self.new ≡ (is_stopped self.old || is_failure result) }
+        ensures quiet { (past : History) → Stands B.holds past self.old → is_stopped self.old ≡ false → refusal_of past moment event.now ≡ None
+            → SettleNothing (next_poll (facts_of past)) moment event.now (lines_of past) → IsOk result × (books_in self.new ≡ books_in self.old) }
+        ensures clean { B.is_clean (books_in self.new) → B.is_clean (books_in self.old) }
+        ensures faults { AreFaultsOf (B.fault_count (books_in self.old)) (B.fault_count (books_in self.new)) ⊥ result }
+    {
         match settle_event(self.alloc, &mut self.lines, &mut self.books, moment, event) {
             Ok(draft) => {
                 self.latest = moment;
@@ -110,8 +126,24 @@ impl<B: Books> Office<B> {
     }
 
     /// Carries out a command that is accepted.
-    fn obey(&mut self, moment: u64, command: &Command) -> Result<Answer, Refusal> {
-        let (answer, sent) = carry_out(&mut self.lines, &mut self.books, moment, command)?;
+    fn obey(&mut self, moment: u64, asked: &Command) -> Result<Answer, Refusal>
+        requires limit { moment ≤ 4102444800 }
+        requires field { has_bad_field (events.Command asked.now) ≡ false }
+        requires scale { has_bad_scale (events.Command asked.now) ≡ false }
+        ensures stands { (past : History) → Stands B.holds past self.old → is_stopped self.old ≡ false → refusal_of past moment (events.Command asked.now) ≡ None
+            → B.is_clean (books_in self.new) → Stands B.holds (with_answer past moment (events.Command asked.now) result) self.new }
+        ensures answer { (past : History) → Stands B.holds past self.old → B.is_clean (books_in self.new)
+            → IfOk result (λ answer. answer ≡ answer_of (facts_of past) (events.Command asked.now)) }
+        ensures failure { IfErr result IsFailure }
+        ensures notes { notes_in self.new ≡ notes_in self.old }
+        ensures outgoing { (past : History) → Stands B.holds past self.old → is_stopped self.old ≡ false → refusal_of past moment (events.Command asked.now) ≡ None
+            → B.is_clean (books_in self.new) → outgoing_in self.old ≡ [] → outgoing_in self.new ≡ outgoing_after past (events.Command asked.now) result }
+        ensures stops { is_stopped self.new ≡ is_stopped self.old }
+        ensures clean { B.is_clean (books_in self.new) → B.is_clean (books_in self.old) }
+        ensures faults { (past : History) → Stands B.holds past self.old → B.is_clean (books_in self.new)
+            → AreFaultsOf (B.fault_count (books_in self.old)) (B.fault_count (books_in self.new)) (IsPastLimit past (events.Command asked.now)) result }
+    {
+        let (answer, sent) = carry_out(&mut self.lines, &mut self.books, moment, asked)?;
         self.latest = moment;
         self.outgoing = sent;
         Ok(answer)

@@ -17,7 +17,7 @@ use poll_core::{LostCause, Outcome};
 use std::alloc::{AllocError, Global};
 
 /// The line of a device that isn't connected.
-fn opened(device: &Device) -> Line
+pub fn opened(device: &Device) -> Line
     ensures { result ≡ opening.opened device.now }
 {
     Line {

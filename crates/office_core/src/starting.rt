@@ -3,7 +3,7 @@ ghost use Rattle.std.specs.Prelude.{◌≡◌, ◌≤◌, ◌+◌, ◌∷◌, �
 ghost use Rattle.mb_wire.specs.Spans.{span_view, request_of};
 ghost use Rattle.mb_wire.specs.Requests.{request_bytes};
 ghost use Rattle.mb_wire.specs.Reader.{spelling};
-ghost use Rattle.poll_core.specs.Settling as session;
+ghost use Rattle.poll_core.specs.Settling as happening;
 ghost use Rattle.poll_core.specs.Standing as standing;
 ghost use Rattle.poll_core.specs.Starting.{start_fault};
 ghost use Rattle.office_facts.specs.declared.facts.Fact.{Fact};
@@ -12,10 +12,13 @@ ghost use Rattle.office_facts.specs.declared.events.Event.TheVariants as event;
 ghost use Rattle.office_facts.specs.declared.commands.Command.TheVariants as command;
 ghost use Rattle.office_facts.specs.BooksFaults.{faults_after};
 ghost use Rattle.office_facts.specs.Lawful.{AreLawful};
+ghost use Rattle.office_facts.specs.Sessions as sessions;
+ghost use Rattle.office_facts.specs.Sessions.{with_happening};
 ghost use Rattle.office_facts.specs.History.{History, Fed, facts_of, lines_of, next_poll};
 ghost use Rattle.office_facts.specs.Notes.{outgoing_of};
 ghost use Rattle.office_facts.specs.Refusals.{AreAccepted, refusal_of};
-ghost use Rattle.office_core.specs.Keeping.{KeepsLines};
+ghost use Rattle.office_core.specs.Keeping.{KeepsLine, KeepsLines};
+ghost use Rattle.office_core.specs.Starting.{IsReadyAt, poll_fact};
 ghost use Rattle.office_core.specs.Standing.{AreFaultsOf, IsFailure, IsFullStart};
 
 use crate::lines::Line;
@@ -23,7 +26,7 @@ use crate::outgoing::Outgoing;
 use crate::places::place_of;
 use mb_wire::ReadSpan;
 use office_facts::{Books, BooksFault, Fact, Poll, Refusal, StartPoll, StoreCause, facts_are_lawful};
-use poll_core::Session;
+use poll_core::{Session, each_once, one_event_more};
 
 /// Books a poll, and starts it on its session. Answers the bytes that it wants sent.
 fn start_session<B: Books>(
@@ -33,10 +36,10 @@ fn start_session<B: Books>(
 ) -> Result<Outgoing, BooksFault>
     requires limit { poll.now.at ≤ 4102444800 }
     requires rests { session.old.settling ≡ None }
-    ensures started { (events : List session.Event) → standing.Stands session.old events → start_fault session.old.timeout session.old.window events poll.now.at ≡ None
-        → OnOk result (standing.Stands session.new (events ++ session.Start poll.now.at poll.now.number poll.now.unit (span_view poll.now.span) ∷ [])) }
-    ensures sent { (events : List session.Event) → standing.Stands session.old events → start_fault session.old.timeout session.old.window events poll.now.at ≡ None
-        → IfOk result (λ bytes. bytes ≡ spelling (session.next_id events) poll.now.unit (request_bytes (request_of (span_view poll.now.span)))) }
+    ensures started { (events : List happening.Event) → standing.Stands session.old events → start_fault session.old.timeout session.old.window events poll.now.at ≡ None
+        → OnOk result (standing.Stands session.new (events ++ happening.Start poll.now.at poll.now.number poll.now.unit (span_view poll.now.span) ∷ [])) }
+    ensures sent { (events : List happening.Event) → standing.Stands session.old events → start_fault session.old.timeout session.old.window events poll.now.at ≡ None
+        → IfOk result (λ bytes. bytes ≡ spelling (happening.next_id events) poll.now.unit (request_bytes (request_of (span_view poll.now.span)))) }
     ensures terms { (session.new.timeout ≡ session.old.timeout) × (session.new.window ≡ session.old.window) }
     ensures rests { session.new.settling ≡ None }
     ensures err { OnErr result (session.new ≡ session.old) }
@@ -60,7 +63,20 @@ fn start_line<B: Books>(
     moment: u64,
     number: u64,
     span: ReadSpan,
-) -> Result<Outgoing, BooksFault> {
+) -> Result<Outgoing, BooksFault>
+    requires limit { moment ≤ 4102444800 }
+    ensures keeps { (kept : sessions.Line) (events : List happening.Event) → IsReadyAt moment line.old kept events
+        → OnOk result (KeepsLine line.new (with_happening kept events (happening.Start moment number kept.device.unit (span_view span)))) }
+    ensures sent { (kept : sessions.Line) (events : List happening.Event) → IsReadyAt moment line.old kept events
+        → IfOk result (λ bytes. bytes ≡ spelling (happening.next_id events) kept.device.unit (request_bytes (request_of (span_view span)))) }
+    ensures booked { (kept : sessions.Line) (events : List happening.Event) → IsReadyAt moment line.old kept events
+        → (held : List Fact) → B.holds books.old held → AreLawful (poll_fact number moment kept events span ∷ held)
+        → OnOk result (B.holds books.new (poll_fact number moment kept events span ∷ held)) }
+    ensures unchanged { OnErr result (line.new ≡ line.old) }
+    ensures kept { (held : List Fact) → B.holds books.old held → OnErr result (B.holds books.new held) }
+    ensures clean { B.is_clean books.new → B.is_clean books.old }
+    ensures faults { B.fault_count books.new ≡ faults_after result (B.fault_count books.old) }
+{
     let Some(mut session) = line.session.take() else {
         return Ok(Outgoing::none());
     };
@@ -103,6 +119,8 @@ pub fn start_poll<B: Books>(
         → AreFaultsOf (B.fault_count books.old) (B.fault_count books.new) (IsFullStart held) result }
 {
     facts_are_lawful();
+    each_once();
+    one_event_more();
     let count = books.poll_count()?;
     if count >= 4_611_686_018_427_387_904 {
         return Err(Refusal::Store(StoreCause::Refused));

@@ -1,5 +1,5 @@
 -- What a row may lack.
-use Rattle.std.specs.Prelude.{ℕ, ◌+◌, ◌==◌, Bool, true, false, nat_le, nat_lt, not, ◌&&◌, ◌||◌, if◌then◌else◌, List, [], ◌∷◌, Some, None, is_none, IsTrue}
+use Rattle.std.specs.Prelude.{ℕ, ◌+◌, ◌==◌, Bool, true, false, nat_le, nat_lt, not, ◌&&◌, ◌||◌, if◌then◌else◌, List, [], ◌∷◌, Some, None, is_none, is_some, IsTrue}
 use Rattle.std.specs.declared.option.Option.{Option}
 use Rattle.std.specs.List.{list_any}
 use Rattle.std.specs.Option.{option_map_or}
@@ -9,7 +9,7 @@ use Rattle.sun_points.specs.PointType.{registers_of}
 use Rattle.point_list.specs.declared.fault.RowFault.{RowFault}
 use Rattle.point_list.specs.declared.fault.RowFault.TheVariants.{Csv, Header, Name, DoubleName, Function, Area, Address, «Type», Scale, NoSuchScale, GroupTooWide, TooMany}
 use Rattle.point_list.specs.declared.row.RowFields.{RowFields}
-use Rattle.point_list.specs.Fields.{number_of, number_within, table_of, type_of}
+use Rattle.point_list.specs.Fields.{fixed_scale_of, number_of, number_within, table_of, type_of}
 use Rattle.point_list.specs.Names.{is_name}
 use Rattle.point_list.specs.Points.{takes_scale}
 
@@ -54,10 +54,8 @@ abbrev pub reaches_past : Option ℕ → Option PointType → Bool
 reaches_past (Some address) (Some kind) = nat_lt 65536 (address + registers_of kind)
 reaches_past _ _ = false
 
--- -10 to 10, with a `-` before a number below 0
 abbrev pub is_fixed_scale : List ℕ → Bool
-is_fixed_scale [] = false
-is_fixed_scale (first ∷ rest) = if first == 45 then not (is_no_number 0 10 rest) else not (is_no_number 0 10 (first ∷ rest))
+is_fixed_scale field = is_some (fixed_scale_of field)
 
 -- a scale that is neither empty, nor a number from -10 to 10, nor a name, or one for a type that takes none
 abbrev pub is_bad_scale : List ℕ → Option PointType → Bool

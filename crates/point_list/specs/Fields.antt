@@ -1,9 +1,9 @@
 -- What the fields of a row spell.
-use Rattle.std.specs.Prelude.{ℕ, zero, suc, ◌+◌, ◌-◌, ◌*◌, ℤ, pos, Bool, ◌==◌, nat_le, ◌&&◌, ◌||◌, if◌then◌else◌, List, [], ◌∷◌, length, drop, fold, codes, Some, None}
+use Rattle.std.specs.Prelude.{ℕ, zero, suc, ◌+◌, ◌-◌, ◌*◌, ℤ, pos, negsuc, Bool, ◌==◌, nat_le, ◌&&◌, ◌||◌, if◌then◌else◌, List, [], ◌∷◌, length, drop, fold, codes, Some, None}
 use Rattle.std.specs.Char.{is_ascii_digit}
 use Rattle.std.specs.declared.option.Option.{Option}
 use Rattle.std.specs.List.{list_all, starts_with}
-use Rattle.std.specs.Option.{option_and_then}
+use Rattle.std.specs.Option.{option_and_then, option_map}
 use Rattle.std.specs.Str.{bytes_eq}
 use Rattle.sun_points.specs.declared.point_type.PointType.{PointType}
 use Rattle.sun_points.specs.declared.point_type.PointType.TheVariants as kind
@@ -46,3 +46,14 @@ type_of field =
     else if bytes_eq field (codes "acc32") then Some kind.Acc32
     else if bytes_eq field (codes "sunssf") then Some kind.Sunssf
     else text_type_of field
+
+-- the number -n
+abbrev pub minus : ℕ → ℤ
+minus zero = pos 0
+minus (suc n) = negsuc n
+
+-- -10 to 10, with a `-` before a number below 0
+abbrev pub fixed_scale_of : List ℕ → Option ℤ
+fixed_scale_of [] = None
+fixed_scale_of (first ∷ rest) =
+    if first == 45 then option_map minus (number_within 0 10 rest) else option_map pos (number_within 0 10 (first ∷ rest))

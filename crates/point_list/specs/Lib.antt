@@ -1,5 +1,8 @@
+pub mod ChainPoints
 pub mod Faults
 pub mod Fields
+pub mod Lists
 pub mod Names
 pub mod Points
 pub mod Rows
+pub mod Written

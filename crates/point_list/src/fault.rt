@@ -1,6 +1,9 @@
 //! What a row may lack.
 ghost use Rattle.std.specs.Prelude.{◌≡◌};
 
+use std::alloc::{AllocError, AllocFailed};
+use std::marker::Model;
+
 /// Why a row is no point, in the order in which faults are looked for.
 #[derive(Clone, Copy, Debug, PartialEq, Eq)]
 pub enum RowFault {
@@ -51,5 +54,77 @@ impl RowFault {
             RowFault::GroupTooWide => 11,
             RowFault::TooMany => 12,
         }
+    }
+}
+
+/// A row that is no point.
+#[derive(Clone, Copy, Debug, PartialEq, Eq)]
+pub struct FaultyRow {
+    /// The number of the row, the header being row 1.
+    pub row: usize,
+    pub fault: RowFault,
+}
+
+/// Faulty rows, in order of row.
+#[derive(Debug, Drop)]
+pub struct FaultyRows {
+    rows: Vec<FaultyRow>,
+}
+
+impl Model for FaultyRows {
+    ghost use Rattle.std.specs.Prelude.{List};
+    ghost use Rattle.point_list.specs.declared.fault.FaultyRow.{FaultyRow};
+
+    ghost Value = { List FaultyRow };
+
+    ghost view = { λ f. f.rows.items };
+}
+
+impl FaultyRows {
+    pub fn new(rows: Vec<FaultyRow>) -> Self
+        ensures { result ≡ rows.items }
+    {
+        FaultyRows { rows }
+    }
+
+    pub fn rows(&self) -> &[FaultyRow]
+        ensures { result.now ≡ self.now }
+    {
+        self.rows.as_slice()
+    }
+
+    pub fn into_rows(self) -> Vec<FaultyRow>
+        ensures { result.items ≡ self }
+    {
+        let FaultyRows { rows } = self;
+        rows
+    }
+}
+
+/// Why a text or a chain gives no list.
+#[derive(Debug, Drop)]
+pub enum ListFault {
+    Memory,
+    /// One row at least, each with its least fault.
+    Faults(FaultyRows),
+}
+
+impl From<AllocError> for ListFault {
+    ghost use Rattle.point_list.specs.declared.fault.ListFault.TheVariants.{Memory};
+
+    ghost from_gives = { λ _ fault. fault ≡ Memory };
+
+    fn from(_: AllocError) -> ListFault {
+        ListFault::Memory
+    }
+}
+
+impl<T: Drop> From<AllocFailed<T>> for ListFault {
+    ghost use Rattle.point_list.specs.declared.fault.ListFault.TheVariants.{Memory};
+
+    ghost from_gives = { λ _ fault. fault ≡ Memory };
+
+    fn from(_: AllocFailed<T>) -> ListFault {
+        ListFault::Memory
     }
 }

@@ -1,11 +1,12 @@
 //! What the fields of a row spell.
-ghost use Rattle.std.specs.Prelude.{◌≡◌, ◌≤◌, IsTrue, length};
+ghost use Rattle.std.specs.Prelude.{◌≡◌, ◌≤◌, IsTrue, length, pos};
 ghost use Rattle.std.specs.List.{list_all};
 ghost use Rattle.std.specs.Char.{is_ascii_digit};
-ghost use Rattle.point_list.specs.Fields.{digits_value, number_of, number_within, table_of, text_type_of, type_of};
+ghost use Rattle.sun_points.specs.Scale.{scale_of};
+ghost use Rattle.point_list.specs.Fields.{digits_value, fixed_scale_of, minus, number_of, number_within, table_of, text_type_of, type_of};
 
 use crate::point::RegisterTable;
-use sun_points::{PointType, TextLength};
+use sun_points::{PointType, Scale, TextLength};
 
 // The number that at most ten digits spell, the ones last.
 fn digits_value(digits: &[u8]) -> u64
@@ -92,5 +93,43 @@ pub fn point_type(field: &[u8]) -> Option<PointType>
         Some(PointType::Sunssf)
     } else {
         text_type(field)
+    }
+}
+
+// A number below 0, or 0, as a register says it.
+fn scale_word_below(number: u16) -> u16
+    requires { number ≤ 10 }
+    ensures { scale_of result ≡ Some (minus number) }
+{
+    match number {
+        0 => 0,
+        _ => 65535 - (number - 1),
+    }
+}
+
+// A scale from 0 to 10.
+fn scale_from_zero(number: u16) -> Option<Scale>
+    requires { number ≤ 10 }
+    ensures { result ≡ Some (pos number) }
+{
+    Scale::new(number)
+}
+
+// A scale from -10 to 0.
+fn scale_to_zero(number: u16) -> Option<Scale>
+    requires { number ≤ 10 }
+    ensures { result ≡ Some (minus number) }
+{
+    Scale::new(scale_word_below(number))
+}
+
+/// A scale for good: -10 to 10.
+pub fn fixed_scale(field: &[u8]) -> Option<Scale>
+    ensures { result ≡ fixed_scale_of field.now }
+{
+    match field.split_first() {
+        Some((b'-', rest)) => scale_to_zero(number_in(0, 10, rest)? as u16),
+        Some(_) => scale_from_zero(number_in(0, 10, field)? as u16),
+        None => None,
     }
 }

@@ -40,6 +40,14 @@ impl PointList {
         }
     }
 
+    /// The list of points that are known to keep what every list keeps.
+    pub(crate) fn of_lawful(points: Vec<ListedPoint>) -> Self
+        requires { IsPointList points.items }
+        ensures { result ≡ points.items }
+    {
+        PointList { points }
+    }
+
     pub fn points(&self) -> &[ListedPoint]
         ensures points { result.now ≡ self.now }
         ensures lawful { IsPointList self.now }

@@ -60,6 +60,14 @@ impl PointName {
         }
     }
 
+    /// The name that bytes spell which are known to spell one.
+    pub(crate) fn of_lawful(bytes: Vec<u8>) -> Self
+        requires { IsTrue (is_name bytes.items) }
+        ensures { result ≡ bytes.items }
+    {
+        PointName { bytes }
+    }
+
     pub fn as_bytes(&self) -> &[u8]
         ensures bytes { result.now ≡ self.now }
         ensures lawful { IsTrue (is_name self.now) }

@@ -7,7 +7,7 @@ ghost use Rattle.point_list.specs.Faults.{conditions_where, seen_row, first_of, 
 ghost use Rattle.point_list.specs.Fields.{number_within, type_of};
 
 use crate::fault::RowFault;
-use crate::fields::{number_in, point_type, table};
+use crate::fields::{fixed_scale, number_in, point_type, table};
 use crate::lawful::{POINT_LIMIT, is_scaled_type};
 use crate::name::is_point_name;
 use csv::ByteRecord;
@@ -77,11 +77,7 @@ fn is_past_end(address: Option<u64>, kind: Option<PointType>) -> bool
 fn is_fixed(scale: &[u8]) -> bool
     ensures { result ≡ is_fixed_scale scale.now }
 {
-    match scale.split_first() {
-        Some((b'-', rest)) => number_in(0, 10, rest).is_some(),
-        Some(_) => number_in(0, 10, scale).is_some(),
-        None => false,
-    }
+    fixed_scale(scale).is_some()
 }
 
 // Whether a scale is none, or one for a type that takes none.

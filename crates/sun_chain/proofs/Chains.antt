@@ -1,5 +1,7 @@
 -- Models that follow one another, and what is lacking behind them.
 use Rattle.std.proofs.Common.{◌≡◌, ℕ, ◌+◌, ◌<◌, ◌≤◌, Bool, true, false, if◌then◌else◌, nat_le, nat_lt, ◌==◌, Option, Some, None, List, [], ◌∷◌, ◌++◌, length, arith, length-append, refl, sym, ◌∙◌, add-zero, zero-add, add-suc, add-one, suc-add}
+use Rattle.std.specs.List.{All}
+use Rattle.std.proofs.lemmas.List.Elements.{All-cons}
 use Rattle.std.proofs.lemmas.Bool.{le-ltb, lt-leb, ne_eqb}
 use Rattle.sun_chain.specs.Image.{Words}
 use Rattle.sun_chain.specs.Chain.{next_after, Stands, Follow, IsLawful}
@@ -110,3 +112,9 @@ lawful_more word base models next model lawful at_next stands few = record {
   follow = follow_more word (base + 2) models model (rw at_next lawful.follow) stands;
   few = rw length-append (omega arith);
 }
+
+-- Models that follow one another lie inside the addresses.
+pub follow_inside : (word : Words) (from : ℕ) (models : List Model) (next : ℕ) → Follow word from models next → All (λ model. model.address + 2 + model.length ≤ 65536) models
+follow_inside word from [] next follow = λ k d below. absurd (omega (arith, below))
+follow_inside word from (model ∷ models) next follow =
+    All-cons (λ model. model.address + 2 + model.length ≤ 65536) model models follow.1.inside (follow_inside word (next_after model) models next follow.2)

@@ -1,3 +1,4 @@
+pub mod Finds
 pub mod Chains
 pub mod OneChain
 pub mod Readings

@@ -1,5 +1,7 @@
 -- The tables of the known models: models 1, 101 to 103, and 201 to 204.
-use Rattle.std.specs.Prelude.{ℕ, ◌==◌, ◌&&◌, nat_le, if◌then◌else◌, List, [], ◌∷◌, codes, Some, None}
+use Rattle.std.specs.Prelude.{ℕ, ◌==◌, ◌&&◌, nat_le, if◌then◌else◌, List, [], ◌∷◌, codes, find, Some, None}
+use Rattle.std.specs.Option.{option_and_then, option_map}
+use Rattle.std.specs.Str.{bytes_eq}
 use Rattle.std.specs.declared.option.Option.{Option}
 use Rattle.sun_points.specs.declared.point_type.PointType.{PointType}
 use Rattle.sun_points.specs.declared.point_type.PointType.TheVariants.{Int16, Uint16, Enum16, Bitfield32, Acc32, Sunssf, Text}
@@ -174,3 +176,15 @@ type_of entry.String16 = Text 16
 
 abbrev pub row_of : Entry → Row
 row_of found = row found.name.now found.offset (type_of found.ty) found.scale
+
+-- the offset of the point that scales the first point of a name
+abbrev pub scale_offset_in : List Row → List ℕ → Option ℕ
+scale_offset_in rows name = option_and_then (λ scaled. scaled.scale) (find (λ scaled. bytes_eq scaled.name name) rows)
+
+-- the name of the first point at an offset
+abbrev pub name_at_in : List Row → ℕ → Option (List ℕ)
+name_at_in rows offset = option_map (λ scaling. scaling.name) (find (λ scaling. scaling.offset == offset) rows)
+
+-- the name of the point that scales the point of a name
+abbrev pub scale_name_in : List Row → List ℕ → Option (List ℕ)
+scale_name_in rows name = option_and_then (name_at_in rows) (scale_offset_in rows name)

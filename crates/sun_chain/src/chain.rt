@@ -1,5 +1,5 @@
-ghost use Rattle.std.specs.Prelude.{◌≡◌};
-ghost use Rattle.sun_chain.specs.Chain.{base_of, end_of, models_of};
+ghost use Rattle.std.specs.Prelude.{◌+◌, ◌≤◌, length};
+ghost use Rattle.std.specs.List.{All};
 
 use crate::image::Image;
 use crate::model::Model;
@@ -11,27 +11,6 @@ pub struct Chain<'a> {
     pub(crate) base: u16,
     pub(crate) end: u16,
     pub(crate) models: Vec<Model>,
-}
-
-impl Chain<'_> {
-    /// The address of the mark.
-    pub fn base(&self) -> u16
-        ensures { result ≡ base_of self.now }
-    {
-        self.base
-    }
-
-    /// The address of the end's ID.
-    pub fn end(&self) -> u16
-        ensures { result ≡ end_of self.now }
-    {
-        self.end
-    }
-
-    /// The models, in order of address.
-    pub fn models(&self) -> &[Model]
-        ensures { result.now ≡ models_of self.now }
-    {
-        &self.models
-    }
+    ghost few: { length models.items ≤ 64 },
+    ghost inside: { All (λ model. model.address + 2 + model.length ≤ 65536) models.items },
 }

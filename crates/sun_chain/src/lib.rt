@@ -2,6 +2,7 @@
 #![tactic(auto)]
 
 mod chain;
+mod chain_parts;
 mod chain_walk;
 mod common;
 mod fault;
@@ -20,6 +21,7 @@ pub use image::Image;
 pub use laws::{chain_or_fault_is_one, tables_are_lawful};
 pub use model::Model;
 pub use named_point::{NamedPoint, PointScale};
+pub use tables::scale_name;
 
 #[cfg(test)]
 mod table_tests;

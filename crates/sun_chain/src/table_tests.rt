@@ -1,7 +1,7 @@
 // Images in which each point of a model has a value of its own, and images in which none has one.
 
 use crate::tests::{image_of, type_text};
-use crate::{NamedPoint, PointScale, walk};
+use crate::{NamedPoint, PointScale, scale_name, walk};
 use std::alloc::Global;
 use std::io::Write;
 use std::test::Fail;
@@ -294,5 +294,23 @@ fn absent_points_are_told(rt: HostRuntime) -> Result<(), Fail> {
     let common = chain.common().ok_or("no model 1")?;
     assert_eq!(rt; common.manufacturer.words.len(), 0);
     assert_eq!(rt; common.device_address, None);
+    Ok(())
+}
+
+#[test]
+fn scale_names(rt: HostRuntime) -> Result<(), Fail> {
+    let cases = [
+        (103, "WH", Some("WH_SF")),
+        (101, "TmpOt", Some("Tmp_SF")),
+        (203, "TotWhExp", Some("TotWh_SF")),
+        (204, "TotVArhExpQ4PhC", Some("TotVArh_SF")),
+        (103, "WH_SF", None),
+        (1, "Mn", None),
+        (103, "TotWhExp", None),
+        (104, "WH", None),
+    ];
+    for (id, name, scale) in cases {
+        assert_eq!(rt; scale_name(id, name), scale, "{name}");
+    }
     Ok(())
 }

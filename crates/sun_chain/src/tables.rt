@@ -1,7 +1,9 @@
 //! The tables of the models that are known.
 
-ghost use Rattle.std.specs.Prelude.{◌≡◌, map};
-ghost use Rattle.sun_chain.specs.Tables.{row_of, table_of, type_of};
+ghost use Rattle.std.specs.Prelude.{◌≡◌, ◌==◌, find, map};
+ghost use Rattle.std.specs.Option.{option_copied, option_map};
+ghost use Rattle.std.specs.Str.{bytes_eq};
+ghost use Rattle.sun_chain.specs.Tables.{name_at_in, row_of, scale_name_in, table_of, type_of};
 
 use EntryType::{Acc32, Bitfield32, Enum16, Int16, String8, String16, Sunssf, Uint16};
 use sun_points::{PointType, TextLength};
@@ -196,4 +198,42 @@ pub(crate) fn table(id: u16) -> &'static [Entry]
         201..=204 => &METER,
         _ => &[],
     }
+}
+
+/// In the table of a model, the name of the point that scales the point of this name.
+pub fn scale_name(id: u16, name: &str) -> Option<&'static str>
+    ensures { option_map (λ found. found.now) result ≡ scale_name_in (table_of id) name.now }
+{
+    let entries = table(id);
+    match entry_named(entries, name) {
+        Some(scaled) => match scaled.scale {
+            Some(offset) => name_at(entries, offset),
+            None => None,
+        },
+        None => None,
+    }
+}
+
+// The name of the first point at an offset.
+fn name_at(entries: &'static [Entry], offset: u16) -> Option<&'static str>
+    ensures { option_map (λ found. found.now) result ≡ name_at_in (map row_of entries.now) offset }
+{
+    match entry_at(entries, offset) {
+        Some(entry) => Some(entry.name),
+        None => None,
+    }
+}
+
+fn entry_named<'a>(entries: &'a [Entry], name: &str) -> Option<&'a Entry>
+    ensures { option_copied result ≡ find (λ entry. bytes_eq entry.name.now name.now) entries.now }
+{
+    entries
+        .iter()
+        .find(|entry| entry.name.as_bytes() == name.as_bytes())
+}
+
+fn entry_at(entries: &[Entry], offset: u16) -> Option<&Entry>
+    ensures { option_copied result ≡ find (λ entry. entry.offset == offset) entries.now }
+{
+    entries.iter().find(|entry| entry.offset == offset)
 }

@@ -1,8 +1,15 @@
+pub mod AnswerText
 pub mod ChainText
 pub mod ImageLines
 pub mod Input
+pub mod LineFaults
 pub mod Lines
+pub mod ListText
 pub mod PlanText
+pub mod ScriptForms
+pub mod ScriptReading
+pub mod ScriptSeen
+pub mod ScriptWords
 pub mod Seen
 pub mod Statuses
 pub mod Values

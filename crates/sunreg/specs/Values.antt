@@ -1,10 +1,10 @@
 -- What words spell.
-use Rattle.std.specs.Prelude.{ℕ, ◌+◌, ◌-◌, ◌*◌, nat_le, ◌&&◌, if◌then◌else◌, List, length, fold, Some, None}
+use Rattle.std.specs.Prelude.{ℕ, ◌+◌, ◌-◌, ◌*◌, ◌%◌, ◌==◌, nat_le, Bool, ◌&&◌, if◌then◌else◌, List, length, fold, Some, None}
 use Rattle.std.specs.Char.{is_ascii_digit}
 use Rattle.std.specs.declared.option.Option.{Option}
 use Rattle.std.specs.List.{list_all}
 use Rattle.std.specs.Result.{result_ok}
-use Rattle.hex.specs.Hex.{decode_of}
+use Rattle.hex.specs.Hex.{decode_of, is_hex_digit}
 
 -- the number that digits spell, the ones last
 abbrev pub digits_value : List ℕ → ℕ
@@ -15,6 +15,10 @@ abbrev pub number_of : List ℕ → Option ℕ
 number_of word =
     if nat_le 1 (length word) && nat_le (length word) 19 && list_all is_ascii_digit word && nat_le (digits_value word) 9223372036854775807
     then Some (digits_value word) else None
+
+-- pairs of hex digits, in either case
+abbrev pub is_paired : List ℕ → Bool
+is_paired word = length word % 2 == 0 && list_all is_hex_digit word
 
 -- the bytes that pairs of hex digits spell: one to 65,536 of them
 abbrev pub bytes_of : List ℕ → Option (List ℕ)

@@ -5,6 +5,7 @@ ghost use Rattle.sunreg.specs.ImageLines.{address_of, nothing_read, put_of, word
 ghost use Rattle.sunreg.specs.Lines.{speaking_lines};
 ghost use Rattle.sunreg.specs.Seen.{Explains, seen_put};
 
+use crate::line_fault::LineFault;
 use crate::lines::InputLines;
 use crate::values::{hex_bytes, number};
 use crate::words::Words;
@@ -16,13 +17,6 @@ use sun_chain::{Image, ImageFault};
 pub(crate) enum LoadFault {
     /// The line of this number is wrong.
     BadLine(u64),
-    Memory,
-}
-
-/// Why a line was not carried out.
-#[derive(Clone, Copy, Debug, PartialEq, Eq)]
-pub(crate) enum LineFault {
-    Bad,
     Memory,
 }
 

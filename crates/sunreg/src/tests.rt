@@ -1,6 +1,8 @@
 //! Inputs, and what is printed of them.
 use super::*;
+use office_facts::{Answer, Note};
 use point_list::{ListedPoint, PointList, PointName, PointScale, RegisterTable};
+use poll_core::Outcome;
 use std::alloc::Global;
 use std::io::{self, ErrorKind, Read, Write};
 use std::process::Abort;
@@ -307,5 +309,134 @@ fn prints_plans(rt: HostRuntime) -> Result<(), Fail> {
             assert_eq!(rt; ended == Status::Fine, kept.calls < failing);
         }
     }
+    Ok(())
+}
+
+// Checks what a point list's text prints, and how it ends.
+fn list_prints(
+    rt: &impl Abort,
+    alloc: Global,
+    input: &[u8],
+    output: &[u8],
+    status: Status,
+) -> Result<(), Fail> {
+    let mut printed = Vec::new(alloc);
+    let mut unread = input;
+    let ended = plan_text(alloc, &mut unread, &mut printed);
+    assert_eq!(rt; ended, status);
+    assert_eq!(rt; printed.as_slice(), output);
+    Ok(())
+}
+
+const LIST: &[u8] = b"name,function,area,address,type,scale\nwh,3,0,40094,acc32,whsf\nwhsf,3,0,40096,sunssf,\nimp,3,0,40168,acc32,impsf\nimpsf,3,0,40176,sunssf,\n";
+const LIST_PRINTED: &[u8] =
+    b"read 1 3 0 40094 83\npoint wh 1 0\npoint whsf 1 2\npoint imp 1 74\npoint impsf 1 82\n";
+const FAULTY: &[u8] = b"name,function,area,address,type,scale\nwh,3,0,65535,acc32,\n1x,3,0,5,int16,\nb,5,0,5,int16,\nb,3,0,6,int16,\n";
+const FAULTY_PRINTED: &[u8] = b"row 2 fault 7\nrow 3 fault 3\nrow 4 fault 5\nrow 5 fault 4\n";
+
+#[test]
+fn prints_plans_of_texts(rt: HostRuntime) -> Result<(), Fail> {
+    let fine: [(&[u8], &[u8]); 4] = [
+        (LIST, LIST_PRINTED),
+        (b"name,function,area,address,type,scale\n", b""),
+        (
+            b"name,function,area,address,type,scale\nw,3,0,0,int16,s\ns,3,0,124,sunssf,\n",
+            b"read 1 3 0 0 125\npoint w 1 0\npoint s 1 124\n",
+        ),
+        (
+            b"name,function,area,address,type,scale\na,3,0,0,acc32,\nb,3,0,200,acc32,\n",
+            b"read 1 3 0 0 2\nread 2 3 0 200 2\npoint a 1 0\npoint b 2 0\n",
+        ),
+    ];
+    for (input, output) in fine {
+        list_prints(&rt, rt.alloc(), input, output, Status::Fine)?;
+    }
+    Ok(())
+}
+
+#[test]
+fn prints_faulty_rows(rt: HostRuntime) -> Result<(), Fail> {
+    let refused: [(&[u8], &[u8]); 4] = [
+        (FAULTY, FAULTY_PRINTED),
+        (b"", b"row 1 fault 2\n"),
+        (
+            b"name,function,area,address,type,scale\nwh,3,0,10,acc32,sf\n",
+            b"row 2 fault 10\n",
+        ),
+        (
+            b"name,function,area,address,type,scale\nw,3,0,0,int16,s\ns,3,0,125,sunssf,\n",
+            b"row 2 fault 11\n",
+        ),
+    ];
+    for (input, output) in refused {
+        list_prints(&rt, rt.alloc(), input, output, Status::Refused)?;
+    }
+    Ok(())
+}
+
+#[test]
+fn list_too_long(rt: HostRuntime) -> Result<(), Fail> {
+    let mut long = Vec::new(rt.alloc());
+    long.resize(MOST_BYTES + 1, b'\n')?;
+    list_prints(&rt, rt.alloc(), &long, b"too long\n", Status::Refused)?;
+    list_prints(&rt, rt.alloc(), &long[1..], b"row 1 fault 2\n", Status::Refused)
+}
+
+#[test]
+fn lists_over_failing_streams(rt: HostRuntime) -> Result<(), Fail> {
+    for (input, output, status) in [
+        (LIST, LIST_PRINTED, Status::Fine),
+        (FAULTY, FAULTY_PRINTED, Status::Refused),
+    ] {
+        for failing in 1..60 {
+            let mut kept = Kept {
+                got: Vec::new(rt.alloc()),
+                calls: 0,
+                failing,
+            };
+            let mut unread = input;
+            let ended = plan_text(rt.alloc(), &mut unread, &mut kept);
+            assert!(rt; output.starts_with(&kept.got));
+            assert_eq!(rt; ended == status, kept.calls < failing);
+        }
+        for kind in [ErrorKind::Interrupted, ErrorKind::BrokenPipe] {
+            let mut slow = Slow::of(input, Some(7), kind);
+            let mut printed = Vec::new(rt.alloc());
+            assert_eq!(rt; plan_text(rt.alloc(), &mut slow, &mut printed), Status::Failed);
+            assert_eq!(rt; printed.len(), 0);
+        }
+    }
+    Ok(())
+}
+
+#[test]
+fn each_failing_write_of_an_answer_is_told(rt: HostRuntime) -> Result<(), Fail> {
+    let notes = [Note::Outcome {
+        poll: 1,
+        outcome: Outcome::Answered,
+    }];
+    let started = Answer::Started {
+        first: 1,
+        count: 1,
+        of: 2,
+    };
+    let output = b"poll 1 answered\nstarted 1 1 2 00ff\n".as_slice();
+    let mut whole = false;
+    for failing in 1..200 {
+        let mut kept = Kept {
+            got: Vec::new(rt.alloc()),
+            calls: 0,
+            failing,
+        };
+        let ended = print_accepted(&started, &notes, b"\x00\xff", &mut kept);
+        whole = kept.calls < failing;
+        assert!(rt; output.starts_with(&kept.got));
+        assert_eq!(rt; ended.is_ok(), whole);
+        assert_eq!(rt; kept.got.as_slice() == output, whole);
+        if whole {
+            break;
+        }
+    }
+    assert!(rt; whole);
     Ok(())
 }

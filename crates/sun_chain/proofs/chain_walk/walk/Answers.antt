@@ -1,6 +1,6 @@
 use Rattle.std.proofs.Common.{◌<◌, ◌∙◌, length, arith}
 use Rattle.std.proofs.lemmas.Result.{err_from_is_err_and}
-use Rattle.sun_chain.proofs.Chains.{lawful_more, fails_behind}
+use Rattle.sun_chain.proofs.Chains.{fails_behind, follow_inside, lawful_more}
 use Rattle.sun_chain.proofs.chain_walk.walk.Goals as goal
 
 pub returns-in_err-model-clause-fails : goal.returns-in_err-model-clause-fails
@@ -14,3 +14,6 @@ loop-models-preserved c =
     let pushed = rw (c.is_err.ensures.negation, c.if-is_err.false) at c.push.ensures.items in
     let few : length c.loop-models.models.items < 64 = omega (arith, found.2, c.len.ensures, c.loop-models.models.ok.0) in
     rw (pushed, c.next-address.ensures) (lawful_more _ _ _ _ _ c.loop-models.invariant found.0 found.1 few)
+
+pub invariant_of-result : goal.invariant_of-result
+invariant_of-result c = record { few = c.loop-models.invariant.few; inside = follow_inside _ _ _ _ c.loop-models.invariant.follow }

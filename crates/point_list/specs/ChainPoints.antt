@@ -1,0 +1,55 @@
+-- The point list of a chain of models.
+use Rattle.std.specs.Prelude.{ℕ, ◌+◌, nat_le, if◌then◌else◌, List, [], ◌∷◌, ◌++◌, length, map, codes, Some, None}
+use Rattle.std.specs.declared.option.Option.{Option}
+use Rattle.std.specs.Fmt.{decimal}
+use Rattle.std.specs.List.{list_any}
+use Rattle.std.specs.Str.{bytes_eq}
+use Rattle.sun_chain.specs.Chain.{models_of, words_of}
+use Rattle.sun_chain.specs.Image.{Words}
+use Rattle.sun_chain.specs.Points.{points_in}
+use Rattle.sun_chain.specs.Points.{Named as ModelPoint}
+use Rattle.sun_chain.specs.Tables.{scale_name_in, table_of}
+use Rattle.sun_chain.specs.declared.chain.Chain.{Chain}
+use Rattle.sun_chain.specs.declared.model.Model.{Model}
+use Rattle.point_list.specs.declared.fault.FaultyRow.{FaultyRow}
+use Rattle.point_list.specs.declared.fault.RowFault.TheVariants.{TooMany}
+use Rattle.point_list.specs.declared.point.ListedPoint.{ListedPoint}
+use Rattle.point_list.specs.declared.point.PointScale.{PointScale}
+use Rattle.point_list.specs.declared.point.PointScale.TheVariants.{Unscaled, Named}
+use Rattle.point_list.specs.declared.point.RegisterTable.TheVariants.{Holding}
+
+-- `m`, the model's place in the chain, `.` and the point's name
+abbrev pub chain_name : ℕ → List ℕ → List ℕ
+chain_name place name = codes "m" ++ (decimal place ++ (codes "." ++ name))
+
+-- the scale point of this name, if it is among the points of the model
+abbrev pub chain_scale : ℕ → List ModelPoint → Option (List ℕ) → PointScale
+chain_scale place others None = Unscaled
+chain_scale place others (Some name) = if list_any (λ other. bytes_eq other.name name) others then Named (chain_name place name) else Unscaled
+
+-- a point of the model at a place, the others of which are these; chains are read by holding registers
+abbrev pub listed : ℕ → ℕ → List ModelPoint → ModelPoint → ListedPoint
+listed place id others point = record {
+  name = chain_name place point.name;
+  table = Holding;
+  area = 0;
+  address = point.address;
+  kind = point.ty;
+  scale = chain_scale place others (scale_name_in (table_of id) point.name);
+}
+
+abbrev pub model_points : Words → ℕ → Model → List ListedPoint
+model_points word place model = map (listed place model.id (points_in word model)) (points_in word model)
+
+-- the points of models, the first of which has this place
+abbrev pub points_from : Words → ℕ → List Model → List ListedPoint
+points_from word place [] = []
+points_from word place (model ∷ models) = model_points word place model ++ points_from word (place + 1) models
+
+-- the points of a chain, whose first model has place 1
+abbrev pub points_of_chain : Chain → List ListedPoint
+points_of_chain chain = points_from (words_of chain) 1 (models_of chain)
+
+-- points that are too many are told as the row behind the most
+abbrev pub chain_faults : List ListedPoint → List FaultyRow
+chain_faults points = if nat_le (length points) 512 then [] else record { row = 514; fault = TooMany } ∷ []

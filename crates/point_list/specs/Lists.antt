@@ -1,0 +1,132 @@
+-- What the rows of a point list spell, and which of them are faulty.
+use Rattle.std.specs.Prelude.{ℕ, zero, suc, ◌≡◌, ◌≢◌, ◌+◌, Bool, false, ◌==◌, nat_le, ◌&&◌, if◌then◌else◌, List, [], ◌∷◌, ◌++◌, length, map, take, drop, max, min, slice_index_or, codes, Some, None}
+use Rattle.std.specs.declared.option.Option.{Option}
+use Rattle.std.specs.List.{flat_map}
+use Rattle.std.specs.Option.{option_and_then, option_map, option_map_or, option_or, option_to_list}
+use Rattle.std.specs.Str.{bytes_eq}
+use Rattle.point_list.specs.declared.fault.FaultyRow.{FaultyRow}
+use Rattle.point_list.specs.declared.fault.ListFault.{ListFault}
+use Rattle.point_list.specs.declared.fault.ListFault.TheVariants.{Faults, Memory}
+use Rattle.point_list.specs.declared.fault.RowFault.{RowFault}
+use Rattle.point_list.specs.declared.fault.RowFault.TheVariants.{Header, NoSuchScale, GroupTooWide}
+use Rattle.point_list.specs.declared.point.ListedPoint.{ListedPoint}
+use Rattle.point_list.specs.declared.point.PointScale.{PointScale}
+use Rattle.point_list.specs.declared.point.PointScale.TheVariants.{Unscaled, Fixed, Named}
+use Rattle.point_list.specs.Faults.{RowText, least_fault, six_fields}
+use Rattle.point_list.specs.Fields.{fixed_scale_of, number_within, table_of, type_of}
+use Rattle.point_list.specs.Names.{is_name}
+use Rattle.point_list.specs.Points.{end_of, function_of, scale_point}
+use Rattle.point_list.specs.Rows.{csv_rows}
+
+abbrev pub named_scale : List ℕ → Option PointScale
+named_scale field = if is_name field then Some (Named field) else None
+
+-- the scale of a point: none, a number from -10 to 10, or the name of a scale point
+abbrev pub scale_spelled : List ℕ → Option PointScale
+scale_spelled [] = Some Unscaled
+scale_spelled (first ∷ rest) = option_or (option_map Fixed (fixed_scale_of (first ∷ rest))) (named_scale (first ∷ rest))
+
+abbrev pub name_spelled : List ℕ → Option (List ℕ)
+name_spelled field = if is_name field then Some field else None
+
+-- the point of a name, a scale and the other four of six fields
+abbrev pub spelled_with : Option (List ℕ) → Option PointScale → RowText → Option ListedPoint
+spelled_with spelled scaled row =
+    option_and_then (λ name.
+    option_and_then (λ table.
+    option_and_then (λ area.
+    option_and_then (λ address.
+    option_and_then (λ kind.
+    option_map (λ scale. record { name = name; table = table; area = area; address = address; kind = kind; scale = scale })
+    scaled) (type_of row.kind)) (number_within 0 65535 row.address)) (number_within 0 255 row.area)) (table_of row.function)) spelled
+
+-- the point that six fields spell
+abbrev pub point_spelled : RowText → Option ListedPoint
+point_spelled row = spelled_with (name_spelled row.name) (scale_spelled row.scale) row
+
+abbrev pub point_of_row : List (List ℕ) → Option ListedPoint
+point_of_row fields = option_and_then point_spelled (six_fields fields)
+
+-- the points that rows spell
+abbrev pub points_of : List (List (List ℕ)) → List ListedPoint
+points_of rows = flat_map (λ fields. option_to_list (point_of_row fields)) rows
+
+-- the least fault of the row that stands `place` rows below the first after the header
+abbrev pub row_fault : List (List (List ℕ)) → ℕ → Option RowFault
+row_fault rows place = least_fault place (take place rows) (slice_index_or rows place [])
+
+-- the least fault of each of the first n rows
+abbrev pub row_faults : List (List (List ℕ)) → ℕ → List (Option RowFault)
+row_faults rows zero = []
+row_faults rows (suc n) = row_faults rows n ++ (row_fault rows n ∷ [])
+
+-- whether a point and its scale point lie in one area, within 125 registers
+abbrev pub is_one_group : ListedPoint → ListedPoint → Bool
+is_one_group point scale =
+    (function_of point.table == function_of scale.table) && (point.area == scale.area)
+    && nat_le (max (end_of point) (end_of scale)) (min point.address scale.address + 125)
+
+abbrev pub group_fault : ListedPoint → Option ListedPoint → Option RowFault
+group_fault point None = Some NoSuchScale
+group_fault point (Some scale) = if is_one_group point scale then None else Some GroupTooWide
+
+abbrev pub scale_fault : List ListedPoint → ListedPoint → PointScale → Option RowFault
+scale_fault points point (Named name) = group_fault point (scale_point points name)
+scale_fault points point _ = None
+
+-- what each point of a list lacks of its scale point
+abbrev pub scale_faults : List ListedPoint → List ListedPoint → List (Option RowFault)
+scale_faults points some = map (λ point. scale_fault points point point.scale) some
+
+-- the rows that have a fault, in order, the first row being of this number
+abbrev pub faulty_rows : ℕ → List (Option RowFault) → List FaultyRow
+faulty_rows row [] = []
+faulty_rows row (None ∷ faults) = faulty_rows (row + 1) faults
+faulty_rows row (Some fault ∷ faults) = record { row = row; fault = fault } ∷ faulty_rows (row + 1) faults
+
+-- faults of scale points are looked for only where no row has another
+abbrev pub or_else : List FaultyRow → List FaultyRow → List FaultyRow
+or_else [] others = others
+or_else (row ∷ rows) others = row ∷ rows
+
+-- the faulty rows below the header; the header is row 1
+abbrev pub faults_below : List (List (List ℕ)) → List FaultyRow
+faults_below rows = or_else (faulty_rows 2 (row_faults rows (length rows))) (faulty_rows 2 (scale_faults (points_of rows) (points_of rows)))
+
+-- name,function,area,address,type,scale
+abbrev pub is_header_text : RowText → Bool
+is_header_text row =
+    bytes_eq row.name (codes "name") && bytes_eq row.function (codes "function") && bytes_eq row.area (codes "area")
+    && bytes_eq row.address (codes "address") && bytes_eq row.kind (codes "type") && bytes_eq row.scale (codes "scale")
+
+abbrev pub is_header : List (List ℕ) → Bool
+is_header fields = option_map_or is_header_text (six_fields fields) false
+
+abbrev pub no_header : List FaultyRow
+no_header = record { row = 1; fault = Header } ∷ []
+
+-- the faulty rows of a list, of which only the header is looked at where it is wrong
+abbrev pub list_faults : List (List (List ℕ)) → List FaultyRow
+list_faults [] = no_header
+list_faults (header ∷ rows) = if is_header header then faults_below rows else no_header
+
+-- the header and the rows below it, none of which is read after the 513th
+abbrev pub rows_read : List ℕ → List (List (List ℕ))
+rows_read text = take 514 (csv_rows text)
+
+-- rows spell points, one each, in order
+abbrev pub SpellEach : List (List (List ℕ)) → List ListedPoint → Type 0
+SpellEach rows points = map point_of_row rows ≡ map (λ point. Some point) points
+
+-- a text spells a list: no row of it is faulty, and each one below the header spells a point
+pub record SpellsList (text : List ℕ) (points : List ListedPoint) : Type 0 where
+  pub faultless : list_faults (rows_read text) ≡ []
+  pub each : SpellEach (drop 1 (csv_rows text)) points
+
+-- the faulty rows of a list, of which there is one at least
+abbrev pub AreFaults : List FaultyRow → List FaultyRow → Type 0
+AreFaults faulty told = (told ≡ faulty) × (told ≢ [])
+
+abbrev pub ExplainsList : List FaultyRow → ListFault → Type 0
+ExplainsList faulty Memory = Unit {0}
+ExplainsList faulty (Faults told) = AreFaults faulty told

@@ -1,0 +1,169 @@
+//! The point list of a chain of models.
+ghost use Rattle.std.specs.Prelude.{◌≡◌, ◌≤◌, ◌++◌, ◌∷◌, [], Some, IfOk, IfErr, IfSome, IsTrue, OnOk, map};
+ghost use Rattle.std.specs.List.{All, list_any};
+ghost use Rattle.std.specs.Option.{option_map};
+ghost use Rattle.std.specs.Str.{bytes_eq};
+ghost use Rattle.sun_chain.specs.Chain.{words_of};
+ghost use Rattle.sun_chain.specs.Points.{seen};
+ghost use Rattle.sun_chain.specs.Tables.{scale_name_in, table_of};
+ghost use Rattle.point_list.specs.ChainPoints.{chain_faults, chain_name, chain_scale, listed, model_points, points_of_chain};
+ghost use Rattle.point_list.specs.Lists.{ExplainsList};
+ghost use Rattle.point_list.specs.Names.{is_name};
+
+use crate::fault::{FaultyRow, FaultyRows, ListFault, RowFault};
+use crate::lawful::POINT_LIMIT;
+use crate::list::PointList;
+use crate::name::PointName;
+use crate::point::{ListedPoint, PointScale, RegisterTable};
+use crate::rows::ROW_LIMIT;
+use std::alloc::{AllocError, Global};
+use sun_chain::{Chain, Model, NamedPoint, scale_name};
+
+fn chain_name(alloc: Global, place: usize, name: &str) -> Result<PointName, AllocError>
+    requires { IsTrue (is_name (chain_name place name.now)) }
+    ensures { IfOk result (λ made. made ≡ chain_name place name.now) }
+{
+    let text = format!(in alloc; "m{place}.{name}")?;
+    Ok(PointName::of_lawful(text.into_bytes()))
+}
+
+fn has_point(points: &[NamedPoint<'_>], name: &str) -> bool
+    ensures { result ≡ list_any (λ point. bytes_eq (seen point).name name.now) points.now }
+{
+    points
+        .iter()
+        .any(|point| point.name().as_bytes() == name.as_bytes())
+}
+
+// Whether a point of this name is among those of a model.
+fn is_there(points: &[NamedPoint<'_>], name: &str) -> bool
+    ensures { result ≡ list_any (λ point. bytes_eq point.name name.now) (map seen points.now) }
+{
+    has_point(points, name)
+}
+
+// The scale point of this name, if it is among those of a model.
+fn scale_there(
+    alloc: Global,
+    place: usize,
+    others: &[NamedPoint<'_>],
+    name: &str,
+) -> Result<PointScale, AllocError>
+    requires { IsTrue (is_name (chain_name place name.now)) }
+    ensures { IfOk result (λ made. made ≡ chain_scale place (map seen others.now) (Some name.now)) }
+{
+    if is_there(others, name) {
+        let name = chain_name(alloc, place, name)?;
+        Ok(PointScale::Named(name))
+    } else {
+        Ok(PointScale::Unscaled)
+    }
+}
+
+fn chain_scale(
+    alloc: Global,
+    place: usize,
+    others: &[NamedPoint<'_>],
+    scale: Option<&str>,
+) -> Result<PointScale, AllocError>
+    requires { IfSome scale (λ name. IsTrue (is_name (chain_name place name.now))) }
+    ensures { IfOk result (λ made. made ≡ chain_scale place (map seen others.now) (option_map (λ name. name.now) scale.entry)) }
+{
+    match scale {
+        Some(name) => scale_there(alloc, place, others, name),
+        None => Ok(PointScale::Unscaled),
+    }
+}
+
+// A point of the model of an ID at a place in its chain.
+fn listed(
+    alloc: Global,
+    place: usize,
+    id: u16,
+    others: &[NamedPoint<'_>],
+    point: &NamedPoint<'_>,
+) -> Result<ListedPoint, AllocError>
+    requires named { IsTrue (is_name (chain_name place (seen point.now).name)) }
+    requires scaled { IfSome (scale_name_in (table_of id) (seen point.now).name) (λ name. IsTrue (is_name (chain_name place name))) }
+    ensures { IfOk result (λ made. made ≡ listed place id (map seen others.now) (seen point.now)) }
+{
+    let name = chain_name(alloc, place, point.name())?;
+    let scale = chain_scale(alloc, place, others, scale_name(id, point.name()))?;
+    Ok(ListedPoint {
+        name,
+        table: RegisterTable::Holding,
+        area: 0,
+        address: point.address(),
+        kind: point.ty(),
+        scale,
+    })
+}
+
+// Adds the points of the model of an ID at a place in the chain.
+fn add_points(
+    alloc: Global,
+    place: usize,
+    id: u16,
+    found: &[NamedPoint<'_>],
+    points: &mut Vec<ListedPoint>,
+) -> Result<(), AllocError>
+    requires named { All (λ point. IsTrue (is_name (chain_name place (seen point).name))) found.now }
+    requires scaled { All (λ point. IfSome (scale_name_in (table_of id) (seen point).name) (λ name. IsTrue (is_name (chain_name place name)))) found.now }
+    ensures { OnOk result (points.new.items ≡ points.old.items ++ map (λ point. listed place id (map seen found.now) (seen point)) found.now) }
+{
+    for point in found {
+        points.push(listed(alloc, place, id, found, point)?)?;
+    }
+    Ok(())
+}
+
+// Adds the points of the model at a place in the chain.
+fn add_model(
+    alloc: Global,
+    chain: &Chain<'_>,
+    place: usize,
+    model: &Model,
+    points: &mut Vec<ListedPoint>,
+) -> Result<(), AllocError>
+    requires { place ≤ 64 }
+    ensures { OnOk result (points.new.items ≡ points.old.items ++ model_points (words_of chain.now) place model.now) }
+{
+    let found = chain.points(model)?;
+    add_points(alloc, place, model.id, &found, points)
+}
+
+fn chain_points(alloc: Global, chain: &Chain<'_>) -> Result<Vec<ListedPoint>, AllocError>
+    ensures { IfOk result (λ points. points.items ≡ points_of_chain chain.now) }
+{
+    let mut points = Vec::new(alloc);
+    for (index, model) in chain.models().iter().enumerate() {
+        add_model(alloc, chain, index + 1, model, &mut points)?;
+    }
+    Ok(points)
+}
+
+// The row behind the most that may be.
+fn too_many(alloc: Global) -> Result<FaultyRows, AllocError>
+    ensures { IfOk result (λ rows. rows ≡ record { row = 514; fault = RowFault.TooMany } ∷ []) }
+{
+    let mut rows = Vec::new(alloc);
+    rows.push(FaultyRow {
+        row: ROW_LIMIT,
+        fault: RowFault::TooMany,
+    })?;
+    Ok(FaultyRows::new(rows))
+}
+
+/// The list of the points that the models of a chain have, absent ones too, model by model. A point is named `m`, the
+/// model's place in the chain from 1, `.` and its name in the model; it is read by function 3, in area 0. Its scale is
+/// the scale point of its model, if that is there, else empty. Over 512 points are told as `TooMany` on row 514.
+pub fn from_chain(alloc: Global, chain: &Chain<'_>) -> Result<PointList, ListFault>
+    ensures list { IfOk result (λ list. list ≡ points_of_chain chain.now) }
+    ensures faults { IfErr result (ExplainsList (chain_faults (points_of_chain chain.now))) }
+{
+    let points = chain_points(alloc, chain)?;
+    if points.len() > POINT_LIMIT {
+        return Err(ListFault::Faults(too_many(alloc)?));
+    }
+    Ok(PointList::of_lawful(points))
+}

@@ -1,0 +1,31 @@
+ghost use Rattle.std.specs.Prelude.{◌≡◌, ◌≤◌, length};
+ghost use Rattle.std.specs.List.{All};
+ghost use Rattle.sun_chain.specs.Chain.{base_of, end_of, models_of, next_after};
+
+use crate::chain::Chain;
+use crate::model::Model;
+
+impl Chain<'_> {
+    /// The address of the mark.
+    pub fn base(&self) -> u16
+        ensures { result ≡ base_of self.now }
+    {
+        self.base
+    }
+
+    /// The address of the end's ID.
+    pub fn end(&self) -> u16
+        ensures { result ≡ end_of self.now }
+    {
+        self.end
+    }
+
+    /// The models, in order of address.
+    pub fn models(&self) -> &[Model]
+        ensures models { result.now ≡ models_of self.now }
+        ensures few { length result.now ≤ 64 }
+        ensures inside { All (λ model. next_after model ≤ 65536) result.now }
+    {
+        &self.models
+    }
+}
