@@ -1,8 +1,8 @@
 -- A draft goes on step by step.
 use Rattle.std.proofs.Common.{◌≡◌, ℕ, ◌+◌, ◌<◌, ◌==◌, Bool, true, false, cond, List, [], ◌∷◌, ◌++◌, reverse, take, length, get_or, refl, sym, ap, subst, ◌∙◌, Option, Some, None, append_assoc}
-use Rattle.std.specs.List.{find, filter, filter_map}
+use Rattle.std.specs.List.{find, filter}
 use Rattle.std.specs.Option.{option_map, option_to_list}
-use Rattle.std.proofs.lemmas.Bool.{cond-true, cond-false, cond_both}
+use Rattle.std.proofs.lemmas.Bool.{cond-true, cond-false}
 use Rattle.std.proofs.lemmas.List.{append-nil, take_more, reverse-append}
 use Rattle.std.specs.Option.{is_some}
 use Rattle.mb_wire.specs.Replies.{answer_of as reply_answer}
@@ -23,14 +23,13 @@ use Rattle.office_facts.specs.declared.questions.Installation.{Installation}
 use Rattle.energy_core.specs.declared.judging.Reading.{Reading}
 use Rattle.energy_core.specs.declared.judging.Verdict.{Verdict}
 use Rattle.energy_core.specs.declared.judging.Verdict.TheVariants.{Accepted, Held}
-use Rattle.office_facts.specs.Facts.{same, as_poll, as_register, polls_in, registers_in, poll_of, registers_of}
+use Rattle.office_facts.specs.Facts.{same, as_poll, as_register, poll_of, registers_of}
 use Rattle.office_facts.specs.Readings.{poll_row, poll_row_of, is_read_by, reading_of, installation_at, judgement, as_fact, reading_fact, with_reading, with_register, with_registers, with_reply}
-use Rattle.office_facts.specs.Notes.{words_notes, reading_note, register_notes, registers_notes, reply_notes, outcomes_notes, outcome_notes}
+use Rattle.office_facts.specs.Notes.{words_notes, reading_note, register_notes, registers_notes, reply_notes, outcome_notes}
 use Rattle.office_facts.specs.History.{outcome_of, with_words, with_outcome, with_outcomes}
 use Rattle.office_facts.specs.Lawful.{AreLawful}
-use Rattle.office_facts.proofs.Lists.{reverse_cons}
 use Rattle.office_core.specs.declared.drafts.Draft.{Draft}
-use Rattle.office_core.specs.Drafts.{so_far, IsTold, AreTold, IsAdded, GoesOn}
+use Rattle.office_core.specs.Drafts.{so_far, IsTold, AreTold, GoesOn}
 use Rattle.office_core.proofs.Rows.{SkipsTold, told_skipped}
 
 -- What is lawful was lawful before.
@@ -319,7 +318,7 @@ pub outcome_read : (holds mid : List Fact → Type 0) (clean later : Type 0) (ol
     → between.facts.items ≡ old.facts.items ++ ended_fact at settled ∷ [] → between.notes.items ≡ old.notes.items ++ ended_note settled ∷ []
     → ((held : List Fact) → holds held → mid held) → (later → clean)
     → GoesOn mid later between new (λ facts. with_reply at (poll_of facts settled.poll) (session.words_in (reply_answer reply)) facts)
-          (λ facts. reply_notes at (poll_of facts settled.poll) (session.words_in (reply_answer reply)) facts)
+    (λ facts. reply_notes at (poll_of facts settled.poll) (session.words_in (reply_answer reply)) facts)
     → GoesOn holds later old new (with_outcome at (settled_of settled)) (outcome_notes at (settled_of settled))
 outcome_read holds mid clean later old between new at settled reply lends is facts notes kept cleaner on =
     let words : List ℕ = session.words_in (reply_answer reply) in

@@ -5,7 +5,7 @@ use Rattle.std.specs.List.{cons_option}
 use Rattle.energy_core.specs.declared.entries.Last.{Last}
 use Rattle.energy_core.specs.declared.entries.Entry.{Entry}
 use Rattle.energy_core.specs.declared.entries.Entry.TheVariants as entry
-use Rattle.energy_core.specs.Value.{unit_of, value_of}
+use Rattle.energy_core.specs.Value.{unit_of}
 use Rattle.energy_core.specs.Account.{last_of, whole_energy, NeverFalls}
 use Rattle.energy_core.proofs.Sums.{whole-cons}
 use Rattle.office_facts.specs.declared.facts.Opening.{Opening}

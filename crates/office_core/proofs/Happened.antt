@@ -1,5 +1,5 @@
 -- What an event of a device leaves.
-use Rattle.std.proofs.Common.{◌≡◌, ℕ, Bool, true, false, cond, List, [], ◌∷◌, ◌++◌, map, reverse, refl, sym, ap, subst, ◌∙◌, Option, Some, None}
+use Rattle.std.proofs.Common.{◌≡◌, ℕ, List, [], ◌∷◌, ◌++◌, map, reverse, refl, sym, ap, subst, ◌∙◌, Option, Some, None}
 use Rattle.std.proofs.lemmas.List.{append-nil}
 use Rattle.poll_core.specs.Settling as session
 use Rattle.office_facts.specs.declared.facts.Device.{Device}
@@ -9,7 +9,7 @@ use Rattle.office_facts.specs.declared.events.Event.{Event}
 use Rattle.office_facts.specs.declared.events.Event.TheVariants as event
 use Rattle.office_facts.specs.Sessions as sessions
 use Rattle.office_facts.specs.Sessions.{line_after, lines_after}
-use Rattle.office_facts.specs.History.{History, Fed, facts_of, lines_of, next_poll, settled_by, settled_on, with_outcomes, with_settled, facts_after}
+use Rattle.office_facts.specs.History.{History, Fed, facts_of, lines_of, next_poll, settled_on, with_outcomes, with_settled, facts_after}
 use Rattle.office_facts.specs.Lawful.{AreLawful}
 use Rattle.office_facts.specs.Refusals.{AreAccepted, refusal_of, answer_of}
 use Rattle.office_facts.specs.declared.answers.Answer.TheVariants as answer

@@ -1,8 +1,7 @@
 -- Nothing on a session is later than the latest accepted event.
-use Rattle.std.proofs.Common.{◌≡◌, ℕ, ◌≤◌, Bool, true, false, cond, List, [], ◌∷◌, ◌++◌, map, refl, sym, ap, subst, ◌∙◌, Option, Some, None, arith, nat_lt, nat_le, ◌||◌}
+use Rattle.std.proofs.Common.{◌≡◌, ℕ, ◌≤◌, Bool, true, false, cond, List, [], ◌∷◌, ◌++◌, map, refl, Option, Some, None, arith}
 use Rattle.std.specs.List.{find}
 use Rattle.poll_core.specs.Settling as session
-use Rattle.poll_core.specs.Standing.{last_moment}
 use Rattle.poll_core.proofs.Settles.{last_moment-push}
 use Rattle.office_facts.specs.declared.facts.Device.{Device}
 use Rattle.office_facts.specs.declared.commands.Command.TheVariants as command
@@ -13,8 +12,8 @@ use Rattle.office_facts.specs.declared.refusals.Refusal.TheVariants as refusal
 use Rattle.office_facts.specs.Facts.{is_named}
 use Rattle.office_facts.specs.Sessions as sessions
 use Rattle.office_facts.specs.Sessions.{connects, reaches, is_close, with_happening, line_reached, line_after, line_restarted, lines_added, new_line, device_by}
-use Rattle.office_facts.specs.History.{History, Accepted, Opened, Fed, facts_of, lines_of, latest_of, next_poll}
-use Rattle.office_facts.specs.Refusals.{AreAccepted, refusal_of, refuses, reasons}
+use Rattle.office_facts.specs.History.{History, Opened, Fed, facts_of, lines_of, latest_of, next_poll}
+use Rattle.office_facts.specs.Refusals.{AreAccepted, refusal_of, refuses}
 use Rattle.office_facts.proofs.ApartLines.{not_found_if}
 use Rattle.std.proofs.lemmas.Bool.{cond_both, ltb-false}
 use Rattle.office_core.specs.Settling.{IsBefore, AreBefore}

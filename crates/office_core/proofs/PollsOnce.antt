@@ -1,5 +1,5 @@
 -- Each started poll has exactly one recorded outcome, or waits.
-use Rattle.std.proofs.Common.{◌≡◌, ℕ, zero, suc, ◌+◌, ◌<◌, ◌==◌, ◌⊎◌, inl, inr, Bool, true, false, cond, List, [], ◌∷◌, map, length, reverse, get_or, Option, Some, None, refl, ap, sym, subst, ◌∙◌, arith}
+use Rattle.std.proofs.Common.{◌≡◌, ℕ, zero, suc, ◌<◌, ◌==◌, inl, inr, Bool, true, false, cond, List, [], ◌∷◌, map, length, reverse, get_or, Option, Some, None, refl, ap, subst, ◌∙◌, arith}
 use Rattle.std.specs.Prelude.{All, Contains}
 use Rattle.std.specs.List.{filter, flat_map}
 use Rattle.std.specs.Option.{option_to_list}
@@ -11,7 +11,7 @@ use Rattle.office_facts.specs.declared.facts.EndedPoll.{EndedPoll}
 use Rattle.office_facts.specs.Facts.{polls_in, ends_of, pending_in}
 use Rattle.office_facts.specs.History.{History, facts_of, lines_of}
 use Rattle.office_facts.specs.Headline.{PollsEndOnce, outcome_in, pending_on}
-use Rattle.office_core.specs.Running.{EndsOnce, IsPending}
+use Rattle.office_core.specs.Running.{EndsOnce}
 
 cons_contains : {X : Type 0} (b : Bool) (y : X) (xs : List X) (x : X) → Contains xs x → Contains (cond b (y ∷ xs) xs) x
 cons_contains true y xs x h = let less = h.1 in (suc h.0, omega arith, h.2)

@@ -1,5 +1,5 @@
 -- Installations behind the facts of a draft.
-use Rattle.std.proofs.Common.{◌≡◌, ℕ, ◌+◌, ◌<◌, Bool, true, false, cond, List, [], ◌∷◌, ◌++◌, reverse, take, drop, length, get_or, refl, sym, ap, subst, ◌∙◌, Option, Some, None, Result, Ok, Err, append_assoc, zero, suc}
+use Rattle.std.proofs.Common.{◌≡◌, ℕ, ◌+◌, ◌<◌, List, [], ◌∷◌, ◌++◌, reverse, take, drop, length, get_or, refl, sym, ap, subst, ◌∙◌, Option, Some, None, Result, Ok, Err, append_assoc, zero, suc}
 use Rattle.std.specs.List.{cons_option, filter_map, find}
 use Rattle.std.specs.Option.{option_map}
 use Rattle.std.proofs.lemmas.List.{reverse-append, take-append-drop}
@@ -10,7 +10,7 @@ use Rattle.office_facts.specs.declared.facts.Opening.{Opening}
 use Rattle.office_facts.specs.declared.facts.Fact.{Fact}
 use Rattle.office_facts.specs.declared.facts.Fact.TheVariants as fact
 use Rattle.office_facts.specs.declared.questions.Installation.{Installation}
-use Rattle.office_facts.specs.Facts.{same, as_opening, openings_in, opening_of, installed_at}
+use Rattle.office_facts.specs.Facts.{same, as_opening, openings_in, installed_at}
 use Rattle.office_facts.specs.Readings.{installation_of, installation_at}
 use Rattle.office_facts.specs.Listing.{with_result}
 use Rattle.office_facts.specs.Lawful.{AreLawful}

@@ -84,7 +84,7 @@ pub goes_further : (holds mid : List Fact → Type 0) (clean later same changed 
     → (SettleNothing number at e kept → same)
     → ((line : sessions.Line) → KeepsLine x line → IsBefore at line → KeepsLine y (line_after number at e line))
     → ((line : sessions.Line) → KeepsLine x line → IsBefore at line
-          → GoesOn mid later draft new (with_outcomes at (settled_by number at e line)) (outcomes_notes at (settled_by number at e line)))
+    → GoesOn mid later draft new (with_outcomes at (settled_by number at e line)) (outcomes_notes at (settled_by number at e line)))
     → ((line : sessions.Line) → KeepsLine x line → IsBefore at line → settled_by number at e line ≡ [] → same → changed)
     → ((held : List Fact) → holds held → mid held) → (later → clean)
     → KeepsFirst number at e (i + 1) (slice_set now i y) kept

@@ -1,6 +1,5 @@
 -- What a start leaves: the session of one device has one event more.
-use Rattle.std.proofs.Common.{◌≡◌, ℕ, ◌+◌, ◌<◌, ◌≤◌, Bool, true, false, cond, not, List, [], ◌∷◌, ◌++◌, map, length, get_or, slice_get, slice_set, refl, sym, ap, subst, ◌∙◌, Option, Some, None, zero, suc, arith}
-use Rattle.std.specs.List.{find}
+use Rattle.std.proofs.Common.{◌≡◌, ℕ, ◌≤◌, Bool, true, false, cond, not, List, [], ◌∷◌, map, get_or, slice_get, slice_set, refl, sym, ap, subst, ◌∙◌, Option, Some, None, zero, suc}
 use Rattle.std.specs.Option.{option_map, option_and_then}
 use Rattle.std.proofs.lemmas.Bool.{false_from_ne_true, both_ways}
 use Rattle.std.proofs.lemmas.List.{append-nil}
@@ -8,11 +7,8 @@ use Rattle.std.proofs.lemmas.Slice.Eq.{bytes_eq-Decides}
 use Rattle.mb_wire.specs.Spans.{span_view, request_of}
 use Rattle.mb_wire.specs.Requests.{request_bytes}
 use Rattle.mb_wire.specs.Reader.{spelling}
-use Rattle.mb_wire.specs.declared.span.ReadSpan.{ReadSpan}
 use Rattle.poll_core.specs.Settling as session
 use Rattle.poll_core.specs.Standing.{last_moment}
-use Rattle.office_facts.specs.declared.facts.Fact.{Fact}
-use Rattle.office_facts.specs.declared.facts.Fact.TheVariants as fact
 use Rattle.office_facts.specs.declared.commands.StartPoll.{StartPoll}
 use Rattle.office_facts.specs.declared.commands.Command.TheVariants as command
 use Rattle.office_facts.specs.declared.events.Event.{Event}
@@ -22,7 +18,7 @@ use Rattle.office_facts.specs.Sessions as sessions
 use Rattle.office_facts.specs.Sessions.{line_of, reaches, with_happening, line_reached, line_after, lines_after, is_startable}
 use Rattle.office_facts.specs.History.{History, Fed, facts_of, lines_of, next_poll, prepended, poll_by}
 use Rattle.office_facts.specs.Notes.{outgoing_of, frame_by, bytes_or_none}
-use Rattle.office_facts.specs.Refusals.{AreAccepted, refusal_of, refuses, can_start}
+use Rattle.office_facts.specs.Refusals.{AreAccepted, refusal_of, refuses}
 use Rattle.office_facts.proofs.Lookups.{find_passes}
 use Rattle.office_facts.proofs.ApartLines.{AreApart, NoneNamed}
 use Rattle.office_facts.proofs.QuietEvents.{passed, start_ready}

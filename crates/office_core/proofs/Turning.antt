@@ -1,13 +1,12 @@
 -- The loop over the turns of one event on a session.
-use Rattle.std.proofs.Common.{◌≡◌, ℕ, ◌+◌, ◌-◌, ◌<◌, ◌≤◌, inl, inr, List, [], ◌∷◌, ◌++◌, length, take, drop, refl, sym, ap, ◌∙◌, subst, arith, Option, Some, None, append_assoc, length-drop}
+use Rattle.std.proofs.Common.{◌≡◌, ℕ, ◌+◌, ◌-◌, ◌≤◌, inl, inr, List, [], ◌∷◌, ◌++◌, length, take, drop, refl, sym, ap, ◌∙◌, subst, arith, Option, Some, None, append_assoc, length-drop}
 use Rattle.std.proofs.lemmas.List.{append-nil, take_rest, take_all, take-append-drop}
 use Rattle.std.proofs.Math.Seq.{take-add}
 use Rattle.poll_core.specs.Settling.{Event, Piece, Settlement, moment_of, outcomes_at}
-use Rattle.poll_core.specs.Standing.{State, Stands, Within, Before, After, call_of, owed}
+use Rattle.poll_core.specs.Standing.{State, Stands, Within, Before, After, owed}
 use Rattle.poll_core.specs.Telling.{Tells as TellsOn, IsCall}
 use Rattle.poll_core.specs.declared.call.Call.{Call}
 use Rattle.office_facts.specs.declared.facts.Fact.{Fact}
-use Rattle.office_facts.specs.declared.answers.Note.{Note}
 use Rattle.office_facts.specs.History.{with_outcome, with_outcomes}
 use Rattle.office_facts.specs.Notes.{outcome_notes, outcomes_notes}
 use Rattle.office_facts.proofs.KeptFacts.{outcomes-append}
@@ -159,7 +158,7 @@ called_by_event mid new happening settled tells = record {
 
 -- what settles nothing, settles nothing in its beginning
 pub shorter_settles : (longer : (timeout : ℕ) (events : List Event) (moment : ℕ) (piece more : List ℕ) →
-        outcomes_at timeout events (Piece moment (piece ++ more)) ≡ [] → outcomes_at timeout events (Piece moment piece) ≡ [])
+    outcomes_at timeout events (Piece moment (piece ++ more)) ≡ [] → outcomes_at timeout events (Piece moment piece) ≡ [])
     → (old : State) (moment n : ℕ) (piece : List ℕ) → SettlesNothing old (Piece moment piece) → SettlesNothing old (Piece moment (take n piece))
 shorter_settles longer old moment n piece none = (
   none.0,

@@ -43,7 +43,7 @@ pub record Tells (holds : List Fact → Type 0) (clean : Type 0) (before after :
   pub stands : (events : List session.Event) → Stands before events → Stands after (events ++ happening ∷ [])
   pub told : (events : List session.Event) → Stands before events
       → GoesOn holds clean old new (with_outcomes (session.moment_of happening) (session.outcomes_at before.timeout events happening))
-          (outcomes_notes (session.moment_of happening) (session.outcomes_at before.timeout events happening))
+      (outcomes_notes (session.moment_of happening) (session.outcomes_at before.timeout events happening))
 
 -- the same of an event of the office, where it reaches the session; else nothing changes
 abbrev pub TellsReached : (holds : List Fact → Type 0) (clean : Type 0) (before after : State) → Option session.Event → (old new : Draft) → Type 0

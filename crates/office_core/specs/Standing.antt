@@ -1,5 +1,5 @@
 -- Where the office stands after what it accepted.
-use Rattle.std.specs.Prelude.{◌≡◌, ℕ, ◌+◌, ◌≤◌, ◌⊎◌, Bool, true, false, not, ◌||◌, ◌&&◌, min, List, [], ◌∷◌, length, Option, Some, None, Result, Ok, Err}
+use Rattle.std.specs.Prelude.{◌≡◌, ℕ, ◌+◌, ◌≤◌, ◌⊎◌, Bool, true, false, not, ◌||◌, ◌&&◌, min, List, [], ◌∷◌, length, Some, None, Result, Ok, Err}
 use Rattle.office_facts.specs.declared.facts.Fact.{Fact}
 use Rattle.office_facts.specs.declared.answers.Answer.{Answer}
 use Rattle.office_facts.specs.declared.answers.Note.{Note}

@@ -175,7 +175,7 @@ impl<B: Books> Office<B> {
     pub fn meter(&mut self, name: &Option<Name>) -> Result<Installation, Refusal>
         ensures found { (past : History) → Stands B.holds past self.old → B.is_clean (books_in self.new)
             → MatchResult result (λ row. option_and_then (meter_of (facts_of past)) name.now ≡ Some row)
-                (λ r. IsOutside r ⊎ ((r ≡ why.NotFound) × (option_and_then (meter_of (facts_of past)) name.now ≡ None))) }
+            (λ r. IsOutside r ⊎ ((r ≡ why.NotFound) × (option_and_then (meter_of (facts_of past)) name.now ≡ None))) }
         ensures stands { (past : History) → Stands B.holds past self.old → Stands B.holds past self.new }
         ensures told { (notes_in self.new ≡ notes_in self.old) × (outgoing_in self.new ≡ outgoing_in self.old) }
         ensures stopped { (result ≡ Err why.Stopped) ↔ (is_stopped self.old ≡ true) }
@@ -199,7 +199,7 @@ impl<B: Books> Office<B> {
     pub fn poll(&mut self, number: u64) -> Result<PollRow, Refusal>
         ensures found { (past : History) → Stands B.holds past self.old → B.is_clean (books_in self.new)
             → MatchResult result (λ row. poll_row_of (facts_of past) number ≡ Some row)
-                (λ r. IsOutside r ⊎ ((r ≡ why.NotFound) × (poll_row_of (facts_of past) number ≡ None))) }
+            (λ r. IsOutside r ⊎ ((r ≡ why.NotFound) × (poll_row_of (facts_of past) number ≡ None))) }
         ensures stands { (past : History) → Stands B.holds past self.old → Stands B.holds past self.new }
         ensures told { (notes_in self.new ≡ notes_in self.old) × (outgoing_in self.new ≡ outgoing_in self.old) }
         ensures stopped { (result ≡ Err why.Stopped) ↔ (is_stopped self.old ≡ true) }

@@ -29,8 +29,8 @@ pub fn run<B: Books>(
         → IfOk result (λ run. B.is_clean (books_in run.office) → AreAnswers (Opened opened ∷ past) events.now run.results.items) }
     ensures recorded { (past : History) → AreAccepted past → B.holds books (facts_of past)
         → IfOk result (λ run. B.is_clean (books_in run.office)
-            → B.holds (books_in run.office) (facts_of (history_after (Opened opened ∷ past) events.now run.results.items))
-            × IsRecorded (history_after (Opened opened ∷ past) events.now run.results.items)) }
+        → B.holds (books_in run.office) (facts_of (history_after (Opened opened ∷ past) events.now run.results.items))
+        × IsRecorded (history_after (Opened opened ∷ past) events.now run.results.items)) }
     ensures each { IfOk result (λ run. length run.results.items ≡ length events.now) }
     ensures stops { IfOk result (λ run. StopsInTurn false (is_stopped run.office) events.now run.results.items) }
     ensures refused { (held : List Fact) → B.holds books held
@@ -39,8 +39,8 @@ pub fn run<B: Books>(
     ensures clean { MatchResult result (λ run. B.is_clean (books_in run.office) → B.is_clean books) (λ e. B.is_clean e.0 → B.is_clean books) }
     ensures faults { (past : History) → AreAccepted past → B.holds books (facts_of past)
         → MatchResult result (λ run. B.is_clean (books_in run.office)
-            → FailsInTurn (Opened opened ∷ past) (B.fault_count books) (B.fault_count (books_in run.office)) events.now run.results.items)
-            (λ e. B.fault_count e.0 ≡ faults_told e.1 (B.fault_count books)) }
+        → FailsInTurn (Opened opened ∷ past) (B.fault_count books) (B.fault_count (books_in run.office)) events.now run.results.items)
+        (λ e. B.fault_count e.0 ≡ faults_told e.1 (B.fault_count books)) }
 {
     facts_are_lawful();
     polls_end_once();

@@ -160,10 +160,7 @@ fn connected(device: &Device) -> Line
 {
     Line {
         device: *device,
-        session: Some(Session::new(
-            device.timeout.seconds(),
-            device.window.polls(),
-        )),
+        session: Some(Session::new(device.timeout.seconds(), device.window.polls())),
     }
 }
 
@@ -181,7 +178,7 @@ fn settle_line<B: Books>(
         → OnOk result (KeepsLine line.new (line_after number moment event.now kept)) }
     ensures told { (number : ℕ) (kept : sessions.Line) → KeepsLine line.old kept → IsBefore moment kept
         → OnOk result (GoesOn (B.holds books.old) (B.is_clean books.new) draft.old draft.new
-            (with_outcomes moment (settled_by number moment event.now kept)) (outcomes_notes moment (settled_by number moment event.now kept))) }
+        (with_outcomes moment (settled_by number moment event.now kept)) (outcomes_notes moment (settled_by number moment event.now kept))) }
     ensures quiet { (number : ℕ) (kept : sessions.Line) → KeepsLine line.old kept → IsBefore moment kept → settled_by number moment event.now kept ≡ []
         → IsOk result × (books.new ≡ books.old) × (draft.new ≡ draft.old) }
     ensures kept { (held : List Fact) → B.holds books.old held → B.holds books.new held }
@@ -215,7 +212,7 @@ pub fn settle_lines<B: Books>(
         → OnOk result (KeepsLines lines.new (map (line_after number moment event.now) kept)) }
     ensures told { (number : ℕ) (kept : List sessions.Line) → KeepsLines lines.old kept → AreBefore moment kept
         → OnOk result (GoesOn (B.holds books.old) (B.is_clean books.new) draft.old draft.new
-            (with_settled number moment event.now kept) (settled_notes number moment event.now kept)) }
+        (with_settled number moment event.now kept) (settled_notes number moment event.now kept)) }
     ensures quiet { (number : ℕ) (kept : List sessions.Line) → KeepsLines lines.old kept → AreBefore moment kept → SettleNothing number moment event.now kept
         → IsOk result × (books.new ≡ books.old) × (draft.new ≡ draft.old) }
     ensures kept { (held : List Fact) → B.holds books.old held → B.holds books.new held }

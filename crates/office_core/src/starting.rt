@@ -25,7 +25,9 @@ use crate::lines::Line;
 use crate::outgoing::Outgoing;
 use crate::places::place_of;
 use mb_wire::ReadSpan;
-use office_facts::{Books, BooksFault, Fact, Poll, Refusal, StartPoll, StoreCause, facts_are_lawful};
+use office_facts::{
+    Books, BooksFault, Fact, Poll, Refusal, StartPoll, StoreCause, facts_are_lawful,
+};
 use poll_core::{Session, each_once, one_event_more};
 
 /// Books a poll, and starts it on its session. Answers the bytes that it wants sent.

@@ -86,9 +86,18 @@ fn polling(alloc: Global, window: u64) -> Result<Office<ListBooks>, Fail> {
 fn one_reply_becomes_one_reading(rt: HostRuntime) -> Result<(), Fail> {
     let mut office = opened(rt.alloc())?;
     let scale = GivenScale::Register(40096);
-    assert_eq!(rt; office.feed(1000, &device(b"inv", 1, 5, 1)), Ok(Answer::Done(CommandKind::Device)));
-    assert_eq!(rt; office.feed(1000, &register(b"main", b"inv", 40094, scale)), Ok(Answer::Done(CommandKind::Register)));
-    assert_eq!(rt; office.feed(1000, &install(b"main", b"m1", 5000)), Ok(Answer::Done(CommandKind::Install)));
+    assert_eq!(rt;
+        office.feed(1000, &device(b"inv", 1, 5, 1)),
+        Ok(Answer::Done(CommandKind::Device))
+    );
+    assert_eq!(rt;
+        office.feed(1000, &register(b"main", b"inv", 40094, scale)),
+        Ok(Answer::Done(CommandKind::Register))
+    );
+    assert_eq!(rt;
+        office.feed(1000, &install(b"main", b"m1", 5000)),
+        Ok(Answer::Done(CommandKind::Install))
+    );
     assert_eq!(rt; office.feed(1898, &connect(b"inv")), Ok(Answer::Noted));
     assert_eq!(rt; office.outgoing().len(), 0);
     let started = Answer::Started {
@@ -99,7 +108,10 @@ fn one_reply_becomes_one_reading(rt: HostRuntime) -> Result<(), Fail> {
     assert_eq!(rt; office.feed(1898, &start(b"inv", 40094, 3)?), Ok(started));
     let frame = b"\x00\x00\x00\x00\x00\x06\x01\x03\x9c\x9e\x00\x03".as_slice();
     assert_eq!(rt; office.outgoing(), frame);
-    assert_eq!(rt; office.feed(1900, &bytes(rt.alloc(), b"inv", REPLY)?), Ok(Answer::Noted));
+    assert_eq!(rt;
+        office.feed(1900, &bytes(rt.alloc(), b"inv", REPLY)?),
+        Ok(Answer::Noted)
+    );
     assert_eq!(rt; office.outgoing().len(), 0);
     let meter = Name::new(b"m1").ok_or("no name")?;
     let told = [
@@ -127,7 +139,10 @@ fn one_reply_becomes_one_reading(rt: HostRuntime) -> Result<(), Fail> {
 #[test]
 fn questions_of_the_unknown(rt: HostRuntime) -> Result<(), Fail> {
     let mut office = polling(rt.alloc(), 1)?;
-    assert_eq!(rt; office.meter(&Name::new(b"main")).err(), Some(Refusal::NotFound));
+    assert_eq!(rt;
+        office.meter(&Name::new(b"main")).err(),
+        Some(Refusal::NotFound)
+    );
     assert_eq!(rt; office.meter(&None).err(), Some(Refusal::NotFound));
     assert_eq!(rt; office.poll(2).err(), Some(Refusal::NotFound));
     assert_eq!(rt; office.poll(0).err(), Some(Refusal::NotFound));
@@ -136,9 +151,12 @@ fn questions_of_the_unknown(rt: HostRuntime) -> Result<(), Fail> {
 
 fn outcome_of(office: &mut Office<ListBooks>, number: u64) -> Option<Outcome> {
     match office.poll(number) {
-        Ok(PollRow {
-            ended: Some(ended), ..
-        }) => Some(ended.outcome),
+        Ok(
+            PollRow {
+                ended: Some(ended),
+                ..
+            },
+        ) => Some(ended.outcome),
         _ => None,
     }
 }
@@ -172,7 +190,10 @@ fn replies_of_another_kind(rt: HostRuntime) -> Result<(), Fail> {
     for (piece, outcome) in [
         (exception, Some(Outcome::Exception(6))),
         (foreign_id, None),
-        (foreign_unit, Some(Outcome::Malformed(Malformation::WrongUnit))),
+        (
+            foreign_unit,
+            Some(Outcome::Malformed(Malformation::WrongUnit)),
+        ),
         (garbled, Some(Outcome::Lost(LostCause::Garbled))),
     ] {
         for window in [1, 2, 16] {
@@ -187,8 +208,14 @@ fn replies_of_another_kind(rt: HostRuntime) -> Result<(), Fail> {
 #[test]
 fn a_garbled_session_starts_nothing(rt: HostRuntime) -> Result<(), Fail> {
     let mut office = polling(rt.alloc(), 2)?;
-    let _ = office.feed(1899, &bytes(rt.alloc(), b"inv", b"\x00\x00\x00\x00\x00\x01")?);
-    assert_eq!(rt; office.feed(1899, &start(b"inv", 40094, 3)?), Err(Refusal::Busy));
+    let _ = office.feed(
+        1899,
+        &bytes(rt.alloc(), b"inv", b"\x00\x00\x00\x00\x00\x01")?,
+    );
+    assert_eq!(rt;
+        office.feed(1899, &start(b"inv", 40094, 3)?),
+        Err(Refusal::Busy)
+    );
     assert_eq!(rt; office.feed(1900, &gone(b"inv")), Ok(Answer::Noted));
     assert_eq!(rt; office.feed(1900, &connect(b"inv")), Ok(Answer::Noted));
     let again = Answer::Started {
@@ -205,7 +232,10 @@ fn ends_lose_what_waits(rt: HostRuntime) -> Result<(), Fail> {
     let mut office = polling(rt.alloc(), 1)?;
     let _ = office.feed(1902, &bytes(rt.alloc(), b"inv", b"\x00\x00\x00\x00")?);
     assert_eq!(rt; office.feed(1902, &gone(b"inv")), Ok(Answer::Noted));
-    assert_eq!(rt; outcome_of(&mut office, 1), Some(Outcome::Lost(LostCause::Gone)));
+    assert_eq!(rt;
+        outcome_of(&mut office, 1),
+        Some(Outcome::Lost(LostCause::Gone))
+    );
     assert_eq!(rt; office.feed(1902, &gone(b"inv")), Err(Refusal::Busy));
     let mut late = polling(rt.alloc(), 1)?;
     let _ = late.feed(1903, &gone(b"inv"));
@@ -262,20 +292,56 @@ fn readings_of_one_piece_follow_each_other(rt: HostRuntime) -> Result<(), Fail> 
 #[test]
 fn the_least_reason_is_answered(rt: HostRuntime) -> Result<(), Fail> {
     let mut office = polling(rt.alloc(), 1)?;
-    assert_eq!(rt; office.feed(5_000_000_000, &connect(b"none")), Err(Refusal::NotFound));
-    assert_eq!(rt; office.feed(5, &device(b"inv", 300, 5, 1)), Err(Refusal::Exists));
-    assert_eq!(rt; office.feed(5, &device(b"a", 300, 5, 1)), Err(Refusal::ClockBack));
+    assert_eq!(rt;
+        office.feed(5_000_000_000, &connect(b"none")),
+        Err(Refusal::NotFound)
+    );
+    assert_eq!(rt;
+        office.feed(5, &device(b"inv", 300, 5, 1)),
+        Err(Refusal::Exists)
+    );
+    assert_eq!(rt;
+        office.feed(5, &device(b"a", 300, 5, 1)),
+        Err(Refusal::ClockBack)
+    );
     assert_eq!(rt; office.notes().len(), 0);
-    assert_eq!(rt; office.feed(1900, &device(b"a", 300, 5, 1)), Err(Refusal::Limit));
-    assert_eq!(rt; office.feed(1900, &device(b"1a", 3, 5, 1)), Err(Refusal::Limit));
-    assert_eq!(rt; office.feed(1900, &device(b"a", 3, 61, 1)), Err(Refusal::Limit));
-    assert_eq!(rt; office.feed(1900, &device(b"a", 3, 5, 17)), Err(Refusal::Limit));
-    assert_eq!(rt; office.feed(4_102_444_801, &Event::Tick), Err(Refusal::Limit));
-    assert_eq!(rt; office.feed(1900, &register(b"b", b"inv", 65535, GivenScale::Fixed(4))), Err(Refusal::BadScale));
-    assert_eq!(rt; office.feed(1900, &register(b"b", b"inv", 0, GivenScale::Register(125))), Err(Refusal::Limit));
-    assert_eq!(rt; office.feed(1900, &install(b"main", b"m2", 0)), Err(Refusal::Exists));
+    assert_eq!(rt;
+        office.feed(1900, &device(b"a", 300, 5, 1)),
+        Err(Refusal::Limit)
+    );
+    assert_eq!(rt;
+        office.feed(1900, &device(b"1a", 3, 5, 1)),
+        Err(Refusal::Limit)
+    );
+    assert_eq!(rt;
+        office.feed(1900, &device(b"a", 3, 61, 1)),
+        Err(Refusal::Limit)
+    );
+    assert_eq!(rt;
+        office.feed(1900, &device(b"a", 3, 5, 17)),
+        Err(Refusal::Limit)
+    );
+    assert_eq!(rt;
+        office.feed(4_102_444_801, &Event::Tick),
+        Err(Refusal::Limit)
+    );
+    assert_eq!(rt;
+        office.feed(1900, &register(b"b", b"inv", 65535, GivenScale::Fixed(4))),
+        Err(Refusal::BadScale)
+    );
+    assert_eq!(rt;
+        office.feed(1900, &register(b"b", b"inv", 0, GivenScale::Register(125))),
+        Err(Refusal::Limit)
+    );
+    assert_eq!(rt;
+        office.feed(1900, &install(b"main", b"m2", 0)),
+        Err(Refusal::Exists)
+    );
     assert_eq!(rt; office.feed(1900, &connect(b"inv")), Err(Refusal::Busy));
-    assert_eq!(rt; office.feed(1900, &start(b"inv", 0, 1)?), Err(Refusal::Busy));
+    assert_eq!(rt;
+        office.feed(1900, &start(b"inv", 0, 1)?),
+        Err(Refusal::Busy)
+    );
     Ok(())
 }
 
@@ -293,14 +359,35 @@ fn numbered(letter: u8, number: usize) -> [u8; 5] {
 fn there_is_room_for_so_many_devices_and_registers(rt: HostRuntime) -> Result<(), Fail> {
     let mut office = opened(rt.alloc())?;
     for number in 0..64 {
-        assert!(rt; office.feed(0, &device(&numbered(b'd', number), 1, 5, 1)).is_ok());
+        assert!(rt;
+            office
+                .feed(0, &device(&numbered(b'd', number), 1, 5, 1))
+                .is_ok()
+        );
     }
-    assert_eq!(rt; office.feed(0, &device(b"more", 1, 5, 1)), Err(Refusal::Limit));
+    assert_eq!(rt;
+        office.feed(0, &device(b"more", 1, 5, 1)),
+        Err(Refusal::Limit)
+    );
     for number in 0..32 {
-        assert!(rt; office.feed(0, &register(&numbered(b'r', number), b"d0001", 0, GivenScale::Fixed(0))).is_ok());
+        assert!(rt;
+            office
+                .feed(
+                    0,
+                    &register(&numbered(b'r', number), b"d0001", 0, GivenScale::Fixed(0))
+                )
+                .is_ok()
+        );
     }
-    assert_eq!(rt; office.feed(0, &register(b"more", b"d0001", 0, GivenScale::Fixed(0))), Err(Refusal::Limit));
-    assert!(rt; office.feed(0, &register(b"other", b"d0002", 0, GivenScale::Fixed(0))).is_ok());
+    assert_eq!(rt;
+        office.feed(0, &register(b"more", b"d0001", 0, GivenScale::Fixed(0))),
+        Err(Refusal::Limit)
+    );
+    assert!(rt;
+        office
+            .feed(0, &register(b"other", b"d0002", 0, GivenScale::Fixed(0)))
+            .is_ok()
+    );
     Ok(())
 }
 
@@ -314,7 +401,10 @@ fn an_opening_loses_the_polls_that_wait(rt: HostRuntime) -> Result<(), Fail> {
     let Ok(mut again) = Office::open(rt.alloc(), books, 1898) else {
         return Err(Fail::from("not opened"));
     };
-    assert_eq!(rt; outcome_of(&mut again, 1), Some(Outcome::Lost(LostCause::Restart)));
+    assert_eq!(rt;
+        outcome_of(&mut again, 1),
+        Some(Outcome::Lost(LostCause::Restart))
+    );
     assert_eq!(rt; again.feed(1898, &gone(b"inv")), Err(Refusal::Busy));
     assert_eq!(rt; again.feed(1898, &connect(b"inv")), Ok(Answer::Noted));
     Ok(())
@@ -353,9 +443,15 @@ fn books_that_fail_stop_the_settling(rt: HostRuntime) -> Result<(), Fail> {
     assert_eq!(rt; failing.feed(1899, &connect(b"inv")), Ok(Answer::Noted));
     assert!(rt; failing.feed(1899, &start(b"inv", 40094, 3)?).is_ok());
     assert_eq!(rt; failing.feed(1900, &Event::Tick), Ok(Answer::Noted));
-    assert_eq!(rt; failing.feed(1901, &gone(b"inv")), Err(Refusal::Store(StoreCause::Refused)));
+    assert_eq!(rt;
+        failing.feed(1901, &gone(b"inv")),
+        Err(Refusal::Store(StoreCause::Refused))
+    );
     assert_eq!(rt; failing.feed(1902, &Event::Tick), Err(Refusal::Stopped));
-    assert_eq!(rt; failing.meter(&Name::new(b"m1")).err(), Some(Refusal::Stopped));
+    assert_eq!(rt;
+        failing.meter(&Name::new(b"m1")).err(),
+        Some(Refusal::Stopped)
+    );
     assert_eq!(rt; failing.poll(2).err(), Some(Refusal::Stopped));
     let books = failing.into_books();
     assert_eq!(rt; books.faults(), 1);
@@ -365,7 +461,10 @@ fn books_that_fail_stop_the_settling(rt: HostRuntime) -> Result<(), Fail> {
     let Ok(row) = again.poll(2) else {
         return Err(Fail::from("no poll"));
     };
-    assert_eq!(rt; row.ended.map(|ended| ended.outcome), Some(Outcome::Lost(LostCause::Restart)));
+    assert_eq!(rt;
+        row.ended.map(|ended| ended.outcome),
+        Some(Outcome::Lost(LostCause::Restart))
+    );
     Ok(())
 }
 
@@ -376,8 +475,14 @@ fn a_command_that_fails_may_come_again(rt: HostRuntime) -> Result<(), Fail> {
     let Ok(mut office) = Office::open(rt.alloc(), books, 0) else {
         return Err(Fail::from("not opened"));
     };
-    assert_eq!(rt; office.feed(1, &device(b"a", 1, 5, 1)), Err(Refusal::Store(StoreCause::Refused)));
+    assert_eq!(rt;
+        office.feed(1, &device(b"a", 1, 5, 1)),
+        Err(Refusal::Store(StoreCause::Refused))
+    );
     assert_eq!(rt; office.feed(1, &connect(b"a")), Err(Refusal::NotFound));
-    assert_eq!(rt; office.feed(1, &device(b"a", 1, 5, 1)), Ok(Answer::Done(CommandKind::Device)));
+    assert_eq!(rt;
+        office.feed(1, &device(b"a", 1, 5, 1)),
+        Ok(Answer::Done(CommandKind::Device))
+    );
     Ok(())
 }

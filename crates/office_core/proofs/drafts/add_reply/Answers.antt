@@ -1,4 +1,4 @@
-use Rattle.std.proofs.Common.{sym, subst, ◌∙◌}
+use Rattle.std.proofs.Common.{sym, ◌∙◌}
 use Rattle.std.proofs.lemmas.Result.{on_ok_weaker}
 use Rattle.office_core.proofs.Drafting.{reply_to_none, reply_to}
 use Rattle.office_core.proofs.drafts.add_reply.Goals as goal

@@ -1,5 +1,5 @@
-use Rattle.std.proofs.Common.{◌≡◌, ap, sym, ◌∙◌}
-use Rattle.std.proofs.lemmas.Bool.{cond-true, cond-false}
+use Rattle.std.proofs.Common.{ap, sym, ◌∙◌}
+use Rattle.std.proofs.lemmas.Bool.{cond-true}
 use Rattle.office_facts.specs.Meters.{installation_with}
 use Rattle.office_core.proofs.Rows.{row_by_result}
 use Rattle.office_core.proofs.drafts.with_fact.Goals as goal

@@ -1,4 +1,4 @@
-use Rattle.std.proofs.Common.{◌≡◌, ℕ, ◌-◌, get_or, ap, ◌∙◌}
+use Rattle.std.proofs.Common.{ℕ, ◌-◌, get_or, ap, ◌∙◌}
 use Rattle.std.specs.Option.{unwrap_or}
 use Rattle.mb_wire.specs.Replies.{answer_of}
 use Rattle.poll_core.specs.Settling.{words_in}

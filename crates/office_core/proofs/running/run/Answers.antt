@@ -1,4 +1,4 @@
-use Rattle.std.proofs.Common.{◌≡◌, ◌∷◌, ◌-◌, List, false, arith, take, take_all, length, subst}
+use Rattle.std.proofs.Common.{◌≡◌, ◌∷◌, false, arith, take, take_all, subst}
 use Rattle.office_facts.specs.History.{History, Opened, facts_of}
 use Rattle.office_core.specs.Standing.{Stands, is_stopped}
 use Rattle.office_core.specs.Running.{history_after}
@@ -42,13 +42,15 @@ returns-clause-recorded g c past accepted holds clean =
     let over = c.loop-moment-test.false in
     let all : take c.loop-moment.moment-index c.args.events.now ≡ c.args.events.now = take_all _ _ (omega arith) in
     let stands : Stands g.B.Books.holds history c.loop-moment.office =
-        subst (λ events. Stands g.B.Books.holds (history_after (Opened c.args.opened ∷ past) events c.loop-moment.results.items) c.loop-moment.office)
-        all (c.loop-moment.invariant.stands past accepted holds clean) in
+    subst (λ events. Stands g.B.Books.holds (history_after (Opened c.args.opened ∷ past) events c.loop-moment.results.items) c.loop-moment.office)
+    all (c.loop-moment.invariant.stands past accepted holds clean) in
     let lawful = c.facts_are_lawful.ensures history stands.accepted in
-    let ends = c.polls_end_once.ensures history stands.accepted in
-    (stands.books, record {
-      polls_end = ends;
-      polls = ends_once history ends;
-      meters = λ opening installed. booked_energy (facts_of history) opening lawful (c.meters_are_kept.ensures (facts_of history) opening lawful installed);
-      truth = λ opening first items installed shows. c.truth_is_recorded.ensures (facts_of history) opening first items lawful installed shows;
-    })
+    let ends = c.polls_end_once.ensures history stands.accepted in (
+      stands.books,
+      record {
+        polls_end = ends;
+        polls = ends_once history ends;
+        meters = λ opening installed. booked_energy (facts_of history) opening lawful (c.meters_are_kept.ensures (facts_of history) opening lawful installed);
+        truth = λ opening first items installed shows. c.truth_is_recorded.ensures (facts_of history) opening first items lawful installed shows;
+      },
+    )

@@ -8,7 +8,7 @@ use Rattle.office_core.proofs.settling.settle_close.Given as goal
 abbrev pub invariant-turns : goal.invariant-turns
 invariant-turns g l =
     Turned (g.B.Books.holds l.fn.books) (g.B.Books.is_clean l.books) ((l.books ≡ l.fn.books) × (l.draft ≡ l.fn.draft))
-          l.fn.session l.session (Close l.moment l.closing) (call.Close l.closing) l.fn.draft l.draft
+    l.fn.session l.session (Close l.moment l.closing) (call.Close l.closing) l.fn.draft l.draft
     × ((held : List Fact) → g.B.Books.holds l.fn.books held → g.B.Books.holds l.books held)
     × (g.B.Books.is_clean l.books → g.B.Books.is_clean l.fn.books)
     × (g.B.Books.fault_count l.books ≡ g.B.Books.fault_count l.fn.books)

@@ -12,10 +12,10 @@ use Rattle.office_core.proofs.settling.settle_lines.Given as goal
 abbrev pub invariant-loop-i : goal.invariant-loop-i
 invariant-loop-i g l =
     ((number : ℕ) (kept : List sessions.Line) → KeepsLines l.fn.lines kept → AreBefore l.moment kept
-          → KeepsFirst number l.moment l.event l.i l.lines kept
-          × GoesOn (g.B.Books.holds l.fn.books) (g.B.Books.is_clean l.books) l.fn.draft l.draft
-                (with_settled number l.moment l.event (take l.i kept)) (settled_notes number l.moment l.event (take l.i kept))
-          × (SettleNothing number l.moment l.event kept → (l.books ≡ l.fn.books) × (l.draft ≡ l.fn.draft)))
+    → KeepsFirst number l.moment l.event l.i l.lines kept
+    × GoesOn (g.B.Books.holds l.fn.books) (g.B.Books.is_clean l.books) l.fn.draft l.draft
+    (with_settled number l.moment l.event (take l.i kept)) (settled_notes number l.moment l.event (take l.i kept))
+    × (SettleNothing number l.moment l.event kept → (l.books ≡ l.fn.books) × (l.draft ≡ l.fn.draft)))
     × ((held : List Fact) → g.B.Books.holds l.fn.books held → g.B.Books.holds l.books held)
     × (g.B.Books.is_clean l.books → g.B.Books.is_clean l.fn.books)
     × (g.B.Books.fault_count l.books ≡ g.B.Books.fault_count l.fn.books)

@@ -9,7 +9,7 @@ abbrev pub invariant-turns : goal.invariant-turns
 invariant-turns g l =
     (l.taken ≤ length l.piece)
     × Turned (g.B.Books.holds l.fn.books) (g.B.Books.is_clean l.books) ((l.books ≡ l.fn.books) × (l.draft ≡ l.fn.draft))
-          l.fn.session l.session (Piece l.moment (take l.taken l.piece)) call.Piece l.fn.draft l.draft
+    l.fn.session l.session (Piece l.moment (take l.taken l.piece)) call.Piece l.fn.draft l.draft
     × ((held : List Fact) → g.B.Books.holds l.fn.books held → g.B.Books.holds l.books held)
     × (g.B.Books.is_clean l.books → g.B.Books.is_clean l.fn.books)
     × (g.B.Books.fault_count l.books ≡ g.B.Books.fault_count l.fn.books)
