@@ -13,8 +13,8 @@ pub returns-in-Err : goal.returns-in-Err
 returns-in-Err g c = λ not_failed.
     let memory = opening_fails c.in-Err.reason (c.in-Err.ensures.refused [] c.new.ensures.empty tt) c.in-Err.ensures.faults in
     elim c.match-print_refusal.branch [
-    | in-Ok-print_refusal w ↦ (refused_line c.in-Err.reason, w.in-Ok-print_refusal.ensures, inl (ap refused_line memory, w.result-is))
-    | in-Err-print_refusal w ↦ absurd (not_failed w.result-is)
+      | in-Ok-print_refusal w ↦ (refused_line c.in-Err.reason, w.in-Ok-print_refusal.ensures, inl (ap refused_line memory, w.result-is))
+      | in-Err-print_refusal w ↦ absurd (not_failed w.result-is)
     ]
 
 pub loop-line-init : goal.loop-line-init
@@ -46,7 +46,7 @@ returns-in-Err-replay_line g c = λ not_failed.
       before.printed ++ ends.0,
       appends_both _ _ _ before.printed ends.0 _ before.appended ends.1 refl,
       inr (ended_badly (speaking_lines c.args.text.now) (stage_of before.past c.loop-line.office) c.loop-line.lines c.next_line.new.self
-      (seen_line c.in-Some.line) before.printed ends.0 c.in-Err-replay_line.status c.in-Some.ensures ends.2 before.so_far),
+          (seen_line c.in-Some.line) before.printed ends.0 c.in-Err-replay_line.status c.in-Some.ensures ends.2 before.so_far),
     )
 
 pub returns : goal.returns
