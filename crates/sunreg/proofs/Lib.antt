@@ -8,3 +8,4 @@ pub mod PlanLines
 pub mod Puts
 pub mod ScriptExamples
 pub mod ScriptLines
+pub mod Scripts

@@ -6,6 +6,8 @@ pub mod LineFaults
 pub mod Lines
 pub mod ListText
 pub mod PlanText
+pub mod ReplayText
+pub mod Replaying
 pub mod ScriptForms
 pub mod ScriptReading
 pub mod ScriptSeen

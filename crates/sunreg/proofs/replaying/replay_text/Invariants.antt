@@ -1,0 +1,10 @@
+use Rattle.std.proofs.Common.{length}
+use Rattle.sunreg.specs.Lines.{speaking_lines}
+use Rattle.sunreg.proofs.Scripts.{Ran}
+use Rattle.sunreg.proofs.replaying.replay_text.Given as goal
+
+abbrev pub invariant-loop-line : goal.invariant-loop-line
+invariant-loop-line g l = Ran (speaking_lines l.fn.text) l.lines l.office (g.W.Write.contents l.fn.output) (g.W.Write.contents l.output)
+
+abbrev pub decreases-loop-line : goal.decreases-loop-line
+decreases-loop-line g l = length l.lines
