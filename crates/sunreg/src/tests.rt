@@ -11,15 +11,15 @@ use sun_points::PointType;
 
 // Gives its text a byte at a time, and one call of `read` fails.
 #[derive(Drop)]
-struct Slow<'a> {
+pub(crate) struct Slow<'a> {
     text: &'a [u8],
-    calls: usize,
+    pub(crate) calls: usize,
     failing: Option<usize>,
     kind: ErrorKind,
 }
 
 impl<'a> Slow<'a> {
-    fn of(text: &'a [u8], failing: Option<usize>, kind: ErrorKind) -> Slow<'a> {
+    pub(crate) fn of(text: &'a [u8], failing: Option<usize>, kind: ErrorKind) -> Slow<'a> {
         Slow {
             text,
             calls: 0,
@@ -48,10 +48,10 @@ impl Read for Slow<'_> {
 
 // Keeps what is written, and one call of `write` fails.
 #[derive(Drop)]
-struct Kept {
-    got: Vec<u8>,
-    calls: usize,
-    failing: usize,
+pub(crate) struct Kept {
+    pub(crate) got: Vec<u8>,
+    pub(crate) calls: usize,
+    pub(crate) failing: usize,
 }
 
 impl Write for Kept {
@@ -328,10 +328,15 @@ fn list_prints(
     Ok(())
 }
 
-const LIST: &[u8] = b"name,function,area,address,type,scale\nwh,3,0,40094,acc32,whsf\nwhsf,3,0,40096,sunssf,\nimp,3,0,40168,acc32,impsf\nimpsf,3,0,40176,sunssf,\n";
+const LIST: &[u8] =
+    b"name,function,area,address,type,scale\nwh,3,0,40094,acc32,whsf\nwhsf,3,0,40096,sunssf,\nimp,3,0,40168,acc32,impsf\nimpsf,3,0,40176,sunssf,\n";
+
 const LIST_PRINTED: &[u8] =
     b"read 1 3 0 40094 83\npoint wh 1 0\npoint whsf 1 2\npoint imp 1 74\npoint impsf 1 82\n";
-const FAULTY: &[u8] = b"name,function,area,address,type,scale\nwh,3,0,65535,acc32,\n1x,3,0,5,int16,\nb,5,0,5,int16,\nb,3,0,6,int16,\n";
+
+const FAULTY: &[u8] =
+    b"name,function,area,address,type,scale\nwh,3,0,65535,acc32,\n1x,3,0,5,int16,\nb,5,0,5,int16,\nb,3,0,6,int16,\n";
+
 const FAULTY_PRINTED: &[u8] = b"row 2 fault 7\nrow 3 fault 3\nrow 4 fault 5\nrow 5 fault 4\n";
 
 #[test]
@@ -379,7 +384,13 @@ fn list_too_long(rt: HostRuntime) -> Result<(), Fail> {
     let mut long = Vec::new(rt.alloc());
     long.resize(MOST_BYTES + 1, b'\n')?;
     list_prints(&rt, rt.alloc(), &long, b"too long\n", Status::Refused)?;
-    list_prints(&rt, rt.alloc(), &long[1..], b"row 1 fault 2\n", Status::Refused)
+    list_prints(
+        &rt,
+        rt.alloc(),
+        &long[1..],
+        b"row 1 fault 2\n",
+        Status::Refused,
+    )
 }
 
 #[test]
@@ -402,7 +413,10 @@ fn lists_over_failing_streams(rt: HostRuntime) -> Result<(), Fail> {
         for kind in [ErrorKind::Interrupted, ErrorKind::BrokenPipe] {
             let mut slow = Slow::of(input, Some(7), kind);
             let mut printed = Vec::new(rt.alloc());
-            assert_eq!(rt; plan_text(rt.alloc(), &mut slow, &mut printed), Status::Failed);
+            assert_eq!(rt;
+                plan_text(rt.alloc(), &mut slow, &mut printed),
+                Status::Failed
+            );
             assert_eq!(rt; printed.len(), 0);
         }
     }
