@@ -11,15 +11,15 @@ use sun_points::PointType;
 
 // Gives its text a byte at a time, and one call of `read` fails.
 #[derive(Drop)]
-struct Slow<'a> {
+pub(crate) struct Slow<'a> {
     text: &'a [u8],
-    calls: usize,
+    pub(crate) calls: usize,
     failing: Option<usize>,
     kind: ErrorKind,
 }
 
 impl<'a> Slow<'a> {
-    fn of(text: &'a [u8], failing: Option<usize>, kind: ErrorKind) -> Slow<'a> {
+    pub(crate) fn of(text: &'a [u8], failing: Option<usize>, kind: ErrorKind) -> Slow<'a> {
         Slow {
             text,
             calls: 0,
@@ -48,10 +48,10 @@ impl Read for Slow<'_> {
 
 // Keeps what is written, and one call of `write` fails.
 #[derive(Drop)]
-struct Kept {
-    got: Vec<u8>,
-    calls: usize,
-    failing: usize,
+pub(crate) struct Kept {
+    pub(crate) got: Vec<u8>,
+    pub(crate) calls: usize,
+    pub(crate) failing: usize,
 }
 
 impl Write for Kept {
