@@ -1,6 +1,6 @@
 #!/usr/bin/env bash
 # Times the program on a script of N lines and of 2N lines: `bench/replay.sh [N]`, 40000 by default (about 2 MiB, and 4 MiB). Twice the lines should take at most 2.5 times as long.
-# The program is built and run proved, by `rt run`, so the first call takes a while.
+# It runs the proved program, which `rt run` builds first, so the first call takes a while.
 set -euo pipefail
 lines="${1:-40000}"
 cd "$(dirname "$0")/../crates/sunreg"
@@ -27,7 +27,7 @@ rt run < stdin > /dev/null
 for n in "$lines" $((2 * lines)); do
     script "$n" > "$work/script"
     before=$(date +%s%N)
-    rt run < "$work/script" > "$work/printed"
+    out/sunreg < "$work/script" > "$work/printed"
     after=$(date +%s%N)
     echo "$n lines ($(stat -c %s "$work/script") bytes): $(((after - before) / 1000000)) ms, $(wc -l < "$work/printed") lines printed"
 done
