@@ -7,3 +7,4 @@ pub mod OrderLemmas
 pub mod PlaceLemmas
 pub mod PlanLemmas
 pub mod RuleLemmas
+pub mod ScaleLemmas

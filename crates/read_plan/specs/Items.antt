@@ -1,6 +1,11 @@
 -- The registers of points, and the items that are read together.
-use Rattle.std.specs.Prelude.{List, map, max, min, Some, None}
+use Rattle.std.specs.Prelude.{◌≡◌, ℕ, List, map, max, min, Some, None}
 use Rattle.std.specs.declared.option.Option.{Option}
+use Rattle.std.specs.Borrow.{Bor}
+use Rattle.std.specs.BTreeMap.{BTreeMap, get_by}
+use Rattle.std.specs.Cmp.Lexicographic.{slice_cmp}
+use Rattle.std.specs.Option.{option_map}
+use Rattle.std.specs.Ordering.{nat_cmp}
 use Rattle.point_list.specs.Points.{end_of, scale_point}
 use Rattle.point_list.specs.declared.point.ListedPoint.{ListedPoint}
 use Rattle.point_list.specs.declared.point.PointScale.{PointScale}
@@ -23,6 +28,14 @@ abbrev pub with_scale_of : List ListedPoint → Run → PointScale → Run
 with_scale_of points run Unscaled = run
 with_scale_of points run (Fixed exponent) = run
 with_scale_of points run (Named name) = with_scale run (scale_point points name)
+
+-- the run at a name
+abbrev pub run_named : BTreeMap (Bor (List ℕ)) Run → List ℕ → Option Run
+run_named runs name = get_by (λ key. slice_cmp nat_cmp name key.now) runs
+
+-- at each name the registers of its scale point
+abbrev pub AreScaleRuns : List ListedPoint → BTreeMap (Bor (List ℕ)) Run → Type 0
+AreScaleRuns points runs = (name : List ℕ) → run_named runs name ≡ option_map point_run (scale_point points name)
 
 -- an item is the least run with a point and its scale point
 abbrev pub item_of : List ListedPoint → ListedPoint → Run

@@ -1,11 +1,17 @@
 //! The registers that are read together: a point and its scale point.
-ghost use Rattle.std.specs.Prelude.{◌≡◌, ◌≤◌, IfOk, map};
-ghost use Rattle.point_list.specs.Points.{IsPointList, end_of};
-ghost use Rattle.read_plan.specs.Items.{item_of, items_of, joined, point_run};
+ghost use Rattle.std.specs.Prelude.{◌≡◌, IfOk, List};
+ghost use Rattle.point_list.specs.Points.{is_sunssf};
+ghost use Rattle.point_list.specs.declared.point.ListedPoint.{ListedPoint};
+ghost use Rattle.read_plan.specs.Items.{AreScaleRuns, item_of, items_of, joined, point_run};
 
 use crate::run::Run;
-use point_list::{ListedPoint, PointScale, find_scale};
+use point_list::{ListedPoint, PointScale};
 use std::alloc::{AllocError, Global};
+use std::collections::BTreeMap;
+use sun_points::PointType;
+
+// The registers of scale points, by name.
+type ScaleRuns<'a> = BTreeMap<&'a [u8], Run>;
 
 // The registers of a point.
 fn run_of_point(point: &ListedPoint) -> Run
@@ -31,15 +37,35 @@ fn join(a: Run, b: Run) -> Run
     }
 }
 
-/// The least run with a point of a list and its scale point.
-pub fn item(points: &[ListedPoint], point: &ListedPoint) -> Run
-    ensures { result ≡ item_of points.now point.now }
+// Whether a point says the scale of others.
+fn is_scale(point: &ListedPoint) -> bool
+    ensures { result ≡ is_sunssf point.now.kind }
+{
+    matches!(point.kind, PointType::Sunssf)
+}
+
+// The registers of the sunssf points, by name: of two points of one name those of the first.
+fn scale_runs<'a>(alloc: Global, points: &'a [ListedPoint]) -> Result<ScaleRuns<'a>, AllocError>
+    ensures { IfOk result (λ runs. AreScaleRuns points.now runs) }
+{
+    let mut runs = BTreeMap::new(alloc);
+    for point in points.iter().rev() {
+        if is_scale(point) {
+            runs.insert(point.name.as_bytes(), run_of_point(point))?;
+        }
+    }
+    Ok(runs)
+}
+
+/// The least run with a point of a list and its scale point, which is looked up in the runs of that list.
+pub fn item(runs: &ScaleRuns<'_>, point: &ListedPoint) -> Run
+    ensures { (points : List ListedPoint) → AreScaleRuns points runs.now → result ≡ item_of points point.now }
 {
     let run = run_of_point(point);
     match &point.scale {
         PointScale::Unscaled | PointScale::Fixed(_) => run,
-        PointScale::Named(name) => match find_scale(points, name.as_bytes()) {
-            Some(scale) => join(run, run_of_point(scale)),
+        PointScale::Named(name) => match runs.get(name.as_bytes()) {
+            Some(scale) => join(run, *scale),
             None => run,
         },
     }
@@ -49,8 +75,6 @@ pub fn item(points: &[ListedPoint], point: &ListedPoint) -> Run
 pub fn items(alloc: Global, points: &[ListedPoint]) -> Result<Vec<Run>, AllocError>
     ensures { IfOk result (λ v. v.items ≡ items_of points.now) }
 {
-    points
-        .iter()
-        .map(|point| item(points, point))
-        .collect(alloc)
+    let runs = scale_runs(alloc, points)?;
+    points.iter().map(|point| item(&runs, point)).collect(alloc)
 }

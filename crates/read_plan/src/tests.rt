@@ -100,6 +100,23 @@ fn a_scale_at_the_end_of_reach(rt: HostRuntime) -> Result<(), Fail> {
 }
 
 #[test]
+fn points_on_both_sides_of_their_scale(rt: HostRuntime) -> Result<(), Fail> {
+    let rows = [
+        spelled("a", 0, PointType::Int16, "s"),
+        spelled("s", 60, PointType::Sunssf, ""),
+        spelled("b", 130, PointType::Uint16, "s"),
+    ];
+    let plan = planned(rt.alloc(), &rows)?;
+    compare(
+        &rt,
+        &plan,
+        &[(0, 61), (60, 71)],
+        &[(0, 0), (0, 60), (1, 70)],
+    );
+    Ok(())
+}
+
+#[test]
 fn points_far_apart(rt: HostRuntime) -> Result<(), Fail> {
     let rows = [
         spelled("a", 0, PointType::Acc32, ""),
