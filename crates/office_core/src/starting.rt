@@ -54,6 +54,7 @@ fn start_session<B: Books>(
     let mut bytes = [0; 260];
     match session.start(poll.at, poll.number, poll.unit, poll.span, &mut bytes) {
         Ok(len) => Ok(Outgoing::first(bytes, len)),
+        // An accepted start is not refused by its session.
         Err(_) => Ok(Outgoing::none()),
     }
 }
@@ -80,6 +81,7 @@ fn start_line<B: Books>(
     ensures faults { B.fault_count books.new ≡ faults_after result (B.fault_count books.old) }
 {
     let Some(mut session) = line.session.take() else {
+        // The device of an accepted start is connected.
         return Ok(Outgoing::none());
     };
     let poll = Poll {
@@ -129,6 +131,7 @@ pub fn start_poll<B: Books>(
     }
     let number = count + 1;
     let Some(place) = place_of(lines, &start.device) else {
+        // The device of an accepted start has a line.
         return Err(Refusal::Memory);
     };
     let sent = start_line(&mut lines[place], books, moment, number, start.span)?;
