@@ -1,5 +1,5 @@
 -- What a server does with the bytes of a stream: which frames it answers, and where it stands after them.
-use Rattle.std.specs.Prelude.{◌≡◌, ℕ, ◌==◌, ◌≤◌, Bool, true, false, List, [], ◌∷◌, ◌++◌, length, Ok, Err, Some, None}
+use Rattle.std.specs.Prelude.{◌≡◌, ℕ, ◌==◌, ◌≤◌, ◌<◌, Bool, true, false, List, [], ◌∷◌, ◌++◌, length, Ok, Err, Some, None}
 use Rattle.std.specs.List.{filter}
 use Rattle.std.specs.Io.KnownBytes.{Appends, Consumes, IsAtEnd}
 use Rattle.std.specs.declared.result.Result.{Result}
@@ -62,6 +62,7 @@ pub record BrokenOff (frames : List (List ℕ)) (old new : Around) : Type 0 wher
   pub in_order : frames ≡ earlier ++ frame ∷ later
   pub part : List ℕ
   pub unsent : List ℕ
+  pub left : 0 < length unsent
   pub whole : answer_frame (maps_after_all old.maps earlier) frame ≡ part ++ unsent
   pub given : Appends old.given new.given (answers old.maps earlier ++ part)
   pub maps : new.maps ≡ maps_after_all old.maps (earlier ++ frame ∷ [])
@@ -124,10 +125,18 @@ pub record Serves (held : List ℕ) (result : Result ℕ ServeFault) (old new : 
   pub stands : standing ≡ standing_after result (held ++ taken)
   pub tells : ServeTells result held taken new.remaining
 
+-- a part of the bytes was given, and not all of them
+pub record GivesPart (old new : Option (List ℕ)) (bytes : List ℕ) : Type 0 where
+  pub part : List ℕ
+  pub unsent : List ℕ
+  pub left : 0 < length unsent
+  pub whole : bytes ≡ part ++ unsent
+  pub given : Appends old new part
+
 -- bytes are given whole, or a part of them where the peer did not take all
 abbrev pub Gives : {X E : Type 0} → Result X E → Option (List ℕ) → Option (List ℕ) → List ℕ → Type 0
 Gives (Ok x) old new bytes = Appends old new bytes
-Gives (Err failed) old new bytes = (part unsent : List ℕ) × (bytes ≡ part ++ unsent) × Appends old new part
+Gives (Err failed) old new bytes = GivesPart old new bytes
 
 -- the frame that is held, if one is
 abbrev pub held_frames : Option (List ℕ) → List (List ℕ)
