@@ -14,12 +14,13 @@ use Rattle.mb_wire.specs.declared.frames.Frame.{Frame}
 use Rattle.mb_wire.specs.declared.frames.Framing.{Framing}
 use Rattle.mb_wire.specs.declared.frames.Framing.TheVariants.{Need, Whole, Foreign, Garbled}
 use Rattle.mb_wire.specs.Links.{TakeConsumes}
+use Rattle.mb_wire.specs.declared.link.LastTake.{LastTake}
 use Rattle.mb_wire.specs.declared.link.Took.{Took}
 use Rattle.mb_wire.specs.declared.link.Took.TheVariants as took
 use Rattle.mb_wire.proofs.Readings.{AllByRecursion-append, Reads-is, Reads-only, span_of-append}
 use Rattle.mb_device.specs.Maps.{Maps}
 use Rattle.mb_device.specs.Device.{answer_to, maps_after}
-use Rattle.mb_device.specs.Serving.{AllAnswered, Answered, Around, BrokenOff, Gives, GivesPart, HeldTells, PieceTells, ServeTells, Served, Serves, Standing, Faulted, Holds, TurnTells, Turns, answer_frame, answers, held_frames, is_own, is_serving, maps_after_all, own_frames}
+use Rattle.mb_device.specs.Serving.{AllAnswered, Answered, Around, BrokenOff, Gives, GivesPart, HeldTells, PieceTells, ServeTells, Served, Serves, Standing, Faulted, Holds, TellsTake, TurnTells, Turns, answer_frame, answers, has_ended, held_frames, is_own, is_read_fault, is_serving, maps_after_all, own_frames}
 use Rattle.mb_device.specs.declared.serving.ServeFault.{ServeFault}
 use Rattle.mb_device.specs.declared.serving.ServeFault.TheVariants as fault
 use Rattle.mb_device.specs.declared.serving.Turned.{Turned}
@@ -355,7 +356,7 @@ turn_fault e held piece left came_as n old mid new bytes is few kept given maps 
 -- ---- turns, one after another
 
 -- bytes behind those that were taken
-taken_more : (held taken more : List ℕ) → (own_frames (held ++ (taken ++ more)) ≡ own_frames (held ++ taken) ++ own_frames (rest (held ++ taken) ++ more)) × (rest (held ++ (taken ++ more)) ≡ rest (rest (held ++ taken) ++ more))
+pub taken_more : (held taken more : List ℕ) → (own_frames (held ++ (taken ++ more)) ≡ own_frames (held ++ taken) ++ own_frames (rest (held ++ taken) ++ more)) × (rest (held ++ (taken ++ more)) ≡ rest (rest (held ++ taken) ++ more))
 taken_more held taken more =
     let joined : held ++ (taken ++ more) ≡ (held ++ taken) ++ more = sym (append_assoc held taken more) in
     (ap own_frames joined ∙ own_frames-then (held ++ taken) more, ap rest joined ∙ (frames-then (held ++ taken) more).1)
@@ -444,6 +445,13 @@ pub turn_serves : (turned : Turned) (old new : Around) (before after : Standing)
 turn_serves turned old new before after serving turns =
     let holds = held_by before serving in
     ap is_serving (turns holds.0 holds.1).stands
+
+-- the take of a turn that did not end was no end
+pub goes_on : (result : Result Turned ServeFault) (turned : Turned) (last : Option LastTake) → TellsTake (has_ended result) (is_read_fault result) last → result ≡ Ok turned → turned.ended ≡ false → TellsTake false false last
+goes_on result turned last tells is going =
+    let first : has_ended result ≡ false = ap has_ended is ∙ going in
+    let second : is_read_fault result ≡ false = ap is_read_fault is in
+    record { answer = tells.answer; taken = tells.taken; end = sym first ∙ tells.end; failure = sym second ∙ tells.failure }
 
 -- a turn does not use up turns
 pub turn_is_no_end : (e : ServeFault) (old new : Around) (before after : Standing) → is_serving before ≡ true → ((held : List ℕ) → before ≡ Holds held → Turns held (Err e) old new after) → e ≡ fault.TurnsUsed → ⊥
