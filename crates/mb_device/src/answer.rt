@@ -85,7 +85,8 @@ pub(crate) fn answer_bits(
     ensures some { 1 ≤ result }
     ensures few { result ≤ 253 }
     ensures written { take result out.new ≡ answer_bytes (query_of request.now)
-        (if are_there table.now address quantity then Bits (map is_kept_on (values_at table.now address quantity)) else Exception 2) }
+        (if are_there table.now address quantity
+        then Bits (map is_kept_on (values_at table.now address quantity)) else Exception 2) }
 {
     if has_all(table, address, quantity) {
         let first = usize::from(address);
@@ -115,7 +116,8 @@ pub(crate) fn answer_words(
     ensures some { 1 ≤ result }
     ensures few { result ≤ 253 }
     ensures written { take result out.new ≡ answer_bytes (query_of request.now)
-        (if are_there table.now address quantity then Words (map kept_value (values_at table.now address quantity)) else Exception 2) }
+        (if are_there table.now address quantity
+        then Words (map kept_value (values_at table.now address quantity)) else Exception 2) }
 {
     if has_all(table, address, quantity) {
         let first = usize::from(address);
@@ -167,9 +169,12 @@ pub(crate) fn answer_coils(
     ensures some { 1 ≤ result }
     ensures few { result ≤ 253 }
     ensures written { take result out.new ≡ answer_bytes (query_of request.now)
-        (if are_there table.old address (length (coils_of quantity bytes.now)) then Echo else Exception 2) }
-    ensures after { table.new ≡ (if are_there table.old address (length (coils_of quantity bytes.now))
-        then all_written table.old address (map coil_number (coils_of quantity bytes.now)) else table.old) }
+        (if are_there table.old address (length (coils_of quantity bytes.now))
+        then Echo else Exception 2) }
+    ensures after { table.new ≡
+        (if are_there table.old address (length (coils_of quantity bytes.now))
+        then all_written table.old address (map coil_number (coils_of quantity bytes.now))
+        else table.old) }
 {
     if has_coils(table, address, quantity, bytes) {
         write_coils(table, usize::from(address), quantity, bytes);

@@ -80,7 +80,8 @@ fn begin(areas: &[Area], kind: Kind, address: u64) -> Option<u16>
 
 // The table of one kind.
 fn begin_table(alloc: Global, areas: &[Area], kind: Kind) -> Result<Vec<Option<u16>>, AllocError>
-    ensures values { IfOk result (λ table. (address : ℕ) → address < 65536 → value_in table.items address ≡ first_value areas.now kind address) }
+    ensures values { IfOk result (λ table. (address : ℕ) → address < 65536 →
+        value_in table.items address ≡ first_value areas.now kind address) }
     ensures end { IfOk result (λ table. length table.items ≡ 65536) }
 {
     let mut table = Vec::with_capacity(alloc, 65536)?;
@@ -108,9 +109,12 @@ impl Bank {
     /// The bank of these areas, with all values 0.
     pub fn new(alloc: Global, areas: &[Area]) -> Result<Bank, BankFault>
         ensures overlap { (result ≡ Err BankFault.AreasOverlap) ↔ (any_overlap areas.now ≡ true) }
-        ensures range { (result ≡ Err BankFault.OutOfRange) ↔ ((any_overlap areas.now ≡ false) × (list_any is_out_of_range areas.now ≡ true)) }
-        ensures values { IfOk result (λ bank. (kind : Kind) (address : ℕ) → address < 65536 → value_at bank kind address ≡ first_value areas.now kind address) }
-        ensures addresses { IfOk result (λ bank. (kind : Kind) → length (table_of bank kind) ≡ 65536) }
+        ensures range { (result ≡ Err BankFault.OutOfRange) ↔
+            ((any_overlap areas.now ≡ false) × (list_any is_out_of_range areas.now ≡ true)) }
+        ensures values { IfOk result (λ bank. (kind : Kind) (address : ℕ) → address < 65536 →
+            value_at bank kind address ≡ first_value areas.now kind address) }
+        ensures addresses { IfOk result (λ bank. (kind : Kind) →
+            length (table_of bank kind) ≡ 65536) }
     {
         if has_overlap(areas) {
             return Err(BankFault::AreasOverlap);
@@ -122,8 +126,10 @@ impl Bank {
     }
 
     fn begin(alloc: Global, areas: &[Area]) -> Result<Bank, AllocError>
-        ensures values { IfOk result (λ bank. (kind : Kind) (address : ℕ) → address < 65536 → value_at bank kind address ≡ first_value areas.now kind address) }
-        ensures addresses { IfOk result (λ bank. (kind : Kind) → length (table_of bank kind) ≡ 65536) }
+        ensures values { IfOk result (λ bank. (kind : Kind) (address : ℕ) → address < 65536 →
+            value_at bank kind address ≡ first_value areas.now kind address) }
+        ensures addresses { IfOk result (λ bank. (kind : Kind) →
+            length (table_of bank kind) ≡ 65536) }
     {
         Ok(Bank {
             coils: begin_table(alloc, areas, Kind::Coil)?,
@@ -137,7 +143,8 @@ impl Bank {
     /// the value is not 0, and is then kept as 1.
     pub fn set(&mut self, kind: Kind, address: u16, value: u16) -> bool
         ensures there { result ≡ is_some (value_at self.old kind address) }
-        ensures after { self.new ≡ with_table self.old kind (written (table_of self.old kind) address (kept kind value)) }
+        ensures after { self.new ≡
+            with_table self.old kind (written (table_of self.old kind) address (kept kind value)) }
     {
         match kind {
             Kind::Coil => write(&mut self.coils, address, u16::from(value != 0)),

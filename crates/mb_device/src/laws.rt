@@ -12,9 +12,10 @@ pub fn turns_compose()
         Turns held (Ok turned) old new standing → ExchangesOver held old new standing }
     ensures serving { (held : List ℕ) (count : ℕ) (old new : Around) (standing : Standing) →
         Serves held (Ok count) old new standing → ExchangesOver held old new standing }
-    ensures two { (held left : List ℕ) (first next : Exchange) (old mid new : Maps) (standing : Standing) →
-        Exchanges held first old mid (Holds left) → Exchanges left next mid new standing →
-        Exchanges held (then first next) old new standing }
-    ensures all { (held : List ℕ) (exchanges : List Exchange) (old new : Maps) (standing : Standing) →
-        InOrder held exchanges old new standing → Exchanges held (in_all exchanges) old new standing }
+    ensures two { (held left : List ℕ) (first next : Exchange) (old mid new : Maps)
+        (standing : Standing) → Exchanges held first old mid (Holds left) →
+        Exchanges left next mid new standing → Exchanges held (then first next) old new standing }
+    ensures all { (held : List ℕ) (exchanges : List Exchange) (old new : Maps)
+        (standing : Standing) → InOrder held exchanges old new standing →
+        Exchanges held (in_all exchanges) old new standing }
 {}

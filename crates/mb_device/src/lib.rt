@@ -13,8 +13,3 @@ pub use bank::Bank;
 pub use kinds::{Area, BankFault, Kind};
 pub use laws::turns_compose;
 pub use serving::{ServeFault, Server, Turned};
-
-#[cfg(test)]
-mod serving_tests;
-#[cfg(test)]
-mod tests;

@@ -79,7 +79,8 @@ fn coil_in(quantity: u16, bytes: &[u8], i: usize) -> Option<u16>
 pub(crate) fn write_coils(table: &mut [Option<u16>], place: usize, quantity: u16, bytes: &[u8])
     requires count { length bytes.now ≡ bytes_for quantity }
     requires fits { place + quantity ≤ length table.old }
-    ensures { table.new ≡ all_written table.old place (map coil_number (coils_of quantity bytes.now)) }
+    ensures { table.new ≡
+        all_written table.old place (map coil_number (coils_of quantity bytes.now)) }
 {
     for i in 0..usize::from(quantity) {
         table[place + i] = coil_in(quantity, bytes, i);

@@ -111,7 +111,8 @@ fn answer_held<L: Link>(
 ) -> Result<u64, ServeFault>
     requires { HoldsFrame reader.now.frame }
     ensures answered { Answered result (held_frames reader.now.frame)
-        (around (L.remaining link.old) (L.given link.old) bank.old) (around (L.remaining link.new) (L.given link.new) bank.new) }
+        (around (L.remaining link.old) (L.given link.old) bank.old)
+        (around (L.remaining link.new) (L.given link.new) bank.new) }
     ensures tells { HeldTells result reader.now.frame }
     ensures remaining { Keeps (L.remaining link.old) (L.remaining link.new) }
     ensures failures { L.failed link.new ≡ risen (is_link_fault result) (L.failed link.old) }
@@ -135,7 +136,8 @@ fn answer_piece<L: Link>(
     piece: &[u8],
 ) -> Result<u64, ServeFault>
     ensures answered { Answered result (own_frames (reader.old.rest ++ piece.now))
-        (around (L.remaining link.old) (L.given link.old) bank.old) (around (L.remaining link.new) (L.given link.new) bank.new) }
+        (around (L.remaining link.old) (L.given link.old) bank.old)
+        (around (L.remaining link.new) (L.given link.new) bank.new) }
     ensures tells { PieceTells result (reader.old.rest ++ piece.now) reader.new.rest }
     ensures few { IfOk result (λ count. count ≤ length piece.now) }
     ensures remaining { Keeps (L.remaining link.old) (L.remaining link.new) }
@@ -163,7 +165,8 @@ fn take_turn<L: Link>(
 ) -> Result<Turned, ServeFault>
     requires { IsOpen reader.old.rest }
     ensures turns { Turns reader.old.rest result
-        (around (L.remaining link.old) (L.given link.old) bank.old) (around (L.remaining link.new) (L.given link.new) bank.new)
+        (around (L.remaining link.old) (L.given link.old) bank.old)
+        (around (L.remaining link.new) (L.given link.new) bank.new)
         (standing_in result reader.new) }
     ensures few { IfOk result (λ turned. turned.answered ≤ 260) }
     ensures failures { L.failed link.new ≡ risen (is_link_fault result) (L.failed link.old) }
@@ -220,13 +223,16 @@ impl Server {
     /// takes and gives nothing.
     pub fn turn<L: Link>(&mut self, link: &mut L, bank: &mut Bank) -> Result<Turned, ServeFault>
         ensures serving { (held : List ℕ) → self.old ≡ Holds held → Turns held result
-            (around (L.remaining link.old) (L.given link.old) bank.old) (around (L.remaining link.new) (L.given link.new) bank.new) self.new }
+            (around (L.remaining link.old) (L.given link.old) bank.old)
+            (around (L.remaining link.new) (L.given link.new) bank.new) self.new }
         ensures faulted { self.old ≡ Faulted →
-            (result ≡ Err ServeFault.Garbled) × (self.new ≡ Faulted) × (link.new ≡ link.old) × (bank.new ≡ bank.old) }
+            (result ≡ Err ServeFault.Garbled) × (self.new ≡ Faulted)
+            × (link.new ≡ link.old) × (bank.new ≡ bank.old) }
         ensures few { IfOk result (λ turned. turned.answered ≤ 260) }
         ensures failures { L.failed link.new ≡ risen (is_link_fault result) (L.failed link.old) }
         ensures takes { L.taken link.new ≡ risen (is_serving self.old) (L.taken link.old) }
-        ensures take { is_serving self.old ≡ true → TellsTake (has_ended result) (is_read_fault result) (L.last link.new) }
+        ensures take { is_serving self.old ≡ true →
+            TellsTake (has_ended result) (is_read_fault result) (L.last link.new) }
     {
         if self.failed {
             return Err(ServeFault::Garbled);
@@ -246,14 +252,17 @@ impl Server {
         max_turns: u32,
     ) -> Result<u64, ServeFault>
         ensures serving { (held : List ℕ) → self.old ≡ Holds held → Serves held result
-            (around (L.remaining link.old) (L.given link.old) bank.old) (around (L.remaining link.new) (L.given link.new) bank.new) self.new }
+            (around (L.remaining link.old) (L.given link.old) bank.old)
+            (around (L.remaining link.new) (L.given link.new) bank.new) self.new }
         ensures faulted { self.old ≡ Faulted →
-            (result ≡ Err ServeFault.Garbled) × (self.new ≡ Faulted) × (link.new ≡ link.old) × (bank.new ≡ bank.old) }
+            (result ≡ Err ServeFault.Garbled) × (self.new ≡ Faulted)
+            × (link.new ≡ link.old) × (bank.new ≡ bank.old) }
         ensures failures { L.failed link.new ≡ risen (is_link_fault result) (L.failed link.old) }
         ensures turns { L.taken link.new ≤ L.taken link.old + max_turns }
         ensures last_turn { is_serving self.old ≡ true → 1 ≤ max_turns →
             TellsTake (is_ok result) (is_read_fault result) (L.last link.new) }
-        ensures turns_used { result ≡ Err ServeFault.TurnsUsed → L.taken link.old + max_turns < 2 ^ 64 →
+        ensures turns_used { result ≡ Err ServeFault.TurnsUsed →
+            L.taken link.old + max_turns < 2 ^ 64 →
             L.taken link.new ≡ L.taken link.old + max_turns }
     {
         if self.has_failed() {

@@ -48,7 +48,8 @@ pub(crate) fn append_coils(out: &mut [u8; 253], end: usize, quantity: u16, bytes
     requires fits { end + length bytes.now ≤ 253 }
     requires bytes { length bytes.now ≡ bytes_for quantity }
     ensures count { result ≡ end + length bytes.now }
-    ensures written { take result out.new ≡ take end out.old ++ packed (coils_of quantity bytes.now) }
+    ensures written { take result out.new ≡
+        take end out.old ++ packed (coils_of quantity bytes.now) }
 {
     let whole = usize::from(quantity / 8);
     let new_end = append(out, end, &bytes[..whole]);

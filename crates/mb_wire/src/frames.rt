@@ -68,7 +68,8 @@ struct Step {
     fed: Fed,
 }
 
-// Copies bytes of the piece behind the first `len` of `buf`, up to `limit` in all, and says how many.
+// Copies bytes of the piece behind the first `len` of `buf`, up to `limit` in all, and says how
+// many.
 fn top_up(buf: &mut [u8; 260], len: usize, piece: &[u8], limit: usize) -> usize
     requires within { len ≤ limit }
     requires fits { limit ≤ 260 }
@@ -91,7 +92,8 @@ fn span_in(buf: &[u8; 260]) -> usize
     usize::from(BigEndian::read_u16(&buf[4..6]))
 }
 
-// Copies bytes of the piece behind the first `len` of `buf`, until the header is whole, and says how many.
+// Copies bytes of the piece behind the first `len` of `buf`, until the header is whole, and says
+// how many.
 fn top_up_header(buf: &mut [u8; 260], len: usize, piece: &[u8]) -> usize
     requires fits { len ≤ 260 }
     ensures count { result ≤ length piece.now }
@@ -188,10 +190,14 @@ impl FrameReader {
         ensures need { result.what ≡ Framing.Need → result.taken ≡ length piece.now }
         ensures moves { IsEnd result.what → 0 < result.taken }
         ensures tells { Tells result.what (self.old.rest ++ take result.taken piece.now) }
-        ensures after { self.new ≡ held_after result.what (self.old.rest ++ take result.taken piece.now) }
-        // Whatever bytes came before, they and those taken now read as the frames so far, the one that ended, and what is held.
-        ensures reads { (bytes : List ℕ) (before : List (List ℕ)) → Reads bytes before self.old.rest →
-            Reads (bytes ++ take result.taken piece.now) (before ++ ended result.what (self.old.rest ++ take result.taken piece.now)) self.new.rest }
+        ensures after { self.new ≡
+            held_after result.what (self.old.rest ++ take result.taken piece.now) }
+        // Whatever bytes came before, they and those taken now read as the frames so far, the one that
+        // ended, and what is held.
+        ensures reads { (bytes : List ℕ) (before : List (List ℕ)) →
+            Reads bytes before self.old.rest → Reads (bytes ++ take result.taken piece.now)
+            (before ++ ended result.what (self.old.rest ++ take result.taken piece.now))
+            self.new.rest }
         ensures stuck { IsBad self.old.rest → (result.what ≡ Framing.Garbled) × (result.taken ≡ 0) }
     {
         self.advance(piece)
@@ -202,7 +208,8 @@ impl FrameReader {
         ensures need { result.what ≡ Framing.Need → result.taken ≡ length piece.now }
         ensures moves { IsEnd result.what → 0 < result.taken }
         ensures tells { Tells result.what (self.old.rest ++ take result.taken piece.now) }
-        ensures after { self.new ≡ held_after result.what (self.old.rest ++ take result.taken piece.now) }
+        ensures after { self.new ≡
+            held_after result.what (self.old.rest ++ take result.taken piece.now) }
         ensures stuck { IsBad self.old.rest → (result.what ≡ Framing.Garbled) × (result.taken ≡ 0) }
     {
         match self.state {
@@ -280,17 +287,19 @@ fn header(tid: u16, unit: u8, span: u16) -> [u8; 7]
 /// Each byte list has exactly one reading.
 pub fn one_reading()
     ensures exists { (bytes : List ℕ) → Reads bytes (frames bytes) (rest bytes) }
-    ensures only { (bytes : List ℕ) (others : List (List ℕ)) (left : List ℕ) → Reads bytes others left →
-        (frames bytes ≡ others) × (rest bytes ≡ left) }
+    ensures only { (bytes : List ℕ) (others : List (List ℕ)) (left : List ℕ) →
+        Reads bytes others left → (frames bytes ≡ others) × (rest bytes ≡ left) }
 {}
 
 /// What is written is a frame with these fields, and a frame is the one spelling of its fields.
 pub fn one_spelling()
-    ensures frame { (tid unit : ℕ) (pdu : List ℕ) → tid < 65536 → 1 ≤ length pdu → length pdu ≤ 253 →
+    ensures frame { (tid unit : ℕ) (pdu : List ℕ) → tid < 65536 →
+        1 ≤ length pdu → length pdu ≤ 253 →
         IsFrame (spelling tid unit pdu) × IsOwn (spelling tid unit pdu)
         × (fields_of (spelling tid unit pdu) ≡ record { tid = tid; unit = unit; pdu = pdu }) }
     ensures spelled { (bytes : List ℕ) → AreBytes bytes → IsFrame bytes → IsOwn bytes →
         bytes ≡ spelling (tid_of bytes) (unit_of bytes) (pdu_of bytes) }
     ensures same { (one other : List ℕ) → AreBytes one → IsFrame one → IsOwn one →
-        AreBytes other → IsFrame other → IsOwn other → fields_of one ≡ fields_of other → one ≡ other }
+        AreBytes other → IsFrame other → IsOwn other →
+        fields_of one ≡ fields_of other → one ≡ other }
 {}

@@ -23,6 +23,6 @@ pub fn one_reply()
         SpellsReply query pdu answer ↔ (answer_in query pdu ≡ Ok answer) }
     ensures reads_back { (query : Query) (answer : Answer) → AnswersQuery query answer →
         answer_in query (answer_bytes query answer) ≡ Ok answer }
-    ensures writes_back { (query : Query) (pdu : List ℕ) (answer : Answer) → AreBytes pdu → answer_in query pdu ≡ Ok answer →
-        answer_bytes query answer ≡ reply_cleared query pdu }
+    ensures writes_back { (query : Query) (pdu : List ℕ) (answer : Answer) → AreBytes pdu →
+        answer_in query pdu ≡ Ok answer → answer_bytes query answer ≡ reply_cleared query pdu }
 {}

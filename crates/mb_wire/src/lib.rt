@@ -21,6 +21,3 @@ pub use memory_link::MemoryLink;
 pub use replies::{Reply, ReplyFault, decode_reply, encode_reply};
 pub use requests::{Request, RequestFault, encode_request};
 pub use span::{ReadFunction, ReadSpan};
-
-#[cfg(test)]
-mod tests;

@@ -56,7 +56,8 @@ pub trait Link {
         ensures bound { IfOk result (λ n. n ≤ length bytes.now) }
         ensures bytes { WriteAppends (given self.old) (given self.new) result bytes.now }
         ensures remaining { Keeps (remaining self.old) (remaining self.new) }
-        ensures failures { failed self.new ≡ risen (is_failed_give result bytes.now) (failed self.old) }
+        ensures failures { failed self.new ≡
+            risen (is_failed_give result bytes.now) (failed self.old) }
         ensures takes { taken self.new ≡ taken self.old }
         ensures last { last self.new ≡ last self.old };
 

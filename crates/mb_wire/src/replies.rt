@@ -160,7 +160,9 @@ pub fn decode_reply<'a>(request: &Request<'_>, pdu: &'a [u8]) -> Result<Reply<'a
     ensures exact { read_as result ≡ reply_of request.now pdu.now }
     ensures answers { IfOk result (AnswersRequest request.now) }
     ensures fits { IsLawful request.now → IfOk result (FitsRequest request.now) }
-    ensures writes_back { IfOk result (λ reply. answer_bytes (query_of request.now) (answer_of reply) ≡ reply_cleared (query_of request.now) pdu.now) }
+    ensures writes_back { IfOk result (λ reply.
+        answer_bytes (query_of request.now) (answer_of reply)
+        ≡ reply_cleared (query_of request.now) pdu.now) }
 {
     match find_fault(request, pdu) {
         Some(fault) => Err(fault),
@@ -172,7 +174,8 @@ fn write_reply(request: &Request<'_>, reply: &Reply<'_>, out: &mut [u8; 253]) ->
     requires { FitsRequest request.now reply.now }
     ensures some { 1 ≤ result }
     ensures few { result ≤ 253 }
-    ensures written { take result out.new ≡ answer_bytes (query_of request.now) (answer_of reply.now) }
+    ensures written { take result out.new ≡
+        answer_bytes (query_of request.now) (answer_of reply.now) }
 {
     let function = request.function();
     match *reply {
@@ -198,7 +201,8 @@ pub fn encode_reply(request: &Request<'_>, reply: &Reply<'_>, out: &mut [u8; 253
     requires { FitsRequest request.now reply.now }
     ensures some { 1 ≤ result }
     ensures few { result ≤ 253 }
-    ensures written { take result out.new ≡ answer_bytes (query_of request.now) (answer_of reply.now) }
+    ensures written { take result out.new ≡
+        answer_bytes (query_of request.now) (answer_of reply.now) }
     ensures spelled { SpellsReply (query_of request.now) (take result out.new) (answer_of reply.now) }
     ensures reads_back { reply_of request.now (take result out.new) ≡ Ok (answer_of reply.now) }
 {

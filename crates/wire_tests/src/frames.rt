@@ -1,0 +1,152 @@
+// Frames in streams of bytes.
+use mb_wire::{FrameReader, Framing, Request, decode_reply, encode_request, write_frame};
+use std::test::Fail;
+
+// A request of unit 17 for three registers from 107, and the reply to it.
+static REQUEST: [u8; 12] = [0, 1, 0, 0, 0, 6, 17, 3, 0, 107, 0, 3];
+
+static REPLY: [u8; 15] = [0, 1, 0, 0, 0, 9, 17, 3, 6, 2, 43, 0, 0, 0, 100];
+
+static ASKED: Request<'static> = Request::ReadHolding {
+    address: 107,
+    quantity: 3,
+};
+
+// What a reader tells of bytes: a new one, or the one of the row before.
+struct Feed {
+    anew: bool,
+    bytes: &'static [u8],
+    taken: usize,
+    what: Framing,
+    held: bool,
+}
+
+static FEEDS: [Feed; 6] = [
+    // Two replies are joined, and the second comes in two pieces.
+    Feed {
+        anew: true,
+        bytes: &[0, 1, 0, 0, 0, 9, 17, 3, 6, 2, 43, 0, 0, 0, 100, 0, 1, 0, 0],
+        taken: 15,
+        what: Framing::Whole,
+        held: true,
+    },
+    Feed {
+        anew: false,
+        bytes: &[0],
+        taken: 1,
+        what: Framing::Need,
+        held: false,
+    },
+    Feed {
+        anew: false,
+        bytes: &[1, 0, 0, 0, 9, 17, 3, 6, 2, 43, 0, 0, 0, 100],
+        taken: 14,
+        what: Framing::Whole,
+        held: true,
+    },
+    // Another protocol.
+    Feed {
+        anew: true,
+        bytes: &[0, 1, 0, 1, 0, 6, 17, 3, 0, 107, 0, 3, 0],
+        taken: 12,
+        what: Framing::Foreign,
+        held: false,
+    },
+    // A length of 1 garbles for good.
+    Feed {
+        anew: true,
+        bytes: &[0, 1, 0, 0, 0, 1, 9],
+        taken: 6,
+        what: Framing::Garbled,
+        held: false,
+    },
+    Feed {
+        anew: false,
+        bytes: &[0, 1, 0, 0, 0, 9, 17, 3, 6, 2, 43, 0, 0, 0, 100],
+        taken: 0,
+        what: Framing::Garbled,
+        held: false,
+    },
+];
+
+#[test]
+fn a_feed_ends_with_a_frame(rt: HostRuntime) {
+    let mut reader = FrameReader::new();
+    for feed in &FEEDS {
+        if feed.anew {
+            reader = FrameReader::new();
+        }
+        let fed = reader.feed(feed.bytes);
+        assert_eq!(rt; (fed.taken, fed.what), (feed.taken, feed.what));
+        assert_eq!(rt; reader.frame().is_some(), feed.held);
+    }
+}
+
+#[test]
+fn a_request_is_written(rt: HostRuntime) -> Result<(), Fail> {
+    let mut pdu = [0; 253];
+    let count = encode_request(&ASKED, &mut pdu);
+    let mut out = [0; 260];
+    let size = write_frame(1, 17, pdu.get(..count).ok_or("short")?, &mut out);
+    assert_eq!(rt; out.get(..size), Some(REQUEST.as_slice()));
+    Ok(())
+}
+
+#[test]
+fn single_bytes_make_a_frame(rt: HostRuntime) -> Result<(), Fail> {
+    let mut reader = FrameReader::new();
+    for i in 0..15usize {
+        assert!(rt; reader.frame().is_none());
+        let fed = reader.feed(&REPLY[i..i + 1]);
+        let what = if i < 14 {
+            Framing::Need
+        } else {
+            Framing::Whole
+        };
+        assert_eq!(rt; (fed.taken, fed.what), (1, what));
+    }
+    let frame = reader.frame().ok_or("no frame")?;
+    assert_eq!(rt; (frame.tid, frame.unit, frame.pdu), (1, 17, &REPLY[7..]));
+    Ok(())
+}
+
+#[test]
+fn the_longest_frame_is_read(rt: HostRuntime) -> Result<(), Fail> {
+    let mut longest = [0; 260];
+    longest[1] = 5;
+    longest[5] = 254;
+    let mut reader = FrameReader::new();
+    let fed = reader.feed(&longest);
+    assert_eq!(rt; (fed.taken, fed.what), (260, Framing::Whole));
+    let frame = reader.frame().ok_or("no frame")?;
+    assert_eq!(rt; (frame.tid, frame.pdu.len()), (5, 253));
+    Ok(())
+}
+
+// Whether these bytes are taken for a reply to the request.
+fn is_taken(bytes: &[u8; 15]) -> bool {
+    let mut reader = FrameReader::new();
+    let fed = reader.feed(bytes);
+    match reader.frame() {
+        Some(frame) => {
+            fed.what == Framing::Whole
+                && frame.tid == 1
+                && frame.unit == 17
+                && decode_reply(&ASKED, frame.pdu).is_ok()
+        }
+        None => false,
+    }
+}
+
+#[test]
+fn a_corrupt_header_is_no_reply(rt: HostRuntime) {
+    assert!(rt; is_taken(&REPLY));
+    for place in 0..9usize {
+        for value in 0..=255u8 {
+            let mut bytes = REPLY;
+            bytes[place] = value;
+            let same = value == REPLY[place];
+            assert!(rt; same || !is_taken(&bytes), "byte {place} as {value}");
+        }
+    }
+}

@@ -1,0 +1,140 @@
+// Replies in PDUs.
+use mb_wire::{Reply, ReplyFault, Request, decode_reply, decode_request, encode_reply};
+use std::test::Fail;
+
+static HOLDING: Request<'static> = Request::ReadHolding {
+    address: 107,
+    quantity: 3,
+};
+
+static INPUT: Request<'static> = Request::ReadInput {
+    address: 8,
+    quantity: 1,
+};
+
+static COIL: Request<'static> = Request::WriteCoil {
+    address: 172,
+    on: true,
+};
+
+// The examples of the standard: a request and its reply.
+static EXAMPLES: [(&[u8], &[u8]); 8] = [
+    (&[1, 0x00, 0x13, 0x00, 0x13], &[1, 3, 0xCD, 0x6B, 0x05]),
+    (&[2, 0x00, 0xC4, 0x00, 0x16], &[2, 3, 0xAC, 0xDB, 0x35]),
+    (
+        &[3, 0x00, 0x6B, 0x00, 0x03],
+        &[3, 6, 0x02, 0x2B, 0x00, 0x00, 0x00, 0x64],
+    ),
+    (&[4, 0x00, 0x08, 0x00, 0x01], &[4, 2, 0x00, 0x0A]),
+    (&[5, 0x00, 0xAC, 0xFF, 0x00], &[5, 0x00, 0xAC, 0xFF, 0x00]),
+    (&[6, 0x00, 0x01, 0x00, 0x03], &[6, 0x00, 0x01, 0x00, 0x03]),
+    (
+        &[15, 0x00, 0x13, 0x00, 0x0A, 2, 0xCD, 0x01],
+        &[15, 0x00, 0x13, 0x00, 0x0A],
+    ),
+    (
+        &[16, 0x00, 0x01, 0x00, 0x02, 4, 0x00, 0x0A, 0x01, 0x02],
+        &[16, 0x00, 0x01, 0x00, 0x02],
+    ),
+];
+
+// Whether a PDU is read as a reply to the request in another, and is written so again.
+fn comes_back(asked: &[u8], answered: &[u8]) -> Result<bool, &'static str> {
+    let mut out = [0; 253];
+    let request = decode_request(asked).ok().ok_or("no request")?;
+    match decode_reply(&request, answered) {
+        Ok(reply) => {
+            let count = encode_reply(&request, &reply, &mut out);
+            Ok(out.get(..count) == Some(answered))
+        }
+        Err(_) => Ok(false),
+    }
+}
+
+#[test]
+fn examples_of_the_standard_come_back(rt: HostRuntime) -> Result<(), Fail> {
+    for (asked, answered) in EXAMPLES {
+        assert!(rt; comes_back(asked, answered)?, "function {}", asked[0]);
+    }
+    Ok(())
+}
+
+// PDUs that are no reply: to the read of holding registers, and to the write of a coil.
+static READ_FAULTS: [(&[u8], ReplyFault, u8); 6] = [
+    (&[0x84, 2], ReplyFault::WrongFunction, 1),
+    (&[4, 6, 0, 1, 0, 2, 0, 3], ReplyFault::WrongFunction, 1),
+    (&[], ReplyFault::WrongLength, 2),
+    (&[0x83, 2, 0], ReplyFault::WrongLength, 2),
+    (&[3, 6, 0, 1], ReplyFault::WrongLength, 2),
+    (&[3, 4, 0, 0, 0, 0], ReplyFault::WrongByteCount, 3),
+];
+
+static ECHO_FAULTS: [(&[u8], ReplyFault, u8); 2] = [
+    (&[5, 0, 173, 0xFF, 0], ReplyFault::WrongEcho, 4),
+    (&[5, 0, 172, 0xFF], ReplyFault::WrongLength, 2),
+];
+
+// The fault of a PDU, and its number.
+fn fault_in(request: &Request<'_>, pdu: &[u8]) -> Option<(ReplyFault, u8)> {
+    let fault = decode_reply(request, pdu).err()?;
+    Some((fault, fault.number()))
+}
+
+#[test]
+fn faults_have_their_numbers(rt: HostRuntime) {
+    for (pdu, fault, number) in READ_FAULTS {
+        assert_eq!(rt; fault_in(&HOLDING, pdu), Some((fault, number)));
+    }
+    for (pdu, fault, number) in ECHO_FAULTS {
+        assert_eq!(rt; fault_in(&COIL, pdu), Some((fault, number)));
+    }
+}
+
+#[test]
+fn registers_are_read(rt: HostRuntime) -> Result<(), Fail> {
+    let bytes = [3, 6, 2, 43, 0, 0, 0, 100];
+    let reply = decode_reply(&HOLDING, &bytes).ok().ok_or("fault")?;
+    assert_eq!(rt; (reply.word(0), reply.word(1)), (Some(555), Some(0)));
+    assert_eq!(rt; (reply.word(2), reply.word(3)), (Some(100), None));
+    let input = decode_reply(&INPUT, &[4, 2, 0, 10]).ok().ok_or("fault")?;
+    assert_eq!(rt; (input.word(0), input.word(1)), (Some(10), None));
+    Ok(())
+}
+
+#[test]
+fn exceptions_and_echoes_are_read(rt: HostRuntime) -> Result<(), Fail> {
+    let refused = decode_reply(&HOLDING, &[0x83, 2]).ok().ok_or("fault")?;
+    assert!(rt; matches!(refused, Reply::Exception(2)));
+    let echo = decode_reply(&COIL, &[5, 0, 172, 0xFF, 0])
+        .ok()
+        .ok_or("fault")?;
+    assert!(rt; matches!(echo, Reply::Echo));
+    assert_eq!(rt; (echo.bit(0), echo.word(0)), (None, None));
+    Ok(())
+}
+
+// Coils of the reply to a read of 19.
+static COILS: [(usize, Option<bool>); 10] = [
+    (0, Some(true)),
+    (1, Some(false)),
+    (2, Some(true)),
+    (7, Some(true)),
+    (8, Some(true)),
+    (9, Some(true)),
+    (10, Some(false)),
+    (17, Some(false)),
+    (18, Some(true)),
+    (19, None),
+];
+
+#[test]
+fn coils_are_read_from_the_lowest_bit(rt: HostRuntime) -> Result<(), Fail> {
+    let asked = decode_request(&[1, 0, 19, 0, 19]).ok().ok_or("fault")?;
+    let bytes = [1, 3, 0xCD, 0x6B, 0x05];
+    let reply = decode_reply(&asked, &bytes).ok().ok_or("fault")?;
+    for (i, on) in COILS {
+        assert_eq!(rt; reply.bit(i), on);
+    }
+    assert_eq!(rt; reply.word(0), None);
+    Ok(())
+}

@@ -1,0 +1,73 @@
+// Requests in PDUs.
+use mb_wire::{decode_request, encode_request};
+use std::test::Fail;
+
+// The examples of the standard.
+static EXAMPLES: [&[u8]; 8] = [
+    &[1, 0x00, 0x13, 0x00, 0x13],
+    &[2, 0x00, 0xC4, 0x00, 0x16],
+    &[3, 0x00, 0x6B, 0x00, 0x03],
+    &[4, 0x00, 0x08, 0x00, 0x01],
+    &[5, 0x00, 0xAC, 0xFF, 0x00],
+    &[6, 0x00, 0x01, 0x00, 0x03],
+    &[15, 0x00, 0x13, 0x00, 0x0A, 2, 0xCD, 0x01],
+    &[16, 0x00, 0x01, 0x00, 0x02, 4, 0x00, 0x0A, 0x01, 0x02],
+];
+
+// PDUs that are no requests, and the numbers of their faults.
+static FAULTS: [(&[u8], u8); 12] = [
+    (&[0x2B, 0x0E], 1),
+    (&[0x83, 0], 1),
+    (&[3, 0, 107, 0], 2),
+    (&[], 2),
+    (&[16, 0, 1], 2),
+    (&[16, 0, 0, 0, 0, 0], 3),
+    (&[1, 0, 0, 0x07, 0xD1], 3),
+    (&[3, 0, 0, 0, 126], 3),
+    (&[15, 0, 19, 0, 10, 1, 0xCD], 4),
+    (&[16, 0, 1, 0, 2, 2, 0, 10], 4),
+    (&[5, 0, 1, 0x12, 0x34], 5),
+    (&[5, 0, 1, 0, 1], 5),
+];
+
+// Whether a PDU is read as a request that is written as these bytes.
+fn is_written_as(pdu: &[u8], bytes: &[u8]) -> bool {
+    let mut out = [0; 253];
+    match decode_request(pdu) {
+        Ok(request) => {
+            let count = encode_request(&request, &mut out);
+            out.get(..count) == Some(bytes)
+        }
+        Err(_) => false,
+    }
+}
+
+#[test]
+fn examples_of_the_standard_come_back(rt: HostRuntime) {
+    for pdu in EXAMPLES {
+        assert!(rt; is_written_as(pdu, pdu), "function {}", pdu[0]);
+    }
+}
+
+#[test]
+fn spare_bits_are_written_as_zero(rt: HostRuntime) {
+    let asked = [15, 0, 19, 0, 10, 2, 0xCD, 0xFD];
+    let written = [15, 0, 19, 0, 10, 2, 0xCD, 1];
+    assert!(rt; is_written_as(&asked, &written));
+}
+
+#[test]
+fn a_request_has_its_function_and_address(rt: HostRuntime) -> Result<(), Fail> {
+    let asked = decode_request(&[1, 0, 19, 0, 19]).ok().ok_or("fault")?;
+    assert_eq!(rt; (asked.function(), asked.address()), (1, 19));
+    Ok(())
+}
+
+#[test]
+fn faults_have_their_numbers(rt: HostRuntime) -> Result<(), Fail> {
+    for (pdu, number) in FAULTS {
+        let fault = decode_request(pdu).err().ok_or("no fault")?;
+        assert_eq!(rt; fault.number(), number);
+    }
+    Ok(())
+}
