@@ -1,7 +1,7 @@
 -- Exchanges of bytes, one after another.
 use Rattle.std.proofs.Common.{◌≡◌, ℕ, List, [], ◌∷◌, ◌++◌, Ok, refl, sym, ap, ◌∙◌, subst}
 use Rattle.mb_wire.specs.Frames.{IsOpen, rest}
-use Rattle.mb_device.specs.Exchanges.{Exchange, Exchanges, ExchangesOver, InOrder, in_all, then}
+use Rattle.mb_device.specs.Exchanges.{Exchange, Exchanges, ExchangesOver, InOrder, in_all, joined}
 use Rattle.mb_device.specs.Maps.{Maps}
 use Rattle.mb_device.specs.Serving.{Around, Faulted, Holds, Serves, Standing, Turns, answers, maps_after_all, own_frames}
 use Rattle.mb_device.specs.declared.serving.Turned.{Turned}
@@ -30,7 +30,7 @@ abbrev bytes_in : Standing → List ℕ
 bytes_in (Holds held) = held
 bytes_in Faulted = []
 
-pub two_exchange : (held left : List ℕ) (first next : Exchange) (old mid new : Maps) (standing : Standing) → Exchanges held first old mid (Holds left) → Exchanges left next mid new standing → Exchanges held (then first next) old new standing
+pub two_exchange : (held left : List ℕ) (first next : Exchange) (old mid new : Maps) (standing : Standing) → Exchanges held first old mid (Holds left) → Exchanges left next mid new standing → Exchanges held (joined first next) old new standing
 two_exchange held left first next old mid new standing one other =
     let xs = own_frames (held ++ first.taken) in
     let ys = own_frames (left ++ next.taken) in

@@ -12,8 +12,8 @@ pub record Exchange : Type 0 where
   pub given : List ℕ
 
 -- one exchange, and another behind it
-abbrev pub then : Exchange → Exchange → Exchange
-then first next = record { taken = first.taken ++ next.taken; given = first.given ++ next.given }
+abbrev pub joined : Exchange → Exchange → Exchange
+joined first next = record { taken = first.taken ++ next.taken; given = first.given ++ next.given }
 
 -- exchanges as one
 abbrev pub in_all : List Exchange → Exchange

@@ -1,6 +1,5 @@
 // Frames in streams of bytes.
-use mb_wire::{FrameReader, Framing, Request, decode_reply, encode_request, write_frame};
-use std::test::Fail;
+use mb_wire::{Fed, FrameReader, Framing, Request, decode_reply, encode_request, write_frame};
 
 // A request of unit 17 for three registers from 107, and the reply to it.
 static REQUEST: [u8; 12] = [0, 1, 0, 0, 0, 6, 17, 3, 0, 107, 0, 3];
@@ -72,28 +71,41 @@ static FEEDS: [Feed; 6] = [
 #[test]
 fn a_feed_ends_with_a_frame(rt: HostRuntime) {
     let mut reader = FrameReader::new();
-    for feed in &FEEDS {
+    for (i, feed) in FEEDS.iter().enumerate() {
         if feed.anew {
             reader = FrameReader::new();
         }
         let fed = reader.feed(feed.bytes);
-        assert_eq!(rt; (fed.taken, fed.what), (feed.taken, feed.what));
-        assert_eq!(rt; reader.frame().is_some(), feed.held);
+        assert!(rt;
+            fed == Fed {
+                taken: feed.taken,
+                what: feed.what
+            },
+            "feed {i}"
+        );
+        assert!(rt; reader.frame().is_some() == feed.held, "feed {i}");
     }
 }
 
 #[test]
-fn a_request_is_written(rt: HostRuntime) -> Result<(), Fail> {
+fn a_request_is_written(rt: HostRuntime) {
     let mut pdu = [0; 253];
     let count = encode_request(&ASKED, &mut pdu);
     let mut out = [0; 260];
-    let size = write_frame(1, 17, pdu.get(..count).ok_or("short")?, &mut out);
+    let size = write_frame(1, 17, &pdu[..count], &mut out);
     assert_eq!(rt; out.get(..size), Some(REQUEST.as_slice()));
-    Ok(())
+}
+
+// Whether the reader holds the frame of these.
+fn holds(reader: &FrameReader, tid: u16, unit: u8, pdu: &[u8]) -> bool {
+    match reader.frame() {
+        Some(frame) => frame.tid == tid && frame.unit == unit && frame.pdu == pdu,
+        None => false,
+    }
 }
 
 #[test]
-fn single_bytes_make_a_frame(rt: HostRuntime) -> Result<(), Fail> {
+fn single_bytes_make_a_frame(rt: HostRuntime) {
     let mut reader = FrameReader::new();
     for i in 0..15usize {
         assert!(rt; reader.frame().is_none());
@@ -103,24 +115,25 @@ fn single_bytes_make_a_frame(rt: HostRuntime) -> Result<(), Fail> {
         } else {
             Framing::Whole
         };
-        assert_eq!(rt; (fed.taken, fed.what), (1, what));
+        assert!(rt; fed == Fed { taken: 1, what }, "byte {i}");
     }
-    let frame = reader.frame().ok_or("no frame")?;
-    assert_eq!(rt; (frame.tid, frame.unit, frame.pdu), (1, 17, &REPLY[7..]));
-    Ok(())
+    assert!(rt; holds(&reader, 1, 17, &REPLY[7..]));
 }
 
 #[test]
-fn the_longest_frame_is_read(rt: HostRuntime) -> Result<(), Fail> {
+fn the_longest_frame_is_read(rt: HostRuntime) {
     let mut longest = [0; 260];
     longest[1] = 5;
     longest[5] = 254;
     let mut reader = FrameReader::new();
     let fed = reader.feed(&longest);
-    assert_eq!(rt; (fed.taken, fed.what), (260, Framing::Whole));
-    let frame = reader.frame().ok_or("no frame")?;
-    assert_eq!(rt; (frame.tid, frame.pdu.len()), (5, 253));
-    Ok(())
+    assert!(rt;
+        fed == Fed {
+            taken: 260,
+            what: Framing::Whole
+        }
+    );
+    assert!(rt; holds(&reader, 5, 0, &longest[7..]));
 }
 
 // Whether these bytes are taken for a reply to the request.

@@ -1,30 +1,25 @@
 // A link over memory.
 use mb_wire::{LastTake, Link, LinkFailed, MemoryLink, Took};
 
+// What a take answers, and the piece after it.
+static TAKES: [(Took, [u8; 4]); 3] = [
+    (Took::Bytes(2), [1, 2, 9, 9]),
+    (Took::Bytes(1), [3, 2, 9, 9]),
+    (Took::End, [3, 2, 9, 9]),
+];
+
 #[test]
 fn an_input_is_handed_out_in_pieces(rt: HostRuntime) {
     let mut output = [0; 5];
     let mut link = MemoryLink::new(&[1, 2, 3], &mut output, 2, None);
     let mut piece = [9; 4];
-    assert_eq!(rt; link.take(&mut piece), Ok(Took::Bytes(2)));
-    assert_eq!(rt; piece, [1, 2, 9, 9]);
-    assert_eq!(rt; link.take(&mut piece), Ok(Took::Bytes(1)));
-    assert_eq!(rt; piece, [3, 2, 9, 9]);
-    assert_eq!(rt; link.take(&mut piece), Ok(Took::End));
-    assert_eq!(rt; (piece, link.takes()), ([3, 2, 9, 9], 3));
-}
-
-#[test]
-fn the_last_take_is_kept(rt: HostRuntime) {
-    let mut output = [0; 5];
-    let mut link = MemoryLink::new(&[1], &mut output, 2, None);
-    let mut piece = [9; 4];
-    for answer in [Took::Bytes(1), Took::End] {
+    assert!(rt; link.last_take().is_none());
+    for (answer, after) in TAKES {
         let answer = Ok(answer);
-        assert_eq!(rt; link.take(&mut piece), answer);
-        assert_eq!(rt; link.give(&[7]), Ok(1));
-        assert_eq!(rt; link.last_take(), Some(LastTake { room: 4, answer }));
+        assert!(rt; link.take(&mut piece) == answer && piece == after);
+        assert!(rt; link.last_take() == Some(LastTake { room: 4, answer }));
     }
+    assert!(rt; (link.takes(), link.failures()) == (3, 0));
 }
 
 // Bytes that are given to an output of five, two at most at a time.
@@ -41,32 +36,27 @@ fn an_output_is_given_in_pieces(rt: HostRuntime) {
     let mut output = [0; 5];
     let mut link = MemoryLink::new(&[1, 2, 3], &mut output, 2, None);
     for (bytes, answer) in GIVES {
-        assert_eq!(rt; link.failures(), 0);
-        assert_eq!(rt; link.give(bytes), answer);
+        assert!(rt; link.failures() == 0 && link.give(bytes) == answer);
     }
-    assert_eq!(rt; link.failures(), 1);
-    assert_eq!(rt; link.given(), [7, 8, 9, 5, 6].as_slice());
+    assert!(rt; (link.takes(), link.failures()) == (0, 1));
+    assert!(rt; link.given() == [7, 8, 9, 5, 6].as_slice());
 }
 
-// What a call answers that may be the one that fails.
-fn unless<T>(fails: bool, answer: T) -> Result<T, LinkFailed>
-where
-    T: Drop,
-{
-    if fails { Err(LinkFailed) } else { Ok(answer) }
+// Whether each of two takes and two gives in turn goes well but for the one that fails.
+fn is_told(fails: u64) -> bool {
+    let mut output = [0; 4];
+    let mut link = MemoryLink::new(&[1, 2], &mut output, 1, Some(fails));
+    let mut piece = [0; 4];
+    let first = (link.take(&mut piece).is_err(), link.give(&[1]).is_err());
+    let second = (link.take(&mut piece).is_err(), link.give(&[2]).is_err());
+    first == (fails == 1, fails == 2)
+        && second == (fails == 3, fails == 4)
+        && (link.failures(), link.takes()) == (1, 2)
 }
 
 #[test]
 fn each_call_fails_in_turn(rt: HostRuntime) {
     for fails in 1..5u64 {
-        let mut output = [0; 4];
-        let mut link = MemoryLink::new(&[1, 2], &mut output, 1, Some(fails));
-        let mut piece = [0; 4];
-        for call in [1, 3] {
-            let taken = link.take(&mut piece);
-            assert_eq!(rt; taken, unless(fails == call, Took::Bytes(1)));
-            assert_eq!(rt; link.give(&[1]), unless(fails == call + 1, 1));
-        }
-        assert_eq!(rt; (link.failures(), link.takes()), (1, 2));
+        assert!(rt; is_told(fails), "call {fails}");
     }
 }

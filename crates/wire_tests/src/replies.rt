@@ -1,6 +1,5 @@
 // Replies in PDUs.
 use mb_wire::{Reply, ReplyFault, Request, decode_reply, decode_request, encode_reply};
-use std::test::Fail;
 
 static HOLDING: Request<'static> = Request::ReadHolding {
     address: 107,
@@ -39,24 +38,19 @@ static EXAMPLES: [(&[u8], &[u8]); 8] = [
 ];
 
 // Whether a PDU is read as a reply to the request in another, and is written so again.
-fn comes_back(asked: &[u8], answered: &[u8]) -> Result<bool, &'static str> {
+fn comes_back(asked: &[u8], answered: &[u8]) -> Option<bool> {
     let mut out = [0; 253];
-    let request = decode_request(asked).ok().ok_or("no request")?;
-    match decode_reply(&request, answered) {
-        Ok(reply) => {
-            let count = encode_reply(&request, &reply, &mut out);
-            Ok(out.get(..count) == Some(answered))
-        }
-        Err(_) => Ok(false),
-    }
+    let request = decode_request(asked).ok()?;
+    let reply = decode_reply(&request, answered).ok()?;
+    let count = encode_reply(&request, &reply, &mut out);
+    Some(out.get(..count) == Some(answered))
 }
 
 #[test]
-fn examples_of_the_standard_come_back(rt: HostRuntime) -> Result<(), Fail> {
-    for (asked, answered) in EXAMPLES {
-        assert!(rt; comes_back(asked, answered)?, "function {}", asked[0]);
+fn examples_of_the_standard_come_back(rt: HostRuntime) {
+    for (i, (asked, answered)) in EXAMPLES.iter().enumerate() {
+        assert!(rt; comes_back(asked, answered) == Some(true), "example {i}");
     }
-    Ok(())
 }
 
 // PDUs that are no reply: to the read of holding registers, and to the write of a coil.
@@ -83,38 +77,49 @@ fn fault_in(request: &Request<'_>, pdu: &[u8]) -> Option<(ReplyFault, u8)> {
 #[test]
 fn faults_have_their_numbers(rt: HostRuntime) {
     for (pdu, fault, number) in READ_FAULTS {
-        assert_eq!(rt; fault_in(&HOLDING, pdu), Some((fault, number)));
+        assert!(rt; fault_in(&HOLDING, pdu) == Some((fault, number)));
     }
     for (pdu, fault, number) in ECHO_FAULTS {
-        assert_eq!(rt; fault_in(&COIL, pdu), Some((fault, number)));
+        assert!(rt; fault_in(&COIL, pdu) == Some((fault, number)));
     }
 }
 
+// A register and a coil of a reply.
+fn word_in(request: &Request<'_>, pdu: &[u8], i: usize) -> Option<u16> {
+    decode_reply(request, pdu).ok()?.word(i)
+}
+
+fn bit_in(request: &Request<'_>, pdu: &[u8], i: usize) -> Option<bool> {
+    decode_reply(request, pdu).ok()?.bit(i)
+}
+
+static WORDS: [(usize, Option<u16>); 4] = [(0, Some(555)), (1, Some(0)), (2, Some(100)), (3, None)];
+
 #[test]
-fn registers_are_read(rt: HostRuntime) -> Result<(), Fail> {
-    let bytes = [3, 6, 2, 43, 0, 0, 0, 100];
-    let reply = decode_reply(&HOLDING, &bytes).ok().ok_or("fault")?;
-    assert_eq!(rt; (reply.word(0), reply.word(1)), (Some(555), Some(0)));
-    assert_eq!(rt; (reply.word(2), reply.word(3)), (Some(100), None));
-    let input = decode_reply(&INPUT, &[4, 2, 0, 10]).ok().ok_or("fault")?;
-    assert_eq!(rt; (input.word(0), input.word(1)), (Some(10), None));
-    Ok(())
+fn registers_are_read(rt: HostRuntime) {
+    for (i, word) in WORDS {
+        assert_eq!(rt; word_in(&HOLDING, &[3, 6, 2, 43, 0, 0, 0, 100], i), word);
+    }
+    assert_eq!(rt; word_in(&INPUT, &[4, 2, 0, 10], 0), Some(10));
+    assert_eq!(rt; word_in(&INPUT, &[4, 2, 0, 10], 1), None);
 }
 
 #[test]
-fn exceptions_and_echoes_are_read(rt: HostRuntime) -> Result<(), Fail> {
-    let refused = decode_reply(&HOLDING, &[0x83, 2]).ok().ok_or("fault")?;
-    assert!(rt; matches!(refused, Reply::Exception(2)));
-    let echo = decode_reply(&COIL, &[5, 0, 172, 0xFF, 0])
-        .ok()
-        .ok_or("fault")?;
-    assert!(rt; matches!(echo, Reply::Echo));
-    assert_eq!(rt; (echo.bit(0), echo.word(0)), (None, None));
-    Ok(())
+fn exceptions_and_echoes_are_read(rt: HostRuntime) {
+    let refused = decode_reply(&HOLDING, &[0x83, 2]);
+    assert!(rt; matches!(refused, Ok(Reply::Exception(2))));
+    let echo = decode_reply(&COIL, &[5, 0, 172, 0xFF, 0]);
+    assert!(rt; matches!(echo, Ok(Reply::Echo)));
+    assert!(rt; word_in(&COIL, &[5, 0, 172, 0xFF, 0], 0).is_none());
+    assert!(rt; bit_in(&COIL, &[5, 0, 172, 0xFF, 0], 0).is_none());
 }
 
-// Coils of the reply to a read of 19.
-static COILS: [(usize, Option<bool>); 10] = [
+static COILS: Request<'static> = Request::ReadCoils {
+    address: 19,
+    quantity: 19,
+};
+
+static BITS: [(usize, Option<bool>); 10] = [
     (0, Some(true)),
     (1, Some(false)),
     (2, Some(true)),
@@ -128,13 +133,12 @@ static COILS: [(usize, Option<bool>); 10] = [
 ];
 
 #[test]
-fn coils_are_read_from_the_lowest_bit(rt: HostRuntime) -> Result<(), Fail> {
-    let asked = decode_request(&[1, 0, 19, 0, 19]).ok().ok_or("fault")?;
-    let bytes = [1, 3, 0xCD, 0x6B, 0x05];
-    let reply = decode_reply(&asked, &bytes).ok().ok_or("fault")?;
-    for (i, on) in COILS {
-        assert_eq!(rt; reply.bit(i), on);
+fn coils_are_read_from_the_lowest_bit(rt: HostRuntime) {
+    for (i, on) in BITS {
+        assert!(rt;
+            bit_in(&COILS, &[1, 3, 0xCD, 0x6B, 0x05], i) == on,
+            "coil {i}"
+        );
     }
-    assert_eq!(rt; reply.word(0), None);
-    Ok(())
+    assert!(rt; word_in(&COILS, &[1, 3, 0xCD, 0x6B, 0x05], 0).is_none());
 }

@@ -1,6 +1,5 @@
 // Requests in PDUs.
 use mb_wire::{decode_request, encode_request};
-use std::test::Fail;
 
 // The examples of the standard.
 static EXAMPLES: [&[u8]; 8] = [
@@ -56,18 +55,26 @@ fn spare_bits_are_written_as_zero(rt: HostRuntime) {
     assert!(rt; is_written_as(&asked, &written));
 }
 
-#[test]
-fn a_request_has_its_function_and_address(rt: HostRuntime) -> Result<(), Fail> {
-    let asked = decode_request(&[1, 0, 19, 0, 19]).ok().ok_or("fault")?;
-    assert_eq!(rt; (asked.function(), asked.address()), (1, 19));
-    Ok(())
+// The function and the address that are asked for.
+fn head_of(pdu: &[u8]) -> Option<(u8, u16)> {
+    let request = decode_request(pdu).ok()?;
+    Some((request.function(), request.address()))
 }
 
 #[test]
-fn faults_have_their_numbers(rt: HostRuntime) -> Result<(), Fail> {
+fn a_request_has_its_function_and_address(rt: HostRuntime) {
+    assert!(rt; head_of(&[1, 0, 19, 0, 19]) == Some((1, 19)));
+}
+
+// The number of a PDU's fault.
+fn fault_in(pdu: &[u8]) -> Option<u8> {
+    let fault = decode_request(pdu).err()?;
+    Some(fault.number())
+}
+
+#[test]
+fn faults_have_their_numbers(rt: HostRuntime) {
     for (pdu, number) in FAULTS {
-        let fault = decode_request(pdu).err().ok_or("no fault")?;
-        assert_eq!(rt; fault.number(), number);
+        assert_eq!(rt; fault_in(pdu), Some(number));
     }
-    Ok(())
 }

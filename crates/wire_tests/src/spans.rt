@@ -1,6 +1,17 @@
 // Registers to be read together.
 use mb_wire::{ReadFunction, ReadSpan, Request};
-use std::test::Fail;
+
+const THREE: ReadSpan = ReadSpan {
+    function: ReadFunction::HoldingRegisters,
+    address: 107,
+    count: 3,
+};
+
+const LAST: ReadSpan = ReadSpan {
+    function: ReadFunction::InputRegisters,
+    address: 65535,
+    count: 1,
+};
 
 // A function code, an address and a count that are no span.
 static UNLAWFUL: [(u8, u16, u16); 5] = [
@@ -12,32 +23,29 @@ static UNLAWFUL: [(u8, u16, u16); 5] = [
 ];
 
 #[test]
-fn lawful_spans_are_made(rt: HostRuntime) -> Result<(), Fail> {
-    let span = ReadSpan::new(3, 107, 3).ok_or("no span")?;
-    assert_eq!(rt; span.function, ReadFunction::HoldingRegisters);
-    assert_eq!(rt;
-        (span.address, span.count, span.function.code()),
-        (107, 3, 3)
-    );
-    let last = ReadSpan::new(4, 65535, 1).ok_or("no span")?;
-    assert_eq!(rt; last.function.code(), 4);
+fn spans_are_lawful(rt: HostRuntime) {
+    assert!(rt; ReadSpan::new(3, 107, 3) == Some(THREE));
+    assert!(rt; ReadSpan::new(4, 65535, 1) == Some(LAST));
     assert!(rt; ReadSpan::new(3, 0, 125).is_some());
-    Ok(())
-}
-
-#[test]
-fn unlawful_spans_are_refused(rt: HostRuntime) {
     for (function, address, count) in UNLAWFUL {
         assert!(rt; ReadSpan::new(function, address, count).is_none());
     }
 }
 
 #[test]
-fn a_span_is_asked_for(rt: HostRuntime) -> Result<(), Fail> {
-    let request = ReadSpan::new(3, 107, 3).ok_or("no span")?.request();
-    assert_eq!(rt; (request.function(), request.address()), (3, 107));
-    assert!(rt; matches!(request, Request::ReadHolding { quantity: 3, .. }));
-    let last = ReadSpan::new(4, 65535, 1).ok_or("no span")?.request();
+fn a_span_is_asked_for(rt: HostRuntime) {
+    assert!(rt; (THREE.function.code(), LAST.function.code()) == (3, 4));
+    let three = THREE.request();
+    assert!(rt;
+        matches!(
+            three,
+            Request::ReadHolding {
+                address: 107,
+                quantity: 3
+            }
+        )
+    );
+    let last = LAST.request();
     assert!(rt;
         matches!(
             last,
@@ -47,5 +55,4 @@ fn a_span_is_asked_for(rt: HostRuntime) -> Result<(), Fail> {
             }
         )
     );
-    Ok(())
 }
