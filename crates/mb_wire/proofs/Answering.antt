@@ -1,8 +1,8 @@
 -- Replies read from their PDUs and spelled again, over the definitions alone.
-use Rattle.std.proofs.Common.{◌≡◌, ℕ, zero, suc, ◌+◌, ◌-◌, ◌*◌, ◌/◌, ◌%◌, ◌<◌, ◌≤◌, ◌==◌, nat_lt, inl, inr, Bool, true, false, not, ◌&&◌, ◌||◌, if◌then◌else◌, List, [], ◌∷◌, ◌++◌, length, take, drop, slice_index, Option, Some, None, Ok, refl, sym, ap, subst, ◌∙◌, arith, length-drop}
+use Rattle.std.proofs.Common.{◌≡◌, ℕ, suc, ◌+◌, ◌-◌, ◌*◌, ◌≤◌, ◌==◌, nat_lt, inl, inr, true, false, not, ◌&&◌, ◌||◌, List, [], ◌∷◌, ◌++◌, length, drop, slice_index, None, Ok, refl, sym, ap, subst, ◌∙◌, arith, length-drop}
 use Rattle.std.proofs.lemmas.Bool.{cases_Bool, or_cases, or_from, or_parts, or_left, or_right, and_cases, and_left, and_right, and_from, and_parts, not-false, not_from_true, not_from_false, eqb-true, eq-eqb, ne_eqb, le-ltb, ltb-false, cond-true, cond-false, both_ways}
 use Rattle.mb_wire.specs.Bytes.{AreBytes, number_at, words_of, word_bytes}
-use Rattle.mb_wire.specs.Coils.{bytes_for, coils_of, packed, cleared_after}
+use Rattle.mb_wire.specs.Coils.{bytes_for, coils_of, packed}
 use Rattle.mb_wire.specs.Requests.{Query, function_of, address_of, field_of, head_bytes}
 use Rattle.mb_wire.specs.RequestFaults.{value_unless}
 use Rattle.mb_wire.specs.Replies.{Answer, Bits, Words, Echo, Exception, AnswersQuery, SpellsReply, answer_bytes, answer_from, answer_in, brings_bytes, brought, byte_count, cleared_reply, echo_of, is_exception, is_wrong_byte_count, is_wrong_echo, is_wrong_function, is_wrong_length, reply_cleared, reply_fault, wanted_by}

@@ -1,12 +1,11 @@
 -- Requests read from their PDUs and spelled again, over the definitions alone.
-use Rattle.std.proofs.Common.{◌≡◌, ℕ, zero, suc, ◌+◌, ◌-◌, ◌*◌, ◌/◌, ◌%◌, ◌<◌, ◌≤◌, ◌==◌, nat_lt, ◌⊎◌, inl, inr, Bool, true, false, not, ◌&&◌, ◌||◌, if◌then◌else◌, List, [], ◌∷◌, ◌++◌, length, take, drop, slice_index, Option, Result, Some, None, Ok, refl, sym, ap, subst, ◌∙◌, arith, length-drop, drop-cons}
-use Rattle.std.proofs.lemmas.Bool.{cases_eq, or_cases, or_from, or_parts, or_left, or_right, and_cases, and_left, and_right, not-false, not_from_true, eqb-true, eq-eqb, ne_eqb, le-ltb, ltb-false, le-leb, cond-true, cond-false, both_ways, leb-true, and_parts}
-use Rattle.std.proofs.lemmas.List.{drop_all, append-nil}
-use Rattle.mb_wire.specs.Bytes.{AreBytes, number_at, word, words_of, word_bytes}
+use Rattle.std.proofs.Common.{◌≡◌, ℕ, suc, ◌+◌, ◌-◌, ◌*◌, ◌/◌, ◌%◌, ◌<◌, ◌≤◌, ◌==◌, nat_lt, inl, inr, Bool, true, false, not, ◌&&◌, ◌||◌, if◌then◌else◌, List, [], ◌∷◌, ◌++◌, length, drop, slice_index, Option, Some, None, Ok, refl, sym, ap, subst, ◌∙◌, arith, length-drop, drop-cons}
+use Rattle.std.proofs.lemmas.Bool.{cases_eq, or_cases, or_from, or_parts, and_cases, and_left, and_right, not-false, not_from_true, eqb-true, eq-eqb, le-ltb, ltb-false, cond-true, cond-false, both_ways, leb-true, and_parts}
+use Rattle.std.proofs.lemmas.List.{drop_all}
+use Rattle.mb_wire.specs.Bytes.{AreBytes, number_at, words_of, word_bytes}
 use Rattle.mb_wire.specs.Coils.{bytes_for, coils_of, packed, cleared_after}
 use Rattle.mb_wire.specs.Requests.{Query, ReadCoils, ReadDiscrete, ReadHolding, ReadInput, WriteCoil, WriteRegister, WriteCoils, WriteRegisters, IsLawfulQuery, IsWithin, SpellsRequest, address_of, coil_value, field_of, head_bytes, query_bytes}
 use Rattle.mb_wire.specs.RequestFaults.{address_in, bytes_of, carries_bytes, count_in, field_in, function_in, is_known, is_unknown_function, is_wrong_carried_count, is_wrong_coil_value, is_wrong_quantity, is_wrong_request_length, most_of, query_from, query_in, request_cleared, request_fault, value_unless, writes_one}
-use Rattle.mb_wire.specs.declared.requests.RequestFault.{RequestFault}
 use Rattle.mb_wire.proofs.Packing.{coils_of-packed, length-coils_of-whole, length-packed_in, packed-coils_of}
 use Rattle.mb_wire.proofs.Words.{length-word_bytes, length-words_of, word_bytes-words_of, words_of-word_bytes}
 

@@ -1,7 +1,5 @@
 -- What holds of requests and replies holds of their values.
-use Rattle.std.proofs.Common.{◌≡◌, ◌≤◌, ℕ, sym, ap, ◌∙◌, subst}
-use Rattle.mb_wire.specs.Bytes.{words_of}
-use Rattle.mb_wire.specs.Coils.{coils_of}
+use Rattle.std.proofs.Common.{ℕ, sym, ap, ◌∙◌, subst}
 use Rattle.mb_wire.specs.Requests.{IsLawful, IsLawfulQuery, IsWithin, query_of}
 use Rattle.mb_wire.specs.Replies.{AnswersQuery, AnswersRequest, FitsRequest, answer_of}
 use Rattle.mb_wire.specs.declared.requests.Request.{Request}

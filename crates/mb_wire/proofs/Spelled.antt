@@ -1,5 +1,5 @@
 -- A frame is the one spelling of its fields.
-use Rattle.std.proofs.Common.{◌≡◌, ℕ, ◌+◌, ◌*◌, ◌/◌, ◌%◌, ◌<◌, ◌≤◌, List, [], ◌∷◌, ◌++◌, length, refl, sym, ap, ◌∙◌, arith}
+use Rattle.std.proofs.Common.{◌≡◌, ℕ, ◌+◌, ◌*◌, ◌/◌, ◌%◌, ◌<◌, List, [], ◌∷◌, ◌++◌, length, sym, ap, ◌∙◌, arith}
 use Rattle.mb_wire.specs.Bytes.{AreBytes, word}
 use Rattle.mb_wire.specs.Frames.{IsFrame, IsOwn, tid_of, unit_of, pdu_of}
 use Rattle.mb_wire.specs.Reader.{Fields, fields_of, spelling}

@@ -1,6 +1,6 @@
 -- Registers in bytes.
-use Rattle.std.proofs.Common.{◌≡◌, ℕ, zero, suc, ◌+◌, ◌*◌, ◌/◌, ◌%◌, ◌<◌, ◌≤◌, List, [], ◌∷◌, ◌++◌, length, drop, refl, ap, ◌∙◌, subst, arith, slice_index, slice_get, Some, None}
-use Rattle.mb_wire.specs.Bytes.{AreBytes, word, words_of, word_bytes}
+use Rattle.std.proofs.Common.{◌≡◌, ℕ, zero, suc, ◌+◌, ◌*◌, ◌/◌, ◌%◌, ◌<◌, ◌≤◌, List, [], ◌∷◌, length, drop, refl, ap, ◌∙◌, subst, arith, slice_index, slice_get, Some, None}
+use Rattle.mb_wire.specs.Bytes.{AreBytes, words_of, word_bytes}
 
 pub some_word : (bytes : List ℕ) (i : ℕ) → 2 * i + 1 < length bytes → slice_get (words_of bytes) i ≡ Some (256 * slice_index (drop (2 * i) bytes) 0 + slice_index (drop (2 * i) bytes) 1)
 some_word [] i h = absurd (omega arith)
