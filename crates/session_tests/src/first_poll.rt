@@ -1,0 +1,180 @@
+// What comes to a session with a timeout of 5 seconds, whose poll 1 was started at 100.
+use crate::script::{Asked, Event, GOOD, Line, feed, play, start};
+use poll_core::{LostCause, Malformation, Outcome, Session};
+use std::alloc::Global;
+use std::process::Abort;
+use std::test::Fail;
+
+/// The poll asks for 3 registers from 40094.
+static FIRST: Asked = Asked {
+    moment: 100,
+    poll: 1,
+    address: 40094,
+    count: 3,
+    frame: [0, 0, 0, 0, 0, 6, 1, 3, 0x9c, 0x9e, 0, 3],
+};
+
+/// A session of that window with the first poll.
+pub fn first_poll(rt: &impl Abort, window: usize) -> Result<Session, Fail> {
+    assert!(rt; 1 <= window && window <= 16);
+    let mut session = Session::new(5, window);
+    start(rt, &mut session, &FIRST)?;
+    Ok(session)
+}
+
+static IN_TIME: [Line; 2] = [
+    Line {
+        event: Event::Piece {
+            moment: 104,
+            bytes: &GOOD,
+        },
+        told: &[(1, Outcome::Answered)],
+    },
+    // a second reply is a stray
+    Line {
+        event: Event::Piece {
+            moment: 104,
+            bytes: &GOOD,
+        },
+        told: &[],
+    },
+];
+
+static TOO_LATE: [Line; 2] = [
+    Line {
+        event: Event::Piece {
+            moment: 105,
+            bytes: &GOOD,
+        },
+        told: &[(1, Outcome::Silent)],
+    },
+    Line {
+        event: Event::Tick { moment: 106 },
+        told: &[],
+    },
+];
+
+static TWICE: [Line; 2] = [
+    Line {
+        event: Event::Piece {
+            moment: 104,
+            bytes: &[
+                0, 0, 0, 0, 0, 9, 1, 3, 6, 0, 0, 20, 80, 0, 0, 0, 0, 0, 0, 0, 9, 1, 3, 6, 0, 0, 20,
+                80, 0, 0,
+            ],
+        },
+        told: &[(1, Outcome::Answered)],
+    },
+    Line {
+        event: Event::Piece {
+            moment: 104,
+            bytes: &GOOD,
+        },
+        told: &[],
+    },
+];
+
+/// A reply with transaction id 9 leaves the poll pending.
+static OTHER_ID: [Line; 2] = [
+    Line {
+        event: Event::Piece {
+            moment: 104,
+            bytes: &[0, 9, 0, 0, 0, 9, 1, 3, 6, 0, 0, 20, 80, 0, 0],
+        },
+        told: &[],
+    },
+    Line {
+        event: Event::Piece {
+            moment: 104,
+            bytes: &GOOD,
+        },
+        told: &[(1, Outcome::Answered)],
+    },
+];
+
+static EXCEPTION: [Line; 1] = [Line {
+    event: Event::Piece {
+        moment: 104,
+        bytes: &[0, 0, 0, 0, 0, 3, 1, 0x83, 6],
+    },
+    told: &[(1, Outcome::Exception(6))],
+}];
+
+static OTHER_UNIT: [Line; 1] = [Line {
+    event: Event::Piece {
+        moment: 104,
+        bytes: &[0, 0, 0, 0, 0, 3, 2, 0x83, 6],
+    },
+    told: &[(1, Outcome::Malformed(Malformation::WrongUnit))],
+}];
+
+static OTHER_FUNCTION: [Line; 1] = [Line {
+    event: Event::Piece {
+        moment: 104,
+        bytes: &[0, 0, 0, 0, 0, 3, 1, 0x84, 2],
+    },
+    told: &[(1, Outcome::Malformed(Malformation::WrongFunction))],
+}];
+
+static LONG_EXCEPTION: [Line; 1] = [Line {
+    event: Event::Piece {
+        moment: 104,
+        bytes: &[0, 0, 0, 0, 0, 4, 1, 0x83, 2, 0],
+    },
+    told: &[(1, Outcome::Malformed(Malformation::WrongLength))],
+}];
+
+static TWO_REGISTERS: [Line; 1] = [Line {
+    event: Event::Piece {
+        moment: 104,
+        bytes: &[0, 0, 0, 0, 0, 7, 1, 3, 4, 0, 0, 0, 0],
+    },
+    told: &[(1, Outcome::Malformed(Malformation::WrongByteCount))],
+}];
+
+static GARBLED: [Line; 1] = [Line {
+    event: Event::Piece {
+        moment: 104,
+        bytes: &[0, 0, 0, 0, 0, 1],
+    },
+    told: &[(1, Outcome::Lost(LostCause::Garbled))],
+}];
+
+/// Plays the lines on sessions of each window, after their first poll.
+pub fn play_at_windows(rt: &impl Abort, alloc: Global, lines: &[Line]) -> Result<(), Fail> {
+    for window in [1, 2, 16] {
+        let mut session = first_poll(rt, window)?;
+        play(rt, alloc, &mut session, lines)?;
+    }
+    Ok(())
+}
+
+#[test]
+fn a_reply_in_time_answers(rt: HostRuntime) -> Result<(), Fail> {
+    play_at_windows(&rt, rt.alloc(), &IN_TIME)?;
+    play_at_windows(&rt, rt.alloc(), &TOO_LATE)?;
+    play_at_windows(&rt, rt.alloc(), &TWICE)?;
+    play_at_windows(&rt, rt.alloc(), &OTHER_ID)
+}
+
+#[test]
+fn other_frames_are_no_answers(rt: HostRuntime) -> Result<(), Fail> {
+    play_at_windows(&rt, rt.alloc(), &EXCEPTION)?;
+    play_at_windows(&rt, rt.alloc(), &OTHER_UNIT)?;
+    play_at_windows(&rt, rt.alloc(), &OTHER_FUNCTION)?;
+    play_at_windows(&rt, rt.alloc(), &LONG_EXCEPTION)?;
+    play_at_windows(&rt, rt.alloc(), &TWO_REGISTERS)?;
+    play_at_windows(&rt, rt.alloc(), &GARBLED)
+}
+
+#[test]
+fn a_reply_may_come_byte_by_byte(rt: HostRuntime) -> Result<(), Fail> {
+    for window in [1, 2, 16] {
+        let mut session = first_poll(&rt, window)?;
+        for (i, byte) in GOOD.iter().enumerate() {
+            let told = feed(&rt, rt.alloc(), &mut session, 104, &[*byte])?;
+            assert_eq!(rt; told.len(), usize::from(i == 14), "byte {i}");
+        }
+    }
+    Ok(())
+}
