@@ -1,13 +1,25 @@
-// A library with one function.
+//! Tests of `energy_core` and `interval_core`: which readings count, and in which intervals and days.
 #![tactic(auto)]
 
-ghost use Rattle.std.specs.Prelude.{◌≡◌};
-ghost use Rattle.energy_tests.specs.Echo.{echo_of};
-
-// The `ensures` clause is the contract: what `echo` returns is `echo_of` of its argument, a definition
-// in `specs/Echo.antt`, which a caller's clause can cite too.
-pub fn echo(x: usize) -> usize
-    ensures { result ≡ echo_of x }
-{
-    x
-}
+#[cfg(test)]
+mod correcting;
+#[cfg(test)]
+mod counters;
+#[cfg(test)]
+mod days;
+#[cfg(test)]
+mod entering;
+#[cfg(test)]
+mod judging;
+#[cfg(test)]
+mod laws;
+#[cfg(test)]
+mod numbers;
+#[cfg(test)]
+mod rows;
+#[cfg(test)]
+mod shares;
+#[cfg(test)]
+mod terms;
+#[cfg(test)]
+mod zones;
