@@ -7,8 +7,8 @@ use Rattle.energy_core.specs.declared.entries.Last.{Last}
 use Rattle.energy_core.specs.declared.entries.Step.{Step}
 use Rattle.energy_core.specs.declared.entries.Entry.{Entry}
 use Rattle.energy_core.specs.declared.entries.Entry.TheVariants as entry
-use Rattle.energy_core.specs.Value.{unit_of, value_of}
-use Rattle.energy_core.specs.Account.{last_of, energy_of, step_to, steps_of, recorded, set_anew, whole_energy, NeverFalls}
+use Rattle.energy_core.specs.Value.{unit_of}
+use Rattle.energy_core.specs.Account.{last_of, energy_of, step_to, steps_of, whole_energy, NeverFalls}
 use Rattle.energy_core.specs.Laws.{StepsAddUp, StepsAreTheWhole}
 
 one_step : (r l u : ℕ) → l ≤ r → r * u - l * u + l * u ≡ r * u
