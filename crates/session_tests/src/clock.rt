@@ -4,31 +4,44 @@ use crate::script::{Event, GOOD, Line, play};
 use poll_core::{ClockBack, Closing, Outcome, StartFault};
 use std::test::Fail;
 
-static REFUSED: [Line; 1] = [Line {
-    event: Event::Refused {
-        moment: 99,
-        fault: StartFault::ClockBack,
+/// A start is refused, and the reply still answers the poll.
+static AFTERWARDS: [Line; 2] = [
+    Line {
+        event: Event::Refused {
+            moment: 99,
+            fault: StartFault::ClockBack,
+        },
+        told: &[],
     },
-    told: &[],
-}];
-
-static ANSWERED: [Line; 1] = [Line {
-    event: Event::Piece {
-        moment: 100,
-        bytes: &GOOD,
+    Line {
+        event: Event::Piece {
+            moment: 100,
+            bytes: &GOOD,
+        },
+        told: &[(1, Outcome::Answered)],
     },
-    told: &[(1, Outcome::Answered)],
-}];
+];
 
 #[test]
-fn a_clock_that_goes_back_is_refused(rt: HostRuntime) -> Result<(), Fail> {
+fn a_piece_of_an_earlier_moment_is_refused(rt: HostRuntime) -> Result<(), Fail> {
     let mut session = first_poll(&rt, 2)?;
-    play(&rt, rt.alloc(), &mut session, &REFUSED)?;
     assert!(rt; !session.settling());
     assert_eq!(rt; session.next(99, &GOOD).err(), Some(ClockBack));
+    play(&rt, rt.alloc(), &mut session, &AFTERWARDS)
+}
+
+#[test]
+fn a_tick_of_an_earlier_moment_is_refused(rt: HostRuntime) -> Result<(), Fail> {
+    let mut session = first_poll(&rt, 2)?;
     assert!(rt; !session.settling());
     assert_eq!(rt; session.tick(99).err(), Some(ClockBack));
+    play(&rt, rt.alloc(), &mut session, &AFTERWARDS)
+}
+
+#[test]
+fn a_closing_of_an_earlier_moment_is_refused(rt: HostRuntime) -> Result<(), Fail> {
+    let mut session = first_poll(&rt, 2)?;
     assert!(rt; !session.settling());
     assert_eq!(rt; session.close(99, Closing::Gone).err(), Some(ClockBack));
-    play(&rt, rt.alloc(), &mut session, &ANSWERED)
+    play(&rt, rt.alloc(), &mut session, &AFTERWARDS)
 }

@@ -25,48 +25,49 @@ const NO_ROOM: Line = Line {
     told: &[],
 };
 
-static GONE: [Line; 4] = [
-    FOUR_BYTES,
-    Line {
-        event: Event::Close {
-            moment: 104,
-            closing: Closing::Gone,
+static ENDS: [[Line; 4]; 3] = [
+    [
+        FOUR_BYTES,
+        Line {
+            event: Event::Close {
+                moment: 104,
+                closing: Closing::Gone,
+            },
+            told: &[(1, Outcome::Lost(LostCause::Gone))],
         },
-        told: &[(1, Outcome::Lost(LostCause::Gone))],
-    },
-    NO_START,
-    NO_ROOM,
-];
-
-static FAILED: [Line; 4] = [
-    FOUR_BYTES,
-    Line {
-        event: Event::Close {
-            moment: 104,
-            closing: Closing::Failed,
+        NO_START,
+        NO_ROOM,
+    ],
+    [
+        FOUR_BYTES,
+        Line {
+            event: Event::Close {
+                moment: 104,
+                closing: Closing::Failed,
+            },
+            told: &[(1, Outcome::Lost(LostCause::Failed))],
         },
-        told: &[(1, Outcome::Lost(LostCause::Failed))],
-    },
-    NO_START,
-    NO_ROOM,
-];
-
-static GONE_TOO_LATE: [Line; 4] = [
-    FOUR_BYTES,
-    Line {
-        event: Event::Close {
-            moment: 105,
-            closing: Closing::Gone,
+        NO_START,
+        NO_ROOM,
+    ],
+    [
+        FOUR_BYTES,
+        Line {
+            event: Event::Close {
+                moment: 105,
+                closing: Closing::Gone,
+            },
+            told: &[(1, Outcome::Silent)],
         },
-        told: &[(1, Outcome::Silent)],
-    },
-    NO_START,
-    NO_ROOM,
+        NO_START,
+        NO_ROOM,
+    ],
 ];
 
 #[test]
 fn the_end_of_a_session_loses_polls(rt: HostRuntime) -> Result<(), Fail> {
-    play_at_windows(&rt, rt.alloc(), &GONE)?;
-    play_at_windows(&rt, rt.alloc(), &FAILED)?;
-    play_at_windows(&rt, rt.alloc(), &GONE_TOO_LATE)
+    for lines in &ENDS {
+        play_at_windows(&rt, rt.alloc(), lines)?;
+    }
+    Ok(())
 }

@@ -22,123 +22,121 @@ pub fn first_poll(rt: &impl Abort, window: usize) -> Result<Session, Fail> {
     Ok(session)
 }
 
-static IN_TIME: [Line; 2] = [
-    Line {
-        event: Event::Piece {
-            moment: 104,
-            bytes: &GOOD,
+static REPLIES: [[Line; 2]; 4] = [
+    [
+        Line {
+            event: Event::Piece {
+                moment: 104,
+                bytes: &GOOD,
+            },
+            told: &[(1, Outcome::Answered)],
         },
-        told: &[(1, Outcome::Answered)],
-    },
-    // a second reply is a stray
-    Line {
-        event: Event::Piece {
-            moment: 104,
-            bytes: &GOOD,
+        // a second reply is a stray
+        Line {
+            event: Event::Piece {
+                moment: 104,
+                bytes: &GOOD,
+            },
+            told: &[],
         },
-        told: &[],
-    },
+    ],
+    // at the deadline
+    [
+        Line {
+            event: Event::Piece {
+                moment: 105,
+                bytes: &GOOD,
+            },
+            told: &[(1, Outcome::Silent)],
+        },
+        Line {
+            event: Event::Tick { moment: 106 },
+            told: &[],
+        },
+    ],
+    // twice in one piece
+    [
+        Line {
+            event: Event::Piece {
+                moment: 104,
+                bytes: &[
+                    0, 0, 0, 0, 0, 9, 1, 3, 6, 0, 0, 20, 80, 0, 0, 0, 0, 0, 0, 0, 9, 1, 3, 6, 0, 0,
+                    20, 80, 0, 0,
+                ],
+            },
+            told: &[(1, Outcome::Answered)],
+        },
+        Line {
+            event: Event::Piece {
+                moment: 104,
+                bytes: &GOOD,
+            },
+            told: &[],
+        },
+    ],
+    // with transaction id 9, so that the poll waits on
+    [
+        Line {
+            event: Event::Piece {
+                moment: 104,
+                bytes: &[0, 9, 0, 0, 0, 9, 1, 3, 6, 0, 0, 20, 80, 0, 0],
+            },
+            told: &[],
+        },
+        Line {
+            event: Event::Piece {
+                moment: 104,
+                bytes: &GOOD,
+            },
+            told: &[(1, Outcome::Answered)],
+        },
+    ],
 ];
 
-static TOO_LATE: [Line; 2] = [
-    Line {
+static OTHER_FRAMES: [[Line; 1]; 6] = [
+    [Line {
         event: Event::Piece {
-            moment: 105,
-            bytes: &GOOD,
+            moment: 104,
+            bytes: &[0, 0, 0, 0, 0, 3, 1, 0x83, 6],
         },
-        told: &[(1, Outcome::Silent)],
-    },
-    Line {
-        event: Event::Tick { moment: 106 },
-        told: &[],
-    },
+        told: &[(1, Outcome::Exception(6))],
+    }],
+    [Line {
+        event: Event::Piece {
+            moment: 104,
+            bytes: &[0, 0, 0, 0, 0, 3, 2, 0x83, 6],
+        },
+        told: &[(1, Outcome::Malformed(Malformation::WrongUnit))],
+    }],
+    [Line {
+        event: Event::Piece {
+            moment: 104,
+            bytes: &[0, 0, 0, 0, 0, 3, 1, 0x84, 2],
+        },
+        told: &[(1, Outcome::Malformed(Malformation::WrongFunction))],
+    }],
+    [Line {
+        event: Event::Piece {
+            moment: 104,
+            bytes: &[0, 0, 0, 0, 0, 4, 1, 0x83, 2, 0],
+        },
+        told: &[(1, Outcome::Malformed(Malformation::WrongLength))],
+    }],
+    [Line {
+        event: Event::Piece {
+            moment: 104,
+            bytes: &[0, 0, 0, 0, 0, 7, 1, 3, 4, 0, 0, 0, 0],
+        },
+        told: &[(1, Outcome::Malformed(Malformation::WrongByteCount))],
+    }],
+    [Line {
+        event: Event::Piece {
+            moment: 104,
+            bytes: &[0, 0, 0, 0, 0, 1],
+        },
+        told: &[(1, Outcome::Lost(LostCause::Garbled))],
+    }],
 ];
-
-static TWICE: [Line; 2] = [
-    Line {
-        event: Event::Piece {
-            moment: 104,
-            bytes: &[
-                0, 0, 0, 0, 0, 9, 1, 3, 6, 0, 0, 20, 80, 0, 0, 0, 0, 0, 0, 0, 9, 1, 3, 6, 0, 0, 20,
-                80, 0, 0,
-            ],
-        },
-        told: &[(1, Outcome::Answered)],
-    },
-    Line {
-        event: Event::Piece {
-            moment: 104,
-            bytes: &GOOD,
-        },
-        told: &[],
-    },
-];
-
-/// A reply with transaction id 9 leaves the poll pending.
-static OTHER_ID: [Line; 2] = [
-    Line {
-        event: Event::Piece {
-            moment: 104,
-            bytes: &[0, 9, 0, 0, 0, 9, 1, 3, 6, 0, 0, 20, 80, 0, 0],
-        },
-        told: &[],
-    },
-    Line {
-        event: Event::Piece {
-            moment: 104,
-            bytes: &GOOD,
-        },
-        told: &[(1, Outcome::Answered)],
-    },
-];
-
-static EXCEPTION: [Line; 1] = [Line {
-    event: Event::Piece {
-        moment: 104,
-        bytes: &[0, 0, 0, 0, 0, 3, 1, 0x83, 6],
-    },
-    told: &[(1, Outcome::Exception(6))],
-}];
-
-static OTHER_UNIT: [Line; 1] = [Line {
-    event: Event::Piece {
-        moment: 104,
-        bytes: &[0, 0, 0, 0, 0, 3, 2, 0x83, 6],
-    },
-    told: &[(1, Outcome::Malformed(Malformation::WrongUnit))],
-}];
-
-static OTHER_FUNCTION: [Line; 1] = [Line {
-    event: Event::Piece {
-        moment: 104,
-        bytes: &[0, 0, 0, 0, 0, 3, 1, 0x84, 2],
-    },
-    told: &[(1, Outcome::Malformed(Malformation::WrongFunction))],
-}];
-
-static LONG_EXCEPTION: [Line; 1] = [Line {
-    event: Event::Piece {
-        moment: 104,
-        bytes: &[0, 0, 0, 0, 0, 4, 1, 0x83, 2, 0],
-    },
-    told: &[(1, Outcome::Malformed(Malformation::WrongLength))],
-}];
-
-static TWO_REGISTERS: [Line; 1] = [Line {
-    event: Event::Piece {
-        moment: 104,
-        bytes: &[0, 0, 0, 0, 0, 7, 1, 3, 4, 0, 0, 0, 0],
-    },
-    told: &[(1, Outcome::Malformed(Malformation::WrongByteCount))],
-}];
-
-static GARBLED: [Line; 1] = [Line {
-    event: Event::Piece {
-        moment: 104,
-        bytes: &[0, 0, 0, 0, 0, 1],
-    },
-    told: &[(1, Outcome::Lost(LostCause::Garbled))],
-}];
 
 /// Plays the lines on sessions of each window, after their first poll.
 pub fn play_at_windows(rt: &impl Abort, alloc: Global, lines: &[Line]) -> Result<(), Fail> {
@@ -149,32 +147,36 @@ pub fn play_at_windows(rt: &impl Abort, alloc: Global, lines: &[Line]) -> Result
     Ok(())
 }
 
+/// Brings the reply byte by byte: the last one settles the poll.
+fn feed_bytes(rt: &impl Abort, alloc: Global, session: &mut Session) -> Result<(), Fail> {
+    for (i, byte) in GOOD.iter().enumerate() {
+        let told = feed(rt, alloc, session, 104, &[*byte])?;
+        assert_eq!(rt; told.len(), usize::from(i == 14), "byte {i}");
+    }
+    Ok(())
+}
+
 #[test]
 fn a_reply_in_time_answers(rt: HostRuntime) -> Result<(), Fail> {
-    play_at_windows(&rt, rt.alloc(), &IN_TIME)?;
-    play_at_windows(&rt, rt.alloc(), &TOO_LATE)?;
-    play_at_windows(&rt, rt.alloc(), &TWICE)?;
-    play_at_windows(&rt, rt.alloc(), &OTHER_ID)
+    for lines in &REPLIES {
+        play_at_windows(&rt, rt.alloc(), lines)?;
+    }
+    Ok(())
 }
 
 #[test]
 fn other_frames_are_no_answers(rt: HostRuntime) -> Result<(), Fail> {
-    play_at_windows(&rt, rt.alloc(), &EXCEPTION)?;
-    play_at_windows(&rt, rt.alloc(), &OTHER_UNIT)?;
-    play_at_windows(&rt, rt.alloc(), &OTHER_FUNCTION)?;
-    play_at_windows(&rt, rt.alloc(), &LONG_EXCEPTION)?;
-    play_at_windows(&rt, rt.alloc(), &TWO_REGISTERS)?;
-    play_at_windows(&rt, rt.alloc(), &GARBLED)
+    for lines in &OTHER_FRAMES {
+        play_at_windows(&rt, rt.alloc(), lines)?;
+    }
+    Ok(())
 }
 
 #[test]
 fn a_reply_may_come_byte_by_byte(rt: HostRuntime) -> Result<(), Fail> {
     for window in [1, 2, 16] {
         let mut session = first_poll(&rt, window)?;
-        for (i, byte) in GOOD.iter().enumerate() {
-            let told = feed(&rt, rt.alloc(), &mut session, 104, &[*byte])?;
-            assert_eq!(rt; told.len(), usize::from(i == 14), "byte {i}");
-        }
+        feed_bytes(&rt, rt.alloc(), &mut session)?;
     }
     Ok(())
 }

@@ -8,37 +8,29 @@ struct Numbered {
     code: u8,
 }
 
-static OUTCOMES: [Numbered; 3] = [
-    Numbered {
-        outcome: Outcome::Answered,
-        number: 1,
-        code: 0,
-    },
-    Numbered {
-        outcome: Outcome::Exception(6),
-        number: 2,
-        code: 6,
-    },
-    Numbered {
-        outcome: Outcome::Silent,
-        number: 3,
-        code: 0,
-    },
-];
+macro_rules! numbered {
+    ($outcome:expr, $number:expr, $code:expr) => {
+        Numbered {
+            outcome: $outcome,
+            number: $number,
+            code: $code,
+        }
+    };
+}
 
-static MALFORMATIONS: [(Malformation, u8); 5] = [
-    (Malformation::WrongFunction, 1),
-    (Malformation::WrongLength, 2),
-    (Malformation::WrongByteCount, 3),
-    (Malformation::WrongEcho, 4),
-    (Malformation::WrongUnit, 5),
-];
-
-static CAUSES: [(LostCause, u8); 4] = [
-    (LostCause::Gone, 1),
-    (LostCause::Garbled, 2),
-    (LostCause::Failed, 3),
-    (LostCause::Restart, 4),
+static OUTCOMES: [Numbered; 12] = [
+    numbered!(Outcome::Answered, 1, 0),
+    numbered!(Outcome::Exception(6), 2, 6),
+    numbered!(Outcome::Silent, 3, 0),
+    numbered!(Outcome::Malformed(Malformation::WrongFunction), 4, 1),
+    numbered!(Outcome::Malformed(Malformation::WrongLength), 4, 2),
+    numbered!(Outcome::Malformed(Malformation::WrongByteCount), 4, 3),
+    numbered!(Outcome::Malformed(Malformation::WrongEcho), 4, 4),
+    numbered!(Outcome::Malformed(Malformation::WrongUnit), 4, 5),
+    numbered!(Outcome::Lost(LostCause::Gone), 5, 1),
+    numbered!(Outcome::Lost(LostCause::Garbled), 5, 2),
+    numbered!(Outcome::Lost(LostCause::Failed), 5, 3),
+    numbered!(Outcome::Lost(LostCause::Restart), 5, 4),
 ];
 
 static FAULTS: [(StartFault, u8); 4] = [
@@ -48,38 +40,11 @@ static FAULTS: [(StartFault, u8); 4] = [
     (StartFault::Closed, 4),
 ];
 
-static REPLY_FAULTS: [(ReplyFault, Malformation); 4] = [
-    (ReplyFault::WrongFunction, Malformation::WrongFunction),
-    (ReplyFault::WrongLength, Malformation::WrongLength),
-    (ReplyFault::WrongByteCount, Malformation::WrongByteCount),
-    (ReplyFault::WrongEcho, Malformation::WrongEcho),
-];
-
 #[test]
 fn outcomes_have_numbers(rt: HostRuntime) {
     for it in &OUTCOMES {
         assert_eq!(rt; it.outcome.number(), it.number);
         assert_eq!(rt; it.outcome.code(), it.code);
-    }
-}
-
-#[test]
-fn malformations_have_numbers(rt: HostRuntime) {
-    for (malformation, number) in &MALFORMATIONS {
-        let outcome = Outcome::Malformed(*malformation);
-        assert_eq!(rt; outcome.number(), 4);
-        assert_eq!(rt; outcome.code(), *number);
-        assert_eq!(rt; malformation.number(), *number);
-    }
-}
-
-#[test]
-fn losses_have_numbers(rt: HostRuntime) {
-    for (cause, number) in &CAUSES {
-        let outcome = Outcome::Lost(*cause);
-        assert_eq!(rt; outcome.number(), 5);
-        assert_eq!(rt; outcome.code(), *number);
-        assert_eq!(rt; cause.number(), *number);
     }
 }
 
@@ -92,9 +57,7 @@ fn refusals_have_numbers(rt: HostRuntime) {
 
 #[test]
 fn malformations_and_losses_follow_their_causes(rt: HostRuntime) {
-    for (fault, malformation) in &REPLY_FAULTS {
-        assert_eq!(rt; Malformation::from(*fault), *malformation);
-    }
-    assert_eq!(rt; LostCause::from(Closing::Gone), LostCause::Gone);
-    assert_eq!(rt; LostCause::from(Closing::Failed), LostCause::Failed);
+    assert_eq!(rt; Malformation::from(ReplyFault::WrongEcho).number(), 4);
+    assert_eq!(rt; LostCause::from(Closing::Gone).number(), 1);
+    assert_eq!(rt; LostCause::from(Closing::Failed).number(), 3);
 }
