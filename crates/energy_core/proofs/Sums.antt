@@ -7,9 +7,9 @@ use Rattle.energy_core.specs.declared.entries.Last.{Last}
 use Rattle.energy_core.specs.declared.entries.Step.{Step}
 use Rattle.energy_core.specs.declared.entries.Entry.{Entry}
 use Rattle.energy_core.specs.declared.entries.Entry.TheVariants as entry
-use Rattle.energy_core.specs.Value.{unit_of, value_of}
-use Rattle.energy_core.specs.Account.{last_of, energy_of, step_to, steps_of, recorded, set_anew, whole_energy, NeverFalls}
-use Rattle.energy_core.specs.Laws.{StepsAddUp}
+use Rattle.energy_core.specs.Value.{unit_of}
+use Rattle.energy_core.specs.Account.{last_of, energy_of, step_to, steps_of, whole_energy, NeverFalls}
+use Rattle.energy_core.specs.Laws.{StepsAddUp, StepsAreTheWhole}
 
 one_step : (r l u : ℕ) → l ≤ r → r * u - l * u + l * u ≡ r * u
 one_step r l u h = omega (arith, mul-le-mul_right u h)
@@ -24,9 +24,7 @@ pub sum-step : (range : ℕ) (opening : Last) (e : Entry) (es : List Entry)
 sum-step range opening e es = sum_by-cons (λ (s : Step). s.mwh) (step_to range (last_of opening es) e) (steps_of range opening es)
 
 -- what came in is what the counter shows and what was recorded
-balance : (range : ℕ) (opening : Last) (es : List Entry) → NeverFalls range opening es
-    → sum_by (λ (s : Step). s.mwh) (steps_of range opening es) + value_of opening + set_anew es
-    ≡ value_of (last_of opening es) + recorded range opening es
+pub balance : StepsAddUp
 balance range opening [] h = omega arith
 balance range opening (entry.Step at raw rolls ∷ es) h =
     omega (
@@ -43,7 +41,7 @@ balance range opening (entry.Change at before new sf ∷ es) h =
       one_step before (last_of opening es).raw (unit_of (last_of opening es).sf) h.0,
     )
 
-pub sum-steps : StepsAddUp
+pub sum-steps : StepsAreTheWhole
 sum-steps range opening es h = omega (arith, balance range opening es h)
 
 -- one more entry adds its energy

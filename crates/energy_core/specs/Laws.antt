@@ -7,15 +7,22 @@ use Rattle.energy_core.specs.declared.entries.Entry.TheVariants as entry
 use Rattle.energy_core.specs.declared.judging.Terms.{Terms}
 use Rattle.energy_core.specs.declared.judging.Reading.{Reading}
 use Rattle.energy_core.specs.declared.judging.Verdict.TheVariants.{Accepted}
-use Rattle.energy_core.specs.Account.{intervals_touched, last_of, steps_of, whole_energy, NeverFalls, IsScale, IsAccount}
-use Rattle.energy_core.specs.Value.{unit_of}
+use Rattle.energy_core.specs.Account.{intervals_touched, last_of, steps_of, recorded, set_anew, whole_energy, NeverFalls, IsScale, IsAccount}
+use Rattle.energy_core.specs.Value.{unit_of, value_of}
 use Rattle.energy_core.specs.Verdict.{distance, verdict_of, IsPlausible}
 use Rattle.energy_core.specs.Entering.{entered, IsBooked}
 use Rattle.energy_core.specs.Readings.{entries_of_readings}
 
--- The energies of the steps add up to the whole energy.
+-- The energies of the steps, with the first value and what the counter was set to, are the last value with what the
+-- entries recorded.
 abbrev pub StepsAddUp : Type 0
 StepsAddUp = (range : ℕ) (opening : Last) (es : List Entry) → NeverFalls range opening es
+    → sum_by (λ (s : Step). s.mwh) (steps_of range opening es) + value_of opening + set_anew es
+    ≡ value_of (last_of opening es) + recorded range opening es
+
+-- So they are the whole energy.
+abbrev pub StepsAreTheWhole : Type 0
+StepsAreTheWhole = (range : ℕ) (opening : Last) (es : List Entry) → NeverFalls range opening es
     → sum_by (λ (s : Step). s.mwh) (steps_of range opening es) ≡ whole_energy range opening es
 
 -- An entry is entered exactly where it may follow and the energy stays within its limit.

@@ -13,17 +13,17 @@ use crate::measures::{TOTAL_LIMIT, is_long_span, unit};
 #[derive(Clone, Copy, Debug, PartialEq, Eq)]
 pub enum TermFault {
     /// The counter would have gone back.
-    NegativeStep = 1,
+    NegativeStep,
     /// The last entry is as late, or later.
-    NotLater = 2,
+    NotLater,
     /// More than 3,000 intervals lie between.
-    SpanTooLong = 3,
+    SpanTooLong,
     /// The installation's energy would pass 4 * 10^18 mWh.
-    TotalFull = 4,
+    TotalFull,
     /// The scale factor is not from -3 to 3.
-    BadScale = 5,
+    BadScale,
     /// A number is not below the counter's range.
-    NotBelowRange = 6,
+    NotBelowRange,
 }
 
 impl TermFault {
@@ -31,7 +31,14 @@ impl TermFault {
     pub fn number(self) -> u8
         ensures { result ≡ fault_number self }
     {
-        self as u8
+        match self {
+            TermFault::NegativeStep => 1,
+            TermFault::NotLater => 2,
+            TermFault::SpanTooLong => 3,
+            TermFault::TotalFull => 4,
+            TermFault::BadScale => 5,
+            TermFault::NotBelowRange => 6,
+        }
     }
 }
 

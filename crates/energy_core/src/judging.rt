@@ -26,21 +26,21 @@ pub struct Reading {
 #[derive(Clone, Copy, Debug, PartialEq, Eq)]
 pub enum Cause {
     /// The counter shows 0: SunSpec's value of an accumulator that does not count.
-    NotAccumulated = 1,
+    NotAccumulated,
     /// The scale factor is another than at the last entry.
-    ScaleChanged = 2,
+    ScaleChanged,
     /// The last entry is as late, or later.
-    NotLater = 3,
+    NotLater,
     /// More than 3,000 intervals lie between.
-    SpanTooLong = 4,
+    SpanTooLong,
     /// The counter could have made a full turn.
-    GapTooLong = 5,
+    GapTooLong,
     /// The counter went further than the ceiling allows.
-    TooFast = 6,
+    TooFast,
     /// The installation's energy would pass 4 * 10^18 mWh.
-    TotalFull = 7,
+    TotalFull,
     /// The counter shows a number that is not below its range.
-    NotBelowRange = 8,
+    NotBelowRange,
 }
 
 impl Cause {
@@ -48,7 +48,16 @@ impl Cause {
     pub fn number(self) -> u8
         ensures { result ≡ cause_number self }
     {
-        self as u8
+        match self {
+            Cause::NotAccumulated => 1,
+            Cause::ScaleChanged => 2,
+            Cause::NotLater => 3,
+            Cause::SpanTooLong => 4,
+            Cause::GapTooLong => 5,
+            Cause::TooFast => 6,
+            Cause::TotalFull => 7,
+            Cause::NotBelowRange => 8,
+        }
     }
 }
 

@@ -1,9 +1,10 @@
-ghost use Rattle.energy_core.specs.Laws.{StepsAddUp, EnteredIsBooked, AcceptedIsPlausible, AcceptedIsEntered, AccountsBegin, AccountsGoOn, AccountsAreSound, ReadingsKeepAccounts};
+ghost use Rattle.energy_core.specs.Laws.{StepsAddUp, StepsAreTheWhole, EnteredIsBooked, AcceptedIsPlausible, AcceptedIsEntered, AccountsBegin, AccountsGoOn, AccountsAreSound, ReadingsKeepAccounts};
 ghost use Rattle.energy_core.specs.TrueRun.{TruthIsBooked};
 
 /// The energies of the steps of an installation add up to its whole energy.
 pub fn steps_add_up()
-    ensures { StepsAddUp }
+    ensures both_sides { StepsAddUp }
+    ensures whole { StepsAreTheWhole }
 {}
 
 /// An entry is entered exactly where it may follow and the energy stays within its limit.

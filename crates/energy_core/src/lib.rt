@@ -8,8 +8,6 @@ mod entries;
 mod judging;
 mod laws;
 mod measures;
-#[cfg(test)]
-mod tests;
 
 pub use correcting::{close, manual, rescale, reset};
 pub use counters::{Acc32, Counter, Ranged};

@@ -4,4 +4,5 @@ pub mod Account
 pub mod Zone
 pub mod Days
 pub mod Fold
+pub mod Faults
 pub mod Report

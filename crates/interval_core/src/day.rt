@@ -1,6 +1,7 @@
 ghost use Rattle.std.specs.Prelude.{◌≡◌, ◌≤◌, IsOk, IfOk};
 ghost use Rattle.jiff.specs.Words.{epoch_day};
 ghost use Rattle.interval_core.specs.Zone.{day_at};
+ghost use Rattle.interval_core.specs.Faults.{day_fault_number};
 
 use crate::zone::Zone;
 use jiff::Timestamp;
@@ -11,9 +12,21 @@ use std::alloc::AllocError;
 #[derive(Clone, Copy, Debug, PartialEq, Eq)]
 pub enum DayFault {
     /// The calendar has no such instant. It never comes at a moment up to 4,102,444,800.
-    Zone = 1,
+    Zone,
     /// Memory is wanting.
-    Memory = 2,
+    Memory,
+}
+
+impl DayFault {
+    /// The number that stands for the fault where it is printed or kept.
+    pub fn number(self) -> u8
+        ensures { result ≡ day_fault_number self }
+    {
+        match self {
+            DayFault::Zone => 1,
+            DayFault::Memory => 2,
+        }
+    }
 }
 
 impl From<AllocError> for DayFault {

@@ -6,8 +6,6 @@ mod laws;
 mod report;
 mod shares;
 mod spread;
-#[cfg(test)]
-mod tests;
 mod totals;
 mod zone;
 

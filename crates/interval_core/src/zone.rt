@@ -1,6 +1,7 @@
 ghost use Rattle.std.specs.Prelude.{◌↔◌, ◌≤◌, IsOk, IsSome, IfOk, IfErr, ◌≡◌, Ok, Err, length};
 ghost use Rattle.jiff_tz.specs.PosixReader.{read_whole};
 ghost use Rattle.interval_core.specs.Zone.{HasRule, rule_of};
+ghost use Rattle.interval_core.specs.Faults.{zone_fault_number};
 
 use jiff::tz::TimeZone;
 
@@ -8,9 +9,21 @@ use jiff::tz::TimeZone;
 #[derive(Clone, Copy, Debug, PartialEq, Eq)]
 pub enum ZoneFault {
     /// The text is no POSIX rule of at most 64 bytes.
-    Text = 1,
+    Text,
     /// Memory is wanting. It never comes: a zone takes none.
-    Memory = 2,
+    Memory,
+}
+
+impl ZoneFault {
+    /// The number that stands for the fault where it is printed or kept.
+    pub fn number(self) -> u8
+        ensures { result ≡ zone_fault_number self }
+    {
+        match self {
+            ZoneFault::Text => 1,
+            ZoneFault::Memory => 2,
+        }
+    }
 }
 
 /// A time zone: how far its clocks are ahead of UTC, at each moment.

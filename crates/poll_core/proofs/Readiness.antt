@@ -9,11 +9,10 @@ use Rattle.mb_wire.specs.Spans.{Span}
 use Rattle.poll_core.proofs.Pending.{pending-start}
 use Rattle.poll_core.proofs.Settles.{is_over-same, or_false, or_assoc}
 use Rattle.poll_core.proofs.Starts.{next_id-start}
-use Rattle.poll_core.specs.Inside.{start_fits}
 use Rattle.poll_core.specs.Polls.{Poll, has_id}
 use Rattle.poll_core.specs.Settling.{Event, Start, Piece, Tick, Close, next_id, pending}
 use Rattle.poll_core.specs.Standing.{State, Stands, is_over, last_moment}
-use Rattle.poll_core.specs.Starting.{least_fault, start_fault, AreStarts, IsReady}
+use Rattle.poll_core.specs.Starting.{least_fault, start_fault, start_fits, AreStarts, HasRoom, IsReady}
 
 pub none_fits : (w n k : ℕ) (ps : List Poll) (over : Bool) → over ≡ true → start_fits w ps n over k ≡ false
 none_fits w n k ps over h = and_left _ (not (list_any (has_id ((n + k) % 65536)) ps)) (and_left (not over) (ltb (length ps + k) w) (not_from_true over h))
@@ -190,6 +189,6 @@ fits_is s es k h =
     ∙ ap (λ n. start_fits s.window (pending s.timeout es) n (is_some s.ending) k) h.next
     ∙ ap (λ o. start_fits s.window (pending s.timeout es) (next_id es) o k) h.over
 
-pub ready_by : (s : State) (count : ℕ) → count ≤ 16 → ((k : ℕ) → k < count → start_fits s.window s.polls s.next (is_some s.ending) k ≡ true) → start_fits s.window s.polls s.next (is_some s.ending) count ≡ false → (es : List Event) → Stands s es → IsReady s.timeout s.window es s.next count
-ready_by s count few succeed no_more es h =
-    ready_is s.timeout s.window es s.next count h.next few (λ k less. sym (fits_is s es k h) ∙ succeed k less) (sym (fits_is s es count h) ∙ no_more)
+pub ready_by : (s : State) (count : ℕ) → count ≤ 16 → HasRoom s count → (es : List Event) → Stands s es → IsReady s.timeout s.window es s.next count
+ready_by s count few room es h =
+    ready_is s.timeout s.window es s.next count h.next few (λ k less. sym (fits_is s es k h) ∙ room.fit k less) (sym (fits_is s es count h) ∙ room.no_more)

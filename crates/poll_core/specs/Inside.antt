@@ -1,9 +1,7 @@
 -- What a session holds, from its fields.
-use Rattle.std.specs.Prelude.{ℕ, ◌+◌, ◌%◌, ◌≤◌, Bool, not, ◌&&◌, nat_lt, if◌then◌else◌, List, length, Some, None}
+use Rattle.std.specs.Prelude.{ℕ, ◌≤◌, Bool, if◌then◌else◌, List, length, Some, None}
 use Rattle.std.specs.declared.option.Option.{Option}
 use Rattle.std.specs.Option.{option_map}
-use Rattle.std.specs.List.{list_any}
-use Rattle.poll_core.specs.Polls.{Poll, has_id}
 use Rattle.poll_core.specs.Settling.{Settlement}
 use Rattle.poll_core.specs.Standing.{State}
 use Rattle.poll_core.specs.Steps.{AreApart, told_by}
@@ -42,8 +40,3 @@ call_if (Some taken) call = Some call
 -- the end that a piece brings
 abbrev pub garbled_end : Bool → Option LostCause
 garbled_end garbled = if garbled then Some Garbled else None
-
--- whether a start fits behind so many others: there is room, and no poll that waits has its id
-abbrev pub start_fits : ℕ → List Poll → ℕ → Bool → ℕ → Bool
-start_fits window polls next over before =
-    not over && nat_lt (length polls + before) window && not (list_any (has_id ((next + before) % 65536)) polls)

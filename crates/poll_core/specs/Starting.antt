@@ -1,10 +1,10 @@
 -- When a start is refused.
-use Rattle.std.specs.Prelude.{◌≡◌, ℕ, ◌≤◌, ◌<◌, Bool, true, nat_le, nat_lt, if◌then◌else◌, List, ◌++◌, length, Some, None, IsSome}
+use Rattle.std.specs.Prelude.{◌≡◌, ℕ, ◌+◌, ◌%◌, ◌≤◌, ◌<◌, Bool, true, false, not, ◌&&◌, is_some, nat_le, nat_lt, if◌then◌else◌, List, ◌++◌, length, Some, None, IsSome}
 use Rattle.std.specs.declared.option.Option.{Option}
 use Rattle.std.specs.List.{list_any, AllByRecursion}
 use Rattle.poll_core.specs.Polls.{Poll, has_id}
 use Rattle.poll_core.specs.Settling.{Event, is_start, pending, next_id}
-use Rattle.poll_core.specs.Standing.{is_over, last_moment}
+use Rattle.poll_core.specs.Standing.{State, is_over, last_moment}
 use Rattle.poll_core.specs.declared.answers.StartFault.{StartFault}
 use Rattle.poll_core.specs.declared.answers.StartFault.TheVariants.{WindowFull, IdBusy, ClockBack, Closed}
 
@@ -26,6 +26,16 @@ least_fault window polls next last over moment =
 -- why a start at a moment is refused after these events, if it is
 abbrev pub start_fault : ℕ → ℕ → List Event → ℕ → Option StartFault
 start_fault timeout window events moment = least_fault window (pending timeout events) (next_id events) (last_moment events) (is_over events) moment
+
+-- whether a start fits behind so many others: the session goes on, there is room, and no poll that waits has its id
+abbrev pub start_fits : ℕ → List Poll → ℕ → Bool → ℕ → Bool
+start_fits window polls next over before =
+    not over && nat_lt (length polls + before) window && not (list_any (has_id ((next + before) % 65536)) polls)
+
+-- So many starts in a row fit, and no more.
+pub record HasRoom (session : State) (count : ℕ) : Type 0 where
+  pub fit : (k : ℕ) → k < count → start_fits session.window session.polls session.next (is_some session.ending) k ≡ true
+  pub no_more : start_fits session.window session.polls session.next (is_some session.ending) count ≡ false
 
 abbrev pub AreStarts : List Event → Type 0
 AreStarts events = AllByRecursion (λ event. is_start event ≡ true) events

@@ -1,5 +1,5 @@
 -- What the private steps of a session do.
-use Rattle.std.specs.Prelude.{◌≡◌, ℕ, suc, ◌≤◌, ◌<◌, Bool, true, not, List, [], ◌∷◌, ◌++◌, length, take, get_or, Some, None, is_some}
+use Rattle.std.specs.Prelude.{◌≡◌, ℕ, suc, ◌≤◌, ◌<◌, Bool, true, not, List, [], ◌∷◌, ◌++◌, length, take, get_or, Some, None, is_some, IsSome, unwrap_or}
 use Rattle.std.specs.declared.option.Option.{Option}
 use Rattle.std.specs.List.{filter}
 use Rattle.mb_wire.specs.Frames.{Reads}
@@ -29,9 +29,18 @@ TakesOut test old (Some poll) new = (filter test old ≡ poll ∷ filter test ne
 -- how a poll that is taken out ended; the frame is the one that the reader holds
 abbrev pub outcome_by : Poll → SettledBy → Option (List ℕ) → Settlement
 outcome_by poll by.Silence frame = Silent
-outcome_by poll by.Frame None = Silent
-outcome_by poll by.Frame (Some frame) = answer poll frame
+outcome_by poll by.Frame frame = answer poll (unwrap_or frame [])
 outcome_by poll (by.End cause) frame = Lost cause
+
+-- where a frame settled the poll, the reader holds it
+abbrev pub HasFrame : SettledBy → Option (List ℕ) → Type 0
+HasFrame by.Silence frame = Unit {0}
+HasFrame by.Frame frame = IsSome frame
+HasFrame (by.End cause) frame = Unit {0}
+
+abbrev pub CanTell : Option SettledPoll → Option (List ℕ) → Type 0
+CanTell None frame = Unit {0}
+CanTell (Some taken) frame = HasFrame taken.by frame
 
 abbrev pub told_by : SettledPoll → Option (List ℕ) → ℕ × Settlement
 told_by taken frame = (taken.poll.number, outcome_by taken.poll taken.by frame)

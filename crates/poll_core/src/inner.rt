@@ -4,10 +4,11 @@ ghost use Rattle.std.specs.Result.{result_err};
 ghost use Rattle.mb_wire.specs.Requests.{request_bytes};
 ghost use Rattle.mb_wire.specs.Reader.{spelling};
 ghost use Rattle.mb_wire.specs.Spans.{request_of, span_view};
-ghost use Rattle.poll_core.specs.Starting.{start_fault};
+ghost use Rattle.poll_core.specs.Starting.{start_fault, HasRoom};
+ghost use Rattle.poll_core.specs.Steps.{CanTell};
 ghost use Rattle.poll_core.specs.Settling.{Settlement, Event, Start, Piece, Tick, Close};
 ghost use Rattle.poll_core.specs.Standing.{Stands, Before, After};
-ghost use Rattle.poll_core.specs.Inside.{state_of, IsSound, told_of, call_if, garbled_end, start_fits};
+ghost use Rattle.poll_core.specs.Inside.{state_of, IsSound, told_of, call_if, garbled_end};
 
 use crate::answers::StartFault;
 use crate::call::Call;
@@ -121,8 +122,7 @@ impl Inner {
     pub fn room(&self) -> usize
         requires { IsSound self.now }
         ensures few { result ≤ self.now.window }
-        ensures succeed { (k : ℕ) → k < result → start_fits self.now.window self.now.polls.items self.now.next (is_some self.now.ending) k ≡ true }
-        ensures no_more { start_fits self.now.window self.now.polls.items self.now.next (is_some self.now.ending) result ≡ false }
+        ensures room { HasRoom (state_of self.now) result }
     {
         if self.ending.is_some() {
             return 0;
@@ -140,6 +140,7 @@ impl Inner {
         ensures less { is_some result ≡ true → length self.new.polls.items < length self.old.polls.items }
         ensures told { (events : List Event) (told : List (ℕ × Settlement)) → Before (state_of self.old) events (Tick moment) told →
             After (state_of self.new) events (Tick moment) told (told_of result self.new.reader.frame) }
+        ensures held { CanTell result self.new.reader.frame }
     {
         self.last = moment;
         let taken = take_owed(&mut self.polls, self.ending, moment);
@@ -156,6 +157,7 @@ impl Inner {
         ensures less { is_some result ≡ true → length self.new.polls.items < length self.old.polls.items }
         ensures told { (events : List Event) (told : List (ℕ × Settlement)) → Before (state_of self.old) events (Close moment closing) told →
             After (state_of self.new) events (Close moment closing) told (told_of result self.new.reader.frame) }
+        ensures held { CanTell result self.new.reader.frame }
     {
         self.last = moment;
         self.ending = self.ending.or(Some(LostCause::from(closing)));
@@ -176,6 +178,7 @@ impl Inner {
         ensures told { (events : List Event) (bytes : List ℕ) (told : List (ℕ × Settlement)) →
             Before (state_of self.old) events (Piece moment bytes) told →
             After (state_of self.new) events (Piece moment (bytes ++ take result.taken piece.now)) told (told_of result.settled self.new.reader.frame) }
+        ensures held { CanTell result.settled self.new.reader.frame }
     {
         one_reading();
         self.last = moment;

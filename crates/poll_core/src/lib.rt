@@ -17,6 +17,3 @@ pub use laws::{
 };
 pub use outcome::{Closing, LostCause, Malformation, Outcome};
 pub use session::Session;
-
-#[cfg(test)]
-mod tests;

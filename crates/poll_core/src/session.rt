@@ -7,11 +7,11 @@ ghost use Rattle.mb_wire.specs.Requests.{request_bytes};
 ghost use Rattle.mb_wire.specs.Reader.{spelling, spelled, fields_of};
 ghost use Rattle.mb_wire.specs.Spans.{request_of, span_view};
 ghost use Rattle.poll_core.specs.Settling.{Settlement, Event, Start, Piece, Tick, Close, Silent, answer};
-ghost use Rattle.poll_core.specs.Steps.{told_by};
+ghost use Rattle.poll_core.specs.Steps.{told_by, HasFrame, CanTell};
 ghost use Rattle.poll_core.specs.Inside.{told_of};
 ghost use Rattle.std.specs.Option.{option_map};
 ghost use Rattle.poll_core.specs.Standing.{State, Stands, Before, After};
-ghost use Rattle.poll_core.specs.Starting.{start_fault, IsReady};
+ghost use Rattle.poll_core.specs.Starting.{start_fault, HasRoom, IsReady};
 ghost use Rattle.poll_core.specs.Telling.{settled_of, LendsReply, IsCall, TellsPiece, TellsEvent};
 ghost use Rattle.poll_core.specs.contracts.session.Session.{the_row};
 
@@ -77,6 +77,8 @@ impl Session {
 
     /// The next transaction id, and how many starts in a row would now succeed at a moment that isn't back.
     pub fn ready(&self) -> Ready
+        ensures id { result.id ≡ self.now.next }
+        ensures room { HasRoom self.now result.count }
         ensures few { result.count ≤ self.now.window }
         ensures ready { (events : List Event) → Stands self.now events → IsReady self.now.timeout self.now.window events result.id result.count }
     {
@@ -134,6 +136,7 @@ impl Session {
         ensures err { OnErr result (self.new ≡ self.old) }
         ensures told { IfOk result (λ step. TellsPiece self.old self.new moment (take step.taken piece.now) (told_of step.settled self.new.reader.frame)) }
         ensures back { IsErr result ↔ (moment < self.old.last) }
+        ensures held { IfOk result (λ step. CanTell step.settled self.new.reader.frame) }
         ensures taken { IfOk result (λ step. step.taken ≤ length piece.now) }
         ensures all { IfOk result (λ step. is_some step.settled ≡ false → step.taken ≡ length piece.now) }
     {
@@ -159,6 +162,7 @@ impl Session {
     fn tick_once(&mut self, moment: u64) -> Result<Option<SettledPoll>, ClockBack>
         ensures err { OnErr result (self.new ≡ self.old) }
         ensures told { IfOk result (λ taken. TellsEvent self.old self.new (Tick moment) (told_of taken self.new.reader.frame)) }
+        ensures held { IfOk result (λ taken. CanTell taken self.new.reader.frame) }
         ensures back { IsErr result ↔ (moment < self.old.last) }
     {
         if moment < self.inner.last {
@@ -187,6 +191,7 @@ impl Session {
     ) -> Result<Option<SettledPoll>, ClockBack>
         ensures err { OnErr result (self.new ≡ self.old) }
         ensures told { IfOk result (λ taken. TellsEvent self.old self.new (Close moment closing) (told_of taken self.new.reader.frame)) }
+        ensures held { IfOk result (λ taken. CanTell taken self.new.reader.frame) }
         ensures back { IsErr result ↔ (moment < self.old.last) }
     {
         if moment < self.inner.last {
@@ -198,6 +203,7 @@ impl Session {
 
 // What is told, with the words of the frame that the reader holds.
 fn tell_any(taken: Option<SettledPoll>, reader: &FrameReader) -> Option<Settled<'_>>
+    requires { CanTell taken reader.now.frame }
     ensures told { option_map settled_of result ≡ told_of taken reader.now.frame }
     ensures variant { is_some result ≡ is_some taken }
     ensures reply { IfSome result LendsReply }
@@ -210,6 +216,7 @@ fn tell_any(taken: Option<SettledPoll>, reader: &FrameReader) -> Option<Settled<
 
 // A settled poll, with the words of the frame that the reader holds.
 fn tell(settled: SettledPoll, reader: &FrameReader) -> Settled<'_>
+    requires { HasFrame settled.by reader.now.frame }
     ensures told { settled_of result ≡ told_by settled reader.now.frame }
     ensures reply { LendsReply result }
 {
@@ -221,10 +228,12 @@ fn tell(settled: SettledPoll, reader: &FrameReader) -> Settled<'_>
             outcome: Outcome::Lost(cause),
             reply: None,
         },
-        SettledBy::Frame => match reader.frame() {
-            None => silent(poll.number()),
-            Some(frame) => answered(poll, frame),
-        },
+        SettledBy::Frame => {
+            let Some(frame) = reader.frame() else {
+                unreachable!()
+            };
+            answered(poll, frame)
+        }
     }
 }
 

@@ -1,9 +1,9 @@
 // The table of pending polls.
-ghost use Rattle.std.specs.Prelude.{◌≡◌, ℕ, ◌+◌, ◌≤◌, ◌<◌, List, length, take, true, false, ◌%◌, IsSome};
+ghost use Rattle.std.specs.Prelude.{◌≡◌, ℕ, ◌+◌, ◌≤◌, ◌<◌, List, length, take, true, false, ◌%◌, IsSome, Option};
 ghost use Rattle.std.specs.List.{filter, list_any};
 ghost use Rattle.mb_wire.specs.Frames.{IsOwn, is_bad};
 ghost use Rattle.poll_core.specs.Polls.{due, has_id};
-ghost use Rattle.poll_core.specs.Steps.{AreApart, TakesOut, TellsOwed, FindsFirst, FindsBy, Finds, OneLess};
+ghost use Rattle.poll_core.specs.Steps.{AreApart, TakesOut, TellsOwed, FindsFirst, FindsBy, Finds, OneLess, CanTell};
 
 use crate::outcome::LostCause;
 use crate::poll::{PendingPoll, SettledBy, SettledPoll};
@@ -83,6 +83,7 @@ pub fn take_by_id(polls: &mut Table, id: u16) -> Option<PendingPoll>
 // Takes out the poll whose outcome is owed first.
 pub fn take_owed(polls: &mut Table, ending: Option<LostCause>, moment: u64) -> Option<SettledPoll>
     ensures told { TellsOwed moment ending polls.old.items result polls.new.items }
+    ensures by_itself { (frame : Option (List ℕ)) → CanTell result frame }
     ensures apart { AreApart polls.old.items → AreApart polls.new.items }
 {
     if let Some(poll) = take_due(polls, moment) {
@@ -107,15 +108,16 @@ pub fn take_owed(polls: &mut Table, ending: Option<LostCause>, moment: u64) -> O
 
 // Takes out the poll that the reader's frame settles.
 fn take_framed(reader: &FrameReader, polls: &mut Table) -> Option<PendingPoll>
-    requires { AreApart polls.old.items }
+    requires held { IsSome reader.now.frame }
+    requires apart { AreApart polls.old.items }
     ensures apart { AreApart polls.new.items }
     ensures less { OneLess polls.old.items result polls.new.items }
     ensures found { (frame : List ℕ) → reader.now.frame ≡ Some frame → IsOwn frame → FindsBy frame polls.old.items result polls.new.items }
 {
-    match reader.frame() {
-        None => None,
-        Some(frame) => take_by_id(polls, frame.tid),
-    }
+    let Some(frame) = reader.frame() else {
+        unreachable!()
+    };
+    take_by_id(polls, frame.tid)
 }
 
 /// How far a piece was taken.
@@ -134,6 +136,7 @@ pub fn feed_until(reader: &mut FrameReader, polls: &mut Table, piece: &[u8]) -> 
     ensures taken { result.taken ≤ length piece.now }
     ensures all { result.poll ≡ None → result.is_garbled ≡ false → result.taken ≡ length piece.now }
     ensures clean { IsSome result.poll → result.is_garbled ≡ false }
+    ensures held { IsSome result.poll → IsSome reader.new.frame }
     ensures garbled { is_bad reader.new.rest ≡ result.is_garbled }
     ensures found { Finds reader.old.rest (take result.taken piece.now) polls.old.items result.poll reader.new polls.new.items }
 {

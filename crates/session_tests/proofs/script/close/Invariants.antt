@@ -1,10 +1,10 @@
-use Rattle.std.proofs.Common.{◌≤◌, length}
+use Rattle.std.proofs.Common.{length}
 use Rattle.poll_core.specs.Telling.{IsCall}
 use Rattle.poll_core.specs.declared.call.Call.TheVariants as call
-use Rattle.poll_core.proofs.tests.feed.Given as goal
+use Rattle.session_tests.proofs.script.close.Given as goal
 
 abbrev pub invariant-turns : goal.invariant-turns
-invariant-turns g l = (l.at ≤ length l.piece) × IsCall call.Piece l.session l.moment
+invariant-turns g l = IsCall (call.Close l.closing) l.session l.moment
 
 abbrev pub decreases-turns : goal.decreases-turns
 decreases-turns g l = length l.session.polls

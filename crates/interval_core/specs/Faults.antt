@@ -1,0 +1,14 @@
+-- The numbers of faults, as texts and tables print them.
+use Rattle.std.specs.Prelude.{ℕ}
+use Rattle.interval_core.specs.declared.zone.ZoneFault.{ZoneFault}
+use Rattle.interval_core.specs.declared.zone.ZoneFault.TheVariants as zone
+use Rattle.interval_core.specs.declared.day.DayFault.{DayFault}
+use Rattle.interval_core.specs.declared.day.DayFault.TheVariants as day
+
+abbrev pub zone_fault_number : ZoneFault → ℕ
+zone_fault_number zone.Text = 1
+zone_fault_number zone.Memory = 2
+
+abbrev pub day_fault_number : DayFault → ℕ
+day_fault_number day.Zone = 1
+day_fault_number day.Memory = 2
