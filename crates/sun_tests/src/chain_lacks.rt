@@ -1,0 +1,115 @@
+use crate::images::put;
+use std::alloc::Global;
+use std::test::Fail;
+use sun_chain::{ChainFault, Image, walk};
+
+// Words from a base address on, the word at the last address, and why no chain stands there.
+struct Lack {
+    base: u16,
+    words: &'static [u16],
+    last: Option<u16>,
+    fault: Option<ChainFault>,
+}
+
+static LACKS: [Lack; 11] = [
+    Lack {
+        base: 40000,
+        words: &[],
+        last: None,
+        fault: Some(ChainFault::NoMark),
+    },
+    Lack {
+        base: 40000,
+        words: &[0x5375],
+        last: None,
+        fault: Some(ChainFault::NoMark),
+    },
+    Lack {
+        base: 40000,
+        words: &[0x5375, 0x6E53, 0xFFFF],
+        last: None,
+        fault: None,
+    },
+    Lack {
+        base: 50000,
+        words: &[0x5375, 0x6E53, 0xFFFF],
+        last: None,
+        fault: None,
+    },
+    Lack {
+        base: 0,
+        words: &[0x5375, 0x6E53, 0xFFFF],
+        last: None,
+        fault: None,
+    },
+    Lack {
+        base: 40000,
+        words: &[0x5375, 0x6E53],
+        last: None,
+        fault: Some(ChainFault::Unreadable(40002)),
+    },
+    Lack {
+        base: 40000,
+        words: &[0x5375, 0x6E53, 1],
+        last: None,
+        fault: Some(ChainFault::Unreadable(40003)),
+    },
+    Lack {
+        base: 40000,
+        words: &[0x5375, 0x6E53, 1, 65535],
+        last: None,
+        fault: Some(ChainFault::PastEnd),
+    },
+    Lack {
+        base: 0,
+        words: &[0x5375, 0x6E53, 1, 65532],
+        last: None,
+        fault: Some(ChainFault::PastEnd),
+    },
+    Lack {
+        base: 0,
+        words: &[0x5375, 0x6E53, 1, 65531],
+        last: Some(9),
+        fault: Some(ChainFault::PastEnd),
+    },
+    Lack {
+        base: 0,
+        words: &[0x5375, 0x6E53, 1, 65531],
+        last: Some(0xFFFF),
+        fault: None,
+    },
+];
+
+fn fault_of(alloc: Global, lack: &Lack) -> Result<Option<ChainFault>, Fail> {
+    let mut image = Image::new(alloc);
+    put(&mut image, lack.base, lack.words)?;
+    if let Some(last) = lack.last {
+        put(&mut image, 65535, &[last])?;
+    }
+    Ok(walk(alloc, &image).err())
+}
+
+#[test]
+fn the_first_lack_is_told(rt: HostRuntime) -> Result<(), Fail> {
+    for lack in &LACKS {
+        let fault = fault_of(rt.alloc(), lack)?;
+        assert_eq!(rt; fault, lack.fault, "{} {:?}", lack.base, lack.words);
+    }
+    Ok(())
+}
+
+// The numbers of the faults, 1 to 5.
+static FAULTS: [ChainFault; 5] = [
+    ChainFault::NoMark,
+    ChainFault::Unreadable(7),
+    ChainFault::PastEnd,
+    ChainFault::TooMany,
+    ChainFault::Memory,
+];
+
+#[test]
+fn chain_faults_have_numbers(rt: HostRuntime) {
+    for (number, fault) in (1u8..6).zip(FAULTS) {
+        assert_eq!(rt; fault.number(), number);
+    }
+}

@@ -1,0 +1,31 @@
+use std::test::Fail;
+use sun_points::Scale;
+
+// A scale point's register, and the exponent that it says.
+static REGISTERS: [(u16, Option<i8>); 8] = [
+    (0, Some(0)),
+    (10, Some(10)),
+    (11, None),
+    (0xFFF6, Some(-10)),
+    (0xFFF5, None),
+    (0x8000, Some(0)),
+    (0x7FFF, None),
+    (0x8001, None),
+];
+
+fn exponent_of(word: u16) -> Option<i8> {
+    Some(Scale::new(word)?.exponent())
+}
+
+#[test]
+fn exponents_are_ten_at_most(rt: HostRuntime) {
+    for (word, exponent) in REGISTERS {
+        assert_eq!(rt; exponent_of(word), exponent, "{word:04x}");
+    }
+}
+
+#[test]
+fn the_default_scale_is_0(rt: HostRuntime) -> Result<(), Fail> {
+    assert_eq!(rt; Scale::default().exponent(), 0);
+    Ok(())
+}
