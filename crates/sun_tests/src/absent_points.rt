@@ -1,9 +1,9 @@
 // An image in which each point has the absent value of its type.
 
-use crate::images::put;
+use crate::support::{chain_of, put};
 use std::alloc::Global;
 use std::test::Fail;
-use sun_chain::{Image, NamedPoint, PointScale, walk};
+use sun_chain::{Common, Image, Model, NamedPoint, PointScale};
 use sun_points::{Point, Scale};
 
 // The registers of model 103 behind its ID and length.
@@ -37,29 +37,54 @@ fn is_scaled_by_0(point: &NamedPoint<'_>) -> bool {
     }
 }
 
-// How many points each model has.
-static COUNTS: [usize; 2] = [6, 43];
+// How many points of a model are there, if all of them are absent.
+fn absent_count(alloc: Global, model: &Model) -> Result<Option<usize>, Fail> {
+    let image = absent_image(alloc)?;
+    let points = chain_of(alloc, &image)?.points(model)?;
+    let absent = points
+        .iter()
+        .all(|point| is_absent(point) && is_scaled_by_0(point));
+    Ok(if absent { Some(points.len()) } else { None })
+}
+
+static COUNTS: [(Model, usize); 2] = [
+    (
+        Model {
+            address: 40002,
+            id: 1,
+            length: 65,
+        },
+        6,
+    ),
+    (
+        Model {
+            address: 40069,
+            id: 103,
+            length: 50,
+        },
+        43,
+    ),
+];
 
 #[test]
 fn absent_points_are_told(rt: HostRuntime) -> Result<(), Fail> {
-    let image = absent_image(rt.alloc())?;
-    let chain = walk(rt.alloc(), &image).ok().ok_or("no chain")?;
-    assert_eq!(rt; chain.models().len(), 2);
-    for (model, count) in chain.models().iter().zip(COUNTS) {
-        let points = chain.points(model)?;
-        assert_eq!(rt; points.len(), count);
-        assert!(rt; points.iter().all(is_absent));
-        assert!(rt; points.iter().all(is_scaled_by_0));
+    for (model, count) in &COUNTS {
+        let found = absent_count(rt.alloc(), model)?;
+        assert!(rt; found == Some(*count), "{count}");
     }
     Ok(())
+}
+
+fn is_silent(common: &Common<'_>) -> bool {
+    common.manufacturer.words.is_empty() && common.device_address.is_none()
 }
 
 #[test]
 fn an_absent_device_says_nothing(rt: HostRuntime) -> Result<(), Fail> {
     let image = absent_image(rt.alloc())?;
-    let chain = walk(rt.alloc(), &image).ok().ok_or("no chain")?;
+    let chain = chain_of(rt.alloc(), &image)?;
     let common = chain.common().ok_or("no model 1")?;
-    assert_eq!(rt; common.manufacturer.words.len(), 0);
-    assert_eq!(rt; common.device_address, None);
+    assert!(rt; is_silent(&common));
+    assert!(rt; chain.models().len() == 2);
     Ok(())
 }

@@ -1,4 +1,4 @@
-use crate::images::put;
+use crate::support::put;
 use std::alloc::Global;
 use std::test::Fail;
 use sun_chain::{ChainFault, Image, walk};
@@ -93,23 +93,22 @@ fn fault_of(alloc: Global, lack: &Lack) -> Result<Option<ChainFault>, Fail> {
 fn the_first_lack_is_told(rt: HostRuntime) -> Result<(), Fail> {
     for lack in &LACKS {
         let fault = fault_of(rt.alloc(), lack)?;
-        assert_eq!(rt; fault, lack.fault, "{} {:?}", lack.base, lack.words);
+        assert!(rt; fault == lack.fault, "{:?}", lack.fault);
     }
     Ok(())
 }
 
-// The numbers of the faults, 1 to 5.
-static FAULTS: [ChainFault; 5] = [
-    ChainFault::NoMark,
-    ChainFault::Unreadable(7),
-    ChainFault::PastEnd,
-    ChainFault::TooMany,
-    ChainFault::Memory,
+static NUMBERS: [(ChainFault, u8); 5] = [
+    (ChainFault::NoMark, 1),
+    (ChainFault::Unreadable(7), 2),
+    (ChainFault::PastEnd, 3),
+    (ChainFault::TooMany, 4),
+    (ChainFault::Memory, 5),
 ];
 
 #[test]
 fn chain_faults_have_numbers(rt: HostRuntime) {
-    for (number, fault) in (1u8..6).zip(FAULTS) {
-        assert_eq!(rt; fault.number(), number);
+    for (fault, number) in &NUMBERS {
+        assert!(rt; fault.number() == *number, "{number}");
     }
 }

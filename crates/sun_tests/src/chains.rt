@@ -1,4 +1,4 @@
-use crate::images::put;
+use crate::support::{chain_of, put, same};
 use std::alloc::Global;
 use std::io::Write;
 use std::test::Fail;
@@ -47,22 +47,19 @@ fn models_of(alloc: Global, chain: &Chain<'_>) -> Result<Vec<u8>, Fail> {
 
 #[test]
 fn models_stand_in_a_row(rt: HostRuntime) -> Result<(), Fail> {
-    for (inverter, models) in CHAINS {
-        let image = inverter_before_meter(rt.alloc(), inverter, 0)?;
-        let chain = walk(rt.alloc(), &image).ok().ok_or("no chain")?;
-        assert_eq!(rt; chain.base(), 40000);
-        assert_eq!(rt;
-            models_of(rt.alloc(), &chain)?.as_slice(),
-            models.as_bytes()
-        );
-        assert_eq!(rt; chain.end(), inverter.saturating_add(159));
+    for (inverter, models) in &CHAINS {
+        let image = inverter_before_meter(rt.alloc(), *inverter, 0)?;
+        let chain = chain_of(rt.alloc(), &image)?;
+        assert!(rt; chain.base() == 40000);
+        assert!(rt; chain.end() == inverter.saturating_add(159));
+        same(&rt, models_of(rt.alloc(), &chain)?.as_slice(), models);
     }
     Ok(())
 }
 
 #[test]
 fn the_next_address(rt: HostRuntime) {
-    assert_eq!(rt; INVERTER.next(), 40122);
+    assert!(rt; INVERTER.next() == 40122);
 }
 
 fn print_value(point: &NamedPoint<'_>, output: &mut Vec<u8>) -> Result<(), Fail> {
@@ -75,7 +72,7 @@ fn print_value(point: &NamedPoint<'_>, output: &mut Vec<u8>) -> Result<(), Fail>
 
 fn lines_of(alloc: Global, scale: u16) -> Result<Vec<u8>, Fail> {
     let image = inverter_before_meter(alloc, 40070, scale)?;
-    let chain = walk(alloc, &image).ok().ok_or("no chain")?;
+    let chain = chain_of(alloc, &image)?;
     let mut lines = Vec::new(alloc);
     for point in &chain.points(&INVERTER)? {
         print_value(point, &mut lines)?;
@@ -88,34 +85,34 @@ static LINES: [(u16, &str); 2] = [(0, "WH 1000000/WH_SF 0/"), (11, "WH faulty/WH
 
 #[test]
 fn a_scale_point_scales(rt: HostRuntime) -> Result<(), Fail> {
-    for (scale, want) in LINES {
-        let lines = lines_of(rt.alloc(), scale)?;
-        assert_eq!(rt; lines.as_slice(), want.as_bytes(), "{scale}");
+    for (scale, want) in &LINES {
+        same(&rt, lines_of(rt.alloc(), *scale)?.as_slice(), want);
     }
     Ok(())
 }
 
-// A mark at 50000, and 64 models of no register.
-fn sixty_four_models(alloc: Global) -> Result<Image, Fail> {
+// A mark at 50000, 64 models of no register, and these words behind them.
+fn sixty_four_models(alloc: Global, behind: &[u16]) -> Result<Image, Fail> {
     let mut image = Image::new(alloc);
     put(&mut image, 50000, &[0x5375, 0x6E53])?;
     for place in 0..64u16 {
         put(&mut image, 50002 + 2 * place, &[9, 0])?;
     }
+    put(&mut image, 50130, behind)?;
     Ok(image)
 }
 
 #[test]
-fn sixty_four_models_are_the_most(rt: HostRuntime) -> Result<(), Fail> {
-    let mut image = sixty_four_models(rt.alloc())?;
-    put(&mut image, 50130, &[0xFFFF])?;
-    let count = walk(rt.alloc(), &image)
-        .ok()
-        .ok_or("no chain")?
-        .models()
-        .len();
-    assert_eq!(rt; count, 64);
-    put(&mut image, 50130, &[9, 0, 0xFFFF])?;
-    assert_eq!(rt; walk(rt.alloc(), &image).err(), Some(ChainFault::TooMany));
+fn sixty_four_models_are_found(rt: HostRuntime) -> Result<(), Fail> {
+    let image = sixty_four_models(rt.alloc(), &[0xFFFF])?;
+    let chain = chain_of(rt.alloc(), &image)?;
+    assert!(rt; chain.models().len() == 64);
+    Ok(())
+}
+
+#[test]
+fn a_65th_model_is_refused(rt: HostRuntime) -> Result<(), Fail> {
+    let image = sixty_four_models(rt.alloc(), &[9, 0, 0xFFFF])?;
+    assert!(rt; walk(rt.alloc(), &image).err() == Some(ChainFault::TooMany));
     Ok(())
 }

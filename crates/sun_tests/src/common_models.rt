@@ -1,7 +1,8 @@
-use crate::images::put;
+use crate::support::{chain_of, put, same};
 use std::alloc::Global;
+use std::io::{self, Write};
 use std::test::Fail;
-use sun_chain::{Common, Image, walk};
+use sun_chain::{Common, Image};
 use sun_points::Text;
 
 // A model 1 at 2 of this length, whose end follows.
@@ -18,41 +19,41 @@ fn device(alloc: Global, length: u16) -> Result<Image, Fail> {
     Ok(image)
 }
 
-fn shown(alloc: Global, text: &Text<'_>) -> Result<Vec<u8>, Fail> {
+// What a device says of itself: its texts, each behind how many registers it has, and its address.
+fn print_common(common: &Common<'_>, output: &mut Vec<u8>) -> io::Result<()> {
+    print_text(&common.manufacturer, output)?;
+    print_text(&common.model, output)?;
+    print_text(&common.options, output)?;
+    print_text(&common.version, output)?;
+    print_text(&common.serial, output)?;
+    write!(output, "{}", common.device_address.unwrap_or(0))
+}
+
+fn print_text(text: &Text<'_>, output: &mut Vec<u8>) -> io::Result<()> {
+    write!(output, "{} ", text.words.len())?;
+    text.write(output)?;
+    output.write_all(b"/")
+}
+
+fn said(alloc: Global, length: u16) -> Result<Vec<u8>, Fail> {
+    let image = device(alloc, length)?;
+    let chain = chain_of(alloc, &image)?;
     let mut output = Vec::new(alloc);
-    text.write(&mut output)?;
+    print_common(&chain.common().ok_or("no model 1")?, &mut output)?;
     Ok(output)
 }
 
-// What a device says of itself, a text a line.
-fn lines_of(alloc: Global, common: &Common<'_>) -> Result<Vec<u8>, Fail> {
-    let mut lines = shown(alloc, &common.manufacturer)?;
-    for text in [
-        &common.model,
-        &common.options,
-        &common.version,
-        &common.serial,
-    ] {
-        lines.push(b'/')?;
-        lines.extend_from_slice(shown(alloc, text)?.as_slice())?;
-    }
-    Ok(lines)
-}
-
-// The length of model 1, and the device address: one register more is for padding.
-static ADDRESSES: [(u16, Option<u16>); 3] = [(66, Some(3)), (65, Some(3)), (64, None)];
+// The length of model 1, and what the device says: one register more is for padding.
+static SAYINGS: [(u16, &str); 3] = [
+    (66, "16 AB/16 CD/8 EF/8 GH/0 /3"),
+    (65, "16 AB/16 CD/8 EF/8 GH/0 /3"),
+    (64, "16 AB/16 CD/8 EF/8 GH/0 /0"),
+];
 
 #[test]
 fn a_device_says_what_it_is(rt: HostRuntime) -> Result<(), Fail> {
-    for (length, address) in ADDRESSES {
-        let image = device(rt.alloc(), length)?;
-        let chain = walk(rt.alloc(), &image).ok().ok_or("no chain")?;
-        let common = chain.common().ok_or("no model 1")?;
-        let lines = lines_of(rt.alloc(), &common)?;
-        assert_eq!(rt; lines.as_slice(), "AB/CD/EF/GH/".as_bytes());
-        assert_eq!(rt; common.manufacturer.words.len(), 16);
-        assert_eq!(rt; common.serial.words.len(), 0);
-        assert_eq!(rt; common.device_address, address);
+    for (length, want) in &SAYINGS {
+        same(&rt, said(rt.alloc(), *length)?.as_slice(), want);
     }
     Ok(())
 }

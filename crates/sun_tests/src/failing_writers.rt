@@ -9,6 +9,7 @@ use sun_points::{Point, Scale, write_scaled};
 struct Failing {
     room: usize,
     taken: Vec<u8>,
+    failed: bool,
 }
 
 impl Failing {
@@ -16,6 +17,7 @@ impl Failing {
         Failing {
             room,
             taken: Vec::new(alloc),
+            failed: false,
         }
     }
 }
@@ -43,17 +45,33 @@ fn is_full(outcome: io::Result<()>) -> bool {
     }
 }
 
+// What a writer with room for so many bytes has got of -12.34.
+fn cut_value(alloc: Global, room: usize) -> Result<Failing, Fail> {
+    let scale = Scale::new(0xFFFE).ok_or("no scale")?;
+    let mut output = Failing::new(alloc, room);
+    output.failed = is_full(write_scaled(-1234, scale, &mut output));
+    Ok(output)
+}
+
+// The same of a point.
+fn cut_point(alloc: Global, point: &Point<'_>, room: usize) -> Failing {
+    let mut output = Failing::new(alloc, room);
+    output.failed = is_full(point.write(Scale::default(), &mut output));
+    output
+}
+
+fn is_cut(output: &Failing, room: usize, text: &str) -> bool {
+    let all = text.as_bytes();
+    let count = room.min(all.len());
+    output.taken.as_slice() == &all[..count] && output.failed == (count < all.len())
+}
+
 #[test]
 fn a_scaled_value_is_cut(rt: HostRuntime) -> Result<(), Fail> {
-    let scale = Scale::new(0xFFFE).ok_or("no scale")?;
-    let text = b"-12.34";
-    for room in 0..text.len() {
-        let mut output = Failing::new(rt.alloc(), room);
-        assert!(rt; is_full(write_scaled(-1234, scale, &mut output)), "{room}");
-        assert_eq!(rt; output.taken.as_slice(), &text[..room]);
+    for room in 0..8usize {
+        let output = cut_value(rt.alloc(), room)?;
+        assert!(rt; is_cut(&output, room, "-12.34"), "{room}");
     }
-    let mut output = Failing::new(rt.alloc(), text.len());
-    assert!(rt; write_scaled(-1234, scale, &mut output).is_ok());
     Ok(())
 }
 
@@ -66,15 +84,10 @@ static POINTS: [(Point<'static>, &str); 4] = [
 
 #[test]
 fn a_point_is_cut(rt: HostRuntime) {
-    for (point, text) in POINTS {
-        let text = text.as_bytes();
-        for room in 0..text.len() {
-            let mut output = Failing::new(rt.alloc(), room);
-            assert!(rt;
-                is_full(point.write(Scale::default(), &mut output)),
-                "{room}"
-            );
-            assert_eq!(rt; output.taken.as_slice(), &text[..room]);
+    for (point, text) in &POINTS {
+        for room in 0..12usize {
+            let output = cut_point(rt.alloc(), point, room);
+            assert!(rt; is_cut(&output, room, text), "{text}");
         }
     }
 }

@@ -1,10 +1,10 @@
 // Images of full models, in which each point has a value of its own.
 
-use crate::images::put;
+use crate::support::{chain_of, put, same};
 use std::alloc::Global;
 use std::io::Write;
 use std::test::Fail;
-use sun_chain::{Chain, Image, Model, NamedPoint, PointScale, walk};
+use sun_chain::{Chain, Image, Model, NamedPoint, PointScale};
 use sun_points::{PointType, Scale};
 
 // What the points of a full model 1 at 40002 are: name, address, type and value. The text of a register
@@ -172,23 +172,23 @@ static METER_SCALES: [(u16, i16); 10] = [
     (40226, 10),
 ];
 
-static MODELS: [Model; 3] = [
-    Model {
-        address: 40002,
-        id: 1,
-        length: 66,
-    },
-    Model {
-        address: 40070,
-        id: 103,
-        length: 50,
-    },
-    Model {
-        address: 40122,
-        id: 203,
-        length: 105,
-    },
-];
+static DEVICE_MODEL: Model = Model {
+    address: 40002,
+    id: 1,
+    length: 66,
+};
+
+static INVERTER_MODEL: Model = Model {
+    address: 40070,
+    id: 103,
+    length: 50,
+};
+
+static METER_MODEL: Model = Model {
+    address: 40122,
+    id: 203,
+    length: 105,
+};
 
 // Each register of a model has its offset as value.
 fn put_offsets(image: &mut Image, model: &Model) -> Result<(), Fail> {
@@ -220,9 +220,9 @@ fn full_image(alloc: Global) -> Result<Image, Fail> {
     let mut image = Image::new(alloc);
     put(&mut image, 40000, &[0x5375, 0x6E53])?;
     put_digits(&mut image)?;
-    put_offsets(&mut image, &MODELS[1])?;
+    put_offsets(&mut image, &INVERTER_MODEL)?;
     put_scales(&mut image, &INVERTER_SCALES)?;
-    put_offsets(&mut image, &MODELS[2])?;
+    put_offsets(&mut image, &METER_MODEL)?;
     put_scales(&mut image, &METER_SCALES)?;
     put(&mut image, 40229, &[0xFFFF])?;
     Ok(image)
@@ -266,22 +266,34 @@ fn print_point(point: &NamedPoint<'_>, output: &mut Vec<u8>) -> Result<(), Fail>
     Ok(())
 }
 
-fn lines_of(alloc: Global, chain: &Chain<'_>, model: &Model) -> Result<Vec<u8>, Fail> {
-    let mut lines = Vec::new(alloc);
+fn print_points(chain: &Chain<'_>, model: &Model, output: &mut Vec<u8>) -> Result<(), Fail> {
     for point in &chain.points(model)? {
-        print_point(point, &mut lines)?;
+        print_point(point, output)?;
     }
+    Ok(())
+}
+
+// The points of the models of the full image.
+fn points_of(alloc: Global, model: &Model) -> Result<Vec<u8>, Fail> {
+    let image = full_image(alloc)?;
+    let chain = chain_of(alloc, &image)?;
+    let mut lines = Vec::new(alloc);
+    print_points(&chain, model, &mut lines)?;
     Ok(lines)
 }
 
 #[test]
 fn full_models_have_each_point(rt: HostRuntime) -> Result<(), Fail> {
-    let image = full_image(rt.alloc())?;
-    let chain = walk(rt.alloc(), &image).ok().ok_or("no chain")?;
-    assert_eq!(rt; chain.models(), MODELS.as_slice());
-    for (model, want) in MODELS.iter().zip([DEVICE, INVERTER, METER]) {
-        let lines = lines_of(rt.alloc(), &chain, model)?;
-        assert_eq!(rt; str::from_utf8(lines.as_slice()), Ok(want));
-    }
+    same(
+        &rt,
+        points_of(rt.alloc(), &DEVICE_MODEL)?.as_slice(),
+        DEVICE,
+    );
+    same(
+        &rt,
+        points_of(rt.alloc(), &INVERTER_MODEL)?.as_slice(),
+        INVERTER,
+    );
+    same(&rt, points_of(rt.alloc(), &METER_MODEL)?.as_slice(), METER);
     Ok(())
 }

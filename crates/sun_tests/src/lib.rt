@@ -26,4 +26,6 @@ mod scaled_values;
 #[cfg(test)]
 mod scales;
 #[cfg(test)]
+mod support;
+#[cfg(test)]
 mod texts;

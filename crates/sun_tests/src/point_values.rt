@@ -1,3 +1,4 @@
+use crate::support::same;
 use std::alloc::Global;
 use std::io::Write;
 use std::test::Fail;
@@ -61,21 +62,30 @@ fn reading(alloc: Global, ty: PointType, words: &[u16]) -> Result<Vec<u8>, Fail>
 
 #[test]
 fn registers_are_read_by_type(rt: HostRuntime) -> Result<(), Fail> {
-    for (name, high, low, want) in READINGS {
+    for (name, high, low, want) in &READINGS {
         let ty = type_named(name).ok_or("no such type")?;
-        let line = reading(rt.alloc(), ty, &[high, low])?;
-        assert_eq!(rt; line.as_slice(), want.as_bytes(), "{name}");
+        same(
+            &rt,
+            reading(rt.alloc(), ty, &[*high, *low])?.as_slice(),
+            want,
+        );
     }
     Ok(())
 }
 
+// A text of eight registers, of which only the first is not 0.
+fn text_reading(alloc: Global, first: u16) -> Result<Vec<u8>, Fail> {
+    reading(
+        alloc,
+        PointType::Text(TextLength::EIGHT),
+        &[first, 0, 0, 0, 0, 0, 0, 0],
+    )
+}
+
 #[test]
 fn a_text_of_zeros_is_absent(rt: HostRuntime) -> Result<(), Fail> {
-    let none = reading(rt.alloc(), PointType::Text(TextLength::EIGHT), &[0; 8])?;
-    assert_eq!(rt; none.as_slice(), "none absent".as_bytes());
-    let ok = [0x4F4B, 0, 0, 0, 0, 0, 0, 0];
-    let some = reading(rt.alloc(), PointType::Text(TextLength::EIGHT), &ok)?;
-    assert_eq!(rt; some.as_slice(), "text OK".as_bytes());
+    same(&rt, text_reading(rt.alloc(), 0)?.as_slice(), "none absent");
+    same(&rt, text_reading(rt.alloc(), 0x4F4B)?.as_slice(), "text OK");
     Ok(())
 }
 
@@ -87,13 +97,17 @@ static TENTHS: [(Point<'static>, &str); 4] = [
     (Point::Bits(0xAB), "0x000000ab"),
 ];
 
+fn at_a_tenth(alloc: Global, point: &Point<'_>) -> Result<Vec<u8>, Fail> {
+    let tenth = Scale::new(0xFFFF).ok_or("no scale")?;
+    let mut output = Vec::new(alloc);
+    point.write(tenth, &mut output)?;
+    Ok(output)
+}
+
 #[test]
 fn numbers_are_scaled(rt: HostRuntime) -> Result<(), Fail> {
-    let tenth = Scale::new(0xFFFF).ok_or("no scale")?;
-    for (point, want) in TENTHS {
-        let mut output = Vec::new(rt.alloc());
-        point.write(tenth, &mut output)?;
-        assert_eq!(rt; output.as_slice(), want.as_bytes());
+    for (point, want) in &TENTHS {
+        same(&rt, at_a_tenth(rt.alloc(), point)?.as_slice(), want);
     }
     Ok(())
 }

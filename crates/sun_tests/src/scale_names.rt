@@ -13,7 +13,7 @@ static NAMES: [(u16, &str, Option<&str>); 8] = [
 
 #[test]
 fn points_name_their_scale_points(rt: HostRuntime) {
-    for (id, name, scale) in NAMES {
-        assert_eq!(rt; scale_name(id, name), scale, "{name}");
+    for (id, name, scale) in &NAMES {
+        assert!(rt; scale_name(*id, name) == *scale, "{name}");
     }
 }

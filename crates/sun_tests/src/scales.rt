@@ -1,4 +1,3 @@
-use std::test::Fail;
 use sun_points::Scale;
 
 // A scale point's register, and the exponent that it says.
@@ -19,13 +18,12 @@ fn exponent_of(word: u16) -> Option<i8> {
 
 #[test]
 fn exponents_are_ten_at_most(rt: HostRuntime) {
-    for (word, exponent) in REGISTERS {
-        assert_eq!(rt; exponent_of(word), exponent, "{word:04x}");
+    for (word, exponent) in &REGISTERS {
+        assert!(rt; exponent_of(*word) == *exponent, "{word}");
     }
 }
 
 #[test]
-fn the_default_scale_is_0(rt: HostRuntime) -> Result<(), Fail> {
-    assert_eq!(rt; Scale::default().exponent(), 0);
-    Ok(())
+fn the_default_scale_is_0(rt: HostRuntime) {
+    assert!(rt; Scale::default().exponent() == 0);
 }

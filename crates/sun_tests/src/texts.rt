@@ -1,6 +1,7 @@
+use crate::support::same;
 use std::alloc::Global;
 use std::test::Fail;
-use sun_points::{Point, Scale, Text};
+use sun_points::Text;
 
 // The registers of a text behind which zeros follow, and how it is shown.
 static TEXTS: [([u16; 4], &str); 5] = [
@@ -11,25 +12,26 @@ static TEXTS: [([u16; 4], &str); 5] = [
     ([0x4142, 0x4344, 0x4546, 0x47FF], "ABCDEFG\\xFF"),
 ];
 
+fn shown(alloc: Global, words: &[u16]) -> Result<Vec<u8>, Fail> {
+    let mut output = Vec::new(alloc);
+    Text { words }.write(&mut output)?;
+    Ok(output)
+}
+
 #[test]
 fn texts_are_shown(rt: HostRuntime) -> Result<(), Fail> {
-    for (words, want) in TEXTS {
-        let mut output = Vec::new(rt.alloc());
-        Text { words: &words }.write(&mut output)?;
-        assert_eq!(rt; output.as_slice(), want.as_bytes());
+    for (words, want) in &TEXTS {
+        same(&rt, shown(rt.alloc(), words)?.as_slice(), want);
     }
     Ok(())
 }
 
-fn shown_length(alloc: Global, words: &[u16]) -> Result<usize, Fail> {
-    let mut output = Vec::new(alloc);
-    Point::Text(Text { words }).write(Scale::default(), &mut output)?;
-    Ok(output.len())
-}
-
+// How many bytes show texts of 125 and 126 registers.
 #[test]
 fn the_longest_text(rt: HostRuntime) -> Result<(), Fail> {
-    assert_eq!(rt; shown_length(rt.alloc(), &[0xFFFF; 125])?, 1000);
-    assert_eq!(rt; shown_length(rt.alloc(), &[0x4141; 126])?, 250);
+    let escaped = shown(rt.alloc(), &[0xFFFF; 125])?;
+    assert!(rt; escaped.len() == 1000);
+    let plain = shown(rt.alloc(), &[0x4141; 126])?;
+    assert!(rt; plain.len() == 250);
     Ok(())
 }
