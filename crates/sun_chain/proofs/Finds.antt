@@ -1,7 +1,7 @@
 -- Looking for a row by the program's entry.
 use Rattle.std.proofs.Common.{◌≡◌, ◌∙◌, ℕ, Bool, true, false, Some, None, Option, List, [], ◌∷◌, map, refl, sym, ap, option_map}
 use Rattle.std.specs.Prelude.{◌==◌, find}
-use Rattle.std.specs.Option.{option_and_then, option_copied}
+use Rattle.std.specs.Option.{option_and_then}
 use Rattle.std.specs.Str.{bytes_eq}
 use Rattle.sun_chain.specs.declared.tables.Entry.{Entry}
 use Rattle.sun_chain.specs.Tables.{Row, name_at_in, row_of, scale_name_in, scale_offset_in}

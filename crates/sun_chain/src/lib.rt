@@ -22,8 +22,3 @@ pub use laws::{chain_or_fault_is_one, tables_are_lawful};
 pub use model::Model;
 pub use named_point::{NamedPoint, PointScale};
 pub use tables::scale_name;
-
-#[cfg(test)]
-mod table_tests;
-#[cfg(test)]
-mod tests;

@@ -1,11 +1,10 @@
-ghost use Rattle.std.specs.Prelude.{◌≡◌, OnOk};
-ghost use Rattle.std.specs.Io.KnownBytes.{Appends};
+ghost use Rattle.std.specs.Prelude.{◌≡◌};
 ghost use Rattle.sun_chain.specs.Points.{faulty_text, scale_said, seen, value_text};
 ghost use Rattle.sun_points.specs.Point.{seen as point_seen};
 
 use crate::tables::EntryType;
-use std::io::{self, Write};
-use sun_points::{Point, PointType, Scale};
+use std::io;
+use sun_points::{Point, PointType, Scale, Sink};
 
 /// What scales a point.
 #[derive(Clone, Copy, Debug, PartialEq, Eq)]
@@ -64,14 +63,14 @@ impl<'a> NamedPoint<'a> {
     }
 
     /// Writes the value: `faulty` where there is one and its scale is, else as `Point::write` does.
-    /// After an error the writer may hold a part.
-    pub fn write_value<W: Write>(&self, output: &mut W) -> io::Result<()>
-        ensures { OnOk result (Appends (W.contents output.old) (W.contents output.new) (value_text (seen self.now).value (seen self.now).scale)) }
+    pub fn write_value<S: Sink>(&self, output: &mut S) -> io::Result<()>
+        ensures { let point = seen self.now in
+            S.takes output.old (value_text point.value point.scale) result output.new }
     {
         match self.scale() {
             PointScale::Unscaled => self.value.write(Scale::default(), output),
             PointScale::Scaled(scale) => self.value.write(scale, output),
-            PointScale::Faulty => write_faulty(self.value, output),
+            PointScale::Faulty => output.take_text(text_at_faulty(self.value).as_bytes()),
         }
     }
 }
@@ -85,11 +84,11 @@ fn scale_of_word(word: u16) -> PointScale
     }
 }
 
-fn write_faulty<W: Write>(value: Point<'_>, output: &mut W) -> io::Result<()>
-    ensures { OnOk result (Appends (W.contents output.old) (W.contents output.new) (faulty_text (point_seen value.entry))) }
+fn text_at_faulty(value: Point<'_>) -> &'static str
+    ensures { result.now ≡ faulty_text (point_seen value.entry) }
 {
     match value {
-        Point::Absent => output.write_all(b"absent"),
-        _ => output.write_all(b"faulty"),
+        Point::Absent => "absent",
+        _ => "faulty",
     }
 }

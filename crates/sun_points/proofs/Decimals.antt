@@ -30,3 +30,11 @@ pub zeros-written : (n zeros : ℕ) {count : ℕ} → zeros ≤ 10 → 0 < n →
     decimal n ++ take count (replicate 10 48) ≡ decimal (n * 10 ^ zeros)
 zeros-written n zeros few some fits count_is =
     rw (count_is, take-replicate {X = ℕ} zeros 10 48 few) (sym (decimal-times_power zeros n some (lt_of_le_of_lt (mul-le-mul (le_of_lt fits) (pow-le-pow_right (lit< tt) few)) (lit< tt))))
+
+-- Bytes, and then a number, and then its zeros.
+pub appends_three : (front middle whole number zeros text : List ℕ) → middle ≡ front ++ number → whole ≡ middle ++ zeros → number ++ zeros ≡ text → whole ≡ front ++ text
+appends_three front middle whole number zeros text first second joined =
+    second
+    ∙ ap (λ (begun : List ℕ). begun ++ zeros) first
+    ∙ append_assoc front number zeros
+    ∙ ap (λ (more : List ℕ). front ++ more) joined

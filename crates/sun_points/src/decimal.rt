@@ -1,59 +1,90 @@
-ghost use Rattle.std.specs.Prelude.{◌≤◌, ◌*◌, ◌/◌, ◌^◌, ◌++◌, ◌≡◌, codes, OnOk};
+ghost use Rattle.std.specs.Prelude.{◌≤◌, ◌+◌, ◌*◌, ◌/◌, ◌^◌, ◌++◌, ◌≡◌, codes, length};
 ghost use Rattle.std.specs.Fmt.{decimal};
-ghost use Rattle.std.specs.Io.KnownBytes.{Appends};
+ghost use Rattle.arrayvec.specs.ArrayVec.{array_vec_len};
 ghost use Rattle.sun_points.specs.Decimal.{low_digits, magnitude_text, scaled_text};
 
 use crate::digits::fill_digits;
+use crate::room::append;
 use crate::scale::Scale;
-use std::io::{self, Write};
+use crate::sink::Sink;
+use arrayvec::ArrayVec;
+use std::io;
+
+/// The text of a number: at most a sign, twenty digits, a point and ten digits more.
+pub(crate) type NumberText = ArrayVec<u8, 32>;
 
 /// Writes `value * 10 ^ scale`, exactly: a scale of 0 or more appends that many zeros to a value other
-/// than 0, and a negative one gives that many decimals. After an error the writer may hold a part.
-pub fn write_scaled<W: Write>(value: i64, scale: Scale, output: &mut W) -> io::Result<()>
-    ensures { OnOk result (Appends (W.contents output.old) (W.contents output.new) (scaled_text value scale)) }
+/// than 0, and a negative one gives that many decimals.
+pub fn write_scaled<S: Sink>(value: i64, scale: Scale, output: &mut S) -> io::Result<()>
+    ensures { S.takes output.old (scaled_text value scale) result output.new }
 {
-    if value < 0 {
-        output.write_all(b"-")?;
-    }
-    write_magnitude(value.unsigned_abs(), scale, output)
+    output.take_text(scaled(value, scale).as_slice())
 }
 
-/// Writes `magnitude * 10 ^ scale`, as `write_scaled` does.
-pub(crate) fn write_magnitude<W: Write>(
-    magnitude: u64,
-    scale: Scale,
-    output: &mut W,
-) -> io::Result<()>
-    ensures { OnOk result (Appends (W.contents output.old) (W.contents output.new) (magnitude_text magnitude scale)) }
+fn scaled(value: i64, scale: Scale) -> NumberText
+    ensures { result.items ≡ scaled_text value scale }
+{
+    let mut text = NumberText::new();
+    if value < 0 {
+        text.push(b'-');
+    }
+    append_magnitude(&mut text, value.unsigned_abs(), scale);
+    text
+}
+
+/// The text of `magnitude * 10 ^ scale`.
+pub(crate) fn scaled_magnitude(magnitude: u64, scale: Scale) -> NumberText
+    ensures { result.items ≡ magnitude_text magnitude scale }
+{
+    let mut text = NumberText::new();
+    append_magnitude(&mut text, magnitude, scale);
+    text
+}
+
+fn append_magnitude(text: &mut NumberText, magnitude: u64, scale: Scale)
+    requires { array_vec_len text.old ≤ 1 }
+    ensures { text.new.items ≡ text.old.items ++ magnitude_text magnitude scale }
 {
     let exponent = scale.exponent();
     let places = exponent.unsigned_abs();
     if exponent < 0 {
-        write_with_decimals(magnitude, places, output)
+        append_with_decimals(text, magnitude, places);
     } else {
-        write_with_zeros(magnitude, places, output)
+        append_with_zeros(text, magnitude, places);
     }
 }
 
-fn write_with_zeros<W: Write>(magnitude: u64, zeros: u8, output: &mut W) -> io::Result<()>
-    requires { zeros ≤ 10 }
-    ensures { OnOk result (Appends (W.contents output.old) (W.contents output.new) (decimal (magnitude * 10 ^ zeros))) }
+fn append_with_zeros(text: &mut NumberText, magnitude: u64, zeros: u8)
+    requires room { array_vec_len text.old ≤ 1 }
+    requires few { zeros ≤ 10 }
+    ensures { text.new.items ≡ text.old.items ++ decimal (magnitude * 10 ^ zeros) }
 {
-    write!(output, "{magnitude}")?;
+    append_decimal(text, magnitude);
     if magnitude > 0 {
-        output.write_all(&[b'0'; 10][..usize::from(zeros)])?;
+        append(text, &[b'0'; 10][..usize::from(zeros)]);
     }
-    Ok(())
 }
 
-fn write_with_decimals<W: Write>(magnitude: u64, places: u8, output: &mut W) -> io::Result<()>
-    requires { places ≤ 10 }
-    ensures { OnOk result (Appends (W.contents output.old) (W.contents output.new) (decimal (magnitude / 10 ^ places) ++ codes "." ++ low_digits 10 places magnitude)) }
+fn append_with_decimals(text: &mut NumberText, magnitude: u64, places: u8)
+    requires room { array_vec_len text.old ≤ 1 }
+    requires few { places ≤ 10 }
+    ensures { text.new.items ≡
+        text.old.items ++ (decimal (magnitude / 10 ^ places) ++ codes "." ++ low_digits 10 places magnitude) }
 {
-    let whole = magnitude / 10u64.pow(u32::from(places));
-    write!(output, "{whole}.")?;
-    let mut room = [b'0'; 10];
-    let digits = &mut room[..usize::from(places)];
-    fill_digits(magnitude, 10, digits);
-    output.write_all(digits)
+    append_decimal(text, magnitude / 10u64.pow(u32::from(places)));
+    text.push(b'.');
+    let mut digits = [b'0'; 10];
+    let decimals = &mut digits[..usize::from(places)];
+    fill_digits(magnitude, 10, decimals);
+    append(text, decimals);
+}
+
+// A number has twenty digits at most.
+fn append_decimal(text: &mut NumberText, number: u64)
+    requires { array_vec_len text.old ≤ 1 }
+    ensures digits { text.new.items ≡ text.old.items ++ decimal number }
+    ensures few { array_vec_len text.new ≤ array_vec_len text.old + 20 }
+{
+    let mut buffer = itoa::Buffer::new();
+    append(text, buffer.format(number).as_bytes());
 }

@@ -6,14 +6,14 @@ mod digits;
 mod point;
 mod point_text;
 mod point_type;
+mod room;
 mod scale;
+mod sink;
 mod text;
 
 pub use decimal::write_scaled;
 pub use point::{Point, read_point};
 pub use point_type::{PointType, TextLength};
 pub use scale::Scale;
+pub use sink::Sink;
 pub use text::Text;
-
-#[cfg(test)]
-mod tests;

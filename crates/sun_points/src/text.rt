@@ -1,11 +1,22 @@
-ghost use Rattle.std.specs.Prelude.{◌≡◌, OnOk};
-ghost use Rattle.std.specs.Io.KnownBytes.{Appends};
-ghost use Rattle.sun_points.specs.Text.{shown_byte, shown_text};
+ghost use Rattle.std.specs.Prelude.{◌≡◌, ◌≤◌, ◌+◌, ◌++◌, length};
+ghost use Rattle.std.specs.List.{flat_map};
+ghost use Rattle.arrayvec.specs.ArrayVec.{array_vec_len};
+ghost use Rattle.sun_points.specs.Text.{shown_byte, shown_text, text_bytes};
 
 use crate::digits::upper_digit;
-use std::io::{self, Write};
+use crate::room::append;
+use crate::sink::Sink;
+use arrayvec::ArrayVec;
+use std::io;
 
-/// A text in registers, two bytes in each, the high byte first. It ends before its first zero byte.
+/// The most registers of a text.
+const MOST_REGISTERS: usize = 125;
+
+/// How a text is shown: four bytes at most for each of its 250.
+type ShownText = ArrayVec<u8, 1000>;
+
+/// A text in at most 125 registers, two bytes in each, the high byte first. It ends before its first
+/// zero byte.
 #[derive(Clone, Copy, Debug, PartialEq, Eq)]
 pub struct Text<'a> {
     pub words: &'a [u16],
@@ -13,30 +24,49 @@ pub struct Text<'a> {
 
 impl Text<'_> {
     /// Writes the text. A byte that is no printable ASCII is written as `\x` and two upper-case hex
-    /// digits. After an error the writer may hold a part.
-    pub fn write<W: Write>(&self, output: &mut W) -> io::Result<()>
-        ensures { OnOk result (Appends (W.contents output.old) (W.contents output.new) (shown_text self.now.words.now)) }
+    /// digits.
+    pub fn write<S: Sink>(&self, output: &mut S) -> io::Result<()>
+        ensures { S.takes output.old (shown_text self.now.words.now) result output.new }
     {
-        for word in self.words {
-            let [high, low] = word.to_be_bytes();
-            if high == 0 {
-                return Ok(());
-            }
-            write_byte(high, output)?;
-            if low == 0 {
-                return Ok(());
-            }
-            write_byte(low, output)?;
-        }
-        Ok(())
+        output.take_text(shown(self.words).as_slice())
     }
 }
 
-fn write_byte<W: Write>(byte: u8, output: &mut W) -> io::Result<()>
-    ensures { OnOk result (Appends (W.contents output.old) (W.contents output.new) (shown_byte byte)) }
+fn shown(words: &[u16]) -> ShownText
+    ensures { result.items ≡ shown_text words.now }
+{
+    shown_registers(&words[..MOST_REGISTERS.min(words.len())])
+}
+
+fn shown_registers(words: &[u16]) -> ShownText
+    requires { length words.now ≤ 125 }
+    ensures { result.items ≡ flat_map shown_byte (text_bytes words.now) }
+{
+    let mut text = ShownText::new();
+    for word in words {
+        let [high, low] = word.to_be_bytes();
+        if high == 0 {
+            return text;
+        }
+        append_byte(&mut text, high);
+        if low == 0 {
+            return text;
+        }
+        append_byte(&mut text, low);
+    }
+    text
+}
+
+fn append_byte(text: &mut ShownText, byte: u8)
+    requires { array_vec_len text.old + 4 ≤ 1000 }
+    ensures shown { text.new.items ≡ text.old.items ++ shown_byte byte }
+    ensures few { array_vec_len text.new ≤ array_vec_len text.old + 4 }
 {
     match byte {
-        b' '..=b'~' => output.write_all(&[byte]),
-        _ => output.write_all(&[b'\\', b'x', upper_digit(byte / 16), upper_digit(byte % 16)]),
+        b' '..=b'~' => text.push(byte),
+        _ => append(
+            text,
+            &[b'\\', b'x', upper_digit(byte / 16), upper_digit(byte % 16)],
+        ),
     }
 }

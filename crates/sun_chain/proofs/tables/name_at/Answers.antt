@@ -1,4 +1,4 @@
-use Rattle.std.proofs.Common.{◌≡◌, ◌∙◌, Some, None, sym}
+use Rattle.std.proofs.Common.{Some, None, sym}
 use Rattle.sun_chain.proofs.Finds.{name-found}
 use Rattle.sun_chain.proofs.tables.name_at.Goals as goal
 

@@ -1,7 +1,5 @@
-use Rattle.std.proofs.Common.{◌≡◌, ◌∙◌, ℕ, List, Option, Some, None, map, ap}
-use Rattle.std.specs.Option.{option_and_then}
-use Rattle.sun_chain.specs.Tables.{name_at_in, row_of, table_of}
-use Rattle.sun_chain.specs.declared.tables.Entry.{Entry}
+use Rattle.std.proofs.Common.{◌∙◌, Some, None}
+use Rattle.sun_chain.specs.Tables.{table_of}
 use Rattle.sun_chain.proofs.Finds.{scale-found}
 use Rattle.sun_chain.proofs.tables.scale_name.Goals as goal
 

@@ -1,0 +1,29 @@
+use sun_points::Scale;
+
+// A scale point's register, and the exponent that it says.
+static REGISTERS: [(u16, Option<i8>); 8] = [
+    (0, Some(0)),
+    (10, Some(10)),
+    (11, None),
+    (0xFFF6, Some(-10)),
+    (0xFFF5, None),
+    (0x8000, Some(0)),
+    (0x7FFF, None),
+    (0x8001, None),
+];
+
+fn exponent_of(word: u16) -> Option<i8> {
+    Some(Scale::new(word)?.exponent())
+}
+
+#[test]
+fn exponents_are_ten_at_most(rt: HostRuntime) {
+    for (word, exponent) in &REGISTERS {
+        assert!(rt; exponent_of(*word) == *exponent, "{word}");
+    }
+}
+
+#[test]
+fn the_default_scale_is_0(rt: HostRuntime) {
+    assert!(rt; Scale::default().exponent() == 0);
+}
