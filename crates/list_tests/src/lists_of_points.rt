@@ -1,0 +1,100 @@
+//! Points that make a list, and points that make none.
+
+use crate::given::name;
+use point_list::{
+    ListedPoint, PointList, PointScale, RegisterTable, find_scale, texts_spell_one_list,
+};
+use std::alloc::Global;
+use std::test::Fail;
+use sun_points::{PointType, Scale};
+
+// A point at 0 that names its scale point, and a sunssf point `s` at an address.
+struct Group {
+    kind: PointType,
+    scale: &'static str,
+    address: u16,
+    is_list: bool,
+}
+
+static GROUPS: [Group; 5] = [
+    Group { kind: PointType::Int16, scale: "s", address: 124, is_list: true },
+    Group { kind: PointType::Int16, scale: "s", address: 125, is_list: false },
+    Group { kind: PointType::Int16, scale: "t", address: 124, is_list: false },
+    Group { kind: PointType::Enum16, scale: "s", address: 124, is_list: false },
+    Group { kind: PointType::Int16, scale: "w", address: 124, is_list: false },
+];
+
+fn listed(
+    alloc: Global,
+    text: &str,
+    address: u16,
+    kind: PointType,
+    scale: PointScale,
+) -> Result<ListedPoint, Fail> {
+    let name = name(alloc, text)?;
+    Ok(ListedPoint {
+        name,
+        table: RegisterTable::Holding,
+        area: 0,
+        address,
+        kind,
+        scale,
+    })
+}
+
+fn points_of(alloc: Global, group: &Group) -> Result<Vec<ListedPoint>, Fail> {
+    let named = PointScale::Named(name(alloc, group.scale)?);
+    let scale = listed(alloc, "s", group.address, PointType::Sunssf, PointScale::Unscaled)?;
+    let mut points = Vec::new(alloc);
+    points.push(listed(alloc, "w", 0, group.kind, named)?)?;
+    points.push(scale)?;
+    Ok(points)
+}
+
+#[test]
+fn groups(rt: HostRuntime) -> Result<(), Fail> {
+    for group in &GROUPS {
+        let list = PointList::new(points_of(rt.alloc(), group)?);
+        assert_eq!(rt; list.is_ok(), group.is_list, "{} {}", group.scale, group.address);
+    }
+    Ok(())
+}
+
+// A counter at an address, of a fixed scale.
+fn counter(alloc: Global, address: u16) -> Result<ListedPoint, Fail> {
+    let scale = PointScale::Fixed(Scale::new(0).ok_or("no scale")?);
+    listed(alloc, "a", address, PointType::Acc32, scale)
+}
+
+#[test]
+fn double_names(rt: HostRuntime) -> Result<(), Fail> {
+    let mut points = Vec::new(rt.alloc());
+    points.push(counter(rt.alloc(), 65534)?)?;
+    let list = PointList::new(points).ok().ok_or("no list")?;
+    assert!(rt; find_scale(list.points(), b"a").is_none());
+    let mut points = list.into_points();
+    points.push(counter(rt.alloc(), 0)?)?;
+    let back = PointList::new(points).err().ok_or("a double name")?;
+    assert_eq!(rt; back.len(), 2);
+    Ok(())
+}
+
+#[test]
+fn past_the_last_register(rt: HostRuntime) -> Result<(), Fail> {
+    let mut points = Vec::new(rt.alloc());
+    points.push(counter(rt.alloc(), 65535)?)?;
+    assert!(rt; PointList::new(points).is_err());
+    Ok(())
+}
+
+#[test]
+fn finds_a_scale(rt: HostRuntime) -> Result<(), Fail> {
+    texts_spell_one_list();
+    let group = GROUPS.first().ok_or("no group")?;
+    let points = points_of(rt.alloc(), group)?;
+    let scale = find_scale(&points, b"s").ok_or("no scale")?;
+    assert_eq!(rt; scale.address, 124);
+    assert_eq!(rt; scale.table.function(), 3);
+    assert_eq!(rt; RegisterTable::Input.function(), 4);
+    Ok(())
+}
