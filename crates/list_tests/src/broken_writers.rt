@@ -77,7 +77,11 @@ fn fails_at_each_byte(rt: HostRuntime) -> Result<(), Fail> {
         for room in 0..TEXT.len() {
             let (result, output) = written(rt.alloc(), room, full)?;
             assert_eq!(rt; result, Err(WriteListFault::Write), "{room}");
-            assert_eq!(rt; Some(output.writer.taken.as_slice()), TEXT.get(..room), "{room}");
+            assert_eq!(rt;
+                Some(output.writer.taken.as_slice()),
+                TEXT.get(..room),
+                "{room}"
+            );
             assert_eq!(rt; output.failures, 1, "{room}");
         }
     }

@@ -13,11 +13,26 @@ struct Line {
 }
 
 static INVERTER_AND_METER: [Line; 5] = [
-    Line { address: 40000, words: &[0x5375, 0x6E53, 1, 66] },
-    Line { address: 40070, words: &[103, 50] },
-    Line { address: 40094, words: &[0x000F, 0x4240, 0] },
-    Line { address: 40122, words: &[203, 105] },
-    Line { address: 40229, words: &[0xFFFF] },
+    Line {
+        address: 40000,
+        words: &[0x5375, 0x6E53, 1, 66],
+    },
+    Line {
+        address: 40070,
+        words: &[103, 50],
+    },
+    Line {
+        address: 40094,
+        words: &[0x000F, 0x4240, 0],
+    },
+    Line {
+        address: 40122,
+        words: &[203, 105],
+    },
+    Line {
+        address: 40229,
+        words: &[0xFFFF],
+    },
 ];
 
 static INVERTER_AND_METER_TEXT: &[u8] = b"name,function,area,address,type,scale
@@ -27,11 +42,26 @@ m2.WH_SF,3,0,40096,sunssf,
 
 // An absent point, and one whose scale point was not read.
 static METER: [Line; 5] = [
-    Line { address: 40000, words: &[0x5375, 0x6E53, 203, 105] },
-    Line { address: 40004, words: &[0x8000] },
-    Line { address: 40020, words: &[5] },
-    Line { address: 40024, words: &[0xFFFE] },
-    Line { address: 40109, words: &[0xFFFF] },
+    Line {
+        address: 40000,
+        words: &[0x5375, 0x6E53, 203, 105],
+    },
+    Line {
+        address: 40004,
+        words: &[0x8000],
+    },
+    Line {
+        address: 40020,
+        words: &[5],
+    },
+    Line {
+        address: 40024,
+        words: &[0xFFFE],
+    },
+    Line {
+        address: 40109,
+        words: &[0xFFFF],
+    },
 ];
 
 static METER_TEXT: &[u8] = b"name,function,area,address,type,scale

@@ -1,6 +1,8 @@
 //! Texts and lists that the tests share.
 
-use point_list::{CountedWriter, FaultyRow, ListFault, PointList, PointName, read_list, write_list};
+use point_list::{
+    CountedWriter, FaultyRow, ListFault, PointList, PointName, read_list, write_list,
+};
 use std::alloc::Global;
 use std::io::Write;
 use std::process::Abort;

@@ -8,20 +8,46 @@ use std::alloc::Global;
 use std::test::Fail;
 use sun_points::{PointType, Scale};
 
-// A point at 0 that names its scale point, and a sunssf point `s` at an address.
+// A point at 0 of a type that takes a scale, or of one that takes none; the name of its scale point; and where the
+// sunssf point `s` stands.
 struct Group {
-    kind: PointType,
+    takes_scale: bool,
     scale: &'static str,
     address: u16,
     is_list: bool,
 }
 
 static GROUPS: [Group; 5] = [
-    Group { kind: PointType::Int16, scale: "s", address: 124, is_list: true },
-    Group { kind: PointType::Int16, scale: "s", address: 125, is_list: false },
-    Group { kind: PointType::Int16, scale: "t", address: 124, is_list: false },
-    Group { kind: PointType::Enum16, scale: "s", address: 124, is_list: false },
-    Group { kind: PointType::Int16, scale: "w", address: 124, is_list: false },
+    Group {
+        takes_scale: true,
+        scale: "s",
+        address: 124,
+        is_list: true,
+    },
+    Group {
+        takes_scale: true,
+        scale: "s",
+        address: 125,
+        is_list: false,
+    },
+    Group {
+        takes_scale: true,
+        scale: "t",
+        address: 124,
+        is_list: false,
+    },
+    Group {
+        takes_scale: false,
+        scale: "s",
+        address: 124,
+        is_list: false,
+    },
+    Group {
+        takes_scale: true,
+        scale: "w",
+        address: 124,
+        is_list: false,
+    },
 ];
 
 fn listed(
@@ -42,12 +68,20 @@ fn listed(
     })
 }
 
+fn scale_point(alloc: Global, address: u16) -> Result<ListedPoint, Fail> {
+    listed(alloc, "s", address, PointType::Sunssf, PointScale::Unscaled)
+}
+
 fn points_of(alloc: Global, group: &Group) -> Result<Vec<ListedPoint>, Fail> {
+    let kind = if group.takes_scale {
+        PointType::Int16
+    } else {
+        PointType::Enum16
+    };
     let named = PointScale::Named(name(alloc, group.scale)?);
-    let scale = listed(alloc, "s", group.address, PointType::Sunssf, PointScale::Unscaled)?;
     let mut points = Vec::new(alloc);
-    points.push(listed(alloc, "w", 0, group.kind, named)?)?;
-    points.push(scale)?;
+    points.push(listed(alloc, "w", 0, kind, named)?)?;
+    points.push(scale_point(alloc, group.address)?)?;
     Ok(points)
 }
 
@@ -55,7 +89,13 @@ fn points_of(alloc: Global, group: &Group) -> Result<Vec<ListedPoint>, Fail> {
 fn groups(rt: HostRuntime) -> Result<(), Fail> {
     for group in &GROUPS {
         let list = PointList::new(points_of(rt.alloc(), group)?);
-        assert_eq!(rt; list.is_ok(), group.is_list, "{} {}", group.scale, group.address);
+        assert_eq!(rt;
+            list.is_ok(),
+            group.is_list,
+            "{} {}",
+            group.scale,
+            group.address
+        );
     }
     Ok(())
 }

@@ -7,57 +7,57 @@ use std::io::Write;
 use std::test::Fail;
 
 // The rows of a list; the function, area, address and count of each read; the read and offset of each point.
-struct Planned {
+struct PlanCase {
     rows: &'static str,
     reads: &'static str,
     places: &'static str,
 }
 
-static PLANS: [Planned; 8] = [
+static PLANS: [PlanCase; 8] = [
     // counters with their scales
-    Planned {
+    PlanCase {
         rows: "wh,3,0,40094,acc32,whsf\nwhsf,3,0,40096,sunssf,\nimp,3,0,40168,acc32,impsf\nimpsf,3,0,40176,sunssf,\n",
         reads: "3 0 40094 83\n",
         places: "0+0 0+2 0+74 0+82 ",
     },
     // a scale at the end of reach
-    Planned {
+    PlanCase {
         rows: "w,3,0,0,int16,s\ns,3,0,124,sunssf,\n",
         reads: "3 0 0 125\n",
         places: "0+0 0+124 ",
     },
     // points on both sides of their scale
-    Planned {
+    PlanCase {
         rows: "a,3,0,0,int16,s\ns,3,0,60,sunssf,\nb,3,0,130,uint16,s\n",
         reads: "3 0 0 61\n3 0 60 71\n",
         places: "0+0 0+60 1+70 ",
     },
     // points far apart
-    Planned {
+    PlanCase {
         rows: "a,3,0,0,acc32,\nb,3,0,200,acc32,\n",
         reads: "3 0 0 2\n3 0 200 2\n",
         places: "0+0 1+0 ",
     },
     // the last register in reach
-    Planned {
+    PlanCase {
         rows: "a,3,0,0,acc32,\nb,3,0,124,uint16,\nc,3,0,125,uint16,\n",
         reads: "3 0 0 125\n3 0 125 1\n",
         places: "0+0 0+124 1+0 ",
     },
     // a counter is not split
-    Planned {
+    PlanCase {
         rows: "a,3,0,0,acc32,\nb,3,0,124,acc32,\n",
         reads: "3 0 0 2\n3 0 124 2\n",
         places: "0+0 1+0 ",
     },
     // functions and areas are read apart
-    Planned {
+    PlanCase {
         rows: "a,4,0,0,int16,\nb,3,1,0,int16,\nc,3,0,0,int16,\n",
         reads: "3 0 0 1\n3 1 0 1\n4 0 0 1\n",
         places: "2+0 1+0 0+0 ",
     },
     // a list without points
-    Planned {
+    PlanCase {
         rows: "",
         reads: "",
         places: "",

@@ -52,7 +52,8 @@ pub fn write_list<W: Write>(
         let new = W.contents output.new.writer in
         WritesText result (list_text list.now) old new }
     ensures spelled { OnOk result (SpellsList (list_text list.now) list.now) }
-    ensures failures { output.new.failures ≡ failures_after (is_write_fault result) output.old.failures }
+    ensures failures { output.new.failures
+        ≡ failures_after (is_write_fault result) output.old.failures }
 {
     let Ok(text) = list_text(alloc, list) else {
         return Err(WriteListFault::Memory);
