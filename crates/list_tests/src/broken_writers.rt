@@ -1,40 +1,37 @@
 //! Writers that fail, take nothing, or are interrupted.
+ghost use Rattle.std.specs.Prelude.{◌≤◌, IfOk, length};
 
 use crate::given::list_of;
-use point_list::{CountedWriter, WriteListFault, write_list};
+use point_list::{CountedWriter, PointList, WriteListFault, write_list};
 use std::alloc::Global;
 use std::io::{self, ErrorKind, Write};
 use std::test::Fail;
 
 static TEXT: &[u8] = b"name,function,area,address,type,scale\na,3,0,5,int16,0\n";
 
-// What a writer does that has no room.
-#[derive(Clone, Copy)]
-enum Full {
-    Fails,
-    TakesNothing,
-}
-
-// Takes up to three bytes at a time, while there is room.
+// Takes up to three bytes at a time, while there is room, and is interrupted before each time. With no room left it
+// fails, or takes nothing.
 #[derive(Drop)]
 struct Narrow {
     taken: Vec<u8>,
     room: usize,
-    full: Full,
+    fails: bool,
     interrupted: bool,
 }
 
-impl Narrow {
-    fn new(alloc: Global, room: usize, full: Full) -> Narrow {
-        Narrow {
-            taken: Vec::new(alloc),
-            room,
-            full,
-            interrupted: false,
-        }
-    }
+fn narrow_writer(alloc: Global, room: usize, fails: bool) -> CountedWriter<Narrow> {
+    CountedWriter::new(Narrow {
+        taken: Vec::new(alloc),
+        room,
+        fails,
+        interrupted: false,
+    })
+}
 
-    fn take(&mut self, bytes: &[u8]) -> io::Result<usize> {
+impl Narrow {
+    fn take(&mut self, bytes: &[u8]) -> io::Result<usize>
+        ensures { IfOk result (λ n. n ≤ length bytes.now) }
+    {
         let count = bytes.len().min(self.room).min(3);
         self.taken.extend_from_slice(&bytes[..count])?;
         self.room -= count;
@@ -48,10 +45,10 @@ impl Write for Narrow {
         if self.interrupted {
             return Err(io::Error::from(ErrorKind::Interrupted));
         }
-        match self.full {
-            Full::Fails if self.room == 0 => Err(io::Error::from(ErrorKind::BrokenPipe)),
-            _ => self.take(bytes),
+        if self.fails && self.room == 0 {
+            return Err(io::Error::from(ErrorKind::BrokenPipe));
         }
+        self.take(bytes)
     }
 
     fn flush(&mut self) -> io::Result<()> {
@@ -59,39 +56,32 @@ impl Write for Narrow {
     }
 }
 
-// How many failures a writer of some room has counted, and what it took.
-fn written(
-    alloc: Global,
-    room: usize,
-    full: Full,
-) -> Result<(Result<(), WriteListFault>, CountedWriter<Narrow>), Fail> {
-    let list = list_of(alloc, TEXT)?;
-    let mut output = CountedWriter::new(Narrow::new(alloc, room, full));
-    let result = write_list(alloc, &list, &mut output);
-    Ok((result, output))
+// Whether a writer that has room for a part of the text gets that part, and the fault is told and counted.
+fn is_told(alloc: Global, list: &PointList, room: usize, fails: bool) -> bool {
+    let mut output = narrow_writer(alloc, room, fails);
+    write_list(alloc, list, &mut output) == Err(WriteListFault::Write)
+        && Some(output.writer.taken.as_slice()) == TEXT.get(..room)
+        && output.failures == 1
 }
 
 #[test]
 fn fails_at_each_byte(rt: HostRuntime) -> Result<(), Fail> {
-    for full in [Full::Fails, Full::TakesNothing] {
-        for room in 0..TEXT.len() {
-            let (result, output) = written(rt.alloc(), room, full)?;
-            assert_eq!(rt; result, Err(WriteListFault::Write), "{room}");
-            assert_eq!(rt;
-                Some(output.writer.taken.as_slice()),
-                TEXT.get(..room),
-                "{room}"
-            );
-            assert_eq!(rt; output.failures, 1, "{room}");
-        }
+    let list = list_of(rt.alloc(), TEXT)?;
+    for room in 0..TEXT.len() {
+        assert!(rt; is_told(rt.alloc(), &list, room, true), "fails at {room}");
+        assert!(rt;
+            is_told(rt.alloc(), &list, room, false),
+            "takes nothing at {room}"
+        );
     }
     Ok(())
 }
 
 #[test]
 fn is_interrupted(rt: HostRuntime) -> Result<(), Fail> {
-    let (result, output) = written(rt.alloc(), TEXT.len(), Full::Fails)?;
-    assert_eq!(rt; result, Ok(()));
+    let list = list_of(rt.alloc(), TEXT)?;
+    let mut output = narrow_writer(rt.alloc(), TEXT.len(), true);
+    assert_eq!(rt; write_list(rt.alloc(), &list, &mut output), Ok(()));
     assert_eq!(rt; output.writer.taken.as_slice(), TEXT);
     assert_eq!(rt; output.failures, 0);
     Ok(())
@@ -99,7 +89,7 @@ fn is_interrupted(rt: HostRuntime) -> Result<(), Fail> {
 
 #[test]
 fn fails_again(rt: HostRuntime) {
-    let mut output = CountedWriter::new(Narrow::new(rt.alloc(), 1, Full::Fails));
+    let mut output = narrow_writer(rt.alloc(), 1, true);
     assert!(rt; output.write_whole(b"ab").is_err());
     assert!(rt; output.write_whole(b"c").is_err());
     assert!(rt; output.write_whole(b"").is_ok());

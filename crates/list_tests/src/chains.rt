@@ -12,7 +12,13 @@ struct Line {
     words: &'static [u16],
 }
 
-static INVERTER_AND_METER: [Line; 5] = [
+// Lines of an image, and the list of its chain.
+struct Listed {
+    lines: &'static [Line],
+    text: &'static [u8],
+}
+
+const INVERTER_AND_METER: [Line; 5] = [
     Line {
         address: 40000,
         words: &[0x5375, 0x6E53, 1, 66],
@@ -35,13 +41,8 @@ static INVERTER_AND_METER: [Line; 5] = [
     },
 ];
 
-static INVERTER_AND_METER_TEXT: &[u8] = b"name,function,area,address,type,scale
-m2.WH,3,0,40094,acc32,m2.WH_SF
-m2.WH_SF,3,0,40096,sunssf,
-";
-
 // An absent point, and one whose scale point was not read.
-static METER: [Line; 5] = [
+const METER: [Line; 5] = [
     Line {
         address: 40000,
         words: &[0x5375, 0x6E53, 203, 105],
@@ -64,11 +65,23 @@ static METER: [Line; 5] = [
     },
 ];
 
-static METER_TEXT: &[u8] = b"name,function,area,address,type,scale
+static CHAINS: [Listed; 2] = [
+    Listed {
+        lines: &INVERTER_AND_METER,
+        text: b"name,function,area,address,type,scale
+m2.WH,3,0,40094,acc32,m2.WH_SF
+m2.WH_SF,3,0,40096,sunssf,
+",
+    },
+    Listed {
+        lines: &METER,
+        text: b"name,function,area,address,type,scale
 m1.A,3,0,40004,int16,
 m1.W,3,0,40020,int16,m1.W_SF
 m1.W_SF,3,0,40024,sunssf,
-";
+",
+    },
+];
 
 fn image_of(alloc: Global, lines: &[Line]) -> Result<Image, Fail> {
     let mut image = Image::new(alloc);
@@ -86,18 +99,12 @@ fn text_of(alloc: Global, image: &Image) -> Result<Vec<u8>, Fail> {
 }
 
 #[test]
-fn inverter_and_meter(rt: HostRuntime) -> Result<(), Fail> {
-    let image = image_of(rt.alloc(), &INVERTER_AND_METER)?;
-    let text = text_of(rt.alloc(), &image)?;
-    assert_eq!(rt; text.as_slice(), INVERTER_AND_METER_TEXT);
-    Ok(())
-}
-
-#[test]
-fn scale_point_not_there(rt: HostRuntime) -> Result<(), Fail> {
-    let image = image_of(rt.alloc(), &METER)?;
-    let text = text_of(rt.alloc(), &image)?;
-    assert_eq!(rt; text.as_slice(), METER_TEXT);
+fn lists_of_chains(rt: HostRuntime) -> Result<(), Fail> {
+    for chain in &CHAINS {
+        let image = image_of(rt.alloc(), chain.lines)?;
+        let text = text_of(rt.alloc(), &image)?;
+        assert_eq!(rt; text.as_slice(), chain.text);
+    }
     Ok(())
 }
 

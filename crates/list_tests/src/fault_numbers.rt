@@ -1,6 +1,7 @@
 //! The numbers under which faults are told.
 
 use point_list::{FaultyRow, FaultyRows, ListFault, RowFault, WriteListFault};
+use std::alloc::Global;
 use std::test::Fail;
 
 static SEVENTH: FaultyRow = FaultyRow {
@@ -30,27 +31,25 @@ fn of_rows(rt: HostRuntime) {
     }
 }
 
+// Faults of one row.
+fn faults(alloc: Global) -> Result<FaultyRows, Fail> {
+    let mut rows = Vec::new(alloc);
+    rows.push(SEVENTH)?;
+    Ok(FaultyRows::new(rows))
+}
+
 #[test]
 fn of_lists(rt: HostRuntime) -> Result<(), Fail> {
-    let mut rows = Vec::new(rt.alloc());
-    rows.push(SEVENTH)?;
-    let faults = ListFault::Faults(FaultyRows::new(rows));
-    assert_eq!(rt; faults.number(), None);
+    assert_eq!(rt; ListFault::Faults(faults(rt.alloc())?).number(), None);
     assert_eq!(rt; ListFault::Memory.number(), Some(13));
+    assert_eq!(rt; WriteListFault::Write.number(), 1);
+    assert_eq!(rt; WriteListFault::Memory.number(), 2);
     Ok(())
 }
 
 #[test]
-fn of_writing(rt: HostRuntime) {
-    assert_eq!(rt; WriteListFault::Write.number(), 1);
-    assert_eq!(rt; WriteListFault::Memory.number(), 2);
-}
-
-#[test]
 fn faulty_rows_are_kept(rt: HostRuntime) -> Result<(), Fail> {
-    let mut rows = Vec::new(rt.alloc());
-    rows.push(SEVENTH)?;
-    let faults = FaultyRows::new(rows);
+    let faults = faults(rt.alloc())?;
     assert_eq!(rt; faults.rows(), [SEVENTH].as_slice());
     assert_eq!(rt; faults.into_rows().as_slice(), [SEVENTH].as_slice());
     Ok(())

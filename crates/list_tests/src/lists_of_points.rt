@@ -101,29 +101,28 @@ fn groups(rt: HostRuntime) -> Result<(), Fail> {
 }
 
 // A counter at an address, of a fixed scale.
-fn counter(alloc: Global, address: u16) -> Result<ListedPoint, Fail> {
+fn counter(alloc: Global, address: u16) -> Result<Vec<ListedPoint>, Fail> {
     let scale = PointScale::Fixed(Scale::new(0).ok_or("no scale")?);
-    listed(alloc, "a", address, PointType::Acc32, scale)
+    let mut points = Vec::new(alloc);
+    points.push(listed(alloc, "a", address, PointType::Acc32, scale)?)?;
+    Ok(points)
 }
 
 #[test]
-fn double_names(rt: HostRuntime) -> Result<(), Fail> {
-    let mut points = Vec::new(rt.alloc());
-    points.push(counter(rt.alloc(), 65534)?)?;
-    let list = PointList::new(points).ok().ok_or("no list")?;
+fn double_names_and_ends(rt: HostRuntime) -> Result<(), Fail> {
+    let list = PointList::new(counter(rt.alloc(), 65534)?)
+        .ok()
+        .ok_or("no list")?;
     assert!(rt; find_scale(list.points(), b"a").is_none());
     let mut points = list.into_points();
-    points.push(counter(rt.alloc(), 0)?)?;
+    let other = listed(rt.alloc(), "a", 0, PointType::Acc32, PointScale::Unscaled)?;
+    points.push(other)?;
     let back = PointList::new(points).err().ok_or("a double name")?;
     assert_eq!(rt; back.len(), 2);
-    Ok(())
-}
-
-#[test]
-fn past_the_last_register(rt: HostRuntime) -> Result<(), Fail> {
-    let mut points = Vec::new(rt.alloc());
-    points.push(counter(rt.alloc(), 65535)?)?;
-    assert!(rt; PointList::new(points).is_err());
+    assert!(rt;
+        PointList::new(counter(rt.alloc(), 65535)?).is_err(),
+        "past the last register"
+    );
     Ok(())
 }
 

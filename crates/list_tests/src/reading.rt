@@ -66,10 +66,3 @@ fn ends_of_ranges(rt: HostRuntime) -> Result<(), Fail> {
     assert!(rt; has_fixed_scale(d, 10));
     Ok(())
 }
-
-#[test]
-fn a_header_alone(rt: HostRuntime) -> Result<(), Fail> {
-    let list = list_of(rt.alloc(), &text_of(rt.alloc(), "")?)?;
-    assert_eq!(rt; list.points().len(), 0);
-    Ok(())
-}

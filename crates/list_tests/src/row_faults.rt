@@ -210,21 +210,9 @@ fn other_headers(rt: HostRuntime) -> Result<(), Fail> {
 }
 
 #[test]
-fn each_fault_alone(rt: HostRuntime) -> Result<(), Fail> {
-    compare_faults(&rt, rt.alloc(), &ALONE)
-}
-
-#[test]
-fn two_faults_on_a_row(rt: HostRuntime) -> Result<(), Fail> {
-    compare_faults(&rt, rt.alloc(), &TWO_ON_A_ROW)
-}
-
-#[test]
-fn faults_on_several_rows(rt: HostRuntime) -> Result<(), Fail> {
-    compare_faults(&rt, rt.alloc(), &ON_SEVERAL_ROWS)
-}
-
-#[test]
-fn scale_points(rt: HostRuntime) -> Result<(), Fail> {
+fn faults_of_rows(rt: HostRuntime) -> Result<(), Fail> {
+    compare_faults(&rt, rt.alloc(), &ALONE)?;
+    compare_faults(&rt, rt.alloc(), &TWO_ON_A_ROW)?;
+    compare_faults(&rt, rt.alloc(), &ON_SEVERAL_ROWS)?;
     compare_faults(&rt, rt.alloc(), &SCALE_POINTS)
 }

@@ -3,7 +3,13 @@
 use crate::given::{list_of, written};
 use std::test::Fail;
 
-static EVERY_KIND: &[u8] = b"name,function,area,address,type,scale
+// A text that spells a list, and what is written of the list.
+struct Rewritten {
+    text: &'static [u8],
+    written: &'static [u8],
+}
+
+const EVERY_KIND: &[u8] = b"name,function,area,address,type,scale
 a,3,0,0,int16,b
 b,3,0,124,sunssf,
 c,4,255,65535,uint16,-10
@@ -16,23 +22,28 @@ j,3,7,19,string1,
 k,3,7,20,string125,
 ";
 
-static SPREADSHEET: &[u8] =
-    b"\xEF\xBB\xBFname,function,\"area\",address,type,scale\r\n\r\n\"a\",03,0,0000000005,int16,-0\r\n";
-
-static PLAIN: &[u8] = b"name,function,area,address,type,scale\na,3,0,5,int16,0\n";
+// Each kind of point; a text as a spreadsheet writes it; and a header alone.
+static TEXTS: [Rewritten; 3] = [
+    Rewritten {
+        text: EVERY_KIND,
+        written: EVERY_KIND,
+    },
+    Rewritten {
+        text: b"\xEF\xBB\xBFname,function,\"area\",address,type,scale\r\n\r\n\"a\",03,0,0000000005,int16,-0\r\n",
+        written: b"name,function,area,address,type,scale\na,3,0,5,int16,0\n",
+    },
+    Rewritten {
+        text: b"name,function,area,address,type,scale\n",
+        written: b"name,function,area,address,type,scale\n",
+    },
+];
 
 #[test]
-fn every_kind(rt: HostRuntime) -> Result<(), Fail> {
-    let list = list_of(rt.alloc(), EVERY_KIND)?;
-    let text = written(rt.alloc(), &list)?;
-    assert_eq!(rt; text.as_slice(), EVERY_KIND);
-    Ok(())
-}
-
-#[test]
-fn plainly(rt: HostRuntime) -> Result<(), Fail> {
-    let list = list_of(rt.alloc(), SPREADSHEET)?;
-    let text = written(rt.alloc(), &list)?;
-    assert_eq!(rt; text.as_slice(), PLAIN);
+fn lists_are_written(rt: HostRuntime) -> Result<(), Fail> {
+    for case in &TEXTS {
+        let list = list_of(rt.alloc(), case.text)?;
+        let text = written(rt.alloc(), &list)?;
+        assert_eq!(rt; text.as_slice(), case.written);
+    }
     Ok(())
 }
