@@ -110,19 +110,13 @@ fn counter(alloc: Global, address: u16) -> Result<Vec<ListedPoint>, Fail> {
 
 #[test]
 fn double_names_and_ends(rt: HostRuntime) -> Result<(), Fail> {
-    let list = PointList::new(counter(rt.alloc(), 65534)?)
-        .ok()
-        .ok_or("no list")?;
-    assert!(rt; find_scale(list.points(), b"a").is_none());
-    let mut points = list.into_points();
-    let other = listed(rt.alloc(), "a", 0, PointType::Acc32, PointScale::Unscaled)?;
-    points.push(other)?;
+    let list = PointList::new(counter(rt.alloc(), 65534)?);
+    let mut points = list.ok().ok_or("no list")?.into_points();
+    points.push(listed(rt.alloc(), "a", 0, PointType::Acc32, PointScale::Unscaled)?)?;
     let back = PointList::new(points).err().ok_or("a double name")?;
     assert_eq!(rt; back.len(), 2);
-    assert!(rt;
-        PointList::new(counter(rt.alloc(), 65535)?).is_err(),
-        "past the last register"
-    );
+    let past_the_end = PointList::new(counter(rt.alloc(), 65535)?);
+    assert!(rt; past_the_end.is_err());
     Ok(())
 }
 
@@ -131,6 +125,7 @@ fn finds_a_scale(rt: HostRuntime) -> Result<(), Fail> {
     texts_spell_one_list();
     let group = GROUPS.first().ok_or("no group")?;
     let points = points_of(rt.alloc(), group)?;
+    assert!(rt; find_scale(&points, b"w").is_none());
     let scale = find_scale(&points, b"s").ok_or("no scale")?;
     assert_eq!(rt; scale.address, 124);
     assert_eq!(rt; scale.table.function(), 3);

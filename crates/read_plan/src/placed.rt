@@ -16,7 +16,7 @@ pub struct Place {
 }
 
 /// The reads of a point list, and where each of its points stands in them.
-#[derive(Debug, Drop)]
+#[derive(Drop)]
 pub struct Plan {
     starts: Vec<u16>,
     items: Vec<Run>,
