@@ -1,7 +1,7 @@
 -- A written list lacks nothing, and spells the same list.
 use Rattle.std.proofs.Common.{◌≡◌, ◌≢◌, ◌+◌, ◌≤◌, ◌<◌, ◌∙◌, ℕ, zero, suc, Bool, true, false, IsTrue, List, [], ◌∷◌, Some, None, Option, length, map, max, min, take, drop, get_or, refl, sym, ap, arith, inl, inr, subst}
 use Rattle.std.specs.Prelude.{nat_le, nat_lt, ◌==◌, is_some, IsSomeAnd}
-use Rattle.std.specs.Prelude.{IfOk, Ok, Err}
+use Rattle.std.specs.Prelude.{IfOk, OnOk, Ok, Err}
 use Rattle.std.specs.declared.result.Result.{Result}
 use Rattle.std.specs.Fmt.{decimal}
 use Rattle.std.specs.List.{All, AllPairs, list_any}
@@ -23,7 +23,7 @@ use Rattle.point_list.specs.Lists.{SpellsList, faults_below, faulty_rows, group_
 use Rattle.point_list.specs.Names.{is_name}
 use Rattle.point_list.specs.Points.{HasLawfulScale, IsGroup, IsPointList, end_of, function_of, is_sunssf, scale_point}
 use Rattle.point_list.specs.Rows.{csv_rows}
-use Rattle.point_list.specs.Written.{header_row, row_of, rows_text, scale_text, type_text}
+use Rattle.point_list.specs.Written.{header_row, list_text, row_of, rows_text, scale_text, type_text}
 use Rattle.point_list.proofs.AnyLemmas.{list_any-map}
 use Rattle.point_list.proofs.DistinctLemmas.{distinct-earlier}
 use Rattle.point_list.proofs.ListLemmas.{faulty-push}
@@ -231,9 +231,12 @@ written-list points l areas =
       each = ap (λ (rows : List (List (List ℕ))). map point_of_row (drop 1 rows)) all ∙ (written-each points each).0;
     }
 
--- the text of a list's rows spells the list
-pub spells-written : {V E : Type 0} (points : List ListedPoint) (rows : List (List (List ℕ))) (items : V → List ℕ) (result : Result V E) → IsPointList points → All (λ p. p.area ≤ 255) points
-    → rows ≡ header_row ∷ map row_of points → IfOk result (λ text. items text ≡ rows_text rows) → IfOk result (λ text. SpellsList (items text) points)
-spells-written points rows items (Ok text) l areas are h =
-    subst (λ (bytes : List ℕ). SpellsList bytes points) (sym (h ∙ ap rows_text are)) (written-list points l areas)
-spells-written points rows items (Err fault) l areas are h = tt
+-- the text of a list's rows is the text of the list
+pub exact-text : {V E : Type 0} (points : List ListedPoint) (rows : List (List (List ℕ))) (items : V → List ℕ) (result : Result V E)
+    → rows ≡ header_row ∷ map row_of points → IfOk result (λ text. items text ≡ rows_text rows) → IfOk result (λ text. items text ≡ list_text points)
+exact-text points rows items (Ok text) are h = h ∙ ap rows_text are
+exact-text points rows items (Err fault) are h = tt
+
+pub on-ok : {V E : Type 0} (P : Type 0) (result : Result V E) → P → OnOk result P
+on-ok P (Ok value) holds = holds
+on-ok P (Err fault) holds = tt

@@ -6,4 +6,5 @@ pub mod Lists
 pub mod Names
 pub mod Points
 pub mod Rows
+pub mod Writing
 pub mod Written

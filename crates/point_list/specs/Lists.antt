@@ -130,3 +130,8 @@ AreFaults faulty told = (told ≡ faulty) × (told ≢ [])
 abbrev pub ExplainsList : List FaultyRow → ListFault → Type 0
 ExplainsList faulty Memory = Unit {0}
 ExplainsList faulty (Faults told) = AreFaults faulty told
+
+-- the number under which a fault is told; faulty rows are told one by one, each with the number of its own fault
+abbrev pub list_fault_number : ListFault → Option ℕ
+list_fault_number Memory = Some 13
+list_fault_number (Faults told) = None

@@ -1,5 +1,5 @@
 -- The text of a point list, as the crate `csv` writes it.
-use Rattle.std.specs.Prelude.{ℕ, List, [], ◌∷◌, ◌++◌, codes}
+use Rattle.std.specs.Prelude.{ℕ, List, [], ◌∷◌, ◌++◌, map, codes}
 use Rattle.std.specs.Fmt.{decimal, signed_decimal}
 use Rattle.csv.specs.Writing.{default_writer, row_text}
 use Rattle.sun_points.specs.declared.point_type.PointType.{PointType}
@@ -36,3 +36,7 @@ header_row = codes "name" ∷ codes "function" ∷ codes "area" ∷ codes "addre
 unfoldable pub rows_text : List (List (List ℕ)) → List ℕ
 rows_text [] = []
 rows_text (row ∷ rows) = row_text default_writer row ++ rows_text rows
+
+-- the text of a list
+abbrev pub list_text : List ListedPoint → List ℕ
+list_text points = rows_text (header_row ∷ map row_of points)

@@ -67,7 +67,8 @@ fn chain_scale(
     scale: Option<&str>,
 ) -> Result<PointScale, AllocError>
     requires { IfSome scale (λ name. IsTrue (is_name (chain_name place name.now))) }
-    ensures { IfOk result (λ made. made ≡ chain_scale place (map seen others.now) (option_map (λ name. name.now) scale.entry)) }
+    ensures { IfOk result (λ made. made ≡ chain_scale place (map seen others.now)
+        (option_map (λ name. name.now) scale.entry)) }
 {
     match scale {
         Some(name) => scale_there(alloc, place, others, name),
@@ -84,7 +85,8 @@ fn listed(
     point: &NamedPoint<'_>,
 ) -> Result<ListedPoint, AllocError>
     requires named { IsTrue (is_name (chain_name place (seen point.now).name)) }
-    requires scaled { IfSome (scale_name_in (table_of id) (seen point.now).name) (λ name. IsTrue (is_name (chain_name place name))) }
+    requires scaled { IfSome (scale_name_in (table_of id) (seen point.now).name)
+        (λ name. IsTrue (is_name (chain_name place name))) }
     ensures { IfOk result (λ made. made ≡ listed place id (map seen others.now) (seen point.now)) }
 {
     let name = chain_name(alloc, place, point.name())?;
@@ -107,9 +109,12 @@ fn add_points(
     found: &[NamedPoint<'_>],
     points: &mut Vec<ListedPoint>,
 ) -> Result<(), AllocError>
-    requires named { All (λ point. IsTrue (is_name (chain_name place (seen point).name))) found.now }
-    requires scaled { All (λ point. IfSome (scale_name_in (table_of id) (seen point).name) (λ name. IsTrue (is_name (chain_name place name)))) found.now }
-    ensures { OnOk result (points.new.items ≡ points.old.items ++ map (λ point. listed place id (map seen found.now) (seen point)) found.now) }
+    requires named { All
+        (λ point. IsTrue (is_name (chain_name place (seen point).name))) found.now }
+    requires scaled { All (λ point. IfSome (scale_name_in (table_of id) (seen point).name)
+        (λ name. IsTrue (is_name (chain_name place name)))) found.now }
+    ensures { OnOk result (points.new.items ≡ points.old.items
+        ++ map (λ point. listed place id (map seen found.now) (seen point)) found.now) }
 {
     for point in found {
         points.push(listed(alloc, place, id, found, point)?)?;
@@ -126,7 +131,8 @@ fn add_model(
     points: &mut Vec<ListedPoint>,
 ) -> Result<(), AllocError>
     requires { place ≤ 64 }
-    ensures { OnOk result (points.new.items ≡ points.old.items ++ model_points (words_of chain.now) place model.now) }
+    ensures { OnOk result (points.new.items
+        ≡ points.old.items ++ model_points (words_of chain.now) place model.now) }
 {
     let found = chain.points(model)?;
     add_points(alloc, place, model.id, &found, points)

@@ -109,6 +109,20 @@ pub enum ListFault {
     Faults(FaultyRows),
 }
 
+impl ListFault {
+    ghost use Rattle.point_list.specs.Lists.{list_fault_number};
+
+    /// The number under which the fault is told. Faulty rows have none together: each is told with the number of its own.
+    pub fn number(&self) -> Option<u8>
+        ensures { result ≡ list_fault_number self.now }
+    {
+        match self {
+            ListFault::Memory => Some(13),
+            ListFault::Faults(_) => None,
+        }
+    }
+}
+
 impl From<AllocError> for ListFault {
     ghost use Rattle.point_list.specs.declared.fault.ListFault.TheVariants.{Memory};
 

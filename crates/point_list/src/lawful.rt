@@ -59,7 +59,8 @@ fn has_lawful_scale(points: &[ListedPoint], point: &ListedPoint) -> bool
 }
 
 fn has_registers(point: &ListedPoint) -> bool
-    ensures { IsTrue result ↔ ((1 ≤ registers_of point.now.kind) × (registers_of point.now.kind ≤ 125)) }
+    ensures { IsTrue result
+        ↔ ((1 ≤ registers_of point.now.kind) × (registers_of point.now.kind ≤ 125)) }
 {
     let registers = point.kind.registers();
     1 <= registers && registers <= 125
@@ -97,7 +98,8 @@ fn are_named(points: &[ListedPoint]) -> bool
 }
 
 fn all_have_registers(points: &[ListedPoint]) -> bool
-    ensures { IsTrue result ↔ All (λ point. (1 ≤ registers_of point.kind) × (registers_of point.kind ≤ 125)) points.now }
+    ensures { IsTrue result ↔ All
+        (λ point. (1 ≤ registers_of point.kind) × (registers_of point.kind ≤ 125)) points.now }
 {
     points.iter().all(|point| has_registers(point))
 }
@@ -109,7 +111,8 @@ fn are_inside(points: &[ListedPoint]) -> bool
 }
 
 fn are_scaled(points: &[ListedPoint]) -> bool
-    ensures { IsTrue result ↔ All (λ point. HasLawfulScale points.now point point.scale) points.now }
+    ensures { IsTrue result
+        ↔ All (λ point. HasLawfulScale points.now point point.scale) points.now }
 {
     points.iter().all(|point| has_lawful_scale(points, point))
 }

@@ -2,8 +2,7 @@
 #![tactic(auto)]
 
 mod chain_points;
-#[cfg(test)]
-mod chain_tests;
+mod counted;
 mod fault;
 mod fields;
 mod lawful;
@@ -12,19 +11,14 @@ mod list;
 mod name;
 mod point;
 mod reading;
-#[cfg(test)]
-mod reading_tests;
 mod row;
 mod rows;
 mod spelled;
-#[cfg(test)]
-mod tests;
 mod writing;
-#[cfg(test)]
-mod writing_tests;
 mod written;
 
 pub use chain_points::from_chain;
+pub use counted::{CountedWriter, WriteFailed};
 pub use fault::{FaultyRow, FaultyRows, ListFault, RowFault};
 pub use laws::texts_spell_one_list;
 pub use list::PointList;

@@ -58,7 +58,8 @@ fn add_fault(
     faults: &mut Vec<FaultyRow>,
 ) -> Result<(), AllocError>
     requires { place ≤ 513 }
-    ensures { OnOk result (faults.new.items ≡ faults.old.items ++ faulty_rows (place + 2) (fault ∷ [])) }
+    ensures { OnOk result (faults.new.items
+        ≡ faults.old.items ++ faulty_rows (place + 2) (fault ∷ [])) }
 {
     if let Some(fault) = fault {
         faults.push(FaultyRow {
@@ -72,7 +73,8 @@ fn add_fault(
 // The faulty ones of the rows below the header, but for those of their scale points.
 fn faulty_rows(alloc: Global, rows: &[ByteRecord]) -> Result<Vec<FaultyRow>, AllocError>
     requires { length rows.now ≤ 513 }
-    ensures { IfOk result (λ faults. faults.items ≡ faulty_rows 2 (row_faults (map fields_of rows.now) (length rows.now))) }
+    ensures { IfOk result (λ faults. faults.items
+        ≡ faulty_rows 2 (row_faults (map fields_of rows.now) (length rows.now))) }
 {
     let mut faults = Vec::new(alloc);
     for place in 0..rows.len() {
@@ -85,7 +87,8 @@ fn faulty_rows(alloc: Global, rows: &[ByteRecord]) -> Result<Vec<FaultyRow>, All
 // The rows whose points lack something of their scale points.
 fn scale_faults(alloc: Global, points: &[ListedPoint]) -> Result<Vec<FaultyRow>, AllocError>
     requires { length points.now ≤ 513 }
-    ensures { IfOk result (λ faults. faults.items ≡ faulty_rows 2 (scale_faults points.now points.now)) }
+    ensures { IfOk result (λ faults. faults.items
+        ≡ faulty_rows 2 (scale_faults points.now points.now)) }
 {
     let mut faults = Vec::new(alloc);
     for place in 0..points.len() {
@@ -113,9 +116,12 @@ fn no_header(alloc: Global) -> ListFault
 // The list of points of which none lacks anything but of its scale point.
 fn list_of_points(alloc: Global, points: Vec<ListedPoint>) -> Result<PointList, ListFault>
     requires few { length points.items ≤ 513 }
-    requires lawful { faulty_rows 2 (scale_faults points.items points.items) ≡ [] → IsPointList points.items }
-    ensures list { IfOk result (λ list. (list ≡ points.items) × (faulty_rows 2 (scale_faults points.items points.items) ≡ [])) }
-    ensures faults { IfErr result (ExplainsList (faulty_rows 2 (scale_faults points.items points.items))) }
+    requires lawful { faulty_rows 2 (scale_faults points.items points.items) ≡ []
+        → IsPointList points.items }
+    ensures list { IfOk result (λ list. (list ≡ points.items)
+        × (faulty_rows 2 (scale_faults points.items points.items) ≡ [])) }
+    ensures faults { IfErr result
+        (ExplainsList (faulty_rows 2 (scale_faults points.items points.items))) }
 {
     let faults = scale_faults(alloc, &points)?;
     if !faults.is_empty() {
@@ -127,7 +133,8 @@ fn list_of_points(alloc: Global, points: Vec<ListedPoint>) -> Result<PointList, 
 // The list that rows below the header spell.
 fn list_below(alloc: Global, rows: &[ByteRecord]) -> Result<PointList, ListFault>
     requires { length rows.now ≤ 513 }
-    ensures list { IfOk result (λ list. (faults_below (map fields_of rows.now) ≡ []) × SpellEach (map fields_of rows.now) list) }
+    ensures list { IfOk result (λ list. (faults_below (map fields_of rows.now) ≡ [])
+        × SpellEach (map fields_of rows.now) list) }
     ensures faults { IfErr result (ExplainsList (faults_below (map fields_of rows.now))) }
 {
     let faults = faulty_rows(alloc, rows)?;

@@ -1,8 +1,10 @@
 //! Writing a point list.
-ghost use Rattle.std.specs.Prelude.{ℕ, List, IfOk, OnOk};
-ghost use Rattle.std.specs.Io.KnownBytes.{Appends};
+ghost use Rattle.std.specs.Prelude.{◌≡◌, IfOk, OnOk};
 ghost use Rattle.point_list.specs.Lists.{SpellsList};
+ghost use Rattle.point_list.specs.Writing.{WritesText, failures_after, is_write_fault};
+ghost use Rattle.point_list.specs.Written.{list_text};
 
+use crate::counted::CountedWriter;
 use crate::list::PointList;
 use crate::written::{point_rows, text_of_rows};
 use std::alloc::{AllocError, Global};
@@ -11,31 +13,52 @@ use std::io::Write;
 /// Why a list was not written.
 #[derive(Clone, Copy, Debug, PartialEq, Eq)]
 pub enum WriteListFault {
+    /// The writer failed.
     Write,
+    /// There was no memory for the text.
     Memory,
 }
 
-// The text of a list.
+impl WriteListFault {
+    ghost use Rattle.point_list.specs.Writing.{write_fault_number};
+
+    /// The number under which the fault is told.
+    pub fn number(self) -> u8
+        ensures { result ≡ write_fault_number self }
+    {
+        match self {
+            WriteListFault::Write => 1,
+            WriteListFault::Memory => 2,
+        }
+    }
+}
+
 fn list_text(alloc: Global, list: &PointList) -> Result<Vec<u8>, AllocError>
-    ensures { IfOk result (λ text. SpellsList text.items list.now) }
+    ensures exact { IfOk result (λ text. text.items ≡ list_text list.now) }
+    ensures spelled { OnOk result (SpellsList (list_text list.now) list.now) }
 {
     let rows = point_rows(alloc, list.points())?;
     text_of_rows(alloc, &rows)
 }
 
-/// Writes a list as comma-separated values, so that its text is read as the same list. After a fault of the writer a
-/// part of the text may be written.
+/// Writes a list as comma-separated values, so that its text is read as the same list. The text is made whole before
+/// any of it is written.
 pub fn write_list<W: Write>(
     alloc: Global,
     list: &PointList,
-    output: &mut W,
+    output: &mut CountedWriter<W>,
 ) -> Result<(), WriteListFault>
-    ensures { OnOk result ((text : List ℕ) × Appends (W.contents output.old) (W.contents output.new) text × SpellsList text list.now) }
+    ensures text { let old = W.contents output.old.writer in
+        let new = W.contents output.new.writer in
+        WritesText result (list_text list.now) old new }
+    ensures spelled { OnOk result (SpellsList (list_text list.now) list.now) }
+    ensures failures { output.new.failures
+        ≡ failures_after (is_write_fault result) output.old.failures }
 {
     let Ok(text) = list_text(alloc, list) else {
         return Err(WriteListFault::Memory);
     };
-    match output.write_all(&text) {
+    match output.write_whole(&text) {
         Ok(()) => Ok(()),
         Err(_) => Err(WriteListFault::Write),
     }

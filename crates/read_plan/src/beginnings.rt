@@ -22,7 +22,8 @@ fn lies_within_reach(begin: &Run, item: &Run) -> bool
 // Whether an item lies within reach of the last beginning.
 fn is_reached(found: &[Run], item: &Run) -> bool
     ensures reached { OnTrue result (Any (λ begin. LiesWithinReach begin item.now) found.now) }
-    ensures beyond { OnFalse result ((d : Run) → 0 < length found.now → ¬ LiesWithinReach (slice_index_or found.now (length found.now - 1) d) item.now) }
+    ensures beyond { OnFalse result ((d : Run) → 0 < length found.now
+        → ¬ LiesWithinReach (slice_index_or found.now (length found.now - 1) d) item.now) }
 {
     match found.last() {
         Some(begin) => lies_within_reach(begin, item),

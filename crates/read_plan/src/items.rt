@@ -59,7 +59,8 @@ fn scale_runs<'a>(alloc: Global, points: &'a [ListedPoint]) -> Result<ScaleRuns<
 
 /// The least run with a point of a list and its scale point, which is looked up in the runs of that list.
 pub fn item(runs: &ScaleRuns<'_>, point: &ListedPoint) -> Run
-    ensures { (points : List ListedPoint) → AreScaleRuns points runs.now → result ≡ item_of points point.now }
+    ensures { (points : List ListedPoint) → AreScaleRuns points runs.now
+        → result ≡ item_of points point.now }
 {
     let run = run_of_point(point);
     match &point.scale {

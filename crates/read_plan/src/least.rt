@@ -6,5 +6,6 @@ ghost use Rattle.read_plan.specs.Plans.{FollowsRule, IsHeld, IsLawful};
 
 /// A law of plans: whatever the points and their items, the rule's reads are the fewest.
 pub fn rule_is_least()
-    ensures { (points items reads other : List Run) → FollowsRule items reads → IsLawful points items other → length reads ≤ length other }
+    ensures { (points items reads other : List Run) → FollowsRule items reads
+        → IsLawful points items other → length reads ≤ length other }
 {}

@@ -11,8 +11,6 @@ mod planning;
 mod reads;
 mod run;
 mod table;
-#[cfg(test)]
-mod tests;
 
 pub use least::rule_is_least;
 pub use placed::{Place, Plan};

@@ -16,7 +16,7 @@ pub struct Place {
 }
 
 /// The reads of a point list, and where each of its points stands in them.
-#[derive(Debug, Drop)]
+#[derive(Drop)]
 pub struct Plan {
     starts: Vec<u16>,
     items: Vec<Run>,
@@ -41,7 +41,8 @@ impl Plan {
     ghost use Rattle.read_plan.specs.declared.run.Run.{Run};
 
     pub(crate) fn new(starts: Vec<u16>, items: Vec<Run>, reads: Vec<PlannedRead>) -> Plan
-        requires { IsPlan (record { starts = starts.items; items = items.items; reads = reads.items }) }
+        requires { IsPlan
+            (record { starts = starts.items; items = items.items; reads = reads.items }) }
         ensures starts { result.starts ≡ starts.items }
         ensures items { result.items ≡ items.items }
         ensures reads { result.reads ≡ reads.items }
@@ -70,8 +71,11 @@ impl Plan {
     /// Where the point of a number stands, the first of the list being 0: in the first read that holds its item.
     pub fn place(&self, point: usize) -> Place
         requires { point < length self.now.items }
-        ensures first { (d : Run) → IsFirstHolding (read_runs self.now.reads) (slice_index_or self.now.items point d) result.read }
-        ensures offset { (d : PlannedRead) → (slice_index_or self.now.reads result.read d).span.address + result.offset ≡ slice_index self.now.starts point }
+        ensures first { (d : Run) → IsFirstHolding (read_runs self.now.reads)
+            (slice_index_or self.now.items point d) result.read }
+        ensures offset { (d : PlannedRead) →
+            (slice_index_or self.now.reads result.read d).span.address + result.offset
+            ≡ slice_index self.now.starts point }
     {
         let item = self.items[point];
         let read = self

@@ -27,8 +27,11 @@ pub fn plan(alloc: Global, list: &PointList) -> Result<Plan, AllocError>
     ensures items { IfOk result (λ plan. plan.items ≡ items_of list.now) }
     ensures placed { IfOk result (λ plan. length plan.items ≡ length list.now) }
     ensures rule { IfOk result (λ plan. FollowsRule (items_of list.now) (read_runs plan.reads)) }
-    ensures lawful { IfOk result (λ plan. IsLawful (runs_of list.now) (items_of list.now) (read_runs plan.reads)) }
-    ensures fewest { IfOk result (λ plan. (other : List Run) → IsLawful (runs_of list.now) (items_of list.now) other → length plan.reads ≤ length other) }
+    ensures lawful { IfOk result (λ plan.
+        IsLawful (runs_of list.now) (items_of list.now) (read_runs plan.reads)) }
+    ensures fewest { IfOk result (λ plan. (other : List Run)
+        → IsLawful (runs_of list.now) (items_of list.now) other
+        → length plan.reads ≤ length other) }
 {
     let points = list.points();
     let starts = starts(alloc, points)?;

@@ -6,7 +6,7 @@ use point_list::RegisterTable;
 pub const READ_LIMIT: u32 = 125;
 
 /// A run of registers of one function and area number: from `first` up to, and without, `end`.
-#[derive(Clone, Copy, Debug, PartialEq, Eq)]
+#[derive(Clone, Copy)]
 pub struct Run {
     pub table: RegisterTable,
     pub area: u8,

@@ -1,0 +1,56 @@
+//! The numbers under which faults are told.
+
+use point_list::{FaultyRow, FaultyRows, ListFault, RowFault, WriteListFault};
+use std::alloc::Global;
+use std::test::Fail;
+
+static SEVENTH: FaultyRow = FaultyRow {
+    row: 7,
+    fault: RowFault::Name,
+};
+
+static ROW_FAULTS: [(RowFault, u8); 12] = [
+    (RowFault::Csv, 1),
+    (RowFault::Header, 2),
+    (RowFault::Name, 3),
+    (RowFault::DoubleName, 4),
+    (RowFault::Function, 5),
+    (RowFault::Area, 6),
+    (RowFault::Address, 7),
+    (RowFault::Type, 8),
+    (RowFault::Scale, 9),
+    (RowFault::NoSuchScale, 10),
+    (RowFault::GroupTooWide, 11),
+    (RowFault::TooMany, 12),
+];
+
+#[test]
+fn of_rows(rt: HostRuntime) {
+    for (fault, number) in &ROW_FAULTS {
+        assert_eq!(rt; fault.number(), *number);
+    }
+}
+
+// Faults of one row.
+fn faults(alloc: Global) -> Result<FaultyRows, Fail> {
+    let mut rows = Vec::new(alloc);
+    rows.push(SEVENTH)?;
+    Ok(FaultyRows::new(rows))
+}
+
+#[test]
+fn of_lists(rt: HostRuntime) -> Result<(), Fail> {
+    assert_eq!(rt; ListFault::Faults(faults(rt.alloc())?).number(), None);
+    assert_eq!(rt; ListFault::Memory.number(), Some(13));
+    assert_eq!(rt; WriteListFault::Write.number(), 1);
+    assert_eq!(rt; WriteListFault::Memory.number(), 2);
+    Ok(())
+}
+
+#[test]
+fn faulty_rows_are_kept(rt: HostRuntime) -> Result<(), Fail> {
+    let faults = faults(rt.alloc())?;
+    assert_eq!(rt; faults.rows(), [SEVENTH].as_slice());
+    assert_eq!(rt; faults.into_rows().as_slice(), [SEVENTH].as_slice());
+    Ok(())
+}

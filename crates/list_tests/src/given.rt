@@ -1,0 +1,74 @@
+//! Texts and lists that the tests share.
+
+use point_list::{
+    CountedWriter, FaultyRow, ListFault, PointList, PointName, read_list, write_list,
+};
+use std::alloc::Global;
+use std::io::Write;
+use std::process::Abort;
+use std::test::Fail;
+
+/// The rows of a list, and what is told of them.
+pub struct Case {
+    pub rows: &'static str,
+    pub told: &'static str,
+}
+
+pub fn name(alloc: Global, text: &str) -> Result<PointName, Fail> {
+    let bytes = text.as_bytes().to_vec(alloc)?;
+    Ok(PointName::new(bytes).ok().ok_or("no name")?)
+}
+
+/// A text of rows below the header.
+pub fn text_of(alloc: Global, rows: &str) -> Result<Vec<u8>, Fail> {
+    let mut text = b"name,function,area,address,type,scale\n".to_vec(alloc)?;
+    text.extend_from_slice(rows.as_bytes())?;
+    Ok(text)
+}
+
+pub fn list_of(alloc: Global, text: &[u8]) -> Result<PointList, Fail> {
+    Ok(read_list(alloc, text).ok().ok_or("no list")?)
+}
+
+/// The text that is written of a list.
+pub fn written(alloc: Global, list: &PointList) -> Result<Vec<u8>, Fail> {
+    let mut output = CountedWriter::new(Vec::new(alloc));
+    write_list(alloc, list, &mut output)
+        .ok()
+        .ok_or("not written")?;
+    let CountedWriter { writer, failures } = output;
+    if failures > 0 {
+        return Err("a failure".into());
+    }
+    Ok(writer)
+}
+
+// A line for each faulty row.
+fn told(alloc: Global, rows: &[FaultyRow]) -> Result<Vec<u8>, Fail> {
+    let mut text = Vec::new(alloc);
+    for faulty in rows {
+        let row = faulty.row;
+        let number = faulty.fault.number();
+        write!(text, "row {row} fault {number}\n")?;
+    }
+    Ok(text)
+}
+
+/// What is told of a text: nothing of one that spells a list.
+pub fn faults_of(alloc: Global, text: &[u8]) -> Result<Vec<u8>, Fail> {
+    match read_list(alloc, text) {
+        Ok(_list) => Ok(Vec::new(alloc)),
+        Err(ListFault::Faults(faults)) => told(alloc, faults.rows()),
+        Err(ListFault::Memory) => Err("no memory".into()),
+    }
+}
+
+/// Compares what is told of the rows of each case.
+pub fn compare_faults(rt: &impl Abort, alloc: Global, cases: &[Case]) -> Result<(), Fail> {
+    for case in cases {
+        let rows = case.rows;
+        let found = faults_of(alloc, &text_of(alloc, rows)?)?;
+        assert_eq!(rt; found.as_slice(), case.told.as_bytes(), "{rows}");
+    }
+    Ok(())
+}

@@ -1,0 +1,37 @@
+//! Names of points.
+
+use crate::given::name;
+use point_list::PointName;
+use std::test::Fail;
+
+static NAMES: [&str; 4] = ["wh", "m2.WH_SF", "A", "a23456789.123456789_123456789.12"];
+
+static OTHERS: [&str; 7] = [
+    "",
+    "1x",
+    "_a",
+    ".a",
+    "a-b",
+    "a b",
+    "a23456789.123456789_123456789.123",
+];
+
+#[test]
+fn names(rt: HostRuntime) -> Result<(), Fail> {
+    for text in &NAMES {
+        let name = name(rt.alloc(), text)?;
+        assert_eq!(rt; name.as_bytes(), text.as_bytes(), "{text}");
+        assert_eq!(rt; name.into_bytes().as_slice(), text.as_bytes(), "{text}");
+    }
+    Ok(())
+}
+
+#[test]
+fn other_bytes_are_handed_back(rt: HostRuntime) -> Result<(), Fail> {
+    for text in &OTHERS {
+        let bytes = text.as_bytes().to_vec(rt.alloc())?;
+        let back = PointName::new(bytes).err().ok_or("a name")?;
+        assert_eq!(rt; back.as_slice(), text.as_bytes(), "{text}");
+    }
+    Ok(())
+}

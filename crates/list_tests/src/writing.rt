@@ -1,0 +1,49 @@
+//! Lists that are written.
+
+use crate::given::{list_of, written};
+use std::test::Fail;
+
+// A text that spells a list, and what is written of the list.
+struct Rewritten {
+    text: &'static [u8],
+    written: &'static [u8],
+}
+
+const EVERY_KIND: &[u8] = b"name,function,area,address,type,scale
+a,3,0,0,int16,b
+b,3,0,124,sunssf,
+c,4,255,65535,uint16,-10
+d.e_1,3,7,10,enum16,
+f,3,7,11,int32,10
+g,3,7,13,uint32,0
+h,3,7,15,bitfield32,
+i,3,7,17,acc32,-1
+j,3,7,19,string1,
+k,3,7,20,string125,
+";
+
+// Each kind of point; a text as a spreadsheet writes it; and a header alone.
+static TEXTS: [Rewritten; 3] = [
+    Rewritten {
+        text: EVERY_KIND,
+        written: EVERY_KIND,
+    },
+    Rewritten {
+        text: b"\xEF\xBB\xBFname,function,\"area\",address,type,scale\r\n\r\n\"a\",03,0,0000000005,int16,-0\r\n",
+        written: b"name,function,area,address,type,scale\na,3,0,5,int16,0\n",
+    },
+    Rewritten {
+        text: b"name,function,area,address,type,scale\n",
+        written: b"name,function,area,address,type,scale\n",
+    },
+];
+
+#[test]
+fn lists_are_written(rt: HostRuntime) -> Result<(), Fail> {
+    for case in &TEXTS {
+        let list = list_of(rt.alloc(), case.text)?;
+        let text = written(rt.alloc(), &list)?;
+        assert_eq!(rt; text.as_slice(), case.written);
+    }
+    Ok(())
+}

@@ -1,0 +1,26 @@
+use Rattle.std.proofs.Common.{◌≡◌, ◌-◌, ℕ, Option, List, [], ◌++◌, Bor, length, take, drop, sym, ap, ◌∙◌, append_assoc, take-append-drop}
+use Rattle.std.proofs.lemmas.List.{take_rest}
+use Rattle.std.proofs.KnownBytes.{Appends-kept, Appends-trans}
+use Rattle.std.specs.Io.KnownBytes.{Appends}
+use Rattle.point_list.proofs.counted.write_bytes.Goals as goal
+use Rattle.point_list.proofs.counted.write_bytes.Goals.{in-Ok, in-Err}
+
+-- a write took the front of the rest
+moves_front : (all done rest left : List ℕ) (n : ℕ) → all ≡ done ++ rest → left ≡ take (length rest - n) (drop n rest) → all ≡ (done ++ take n rest) ++ left
+moves_front all done rest left n split is =
+    split ∙ ap (λ (l : List ℕ). done ++ l) (sym (take-append-drop n rest)) ∙ sym (append_assoc done (take n rest) (drop n rest))
+    ∙ ap (λ (l : List ℕ). (done ++ take n rest) ++ l) (sym (take_rest rest n) ∙ sym is)
+
+-- an interrupted write took nothing
+stays : (all done rest left : List ℕ) → all ≡ done ++ rest → left ≡ rest → all ≡ done ++ left
+stays all done rest left split is = split ∙ ap (λ (l : List ℕ). done ++ l) (sym is)
+
+pub loop-preserved : goal.loop-preserved
+loop-preserved g c =
+    let (done, split, appended) = c.loop.invariant in
+    elim c.match-write.branch [
+      | in-Ok w ↦
+          (done ++ take w.in-Ok.count c.loop.rest.now, moves_front _ done c.loop.rest.now c.match-write.rest.now w.in-Ok.count split (ap (λ (r : Bor (List ℕ)). r.now) w.rest-is), Appends-trans _ _ _ _ _ appended w.in-Ok.ensures.bytes)
+      | in-Err w ↦
+          (done, stays _ done c.loop.rest.now c.match-write.rest.now split (ap (λ (r : Bor (List ℕ)). r.now) w.rest-is), Appends-kept _ _ _ _ appended w.in-Err.ensures.bytes)
+    ]
