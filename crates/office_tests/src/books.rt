@@ -1,130 +1,138 @@
 //! Books in lists: what is looked up is what was booked.
 use crate::books_rows::{device, entry, hold, name, opening, poll, register, standing};
-use office_facts::{Books, EndedPoll, Fact, ListBooks, Poll, PollRow};
+use crate::checks::same;
+use office_facts::{Books, EndedPoll, Fact, Installation, ListBooks, PollRow};
 use poll_core::Outcome;
 use std::alloc::Global;
 use std::test::Fail;
 
-// Two devices, three registers and two meters, booked one, two and three at a time.
-fn two_farms(alloc: Global) -> Result<ListBooks, Fail> {
+// Books that hold these facts, booked in two pieces.
+fn booked(alloc: Global, facts: &[Fact]) -> Result<ListBooks, Fail> {
+    let middle = facts.len() / 2;
     let mut books = ListBooks::new(alloc);
-    let east = Fact::Register(register("east", "roof", 100)?);
-    let west = Fact::Register(register("west", "roof", 102)?);
-    let hay = Fact::Register(register("hay", "barn", 100)?);
-    books.book(&[Fact::Device(device("roof")?)])?;
-    books.book(&[Fact::Device(device("barn")?), east])?;
-    books.book(&[hay, west])?;
-    let first = Fact::Opening(opening("m1", "east", 1_000_000)?);
-    let second = Fact::Opening(opening("m2", "hay", 1_000_100)?);
-    books.book(&[first, second, entry(1_003_600, 1250)?])?;
+    books.book(&facts[..middle])?;
+    books.book(&facts[middle..])?;
     Ok(books)
 }
 
-#[test]
-fn devices_are_looked_up(rt: HostRuntime) -> Result<(), Fail> {
-    let mut books = two_farms(rt.alloc())?;
+// Two devices, three registers and two meters.
+fn two_farms() -> Result<[Fact; 8], Fail> {
     let devices = [device("roof")?, device("barn")?];
-    assert_eq!(rt; books.devices()?.as_slice(), devices.as_slice());
-    assert_eq!(rt; books.latest()?, 1_003_600);
-    assert_eq!(rt; books.faults(), 0);
-    Ok(())
+    let east = register("east", "roof", 100)?;
+    let west = register("west", "roof", 102)?;
+    let hay = register("hay", "barn", 100)?;
+    Ok([
+        Fact::Device(devices[0]),
+        Fact::Device(devices[1]),
+        Fact::Register(east),
+        Fact::Register(hay),
+        Fact::Register(west),
+        Fact::Opening(opening("m1", "east", 1_000_000)?),
+        Fact::Opening(opening("m2", "hay", 1_000_100)?),
+        entry(1_003_600, 1250)?,
+    ])
 }
 
 #[test]
-fn registers_are_looked_up(rt: HostRuntime) -> Result<(), Fail> {
-    let mut books = two_farms(rt.alloc())?;
-    let east = register("east", "roof", 100)?;
-    let west = register("west", "roof", 102)?;
-    assert_eq!(rt; books.register(&name("west")?)?, Some(west));
-    assert_eq!(rt; books.register(&name("north")?)?, None);
-    let roof = books.registers(&name("roof")?)?;
-    assert_eq!(rt; roof.as_slice(), [east, west].as_slice());
+fn devices_and_registers_are_looked_up(rt: HostRuntime) -> Result<(), Fail> {
+    let devices = [device("roof")?, device("barn")?];
+    let roof = [
+        register("east", "roof", 100)?,
+        register("west", "roof", 102)?,
+    ];
+    let mut books = booked(rt.alloc(), &two_farms()?)?;
+    same(&rt, books.devices()?.as_slice(), devices.as_slice());
+    same(
+        &rt,
+        books.registers(&devices[0].name)?.as_slice(),
+        roof.as_slice(),
+    );
+    same(&rt, books.register(&roof[1].name)?, Some(roof[1]));
+    same(&rt, books.register(&devices[1].name)?, None);
+    same(&rt, books.latest()?, 1_003_600);
+    same(&rt, books.faults(), 0);
     Ok(())
 }
 
 /// A count at scale 0 is 1 Wh, 1000 mWh: from 1000 to 1250 they are 250,000 mWh.
+fn moved() -> Result<Option<Installation>, Fail> {
+    let opening = opening("m1", "east", 1_000_000)?;
+    Ok(Some(standing(opening, 1_003_600, 1250, 250_000)))
+}
+
+fn untouched() -> Result<Option<Installation>, Fail> {
+    let opening = opening("m2", "hay", 1_000_100)?;
+    Ok(Some(standing(opening, 1_000_100, 1000, 0)))
+}
+
 #[test]
 fn meters_are_looked_up(rt: HostRuntime) -> Result<(), Fail> {
-    let mut books = two_farms(rt.alloc())?;
-    let moved = standing(opening("m1", "east", 1_000_000)?, 1_003_600, 1250, 250_000);
-    let untouched = standing(opening("m2", "hay", 1_000_100)?, 1_000_100, 1000, 0);
-    assert_eq!(rt; books.meter(&name("m1")?)?, Some(moved));
-    assert_eq!(rt; books.meter(&name("m2")?)?, Some(untouched));
-    assert_eq!(rt; books.installation(&name("east")?)?, Some(moved));
-    assert_eq!(rt; books.installation(&name("west")?)?, None);
-    assert_eq!(rt; books.installation_count()?, 2);
+    let mut books = booked(rt.alloc(), &two_farms()?)?;
+    same(&rt, books.meter(&name("m1")?)?, moved()?);
+    same(&rt, books.meter(&name("m2")?)?, untouched()?);
+    same(&rt, books.installation(&name("east")?)?, moved()?);
+    same(&rt, books.installation(&name("west")?)?, None);
+    same(&rt, books.installation_count()?, 2);
     Ok(())
 }
 
-fn ended() -> EndedPoll {
-    EndedPoll {
-        poll: 2,
-        at: 25,
-        outcome: Outcome::Silent,
-    }
-}
-
 // Three polls, of which the second ended.
-fn three_polls(alloc: Global) -> Result<ListBooks, Fail> {
-    let mut books = ListBooks::new(alloc);
-    let (first, second) = (Fact::Poll(poll(1)?), Fact::Poll(poll(2)?));
-    books.book(&[Fact::Device(device("roof")?), first, second])?;
-    books.book(&[Fact::Outcome(ended()), Fact::Poll(poll(3)?)])?;
-    Ok(books)
+fn three_polls() -> Result<[Fact; 5], Fail> {
+    Ok([
+        Fact::Device(device("roof")?),
+        Fact::Poll(poll(1)?),
+        Fact::Poll(poll(2)?),
+        Fact::Outcome(ENDED),
+        Fact::Poll(poll(3)?),
+    ])
 }
 
-// The row of a poll that waits.
-fn waiting(poll: Poll) -> PollRow {
-    PollRow { poll, ended: None }
+const ENDED: EndedPoll = EndedPoll {
+    poll: 2,
+    at: 25,
+    outcome: Outcome::Silent,
+};
+
+fn row(number: u64, ended: Option<EndedPoll>) -> Result<PollRow, Fail> {
+    Ok(PollRow {
+        poll: poll(number)?,
+        ended,
+    })
 }
 
 #[test]
 fn polls_are_looked_up(rt: HostRuntime) -> Result<(), Fail> {
-    let mut books = three_polls(rt.alloc())?;
-    let ended = PollRow {
-        poll: poll(2)?,
-        ended: Some(ended()),
-    };
-    let rows = [
-        (0, None),
-        (2, Some(ended)),
-        (3, Some(waiting(poll(3)?))),
-        (4, None),
-    ];
-    for (number, row) in rows {
-        assert_eq!(rt; books.poll(number)?, row);
+    let (ended, waiting) = (row(2, Some(ENDED))?, row(3, None)?);
+    let mut books = booked(rt.alloc(), &three_polls()?)?;
+    for (number, row) in [(0, None), (2, Some(ended)), (3, Some(waiting)), (4, None)] {
+        same(&rt, books.poll(number)?, row);
     }
-    Ok(())
-}
-
-#[test]
-fn polls_that_wait_are_listed(rt: HostRuntime) -> Result<(), Fail> {
-    let mut books = three_polls(rt.alloc())?;
     let pending = [poll(1)?, poll(3)?];
-    assert_eq!(rt; books.pending()?.as_slice(), pending.as_slice());
-    assert_eq!(rt; books.poll_count()?, 3);
-    assert_eq!(rt; books.latest()?, 30);
+    same(&rt, books.pending()?.as_slice(), pending.as_slice());
+    same(&rt, books.poll_count()?, 3);
+    same(&rt, books.latest()?, 30);
     Ok(())
 }
 
 #[test]
 fn a_held_reading_moves_only_the_latest_moment(rt: HostRuntime) -> Result<(), Fail> {
-    let mut books = two_farms(rt.alloc())?;
-    let before = books.meter(&name("m1")?)?;
-    books.book(&[hold(1_003_900)?])?;
-    assert_eq!(rt; books.meter(&name("m1")?)?, before);
-    assert!(rt; before.is_some());
-    assert_eq!(rt; books.latest()?, 1_003_900);
+    let (meter, held) = (name("m1")?, hold(1_003_900)?);
+    let mut books = booked(rt.alloc(), &two_farms()?)?;
+    let before = books.meter(&meter)?;
+    books.book(&[held])?;
+    same(&rt, before.is_some(), true);
+    same(&rt, books.meter(&meter)?, before);
+    same(&rt, books.latest()?, 1_003_900);
     Ok(())
 }
 
 /// What nobody books is still recorded: an entry of no meter changes no row.
 #[test]
 fn an_entry_of_no_meter_changes_no_row(rt: HostRuntime) -> Result<(), Fail> {
-    let mut books = ListBooks::new(rt.alloc());
-    books.book(&[entry(5, 7)?])?;
-    assert_eq!(rt; books.meter(&name("m1")?)?, None);
-    assert_eq!(rt; books.installation_count()?, 0);
-    assert_eq!(rt; books.latest()?, 5);
+    let meter = name("m1")?;
+    let mut books = booked(rt.alloc(), &[entry(5, 7)?])?;
+    same(&rt, books.meter(&meter)?, None);
+    same(&rt, books.installation_count()?, 0);
+    same(&rt, books.latest()?, 5);
     Ok(())
 }

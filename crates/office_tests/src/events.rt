@@ -10,12 +10,12 @@ use std::test::Fail;
 // 3 registers from 40094: the counter 5200 and the scale 0.
 const REPLY: &[u8] = b"\x00\x00\x00\x00\x00\x09\x01\x03\x06\x00\x00\x14\x50\x00\x00";
 
-pub(crate) fn device(name: &[u8], window: u64) -> Event {
+pub(crate) fn device(name: &[u8]) -> Event {
     Event::Command(Command::AddDevice(AddDevice {
         name: Name::new(name),
         unit: 1,
         timeout: 5,
-        window,
+        window: 1,
     }))
 }
 
@@ -59,13 +59,16 @@ pub(crate) fn gone() -> Event {
     Event::Gone(Name::new(b"inv"), Closing::Gone)
 }
 
-// A device with a register and its meter, a session and a poll that waits.
+// A device with a register and its meter, a session and a poll that waits; two events on the way are refused.
 pub(crate) fn polling(alloc: Global) -> Result<Vec<(u64, Event)>, Fail> {
+    let start = start()?;
     let mut events = Vec::new(alloc);
-    events.push((1000, device(b"inv", 1)))?;
+    events.push((1000, device(b"inv")))?;
+    events.push((4, device(b"b")))?;
+    events.push((1000, device(b"inv")))?;
     events.push((1000, register(b"main", b"inv")))?;
     events.push((1000, install()))?;
     events.push((1898, connect()))?;
-    events.push((1898, start()?))?;
+    events.push((1898, start))?;
     Ok(events)
 }

@@ -1,4 +1,5 @@
 //! Books that fail at one of their calls.
+use crate::checks::same;
 use crate::events::{connect, device, gone, polling, start};
 use crate::failing_books::FailingBooks;
 use crate::offices::outcome_in;
@@ -8,6 +9,8 @@ use office_core::{
 use poll_core::{LostCause, Outcome};
 use std::alloc::Global;
 use std::test::Fail;
+
+const REFUSED: Result<Answer, Refusal> = Err(Refusal::Store(StoreCause::Refused));
 
 fn opened(alloc: Global, books: FailingBooks, moment: u64) -> Result<Office<FailingBooks>, Fail> {
     match Office::open(alloc, books, moment) {
@@ -26,44 +29,34 @@ fn failing(alloc: Global) -> Result<Office<FailingBooks>, Fail> {
     opened(alloc, books, 1899)
 }
 
-// The same, stopped.
-fn stopped(alloc: Global) -> Result<Office<FailingBooks>, Fail> {
-    let mut office = failing(alloc)?;
-    let _ = office.feed(1899, &connect());
-    let _ = office.feed(1899, &start()?);
-    let _ = office.feed(1901, &gone());
-    Ok(office)
-}
-
 #[test]
 fn books_that_fail_stop_the_settling(rt: HostRuntime) -> Result<(), Fail> {
+    let start = start()?;
     let mut office = failing(rt.alloc())?;
-    assert_eq!(rt; office.feed(1899, &connect()), Ok(Answer::Noted));
-    assert!(rt; office.feed(1899, &start()?).is_ok());
-    assert_eq!(rt; office.feed(1900, &Event::Tick), Ok(Answer::Noted));
-    let refused = Refusal::Store(StoreCause::Refused);
-    assert_eq!(rt; office.feed(1901, &gone()), Err(refused));
-    Ok(())
-}
-
-#[test]
-fn a_stopped_office_answers_nothing(rt: HostRuntime) -> Result<(), Fail> {
-    let mut office = stopped(rt.alloc())?;
-    let meter = Name::new(b"m1");
-    assert_eq!(rt; office.feed(1902, &Event::Tick), Err(Refusal::Stopped));
-    assert_eq!(rt; office.meter(&meter).err(), Some(Refusal::Stopped));
-    assert_eq!(rt; office.poll(2).err(), Some(Refusal::Stopped));
+    same(&rt, office.feed(1899, &connect()), Ok(Answer::Noted));
+    same(&rt, office.feed(1899, &start).is_ok(), true);
+    same(&rt, office.feed(1900, &Event::Tick), Ok(Answer::Noted));
+    same(&rt, office.feed(1901, &gone()), REFUSED);
+    let stopped = Some(Refusal::Stopped);
+    same(&rt, office.feed(1902, &Event::Tick).err(), stopped);
+    same(&rt, office.meter(&Name::new(b"m1")).err(), stopped);
+    same(&rt, office.poll(2).err(), stopped);
     Ok(())
 }
 
 // After the books of a stopped office are opened again, no poll waits.
 #[test]
 fn a_stopped_office_is_opened_again(rt: HostRuntime) -> Result<(), Fail> {
-    let books = stopped(rt.alloc())?.into_books();
-    assert_eq!(rt; books.faults(), 1);
+    let start = start()?;
+    let mut office = failing(rt.alloc())?;
+    let _ = office.feed(1899, &connect());
+    let _ = office.feed(1899, &start);
+    same(&rt, office.feed(1901, &gone()), REFUSED);
+    let books = office.into_books();
+    same(&rt, books.faults(), 1);
     let mut again = opened(rt.alloc(), books, 1902)?;
     let lost = Some(Outcome::Lost(LostCause::Restart));
-    assert_eq!(rt; outcome_in(again.poll(2)), lost);
+    same(&rt, outcome_in(again.poll(2)), lost);
     Ok(())
 }
 
@@ -72,10 +65,10 @@ fn a_stopped_office_is_opened_again(rt: HostRuntime) -> Result<(), Fail> {
 fn a_command_that_fails_may_come_again(rt: HostRuntime) -> Result<(), Fail> {
     let books = FailingBooks::new(ListBooks::new(rt.alloc()), 4);
     let mut office = opened(rt.alloc(), books, 0)?;
-    let refused = Refusal::Store(StoreCause::Refused);
     let done = Answer::Done(CommandKind::Device);
-    assert_eq!(rt; office.feed(1, &device(b"inv", 1)), Err(refused));
-    assert_eq!(rt; office.feed(1, &connect()), Err(Refusal::NotFound));
-    assert_eq!(rt; office.feed(1, &device(b"inv", 1)), Ok(done));
+    same(&rt, office.feed(1, &device(b"inv")), REFUSED);
+    let unknown = Err(Refusal::NotFound);
+    same(&rt, office.feed(1, &connect()), unknown);
+    same(&rt, office.feed(1, &device(b"inv")), Ok(done));
     Ok(())
 }

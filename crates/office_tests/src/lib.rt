@@ -6,6 +6,8 @@ mod books;
 #[cfg(test)]
 mod books_rows;
 #[cfg(test)]
+mod checks;
+#[cfg(test)]
 mod events;
 #[cfg(test)]
 mod failing_books;

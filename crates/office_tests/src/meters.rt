@@ -2,6 +2,7 @@
 ghost use Rattle.std.specs.Prelude.{IsTrue};
 ghost use Rattle.office_facts.specs.BooksFaults.{IsSound};
 
+use crate::checks::same;
 use energy_core::{Cause, Entry, Last, Reading, Verdict};
 use office_facts::{Installation, Name, Opening};
 use std::test::Fail;
@@ -58,7 +59,7 @@ fn readings_are_judged(rt: HostRuntime) -> Result<(), Fail> {
             raw: *raw,
             sf: 0,
         };
-        assert_eq!(rt; row.judge(&reading), *verdict);
+        same(&rt, row.judge(&reading), *verdict);
     }
     Ok(())
 }
@@ -73,7 +74,7 @@ fn an_entry_adds_its_energy(rt: HostRuntime) -> Result<(), Fail> {
         rolls: 0,
     };
     let after = row.after(&entry);
-    assert_eq!(rt; after.total, 200000);
-    assert_eq!(rt; (after.last.raw, after.last.at), (5200, 1900));
+    same(&rt, after.total, 200000);
+    same(&rt, (after.last.raw, after.last.at), (5200, 1900));
     Ok(())
 }

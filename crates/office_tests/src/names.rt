@@ -1,4 +1,5 @@
 //! Names, terms and pieces.
+use crate::checks::same;
 use office_facts::{Name, Piece, Timeout, Window};
 use std::test::Fail;
 
@@ -20,9 +21,9 @@ static NAMES: [(&str, bool); 11] = [
 fn names_are_letters_digits_and_two_signs(rt: HostRuntime) {
     for (text, is_name) in &NAMES {
         let name = Name::new(text.as_bytes());
-        assert_eq!(rt; name.is_some(), *is_name, "{text}");
+        same(&rt, name.is_some(), *is_name);
         if let Some(name) = name {
-            assert_eq!(rt; name.as_bytes(), text.as_bytes());
+            same(&rt, name.as_bytes(), text.as_bytes());
         }
     }
 }
@@ -30,27 +31,31 @@ fn names_are_letters_digits_and_two_signs(rt: HostRuntime) {
 #[test]
 fn terms_have_bounds(rt: HostRuntime) {
     for seconds in [0, 61] {
-        assert_eq!(rt; Timeout::new(seconds), None);
+        same(&rt, Timeout::new(seconds), None);
     }
     for seconds in [1, 60] {
         let told = Timeout::new(seconds).map(|timeout| timeout.seconds());
-        assert_eq!(rt; told, Some(seconds));
+        same(&rt, told, Some(seconds));
     }
 }
 
 #[test]
 fn windows_have_bounds(rt: HostRuntime) {
     for polls in [0, 17] {
-        assert_eq!(rt; Window::new(polls), None);
+        same(&rt, Window::new(polls), None);
     }
     for (polls, told) in [(1, 1), (16, 16)] {
-        assert_eq!(rt; Window::new(polls).map(|window| window.polls()), Some(told));
+        same(
+            &rt,
+            Window::new(polls).map(|window| window.polls()),
+            Some(told),
+        );
     }
 }
 
 #[test]
 fn pieces_keep_their_bytes(rt: HostRuntime) -> Result<(), Fail> {
     let piece = Piece::new(vec![in rt.alloc(); 1, 2]?);
-    assert_eq!(rt; piece.as_slice(), [1, 2].as_slice());
+    same(&rt, piece.as_slice(), [1, 2].as_slice());
     Ok(())
 }

@@ -1,4 +1,5 @@
 //! The numbers of refusals, and the laws.
+use crate::checks::same;
 use office_facts::{
     BooksFault, Refusal, StoreCause, entries_are_of_readings, facts_are_lawful,
     installations_are_kept, installations_go_on, meters_are_kept, names_are_distinct,
@@ -21,11 +22,11 @@ static NUMBERS: [(Refusal, u8); 10] = [
 #[test]
 fn refusals_have_their_numbers(rt: HostRuntime) {
     for (refusal, number) in &NUMBERS {
-        assert_eq!(rt; refusal.number(), *number);
+        same(&rt, refusal.number(), *number);
     }
     let store = BooksFault::Store(StoreCause::Refused);
-    assert_eq!(rt; Refusal::from(store).number(), 13);
-    assert_eq!(rt; Refusal::from(BooksFault::Memory).number(), 14);
+    same(&rt, Refusal::from(store).number(), 13);
+    same(&rt, Refusal::from(BooksFault::Memory).number(), 14);
 }
 
 #[test]
