@@ -26,8 +26,3 @@ pub use office_facts::{
 };
 pub use results::Run;
 pub use running::run;
-
-#[cfg(test)]
-mod failing_books;
-#[cfg(test)]
-mod tests;

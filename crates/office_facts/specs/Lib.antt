@@ -1,5 +1,4 @@
 pub mod Names
-pub mod Padding
 pub mod Numbers
 pub mod Facts
 pub mod Readings

@@ -34,6 +34,3 @@ pub use naming::Name;
 pub use questions::{Installation, PollRow};
 pub use refusals::{Refusal, StoreCause};
 pub use terms::{Timeout, Window};
-
-#[cfg(test)]
-mod tests;

@@ -17,9 +17,6 @@ use energy_core::{
 };
 use std::alloc::{AllocError, Global};
 
-#[cfg(test)]
-mod tests;
-
 /// Books in memory: the facts of each kind in a list of their own, in the order in which they came. They have no store,
 /// and so never answer `BooksFault::Store`: a call fails only for want of memory, and then changes nothing.
 #[derive(Drop)]

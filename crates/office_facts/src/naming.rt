@@ -16,18 +16,17 @@ pub struct Name {
 impl Model for Name {
     ghost use Rattle.std.specs.Prelude.{◌≡◌, ℕ, ◌≤◌, ◌-◌, ◌++◌, List, length, take, drop, replicate, true};
     ghost use Rattle.office_facts.specs.Names.{is_name};
-    ghost use Rattle.office_facts.specs.Padding.{padded_again, padded_length};
 
     ghost Value = { List ℕ };
 
     ghost view = { λ n. take n.len n.bytes };
 
-    // The bytes behind the name are 0.
-    ghost invariant = { λ n. (n.len ≤ 16) × (n.bytes ≡ take n.len n.bytes ++ replicate (16 - n.len) 0) × (length n.bytes ≡ 16) × (is_name (take n.len n.bytes) ≡ true) };
+    // Behind the bytes of the name come zeros.
+    ghost invariant = { λ n. (n.len ≤ 16) × (take n.len n.bytes ++ replicate (16 - length (take n.len n.bytes)) 0 ≡ n.bytes) × (length (take n.len n.bytes) ≡ n.len) × (length n.bytes ≡ 16) × (is_name (take n.len n.bytes) ≡ true) };
 
     ghost inverse = { λ text. record { bytes = text ++ replicate (16 - length text) 0; len = length text } };
 
-    ghost inverse_ok = { λ n h i. record { bytes = padded_again n.len n.bytes h.0 h.1 h.2 i; len = padded_length n.len n.bytes h.0 h.2 i } };
+    ghost inverse_ok = { λ n h i. record { bytes = h.1 i; len = h.2 i } };
 }
 
 /// Whether a byte is an ASCII letter.

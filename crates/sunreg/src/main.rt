@@ -33,10 +33,6 @@ pub use values::{hex_bytes, number};
 pub use words::Words;
 
 #[cfg(test)]
-mod replay_tests;
-#[cfg(test)]
-mod script_tests;
-#[cfg(test)]
 mod tests;
 
 use std::io::{ErrorKind, Write};
