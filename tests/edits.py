@@ -31,7 +31,8 @@ HEAD = re.compile(r"( *)(?:pub(?:\([^)]*\))? )?(?:const )?fn (\w+)")
 # What a function's line says that is no fault of its own.
 OF_OTHERS = re.compile(r"no proof|not proved|expected answers in \S+|it calls .* not proved|it waits for .*")
 
-Function = collections.namedtuple("Function", "file first last name")
+# The lines of a function, and patterns of the name that a check gives it: one of an impl may go by the module of its type.
+Function = collections.namedtuple("Function", "file first last name loose")
 # What an edit makes of a file: its lines from `first` to before `end` become `lines`.
 Change = collections.namedtuple("Change", "file first end lines")
 Edit = collections.namedtuple("Edit", "name changes functions fault")
@@ -64,8 +65,10 @@ def functions_of(crate, file):
             is_short = line.endswith("}") and "{" in line
             ends = (end for end in range(at, len(lines)) if lines[end] == f"{head[1]}}}")
             last = at if is_short else next(ends, len(lines) - 1)
-            parts = [crate.name, *path, *([owner] if owner and head[1] else []), head[2]]
-            found.append(Function(file, at, last, "::".join(parts)))
+            end = [owner, head[2]] if owner and head[1] else [head[2]]
+            name = "::".join([crate.name, *path, *end])
+            loose = "::".join([crate.name, r"(\w+::)*" + end[0], *end[1:]]) if len(end) > 1 else name
+            found.append(Function(file, at, last, name, loose))
     return found
 
 
@@ -222,18 +225,24 @@ class Trial:
 def reason_in(said, edit):
     """Returns what a check says against the function that the edit changes, or None."""
     of_any = None in edit.functions
+    own_names = set() if of_any else {name for it in edit.functions for name in names_of(said, it)}
     for name, line in said.functions.items():
         if line == "proved":
             continue
         if of_any:
             return f"{name}: {line}"
-        if any(re.fullmatch(it.name, name) for it in edit.functions):
+        if name in own_names:
             own = [it for it in line.removeprefix("no proof: ").split("; ") if not OF_OTHERS.fullmatch(it)]
             proofs = "proofs/" + "/".join(name.split("::")[1:]) + "/"
             errors = [it for it in said.lines if it.removeprefix("./").startswith(proofs) and ": error" in it]
             if own or errors:
                 return f"{name}: {(own or errors)[0]}"
     return None
+
+
+def names_of(said, function):
+    named = (lambda pattern: [it for it in said.functions if re.fullmatch(pattern, it)])
+    return named(function.name) or named(function.loose)
 
 
 def tried(crate):
