@@ -19,7 +19,7 @@ const RUNS: u32 = $runs;
 fn text_of(rt: &HostRuntime, groups: u32) -> anyhow::Result<Vec<u8>> {
     let mut text = b"name,function,area,address,type,scale\n".to_vec(rt.alloc())?;
     for group in 0..groups {
-        let address = 200 * group;
+        let address = 200 * u64::from(group);
         let rows = format!(in rt.alloc(); "c{group},3,0,{address},acc32,s{group}\ns{group},3,0,{},sunssf,\n", address + 2)?;
         text.extend_from_slice(rows.as_bytes())?;
     }
@@ -38,7 +38,7 @@ fn time(rt: &HostRuntime, groups: u32) -> anyhow::Result<()> {
     let Ok(taken) = SystemTime::now(rt)?.duration_since(before) else {
         anyhow::bail!("the clock went back");
     };
-    println!(rt; "{} points: {} us a plan", 2 * groups, taken.as_micros() / u128::from(RUNS))?;
+    println!(rt; "{} points: {} us a plan", 2 * u64::from(groups), taken.as_micros() / u128::from(RUNS))?;
     Ok(())
 }
 
