@@ -1,22 +1,10 @@
 #!/usr/bin/env bash
-# Times a run of the office over 20,000 and over 40,000 readings of one meter: `bench/office.sh`. Twice the readings should take at most 2.5 times as long.
-# It works on a copy of the repository in a temporary folder, to which it adds a small program. `rt try` builds and runs that
-# without proving it, so the numbers say nothing of the proofs.
+# Times a run of the office over 100,000 and over 200,000 readings of one meter: `bench/office.sh`. Twice the readings should take at
+# most 2.5 times as long. A small program over the proved libraries is proved and built in a copy of the repository, and times itself.
 set -euo pipefail
+. "$(dirname "$(readlink -f "$0")")/../tests/scratch.sh"
 
-root="$(cd "$(dirname "$0")/.." && pwd)"
-work="$(mktemp -d)"
-trap 'rm -rf "$work"' EXIT
-
-mkdir -p "$work/crates/office_bench/src"
-for crate in mb_wire poll_core energy_core office_facts office_core; do
-    mkdir "$work/crates/$crate"
-    cp -r "$root/crates/$crate/src" "$root/crates/$crate/specs" "$root/crates/$crate/proofs" "$work/crates/$crate/"
-done
-grep -E '^(mb_wire|poll_core|energy_core|office_facts|office_core):' "$root/crates.txt" > "$work/crates.txt"
-echo 'office_bench: anyhow mb_wire office_core' >> "$work/crates.txt"
-
-cat > "$work/crates/office_bench/src/main.rt" <<'END'
+cat > "$scratch/office_bench.rt" <<'END'
 //! Feeds an office with readings.
 #![tactic(auto)]
 
@@ -54,12 +42,12 @@ fn reading(rt: &HostRuntime, events: &mut Vec<(u64, Event)>, number: u32) -> any
     let Some(span) = ReadSpan::new(3, 0, 2) else {
         anyhow::bail!("no span");
     };
-    let moment = 900 * u64::from(number + 1);
+    let moment = 900 * (u64::from(number) + 1);
     events.push((moment, Event::Command(Command::StartPoll(StartPoll { device, span }))))?;
     let mut reply = Vec::new(rt.alloc());
     reply.extend_from_slice(&((number % 65536) as u16).to_be_bytes())?;
     reply.extend_from_slice(b"\x00\x00\x00\x07\x01\x03\x04")?;
-    reply.extend_from_slice(&(number + 2).to_be_bytes())?;
+    reply.extend_from_slice(&number.saturating_add(2).to_be_bytes())?;
     events.push((moment + 1, Event::Bytes(device, Piece::new(reply))))?;
     Ok(())
 }
@@ -85,8 +73,8 @@ fn time(rt: &HostRuntime, readings: u32) -> anyhow::Result<()> {
 }
 
 fn main(rt: HostRuntime) -> anyhow::Result<()> {
-    time(&rt, 20_000)?;
-    time(&rt, 40_000)
+    time(&rt, 100_000)?;
+    time(&rt, 200_000)
 }
 END
-cd "$work" && git init -q . && cd crates/office_bench && rt try --seconds 300
+scratch office_bench "anyhow mb_wire office_core" "$scratch/office_bench.rt"

@@ -1,24 +1,11 @@
 #!/usr/bin/env bash
-# Times the plan of point lists of 256 and of 512 points: `bench/plan.sh [RUNS]`, 20 runs by default.
-# It works on a copy of the repository in a temporary folder, to which it adds a small program. `rt try` builds and runs that
-# without proving it, so the numbers say nothing of the proofs.
+# Times the plan of point lists of 256 and of 512 points: `bench/plan.sh [RUNS]`, 1000 runs by default. Twice the points should take at
+# most 2.5 times as long. A small program over the proved libraries is proved and built in a copy of the repository, and times itself.
 set -euo pipefail
+runs="${1:-1000}"
+. "$(dirname "$(readlink -f "$0")")/../tests/scratch.sh"
 
-runs="${1:-20}"
-root="$(cd "$(dirname "$0")/.." && pwd)"
-work="$(mktemp -d)"
-trap 'rm -rf "$work"' EXIT
-
-mkdir -p "$work/crates/plan_bench/src"
-cp "$root/crates.txt" "$work/"
-for crate in mb_wire sun_points sun_chain point_list read_plan; do
-    mkdir "$work/crates/$crate"
-    cp -r "$root/crates/$crate/src" "$root/crates/$crate/specs" "$root/crates/$crate/proofs" "$work/crates/$crate/"
-done
-grep -E '^(mb_wire|sun_points|sun_chain|point_list|read_plan):' "$root/crates.txt" > "$work/crates.txt"
-echo 'plan_bench: anyhow point_list read_plan' >> "$work/crates.txt"
-
-cat > "$work/crates/plan_bench/src/main.rt" <<END
+cat > "$scratch/plan_bench.rt" <<END
 //! Plans lists again and again.
 #![tactic(auto)]
 
@@ -32,7 +19,7 @@ const RUNS: u32 = $runs;
 fn text_of(rt: &HostRuntime, groups: u32) -> anyhow::Result<Vec<u8>> {
     let mut text = b"name,function,area,address,type,scale\n".to_vec(rt.alloc())?;
     for group in 0..groups {
-        let address = 200 * group;
+        let address = 200 * u64::from(group);
         let rows = format!(in rt.alloc(); "c{group},3,0,{address},acc32,s{group}\ns{group},3,0,{},sunssf,\n", address + 2)?;
         text.extend_from_slice(rows.as_bytes())?;
     }
@@ -51,7 +38,7 @@ fn time(rt: &HostRuntime, groups: u32) -> anyhow::Result<()> {
     let Ok(taken) = SystemTime::now(rt)?.duration_since(before) else {
         anyhow::bail!("the clock went back");
     };
-    println!(rt; "{} points: {} us a plan", 2 * groups, taken.as_micros() / u128::from(RUNS))?;
+    println!(rt; "{} points: {} us a plan", 2 * u64::from(groups), taken.as_micros() / u128::from(RUNS))?;
     Ok(())
 }
 
@@ -60,4 +47,4 @@ fn main(rt: HostRuntime) -> anyhow::Result<()> {
     time(&rt, 256)
 }
 END
-cd "$work" && git init -q . && cd crates/plan_bench && rt try --seconds 120
+scratch plan_bench "anyhow point_list read_plan" "$scratch/plan_bench.rt"

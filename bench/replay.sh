@@ -1,11 +1,10 @@
 #!/usr/bin/env bash
-# Times the program on a script of N lines and of 2N lines: `bench/replay.sh [N]`, 40000 by default (about 2 MiB, and 4 MiB). Twice the lines should take at most 2.5 times as long.
-# It runs the proved program, which `rt run` builds first, so the first call takes a while.
+# Times the program on a script of N lines and of 2N lines: `bench/replay.sh [N]`, 40000 by default (about 2 MiB, and 4 MiB). Twice the
+# lines should take at most 2.5 times as long. It runs the proved program, which `rt run` builds first, so the first call takes a while.
 set -euo pipefail
 lines="${1:-40000}"
-cd "$(dirname "$0")/../crates/sunreg"
-work="$(mktemp -d)"
-trap 'rm -rf "$work"' EXIT
+most=4194304 # bytes, the program's own limit
+. "$(dirname "$(readlink -f "$0")")/../tests/scratch.sh"
 
 # a device, a register, a meter, and then polls with their replies: the counter rises by 1 Wh in 900 seconds
 script() {
@@ -23,11 +22,19 @@ print("\n".join(out))
 END
 }
 
-rt run < stdin > /dev/null
 for n in "$lines" $((2 * lines)); do
-    script "$n" > "$work/script"
+    script "$n" > "$scratch/script$n"
+    size=$(stat -c %s "$scratch/script$n")
+    if [ "$size" -gt "$most" ]; then
+        echo "$n lines are $size bytes, and the program takes $most at most: give fewer than $lines lines" >&2
+        exit 2
+    fi
+done
+program="$(dirname "$(readlink -f "$0")")/../crates/sunreg"
+scratch_rt sunreg "$program" run
+for n in "$lines" $((2 * lines)); do
     before=$(date +%s%N)
-    out/sunreg < "$work/script" > "$work/printed"
+    "$program/out/sunreg" < "$scratch/script$n" > "$scratch/printed"
     after=$(date +%s%N)
-    echo "$n lines ($(stat -c %s "$work/script") bytes): $(((after - before) / 1000000)) ms, $(wc -l < "$work/printed") lines printed"
+    echo "$n lines ($(stat -c %s "$scratch/script$n") bytes): $(((after - before) / 1000000)) ms, $(wc -l < "$scratch/printed") lines printed"
 done

@@ -1,0 +1,283 @@
+#!/usr/bin/env python3
+"""edits.sh [--jobs N] [--verbose] [NAME..]: tries the edits that the prover must refuse, of the crates named or of all.
+
+The edits of a crate NAME are crates/NAME/must-fail/*.edit and tests/edits/NAME/*.edit, in the form that `rt must-fail` reads. One
+check tries many of them, at most one a function, over the work that the crate's own checks kept. An edit is refused where the
+check says so of the very function that it changes: a failed goal of that function, or an error in its own proof files. What
+isn't refused so is tried alone before it counts as let through. An edit outside the functions, as of a constant, is tried
+alone, and refused where any function is not proved. An edit that cannot be applied or read fails too.
+
+It prints a line for each edit that fails and for each crate, and ends on 'N passed, M failed'; the status is 1 where M > 0.
+--jobs N: crates side by side (2); --verbose: a line for each edit. The words of RT_RUN are put before each check.
+The crates' out/ stays as it is, but that libraries below are built where they lack, as `rt check` builds them.
+"""
+import argparse
+import collections
+import difflib
+import glob
+import importlib.machinery
+import importlib.util
+import os
+import re
+import shutil
+import subprocess
+import sys
+import tempfile
+import time
+from concurrent.futures import ThreadPoolExecutor
+
+sys.dont_write_bytecode = True
+HEAD = re.compile(r"( *)(?:pub(?:\([^)]*\))? )?(?:const )?fn (\w+)")
+# What a function's line says that is no fault of its own.
+OF_OTHERS = re.compile(r"no proof|not proved|expected answers in \S+|it calls .* not proved|it waits for .*")
+
+# The lines of a function, and patterns of the name that a check gives it: one of an impl may go by the module of its type.
+Function = collections.namedtuple("Function", "file first last name loose")
+# What an edit makes of a file: its lines from `first` to before `end` become `lines`.
+Change = collections.namedtuple("Change", "file first end lines")
+Edit = collections.namedtuple("Edit", "name changes functions fault")
+# What a check said: whether it came to the proofs, its lines, and what it said of each function.
+Said = collections.namedtuple("Said", "is_read lines functions")
+
+
+def load_rt():
+    kit = os.path.dirname(subprocess.run(["rt", "doc"], check=True, capture_output=True, text=True).stdout.strip())
+    loader = importlib.machinery.SourceFileLoader("rt", f"{kit}/bin/rt")
+    made = importlib.util.module_from_spec(importlib.util.spec_from_loader("rt", loader))
+    loader.exec_module(made)
+    return made
+
+
+rt = load_rt()
+
+
+def functions_of(crate, file):
+    """Returns the functions of a file that `rt fmt` has laid out, as a pattern of the name that a check gives each."""
+    path = [it for it in file[len("src/") : -len(".rt")].split("/") if it not in ("lib", "main")]
+    lines, found, owner = lines_of(crate, file), [], ""
+    for at, line in enumerate(lines):
+        if re.match(r"impl\b|(pub(\([^)]*\))? )?trait\b", line):
+            owner = owner_of(line)
+        elif line == "}":
+            owner = ""
+        head = HEAD.match(line)
+        if head:
+            is_short = line.endswith("}") and "{" in line
+            ends = (end for end in range(at, len(lines)) if lines[end] == f"{head[1]}}}")
+            last = at if is_short else next(ends, len(lines) - 1)
+            end = [owner, head[2]] if owner and head[1] else [head[2]]
+            name = "::".join([crate.name, *path, *end])
+            loose = "::".join([crate.name, r"(\w+::)*" + end[0], *end[1:]]) if len(end) > 1 else name
+            found.append(Function(file, at, last, name, loose))
+    return found
+
+
+def owner_of(line):
+    """Returns the pattern of the part of a function's name that stands for its impl or trait."""
+    while re.search(r"<[^<>]*>", line):
+        line = re.sub(r"<[^<>]*>", "", line)
+    found = re.match(r"impl (?:(\S+) for )?&?(\S+)", line)
+    if not found:
+        return re.search(r"trait (\w+)", line)[1]
+    trait, kind = (it.split("::")[-1] if it else "" for it in found.groups())
+    return rf"{kind}{trait}\d*\w*" if trait else kind
+
+
+def lines_of(crate, file):
+    with open(f"{crate.folder}/{file}", encoding="utf-8") as it:
+        return it.read().split("\n")
+
+
+def read_edit(crate, path):
+    name = os.path.relpath(path)
+    texts, fault = rt.read_edit(path, crate.folder)
+    changes, functions = [], set()
+    for file, text in ({} if fault else texts).items():
+        old, new = lines_of(crate, file), text.split("\n")
+        within = functions_of(crate, file) if file.startswith("src/") else []
+        for kind, first, end, start, stop in difflib.SequenceMatcher(None, old, new, False).get_opcodes():
+            if kind == "equal":
+                continue
+            changes.append(Change(file, first, end, new[start:stop]))
+            around = [it for it in within if it.first <= first and max(first, end - 1) <= it.last]
+            functions.add(max(around, key=lambda it: it.first) if around else None)
+            if re.search(r"\b(ensures|requires|fn \w+.*[^{])$", "\n".join(old[first:end])):
+                functions.add(None)
+    if not fault and not changes:
+        fault = "it changes nothing"
+    return Edit(name, changes, functions, fault)
+
+
+def texts_of(crate, edits):
+    """Returns the files as all these edits leave them."""
+    texts = {}
+    for change in sorted((it for edit in edits for it in edit.changes), key=lambda it: -it.first):
+        lines = texts.setdefault(change.file, lines_of(crate, change.file))
+        lines[change.first : change.end] = change.lines
+    return {file: "\n".join(lines) for file, lines in texts.items()}
+
+
+class Trial:
+    """The edits of one crate."""
+
+    def __init__(self, crate, room):
+        self.crate, self.kept = crate, f"{room}/kept"
+        folders = [f"{crate.folder}/must-fail", f"tests/edits/{crate.name}"]
+        self.edits = [read_edit(crate, it) for folder in folders for it in sorted(glob.glob(f"{folder}/*.edit"))]
+        self.checks, self.seconds, self.told, self.failed = 0, 0.0, [], 0
+
+    def check(self, texts, kept):
+        """Checks a copy of the crate with these texts in place of its own."""
+        with tempfile.TemporaryDirectory(prefix="edits-") as room, tempfile.TemporaryFile("w+", errors="replace") as out:
+            for part in rt.rtlib.PARTS:
+                if os.path.isdir(f"{self.crate.folder}/{part}"):
+                    shutil.copytree(f"{self.crate.folder}/{part}", f"{room}/{part}")
+            for path, text in texts.items():
+                with open(f"{room}/{path}", "w", encoding="utf-8") as it:
+                    it.write(text)
+            words = [*os.environ.get("RT_RUN", "").split(), rt.rtlib.RATTLE, "check", "--incremental", kept]
+            words += self.crate.words(["--jobs", "1"], keeps=False)
+            ran = subprocess.Popen(
+                [*rt.rtlib.guarded(), *words], cwd=room, stdin=subprocess.DEVNULL, stdout=out, stderr=subprocess.STDOUT
+            )
+            _, status, used = os.wait4(ran.pid, 0)
+            ran.returncode = os.waitstatus_to_exitcode(status)
+            self.checks, self.seconds = self.checks + 1, self.seconds + used.ru_utime + used.ru_stime
+            out.seek(0)
+            lines = out.read().rstrip("\n").split("\n")
+        is_read = lines[-1].startswith("logic=") and ran.returncode in (0, 1)
+        is_read = is_read and not any(rt.unread(it, texts) for it in lines) and not rt.rtlib.STALE.search("\n".join(lines))
+        found = (re.match(r"fn (\S+): (.*)", it) for it in lines)
+        return Said(is_read, lines, {it[1]: it[2] for it in found if it})
+
+    def over_kept(self, edits):
+        with tempfile.TemporaryDirectory(prefix="edits-kept-") as room:
+            shutil.copytree(self.kept, f"{room}/kept")
+            return self.check(texts_of(self.crate, edits), f"{room}/kept")
+
+    def run(self):
+        own = f"{self.crate.folder}/out/incremental"
+        if os.path.isdir(own):
+            shutil.copytree(own, self.kept)
+        said = self.check({}, self.kept)
+        if not said.lines[-1].startswith("logic=proved"):
+            open_ones = [it for it, line in said.functions.items() if line != "proved"]
+            self.told.append(f"{self.crate.name}: not proved without any edit: {' '.join(open_ones) or said.lines[-1][:300]}")
+            self.failed = len(self.edits)
+            return
+        for edit in self.edits:
+            if edit.fault:
+                self.fails(edit, f"CANNOT BE APPLIED: {edit.fault}")
+        for edits in self.rounds():
+            self.attempt(edits)
+
+    def rounds(self):
+        """Returns the edits in groups of different functions; one outside the functions is a group of its own."""
+        groups, alone = [], []
+        for edit in self.edits:
+            if edit.fault:
+                continue
+            if None in edit.functions:
+                alone.append([edit])
+                continue
+            group = next((it for it in groups if all(edit.functions.isdisjoint(other.functions) for other in it)), None)
+            if group is None:
+                groups.append([edit])
+            else:
+                group.append(edit)
+        return groups + alone
+
+    def attempt(self, edits):
+        said = self.over_kept(edits)
+        if not said.is_read and len(edits) > 1:
+            half = len(edits) // 2
+            self.attempt(edits[:half])
+            self.attempt(edits[half:])
+            return
+        for edit in edits:
+            if not said.is_read:
+                error = next((it for it in said.lines if "error" in it), said.lines[-1])
+                self.fails(edit, f"CANNOT BE READ: {error[:300]}")
+                continue
+            reason = reason_in(said, edit)
+            if reason:
+                self.passes(edit, reason)
+            elif len(edits) > 1:
+                self.attempt([edit])
+            else:
+                others = [f"{it}: {line}" for it, line in said.functions.items() if line != "proved"]
+                why = f"only elsewhere: {others[0][:300]}" if others else "the crate is still proved"
+                self.fails(edit, f"NOT REFUSED at its own function's goal; {why}")
+
+    def passes(self, edit, reason):
+        if options.verbose:
+            self.told.append(f"{edit.name}: refused: {reason[:160]}")
+
+    def fails(self, edit, why):
+        self.failed += 1
+        self.told.append(f"{edit.name}: {why}")
+
+    def summary(self, wall):
+        refused = len(self.edits) - self.failed
+        return f"{self.crate.name}: {refused} of {len(self.edits)} edits refused, {self.checks} checks, {self.seconds:.0f} processor seconds, {wall:.0f} s"
+
+
+def reason_in(said, edit):
+    """Returns what a check says against the function that the edit changes, or None."""
+    of_any = None in edit.functions
+    own_names = set() if of_any else {name for it in edit.functions for name in names_of(said, it)}
+    for name, line in said.functions.items():
+        if line == "proved":
+            continue
+        if of_any:
+            return f"{name}: {line}"
+        if name in own_names:
+            own = [it for it in line.removeprefix("no proof: ").split("; ") if not OF_OTHERS.fullmatch(it)]
+            proofs = "proofs/" + "/".join(name.split("::")[1:]) + "/"
+            errors = [it for it in said.lines if it.removeprefix("./").startswith(proofs) and ": error" in it]
+            if own or errors:
+                return f"{name}: {(own or errors)[0]}"
+    return None
+
+
+def names_of(said, function):
+    named = (lambda pattern: [it for it in said.functions if re.fullmatch(pattern, it)])
+    return named(function.name) or named(function.loose)
+
+
+def tried(crate):
+    began = time.time()
+    with tempfile.TemporaryDirectory(prefix="edits-crate-") as room:
+        trial = Trial(crate, room)
+        if trial.edits:
+            trial.run()
+    print("\n".join([*trial.told, trial.summary(time.time() - began)]), flush=True)
+    return len(trial.edits), trial.failed
+
+
+def main():
+    root = subprocess.run(["git", "rev-parse", "--show-toplevel"], check=True, capture_output=True, text=True).stdout.strip()
+    os.chdir(root)
+    rt.rtlib.guarded()
+    crates = rt.rtlib.crates_below(root)
+    unknown = {*options.names} - {it.name for it in crates}
+    if unknown:
+        sys.exit(f"no crate is named {' '.join(sorted(unknown))}")
+    crates = [it for it in crates if not options.names or it.name in options.names]
+    for crate in crates:
+        if any(it.build_rlib(["--jobs", "1"], anew=False) for it in crate.below()):
+            sys.exit(f"{crate.name}: a library below it is not proved")
+    with ThreadPoolExecutor(options.jobs) as pool:
+        counts = [*pool.map(tried, crates)]
+    failed = sum(it for _, it in counts)
+    print(f"{sum(it for it, _ in counts) - failed} passed, {failed} failed")
+    return 1 if failed else 0
+
+
+if __name__ == "__main__":
+    words = argparse.ArgumentParser(prog="edits.sh", usage=__doc__.split(":")[0], description=__doc__, formatter_class=argparse.RawDescriptionHelpFormatter)
+    words.add_argument("--jobs", type=int, default=2)
+    words.add_argument("--verbose", action="store_true")
+    words.add_argument("names", nargs="*", metavar="NAME")
+    options = words.parse_args()
+    sys.exit(main())
