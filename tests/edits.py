@@ -28,6 +28,10 @@ from concurrent.futures import ThreadPoolExecutor
 
 sys.dont_write_bytecode = True
 HEAD = re.compile(r"( *)(?:pub(?:\([^)]*\))? )?(?:const )?fn (\w+)")
+# What a proof file says where it names something that the edit took away, which tells little of the contract.
+NAMES = r": error.*(has no field|is not in scope|has no `|was not admitted)"
+TAKEN_AWAY = " (only because a proof file names what the edit took away)"
+CLAUSE = re.compile(r" *(requires|ensures)\b")
 # What a function's line says that is no fault of its own.
 OF_OTHERS = re.compile(r"no proof|not proved|expected answers in \S+|it calls .* not proved|it waits for .*")
 
@@ -35,7 +39,8 @@ OF_OTHERS = re.compile(r"no proof|not proved|expected answers in \S+|it calls .*
 Function = collections.namedtuple("Function", "file first last name loose")
 # What an edit makes of a file: its lines from `first` to before `end` become `lines`.
 Change = collections.namedtuple("Change", "file first end lines")
-Edit = collections.namedtuple("Edit", "name changes functions fault")
+# An edit that also changes something outside the bodies `stands_alone`: what callers see may change with it.
+Edit = collections.namedtuple("Edit", "name changes functions stands_alone fault")
 # What a check said: whether it came to the proofs, its lines, and what it said of each function.
 Said = collections.namedtuple("Said", "is_read lines functions")
 
@@ -89,9 +94,8 @@ def lines_of(crate, file):
 
 
 def read_edit(crate, path):
-    name = os.path.relpath(path)
     texts, fault = rt.read_edit(path, crate.folder)
-    changes, functions = [], set()
+    changes, functions, stands_alone = [], set(), False
     for file, text in ({} if fault else texts).items():
         old, new = lines_of(crate, file), text.split("\n")
         within = functions_of(crate, file) if file.startswith("src/") else []
@@ -100,12 +104,12 @@ def read_edit(crate, path):
                 continue
             changes.append(Change(file, first, end, new[start:stop]))
             around = [it for it in within if it.first <= first and max(first, end - 1) <= it.last]
-            functions.add(max(around, key=lambda it: it.first) if around else None)
-            if re.search(r"\b(ensures|requires|fn \w+.*[^{])$", "\n".join(old[first:end])):
-                functions.add(None)
+            functions |= {max(around, key=lambda it: it.first)} if around else set()
+            heads = [it for it in old[first:end] if CLAUSE.match(it) or HEAD.match(it) and not new[start:stop][0].startswith(it)]
+            stands_alone = stands_alone or not around or bool(heads)
     if not fault and not changes:
         fault = "it changes nothing"
-    return Edit(name, changes, functions, fault)
+    return Edit(os.path.relpath(path), changes, functions, stands_alone, fault)
 
 
 def texts_of(crate, edits):
@@ -172,12 +176,12 @@ class Trial:
             self.attempt(edits)
 
     def rounds(self):
-        """Returns the edits in groups of different functions; one outside the functions is a group of its own."""
+        """Returns the edits in groups of different functions; one that stands alone is a group of its own."""
         groups, alone = [], []
         for edit in self.edits:
             if edit.fault:
                 continue
-            if None in edit.functions:
+            if edit.stands_alone:
                 alone.append([edit])
                 continue
             group = next((it for it in groups if all(edit.functions.isdisjoint(other.functions) for other in it)), None)
@@ -205,12 +209,10 @@ class Trial:
             elif len(edits) > 1:
                 self.attempt([edit])
             else:
-                others = [f"{it}: {line}" for it, line in said.functions.items() if line != "proved"]
-                why = f"only elsewhere: {others[0][:300]}" if others else "the crate is still proved"
-                self.fails(edit, f"NOT REFUSED at its own function's goal; {why}")
+                self.fails(edit, f"NOT REFUSED {lack_in(said, edit)}")
 
     def passes(self, edit, reason):
-        if options.verbose:
+        if options.verbose or reason.endswith(TAKEN_AWAY):
             self.told.append(f"{edit.name}: refused: {reason[:160]}")
 
     def fails(self, edit, why):
@@ -224,20 +226,27 @@ class Trial:
 
 def reason_in(said, edit):
     """Returns what a check says against the function that the edit changes, or None."""
-    of_any = None in edit.functions
-    own_names = set() if of_any else {name for it in edit.functions for name in names_of(said, it)}
-    for name, line in said.functions.items():
-        if line == "proved":
-            continue
-        if of_any:
-            return f"{name}: {line}"
-        if name in own_names:
-            own = [it for it in line.removeprefix("no proof: ").split("; ") if not OF_OTHERS.fullmatch(it)]
-            proofs = "proofs/" + "/".join(name.split("::")[1:]) + "/"
-            errors = [it for it in said.lines if it.removeprefix("./").startswith(proofs) and ": error" in it]
-            if own or errors:
-                return f"{name}: {(own or errors)[0]}"
+    open_ones = {name: line for name, line in said.functions.items() if line != "proved"}
+    if not edit.functions:
+        return next((f"{name}: {line}" for name, line in open_ones.items()), None)
+    for name in {name for it in edit.functions for name in names_of(said, it)} & {*open_ones}:
+        parts = open_ones[name].removeprefix("no proof: ").split("; ")
+        own = [it for it in parts if not OF_OTHERS.fullmatch(it)]
+        proofs = "proofs/" + "/".join(name.split("::")[1:]) + "/"
+        errors = [it for it in said.lines if it.removeprefix("./").startswith(proofs) and ": error" in it]
+        if own or errors:
+            first = next((it for it in [*own, *errors] if not re.search(NAMES, it)), None)
+            return f"{name}: {first or errors[0][:100] + TAKEN_AWAY}"
     return None
+
+
+def lack_in(said, edit):
+    """Says how a check that was tried for this edit alone does not refuse it."""
+    others = [f"{name}: {line}" for name, line in said.functions.items() if line != "proved"]
+    unknown = [it.name for it in edit.functions if not names_of(said, it)]
+    if unknown:
+        return f"by its own function: the check names no {unknown[0]}"
+    return f"by its own function, only elsewhere: {others[0][:300]}" if others else "at all: the crate is still proved"
 
 
 def names_of(said, function):
