@@ -13,7 +13,7 @@ use Rattle.mb_wire.specs.Reader.{Fields, Held, Tells, fields_of, held_after, spe
 use Rattle.mb_wire.specs.declared.frames.Frame.{Frame}
 use Rattle.mb_wire.specs.declared.frames.Framing.{Framing}
 use Rattle.mb_wire.specs.declared.frames.Framing.TheVariants.{Need, Whole, Foreign, Garbled}
-use Rattle.mb_wire.specs.Links.{TakeConsumes}
+use Rattle.mb_wire.specs.Links.{TakeConsumes, risen}
 use Rattle.mb_wire.specs.declared.link.LastTake.{LastTake}
 use Rattle.mb_wire.specs.declared.link.Took.{Took}
 use Rattle.mb_wire.specs.declared.link.Took.TheVariants as took
@@ -452,6 +452,10 @@ goes_on result turned last tells is going =
     let first : has_ended result ≡ false = ap has_ended is ∙ going in
     let second : is_read_fault result ≡ false = ap is_read_fault is in
     record { answer = tells.answer; taken = tells.taken; end = sym first ∙ tells.end; failure = sym second ∙ tells.failure }
+
+-- a turn that did not end counts no end
+pub counts_no_end : (result : Result Turned ServeFault) (turned : Turned) (before after : ℕ) → after ≡ risen (has_ended result) before → result ≡ Ok turned → turned.ended ≡ false → after ≡ before
+counts_no_end result turned before after counted is going = counted ∙ ap (λ (b : Bool). risen b before) (ap has_ended is ∙ going)
 
 -- a turn does not use up turns
 pub turn_is_no_end : (e : ServeFault) (old new : Around) (before after : Standing) → is_serving before ≡ true → ((held : List ℕ) → before ≡ Holds held → Turns held (Err e) old new after) → e ≡ fault.TurnsUsed → ⊥

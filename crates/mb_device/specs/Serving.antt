@@ -6,10 +6,10 @@ use Rattle.std.specs.declared.result.Result.{Result}
 use Rattle.std.specs.declared.option.Option.{Option}
 use Rattle.mb_wire.specs.Frames.{IsBad, IsFrame, IsOpen, frames, rest, protocol_of, tid_of, unit_of, pdu_of}
 use Rattle.mb_wire.specs.Reader.{Held, spelling}
+use Rattle.mb_wire.specs.Links.{is_end}
 use Rattle.mb_wire.specs.declared.link.LastTake.{LastTake}
 use Rattle.mb_wire.specs.declared.link.LinkFailed.{LinkFailed}
 use Rattle.mb_wire.specs.declared.link.Took.{Took}
-use Rattle.mb_wire.specs.declared.link.Took.TheVariants.{Bytes, End, Idle}
 use Rattle.mb_device.specs.Maps.{Maps}
 use Rattle.mb_device.specs.Device.{answer_to, maps_after}
 use Rattle.mb_device.specs.declared.serving.ServeFault.{ServeFault}
@@ -115,13 +115,6 @@ is_read_fault (Err Read) = true
 is_read_fault (Err Write) = false
 is_read_fault (Err Garbled) = false
 is_read_fault (Err TurnsUsed) = false
-
--- a take answered that nothing more will come
-abbrev pub is_end : Result Took LinkFailed → Bool
-is_end (Ok (Bytes n)) = false
-is_end (Ok End) = true
-is_end (Ok Idle) = false
-is_end (Err failed) = false
 
 -- The last take had room for 260 bytes. It came to the end exactly where that is told, and failed
 -- exactly where that is told.

@@ -73,6 +73,7 @@ fn give_all<L: Link>(link: &mut L, bytes: &[u8]) -> Result<(), LinkFailed>
     ensures failures { L.failed link.new ≡ risen (is_err result) (L.failed link.old) }
     ensures takes { L.taken link.new ≡ L.taken link.old }
     ensures last { L.last link.new ≡ L.last link.old }
+    ensures ends { L.ended link.new ≡ L.ended link.old }
 {
     if bytes.is_empty() {
         return Ok(());
@@ -95,6 +96,7 @@ fn answer_frame<L: Link>(frame: &Frame<'_>, link: &mut L, bank: &mut Bank) -> Re
     ensures failures { L.failed link.new ≡ risen (is_err result) (L.failed link.old) }
     ensures takes { L.taken link.new ≡ L.taken link.old }
     ensures last { L.last link.new ≡ L.last link.old }
+    ensures ends { L.ended link.new ≡ L.ended link.old }
 {
     let mut pdu = [0; 253];
     let length = bank.answer(frame.pdu, &mut pdu);
@@ -118,6 +120,7 @@ fn answer_held<L: Link>(
     ensures failures { L.failed link.new ≡ risen (is_link_fault result) (L.failed link.old) }
     ensures takes { L.taken link.new ≡ L.taken link.old }
     ensures last { L.last link.new ≡ L.last link.old }
+    ensures ends { L.ended link.new ≡ L.ended link.old }
 {
     match reader.frame() {
         Some(frame) => match answer_frame(&frame, link, bank) {
@@ -144,6 +147,7 @@ fn answer_piece<L: Link>(
     ensures failures { L.failed link.new ≡ risen (is_link_fault result) (L.failed link.old) }
     ensures takes { L.taken link.new ≡ L.taken link.old }
     ensures last { L.last link.new ≡ L.last link.old }
+    ensures ends { L.ended link.new ≡ L.ended link.old }
 {
     let fed = reader.feed(piece);
     let answered = answer_held(reader, link, bank)?;
@@ -172,6 +176,7 @@ fn take_turn<L: Link>(
     ensures failures { L.failed link.new ≡ risen (is_link_fault result) (L.failed link.old) }
     ensures takes { L.taken link.new ≡ risen true (L.taken link.old) }
     ensures take { TellsTake (has_ended result) (is_read_fault result) (L.last link.new) }
+    ensures ends { L.ended link.new ≡ risen (has_ended result) (L.ended link.old) }
 {
     let mut piece = [0; 260];
     match link.take(&mut piece) {
@@ -233,6 +238,7 @@ impl Server {
         ensures takes { L.taken link.new ≡ risen (is_serving self.old) (L.taken link.old) }
         ensures take { is_serving self.old ≡ true →
             TellsTake (has_ended result) (is_read_fault result) (L.last link.new) }
+        ensures ends { L.ended link.new ≡ risen (has_ended result) (L.ended link.old) }
     {
         if self.failed {
             return Err(ServeFault::Garbled);
@@ -261,6 +267,7 @@ impl Server {
         ensures turns { L.taken link.new ≤ L.taken link.old + max_turns }
         ensures last_turn { is_serving self.old ≡ true → 1 ≤ max_turns →
             TellsTake (is_ok result) (is_read_fault result) (L.last link.new) }
+        ensures ends { L.ended link.new ≡ risen (is_ok result) (L.ended link.old) }
         ensures turns_used { result ≡ Err ServeFault.TurnsUsed →
             L.taken link.old + max_turns < 2 ^ 64 →
             L.taken link.new ≡ L.taken link.old + max_turns }

@@ -34,3 +34,10 @@ is_failed_give (Err failed) bytes = true
 abbrev pub is_call : Option ℕ → ℕ → Bool
 is_call None call = false
 is_call (Some fails) call = fails == call
+
+-- the end came
+abbrev pub is_end : Result Took LinkFailed → Bool
+is_end (Ok (Bytes n)) = false
+is_end (Ok End) = true
+is_end (Ok Idle) = false
+is_end (Err failed) = false

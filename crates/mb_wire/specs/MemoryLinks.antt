@@ -2,7 +2,7 @@
 use Rattle.std.specs.Prelude.{ℕ, ◌-◌, ◌≡◌, ◌==◌, ◌||◌, min, Bool, true, is_err, if◌then◌else◌, List, [], ◌++◌, length, take, drop, Ok, Err, Some, None}
 use Rattle.std.specs.declared.result.Result.{Result}
 use Rattle.std.specs.declared.option.Option.{Option}
-use Rattle.mb_wire.specs.Links.{is_call, is_failed_give, risen}
+use Rattle.mb_wire.specs.Links.{is_call, is_end, is_failed_give, risen}
 use Rattle.mb_wire.specs.declared.link.LastTake.{LastTake}
 use Rattle.mb_wire.specs.declared.link.LinkFailed.{LinkFailed}
 use Rattle.mb_wire.specs.declared.link.Took.{Took}
@@ -19,6 +19,7 @@ pub record Memory : Type 0 where
   pub fails : Option ℕ
   pub failures : ℕ
   pub takes : ℕ
+  pub ends : ℕ
   pub last : Option LastTake
 
 -- no call was made
@@ -27,6 +28,7 @@ pub record IsFresh (link : Memory) : Type 0 where
   pub calls : link.calls ≡ 0
   pub failures : link.failures ≡ 0
   pub takes : link.takes ≡ 0
+  pub ends : link.ends ≡ 0
   pub last : link.last ≡ None
 
 -- one call more
@@ -65,6 +67,7 @@ pub record LeavesTake (old new : Memory) (room : ℕ) (answer : Result Took Link
   pub output : new.output ≡ old.output
   pub failures : new.failures ≡ risen (is_err answer) old.failures
   pub takes : new.takes ≡ risen true old.takes
+  pub ends : new.ends ≡ risen (is_end answer) old.ends
   pub last : new.last ≡ Some (record { room = room; answer = answer })
 
 -- how many more bytes may be given
@@ -83,4 +86,5 @@ pub record LeavesGive (old new : Memory) (answer : Result ℕ LinkFailed) (bytes
   pub input : new.input ≡ old.input
   pub failures : new.failures ≡ risen (is_failed_give answer bytes) old.failures
   pub takes : new.takes ≡ old.takes
+  pub ends : new.ends ≡ old.ends
   pub last : new.last ≡ old.last

@@ -1,7 +1,7 @@
 // The bytes to and from a peer.
 ghost use Rattle.std.specs.Prelude.{◌≡◌, ◌≤◌, ℕ, List, length, true, is_err, Some, None, IfOk};
 ghost use Rattle.std.specs.Io.KnownBytes.{Keeps, WriteAppends};
-ghost use Rattle.mb_wire.specs.Links.{TakeConsumes, TakesAtMost, is_failed_give, risen};
+ghost use Rattle.mb_wire.specs.Links.{TakeConsumes, TakesAtMost, is_end, is_failed_give, risen};
 ghost use Rattle.std.specs.declared.option.Option.{Option};
 ghost use Rattle.mb_wire.specs.declared.link.LastTake.{LastTake};
 
@@ -34,10 +34,12 @@ pub trait Link {
 
     ghost given: { Self → Option (List ℕ) } = { λ _. None };
 
-    // What the two counts are.
+    // How many calls failed, how many takes there were, and how many of them came to the end.
     ghost failed: { Self → ℕ };
 
     ghost taken: { Self → ℕ };
+
+    ghost ended: { Self → ℕ };
 
     // The last take, none before the first.
     ghost last: { Self → Option LastTake };
@@ -49,6 +51,7 @@ pub trait Link {
         ensures given { Keeps (given self.old) (given self.new) }
         ensures failures { failed self.new ≡ risen (is_err result) (failed self.old) }
         ensures takes { taken self.new ≡ risen true (taken self.old) }
+        ensures ends { ended self.new ≡ risen (is_end result) (ended self.old) }
         ensures last { last self.new ≡ Some (record { room = length piece.old; answer = result }) };
 
     /// Gives bytes to the peer, and says how many it took: the first so many.
@@ -59,6 +62,7 @@ pub trait Link {
         ensures failures { failed self.new ≡
             risen (is_failed_give result bytes.now) (failed self.old) }
         ensures takes { taken self.new ≡ taken self.old }
+        ensures ends { ended self.new ≡ ended self.old }
         ensures last { last self.new ≡ last self.old };
 
     /// How many calls failed: answered LinkFailed, or took nothing of what was given.

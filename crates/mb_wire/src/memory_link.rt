@@ -1,6 +1,6 @@
 // A link over slices, which fails where it is told to.
 ghost use Rattle.std.specs.Prelude.{◌≡◌, ◌≤◌, ◌+◌, ◌-◌, ◌==◌, ℕ, List, [], length, min, take, true, is_err, Some, None, IfOk};
-ghost use Rattle.mb_wire.specs.Links.{TakeConsumes, TakesAtMost, is_call, is_failed_give, risen};
+ghost use Rattle.mb_wire.specs.Links.{TakeConsumes, TakesAtMost, is_call, is_end, is_failed_give, risen};
 
 use crate::link::{LastTake, Link, LinkFailed, Took};
 use std::marker::Model;
@@ -17,6 +17,7 @@ pub struct MemoryLink<'a> {
     fails: Option<u64>,
     failures: u64,
     takes: u64,
+    ends: u64,
     last: Option<LastTake>,
 }
 
@@ -35,6 +36,7 @@ impl<'a> Model for MemoryLink<'a> {
       fails = link.fails;
       failures = link.failures;
       takes = link.takes;
+      ends = link.ends;
       last = link.last;
     } };
 
@@ -68,6 +70,7 @@ impl<'a> MemoryLink<'a> {
             fails,
             failures: 0,
             takes: 0,
+            ends: 0,
             last: None,
         }
     }
@@ -104,6 +107,7 @@ impl MemoryLink<'_> {
         ensures output { self.new.output ≡ self.old.output }
         ensures failures { self.new.failures ≡ risen (is_err result) self.old.failures }
         ensures takes { self.new.takes ≡ self.old.takes }
+        ensures ends { self.new.ends ≡ risen (is_end result) self.old.ends }
     {
         self.calls = self.calls.saturating_add(1);
         if fails_at(self.fails, self.calls) {
@@ -111,6 +115,7 @@ impl MemoryLink<'_> {
             return Err(LinkFailed);
         }
         if self.input.is_empty() {
+            self.ends = self.ends.saturating_add(1);
             return Ok(Took::End);
         }
         let count = self.piece.min(piece.len()).min(self.input.len());
@@ -131,6 +136,8 @@ impl Link for MemoryLink<'_> {
     ghost failed = { λ link. link.failures };
 
     ghost taken = { λ link. link.takes };
+
+    ghost ended = { λ link. link.ends };
 
     ghost last = { λ link. link.last };
 

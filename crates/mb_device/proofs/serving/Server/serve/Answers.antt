@@ -1,6 +1,6 @@
 use Rattle.std.proofs.Common.{rules, ◌≡◌, ◌+◌, ◌-◌, ◌^◌, min, Bool, Err, refl, sym, ap, ◌∙◌, subst, arith}
 use Rattle.mb_wire.specs.Links.{risen}
-use Rattle.mb_device.proofs.Streams.{Served-more, Served-none, Serves-end, Serves-fault, Serves-used, goes_on, has_not_failed, turn_is_no_end, turn_serves}
+use Rattle.mb_device.proofs.Streams.{Served-more, Served-none, Serves-end, Serves-fault, Serves-used, counts_no_end, goes_on, has_not_failed, turn_is_no_end, turn_serves}
 use Rattle.mb_device.specs.Serving.{Serves, around}
 use Rattle.mb_device.proofs.serving.Server.serve.Goals as goal
 
@@ -14,6 +14,7 @@ loop-turn-init g c =
       going = λ some. absurd (omega (arith, some));
       few = omega arith;
       failures = refl;
+      ends = refl;
       takes = omega arith;
       all_takes = λ _. omega arith;
     }
@@ -30,6 +31,7 @@ loop-turn-preserved g c =
       going = λ _. goes_on c.turn.result c.in_ok-turned.turned _ (c.turn.ensures.take so_far.serving) c.in_ok-turned.was c.if-turned.false;
       few = omega (arith, so_far.few, c.in_ok-turned.ensures.few);
       failures = c.in_ok-turned.ensures.failures ∙ so_far.failures;
+      ends = counts_no_end c.turn.result c.in_ok-turned.turned _ _ c.turn.ensures.ends c.in_ok-turned.was c.if-turned.false ∙ so_far.ends;
       takes = omega (arith, taken, so_far.takes);
       all_takes = λ below. omega (arith, taken, so_far.all_takes (omega arith));
     }

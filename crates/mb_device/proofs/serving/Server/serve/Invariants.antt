@@ -13,6 +13,7 @@ invariant-loop-turn g l = record {
   going : 1 ≤ l._turn → TellsTake false false (g.L.Link.last l.link);
   few : l.answered ≤ 260 * l._turn;
   failures : g.L.Link.failed l.link ≡ g.L.Link.failed l.fn.link;
+  ends : g.L.Link.ended l.link ≡ g.L.Link.ended l.fn.link;
   takes : g.L.Link.taken l.link ≤ g.L.Link.taken l.fn.link + l._turn;
   all_takes : g.L.Link.taken l.fn.link + l._turn < 2 ^ 64 → g.L.Link.taken l.link ≡ g.L.Link.taken l.fn.link + l._turn;
 }
