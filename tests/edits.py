@@ -232,8 +232,9 @@ def reason_in(said, edit):
     for name in {name for it in edit.functions for name in names_of(said, it)} & {*open_ones}:
         parts = open_ones[name].removeprefix("no proof: ").split("; ")
         own = [it for it in parts if not OF_OTHERS.fullmatch(it)]
-        proofs = "proofs/" + "/".join(name.split("::")[1:]) + "/"
-        errors = [it for it in said.lines if it.removeprefix("./").startswith(proofs) and ": error" in it]
+        # The folder of a function that calls itself begins with a plus sign.
+        proofs = r"(\./)?proofs/" + "/".join(rf"\+?{re.escape(it)}" for it in name.split("::")[1:]) + "/.*: error"
+        errors = [it for it in said.lines if re.match(proofs, it)]
         if own or errors:
             first = next((it for it in [*own, *errors] if not re.search(NAMES, it)), None)
             return f"{name}: {first or errors[0][:100] + TAKEN_AWAY}"
