@@ -12,7 +12,8 @@ use Rattle.energy_core.specs.TrueRun.{Item, newest, advance, true_steps, IsTrueR
 use Rattle.interval_core.specs.declared.shares.Share.{Share}
 use Rattle.interval_core.specs.Share.{shares_of}
 use Rattle.interval_core.specs.Account.{Touches, SharesAddUp, energy_of, starts_of}
-use Rattle.meter_journal.specs.Rows.{joined, with_shares, rows_of_steps, energy_before, advance_to, advance_past, TruthIsSpread}
+use Rattle.meter_journal.specs.Intervals.{with_shares, rows_of_steps, energy_before}
+use Rattle.meter_journal.specs.Truth.{advance_to, advance_past}
 use Rattle.meter_journal.proofs.Merging.{Among, contains_of}
 
 joined_before : (bound : ℕ) (row share : Share) (shares : List Share) (b : Bool) → row.start == share.start ≡ b
@@ -111,7 +112,11 @@ whole_run law ceiling sf first (b ∷ items) bound h =
       λ le. let all = whole_before law bound step h.0 le in let before = rest.1 (omega (arith, le, h.0)) in omega (arith, sum, all, before, on),
     )
 
-pub truth_is_spread : SharesAddUp → TruthIsSpread
+-- The rows before the beginning of an interval hold no less than the true advance up to the last item at or before it, and no
+-- more than that up to the first item at or after it.
+pub truth_is_spread : SharesAddUp → (ceiling : ℕ) (sf : ℤ) (first : Item) (items : List Item) (bound : ℕ) → IsTrueRun ceiling sf first items
+    → bound % 900 ≡ 0
+    → (advance_to sf first items bound ≤ rows_before bound sf first items) × (rows_before bound sf first items ≤ advance_past sf first items bound)
 truth_is_spread law ceiling sf first [] bound h whole = (omega arith, omega arith)
 truth_is_spread law ceiling sf first (b ∷ items) bound h whole =
     let a : Item = newest first items in
@@ -138,13 +143,3 @@ truth_is_spread law ceiling sf first (b ∷ items) bound h whole =
             omega (arith, is, all.0)
       ],
     )
-
--- ---- the rows add up to the steps
-
-joined_sum : (row share : Share) (shares : List Share) (b : Bool)
-    → energy_of (cond b (record { start = row.start; mwh = row.mwh + share.mwh } ∷ shares) (row ∷ share ∷ shares)) ≡ energy_of (row ∷ []) + energy_of (share ∷ shares)
-joined_sum row share shares true =
-    let mwh : Share → ℕ = λ r. r.mwh in
-    omega (arith, sum_by-cons mwh (record { start = row.start; mwh = row.mwh + share.mwh }) shares, sum_by-cons mwh row [], sum_by-cons mwh share shares)
-joined_sum row share shares false =
-    let mwh : Share → ℕ = λ r. r.mwh in omega (arith, sum_by-cons mwh row (share ∷ shares), sum_by-cons mwh row [])

@@ -1,46 +1,55 @@
-//! Laws of journals, over every one that may come about.
-ghost use Rattle.meter_journal.specs.Laws.{JournalsAreKept, TruthIsKept};
-ghost use Rattle.meter_journal.specs.Rows.{RowsAreAccounts, TruthIsSpread};
+//! Laws of journals, over every one that may come about. Each function's clause is the law; its body calls the law below
+//! that it stands on, or is empty.
+ghost use Rattle.meter_journal.specs.Laws.{JournalsBalance, JournalsAreKept, IntervalRowsAreAccounts, IntervalRowsAddUp, TruthIsKept, RowsStand, StandingEntriesFit, VoidsLeaveNoTrace};
 
-use energy_core::{
-    accepted_is_entered, accepted_is_plausible, accounts_are_sound, accounts_begin, accounts_go_on,
-    entered_is_booked, steps_add_up, truth_is_booked,
-};
-use interval_core::shares_add_up;
+use interval_core::{accounts_add_up, shares_add_up};
 
-/// The entries that stand have an account, whatever was voided.
+/// The energy of the entries that stand is their last value less the first, plus a full range for each recorded rollover,
+/// plus, for each change, what the counter showed before it less what it was set to.
+pub fn journals_balance()
+    ensures { JournalsBalance }
+{}
+
+/// The entries that stand have an account, whatever was voided, and their steps add up to its energy.
 pub fn journals_are_kept()
     ensures { JournalsAreKept }
+{}
+
+/// The interval rows are the account of the steps between the entries that stand: one row for each interval that a step
+/// touches, in order, with the sum of all shares there.
+pub fn interval_rows_are_accounts()
+    ensures { IntervalRowsAreAccounts }
 {
-    accounts_begin();
-    accounts_go_on();
-    accounts_are_sound();
-    accepted_is_entered();
-    entered_is_booked();
-    steps_add_up();
+    shares_add_up();
+}
+
+/// The interval rows add up to the energy of the entries that stand.
+pub fn interval_rows_add_up()
+    ensures { IntervalRowsAddUp }
+{
+    shares_add_up();
+    accounts_add_up();
 }
 
 /// Where the readings that stand and all that came after the last void are what a true run shows, none of the latter was
-/// held, and the energy is the true advance.
+/// held, and the energy is the true advance, also before the beginning of any interval but for the step that is under way.
 pub fn truth_is_kept()
     ensures { TruthIsKept }
 {
-    truth_is_booked();
-    accepted_is_plausible();
-}
-
-/// The rows of steps in time are their account: one for each interval that a step touches, in order, with the sum of all
-/// shares there.
-pub fn rows_are_accounts()
-    ensures { RowsAreAccounts }
-{
     shares_add_up();
 }
 
-/// The rows of a true run that start before the beginning of an interval hold what was counted by then, but for the step that
-/// is under way.
-pub fn truth_is_spread()
-    ensures { TruthIsSpread }
-{
-    shares_add_up();
-}
+/// The entries that stand are those that no void names.
+pub fn rows_stand()
+    ensures { RowsStand }
+{}
+
+/// Each entry that stands fits after those that stand before it.
+pub fn standing_entries_fit()
+    ensures { StandingEntriesFit }
+{}
+
+/// The entries that stand leave the same books as if nothing else had come.
+pub fn voids_leave_no_trace()
+    ensures { VoidsLeaveNoTrace }
+{}
