@@ -14,6 +14,7 @@ use Rattle.meter_journal.specs.Books.{last_after}
 use Rattle.meter_journal.specs.Journal.{Line, Entered, Held, Voided, Journal, Around, is_reading, is_closing, is_ended, standing, entries_in, entries_of, new_row, rows_of, with_rolls, rolled, struck, with_void, passed, row_at}
 use Rattle.meter_journal.specs.Fitting.{EntryFits, AreFitting}
 use Rattle.meter_journal.specs.Standing.{is_voided, entered_count, unvoided, AllStillFit}
+use Rattle.meter_journal.specs.Lists.{AreNumbered}
 use Rattle.meter_journal.specs.Laws.{RowsStand}
 use Rattle.meter_journal.proofs.Keeping.{mapped_some, rows_are_sound}
 use Rattle.meter_journal.proofs.StillFitting.{rolls_of}
@@ -256,8 +257,21 @@ stand meter whole (Entered k e ∷ lines) (row ∷ rows) h still =
 stand meter whole (Held reading cause ∷ lines) rows h still = stand meter whole lines rows h still
 stand meter whole (Voided place ∷ lines) rows h still = stand meter whole lines rows h still
 
+numbered : (whole lines : Journal) (rows : List EntryRow) → AreRowsOf whole lines rows → AreNumbered rows
+numbered whole [] [] h = tt
+numbered whole [] (row ∷ rows) h = absurd h
+numbered whole (Entered k e ∷ lines) [] h = absurd h
+numbered whole (Entered k e ∷ lines) (row ∷ rows) h =
+    (h.0.place_is ∙ ap (λ n. n + 2) (sym (count_of whole lines rows h.1)), numbered whole lines rows h.1)
+numbered whole (Held reading cause ∷ lines) rows h = numbered whole lines rows h
+numbered whole (Voided place ∷ lines) rows h = numbered whole lines rows h
+
 pub rows_stand : RowsStand
 rows_stand meter lines well h =
     let rows : List EntryRow = rows_of meter.opening lines in
     let all : AreRowsOf lines lines rows = (rows_are_entered meter lines h).rows in
-    record { count = count_of lines lines rows all; stand = stand meter lines lines rows all (rows_are_sound meter lines well.raw h).still }
+    record {
+      count = count_of lines lines rows all;
+      places = numbered lines lines rows all;
+      stand = stand meter lines lines rows all (rows_are_sound meter lines well.raw h).still;
+    }

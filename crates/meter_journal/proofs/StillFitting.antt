@@ -15,9 +15,14 @@ use Rattle.meter_journal.specs.declared.lines.EntryKind.{EntryKind}
 use Rattle.meter_journal.specs.declared.lines.EntryKind.TheVariants as kind
 use Rattle.meter_journal.specs.declared.lines.EntryRow.{EntryRow}
 use Rattle.meter_journal.specs.Books.{last_after, total_after}
-use Rattle.meter_journal.specs.Journal.{rolled}
-use Rattle.meter_journal.specs.Fitting.{reading_at, IsAcceptedAs, IsEntered, EntryFits, IsPlausibleNext, NextFits}
+use Rattle.meter_journal.specs.Journal.{is_read, rolled}
+use Rattle.meter_journal.specs.Fitting.{reading_at, IsAcceptedAs, IsEntered, EntryFits, IsPlausibleNext}
 use Rattle.meter_journal.proofs.Voiding.{Lower}
+
+-- the next entry that stands is a reading, which would have been accepted had the voided one not been; or there is none
+abbrev pub NextFits : Installed → List Entry → Option EntryRow → Type 0
+NextFits meter es None = Unit {0}
+NextFits meter es (Some next) = (is_read next.kind next.entry ≡ true) × IsPlausibleNext meter es next.entry
 
 -- a row that stands fits
 abbrev pub StandFits : Installed → List Entry → EntryRow → Type 0

@@ -1,0 +1,34 @@
+-- A meter's rows as a list keeps them: the oldest first.
+use Rattle.std.specs.Prelude.{◌≡◌, ℕ, ◌+◌, List, [], ◌∷◌, reverse, take, length, Some, if◌then◌else◌}
+use Rattle.energy_core.specs.declared.entries.Last.{Last}
+use Rattle.energy_core.specs.Account.{after}
+use Rattle.meter_journal.specs.declared.lines.EntryRow.{EntryRow}
+use Rattle.meter_journal.specs.declared.rows.FoundRow.{FoundRow}
+use Rattle.meter_journal.specs.Journal.{rolled, row_at}
+
+abbrev pub latest_first : List EntryRow → List EntryRow
+latest_first rows = reverse rows
+
+-- each row has its place: the opening has 1
+abbrev pub AreNumbered : List EntryRow → Type 0
+AreNumbered [] = Unit {0}
+AreNumbered (row ∷ rows) = (row.place ≡ length rows + 2) × AreNumbered rows
+
+-- where the counter stands behind a row, and behind rows in their order
+abbrev pub behind : Last → EntryRow → Last
+behind last row = if row.stands then after last row.entry else last
+
+abbrev pub behind_all : Last → List EntryRow → Last
+behind_all last [] = last
+behind_all last (row ∷ rows) = behind_all (behind last row) rows
+
+-- rows in their order, each reading that stands with the rollovers of its neighbour
+abbrev pub rolled_on : Last → List EntryRow → List EntryRow
+rolled_on last [] = []
+rolled_on last (row ∷ rows) = let next = rolled last row in next ∷ rolled_on (behind last next) rows
+
+-- the row at a place, those before it, and the next that stands
+abbrev pub IsFound : List EntryRow → (place : ℕ) → FoundRow → Type 0
+IsFound rows place found =
+    row_at place (latest_first rows)
+    ≡ Some (record { before = latest_first (take found.index rows); row = found.row; next = found.next })
