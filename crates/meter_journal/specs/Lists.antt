@@ -1,7 +1,9 @@
 -- A meter's rows as a list keeps them: the oldest first.
-use Rattle.std.specs.Prelude.{◌≡◌, ℕ, ◌+◌, List, [], ◌∷◌, reverse, take, length, Some, if◌then◌else◌}
+use Rattle.std.specs.Prelude.{◌≡◌, ℕ, ◌+◌, ◌*◌, ◌^◌, ◌≤◌, ◌<◌, List, [], ◌∷◌, reverse, take, length, Some, if◌then◌else◌}
 use Rattle.energy_core.specs.declared.entries.Last.{Last}
-use Rattle.energy_core.specs.Account.{after}
+use Rattle.energy_core.specs.declared.entries.Entry.{Entry}
+use Rattle.energy_core.specs.Account.{after, energy_of, IsScale, Follows}
+use Rattle.meter_journal.specs.declared.lines.Installed.{Installed}
 use Rattle.meter_journal.specs.declared.lines.EntryRow.{EntryRow}
 use Rattle.meter_journal.specs.declared.rows.FoundRow.{FoundRow}
 use Rattle.meter_journal.specs.Journal.{rolled, row_at}
@@ -26,6 +28,14 @@ behind_all last (row ∷ rows) = behind_all (behind last row) rows
 abbrev pub rolled_on : Last → List EntryRow → List EntryRow
 rolled_on last [] = []
 rolled_on last (row ∷ rows) = let next = rolled last row in next ∷ rolled_on (behind last next) rows
+
+-- an entry may be booked where the counter stands, with so much energy booked before
+pub record MayGoOn (meter : Installed) (last : Last) (total : ℕ) (e : Entry) : Type 0 where
+  pub booked : total ≤ 4 * 10 ^ 18
+  pub raw : last.raw < meter.range
+  pub scale : IsScale last.sf
+  pub follows : Follows meter.range last e
+  pub within : total + energy_of meter.range last e ≤ 4 * 10 ^ 18
 
 -- the row at a place, those before it, and the next that stands
 abbrev pub IsFound : List EntryRow → (place : ℕ) → FoundRow → Type 0
