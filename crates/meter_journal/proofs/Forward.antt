@@ -1,13 +1,12 @@
 -- Rows in a list, the oldest first, against rows with the latest first.
-use Rattle.std.proofs.Common.{◌≡◌, ℕ, zero, suc, ◌+◌, ◌-◌, ◌<◌, ◌≤◌, ◌==◌, Bool, true, false, cond, List, [], ◌∷◌, ◌++◌, map, reverse, take, drop, length, get_or, set, refl, sym, ap, subst, ◌∙◌, inl, inr, ◌⊎◌, Option, Some, None, arith, append_assoc, eq-eqb}
+use Rattle.std.proofs.Common.{◌≡◌, ℕ, zero, suc, ◌+◌, ◌<◌, ◌≤◌, ◌==◌, Bool, true, false, cond, List, [], ◌∷◌, ◌++◌, map, reverse, take, drop, length, get_or, set, refl, sym, ap, subst, ◌∙◌, inl, inr, ◌⊎◌, Option, Some, None, arith, append_assoc, eq-eqb}
 use Rattle.std.specs.List.{find}
 use Rattle.std.specs.Option.{option_map, option_or}
 use Rattle.std.proofs.lemmas.Bool.{cases_Bool, cond-true, cond-false}
 use Rattle.std.proofs.lemmas.Bool.Decides.{nat_tests}
-use Rattle.std.proofs.lemmas.List.{append-nil, reverse-append, length-reverse, length-append, length-take-le, take-append-drop, take_more, take_more_set, take-set, drop_more, drop-set-lt, drop_all, take_all}
+use Rattle.std.proofs.lemmas.List.{append-nil, reverse-append, length-reverse, take-append-drop, take_more_set, drop_more, drop-set-lt, drop_all, take_all}
 use Rattle.energy_core.specs.declared.entries.Last.{Last}
-use Rattle.energy_core.specs.declared.entries.Entry.{Entry}
-use Rattle.energy_core.specs.Account.{after, last_of}
+use Rattle.energy_core.specs.Account.{last_of}
 use Rattle.meter_journal.specs.declared.lines.EntryRow.{EntryRow}
 use Rattle.meter_journal.specs.Journal.{Around, standing, entries_in, rolled, struck, with_void, if_standing, passed, row_at}
 use Rattle.meter_journal.specs.Lists.{latest_first, AreNumbered, behind, behind_all, rolled_on}

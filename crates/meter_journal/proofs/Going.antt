@@ -1,11 +1,11 @@
 -- Books that go on from row to row.
-use Rattle.std.proofs.Common.{◌≡◌, ℕ, zero, suc, ◌+◌, ◌-◌, ◌*◌, ◌^◌, ◌<◌, ◌≤◌, ◌==◌, Bool, true, false, cond, List, [], ◌∷◌, ◌++◌, reverse, take, drop, length, get_or, set, refl, sym, ap, subst, ◌∙◌, inl, inr, Ok, arith}
+use Rattle.std.proofs.Common.{◌≡◌, ℕ, ◌+◌, ◌*◌, ◌^◌, ◌<◌, ◌≤◌, true, false, List, [], ◌∷◌, ◌++◌, reverse, take, drop, length, get_or, refl, sym, ap, subst, ◌∙◌, inl, inr, arith}
 use Rattle.std.proofs.lemmas.Bool.{cases_Bool}
-use Rattle.std.proofs.lemmas.List.{append-nil, reverse-append, take-append-drop, take_more, take_all}
+use Rattle.std.proofs.lemmas.List.{reverse-append, take-append-drop, take_more, take_all}
 use Rattle.energy_core.specs.declared.entries.Last.{Last}
 use Rattle.energy_core.specs.declared.entries.Step.{Step}
 use Rattle.energy_core.specs.declared.entries.Entry.{Entry}
-use Rattle.energy_core.specs.Account.{after, step_to, energy_of, AllFollow}
+use Rattle.energy_core.specs.Account.{after, step_to, energy_of}
 use Rattle.energy_core.proofs.Soundness.{accounts_are_sound}
 use Rattle.meter_journal.specs.declared.lines.Installed.{Installed}
 use Rattle.meter_journal.specs.declared.lines.EntryRow.{EntryRow}
@@ -108,8 +108,8 @@ shares_next meter rows i d last shares next step lt on last_is shares_is step_is
     let e : Entry = (get_or rows i d).entry in
     let es : List Entry = earlier rows i in
     next_is ∙ ap (λ (ss : List Share). with_shares ss (shares_of step)) shares_is
-        ∙ ap (λ (s : Step). with_shares (rows_of_steps (steps_after meter es)) (shares_of s)) (step_is ∙ ap (λ (l : Last). step_to meter.range l e) last_is)
-        ∙ ap (λ (xs : List Entry). rows_of_steps (steps_after meter xs)) (sym (earlier_standing rows i d lt on))
+    ∙ ap (λ (s : Step). with_shares (rows_of_steps (steps_after meter es)) (shares_of s)) (step_is ∙ ap (λ (l : Last). step_to meter.range l e) last_is)
+    ∙ ap (λ (xs : List Entry). rows_of_steps (steps_after meter xs)) (sym (earlier_standing rows i d lt on))
 
 -- there is room for the next step's energy
 pub shares_within : SharesAddUp → (meter : Installed) (rows : List EntryRow) (i : ℕ) (d : EntryRow) (last : Last) (total : ℕ) (shares : List Share) (step : Step)

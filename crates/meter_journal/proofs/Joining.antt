@@ -1,6 +1,6 @@
 -- Shares joined one by one.
-use Rattle.std.proofs.Common.{◌≡◌, ℕ, zero, suc, ◌+◌, ◌-◌, ◌*◌, ◌^◌, ◌<◌, ◌≤◌, ◌==◌, Bool, true, false, cond, List, [], ◌∷◌, ◌++◌, length, get_or, set, refl, sym, ap, ◌∙◌, inl, inr, arith, eq-eqb}
-use Rattle.std.proofs.lemmas.Bool.{cases_Bool, cond-true, cond-false, eqb-true}
+use Rattle.std.proofs.Common.{◌≡◌, ℕ, zero, suc, ◌+◌, ◌<◌, ◌≤◌, ◌==◌, Bool, true, false, cond, List, [], ◌∷◌, ◌++◌, length, get_or, set, refl, sym, ap, ◌∙◌, arith, eq-eqb}
+use Rattle.std.proofs.lemmas.Bool.{cond-true, cond-false, eqb-true}
 use Rattle.std.proofs.lemmas.Bool.Decides.{nat_tests}
 use Rattle.std.proofs.lemmas.List.Sums.{sum_by-cons}
 use Rattle.energy_core.specs.declared.entries.Entry.{Entry}
@@ -23,7 +23,7 @@ pub joined_same : (rows : List Share) (n : ℕ) (row share : Share) → length r
 joined_same [] n row share long is at = absurd (omega (arith, long))
 joined_same (first ∷ []) zero row share long is at =
     ap (λ (r : Share). record { start = r.start; mwh = r.mwh + share.mwh } ∷ []) (sym is)
-        ∙ sym (cond-true _ _ _ (eq-eqb first.start share.start (ap (λ (r : Share). r.start) is ∙ at)))
+    ∙ sym (cond-true _ _ _ (eq-eqb first.start share.start (ap (λ (r : Share). r.start) is ∙ at)))
 joined_same (first ∷ []) (suc n) row share long is at = absurd (omega (arith, long))
 joined_same (first ∷ next ∷ rows) zero row share long is at = absurd (omega (arith, long))
 joined_same (first ∷ next ∷ rows) (suc n) row share long is at =
@@ -90,7 +90,7 @@ one_by_one [] share shares rising = behind_row share shares rising.0
 one_by_one (row ∷ []) share shares rising = joined_first row share shares (row.start == share.start) refl rising
 one_by_one (row ∷ next ∷ rows) share shares rising =
     ahead row (with_shares (next ∷ rows) (share ∷ [])) shares (some_rows (next ∷ rows) share)
-        ∙ ap (λ rs. row ∷ rs) (one_by_one (next ∷ rows) share shares rising)
+    ∙ ap (λ rs. row ∷ rs) (one_by_one (next ∷ rows) share shares rising)
 
 pub all_joined : (rows shares : List Share) → Rising shares → joined_all rows shares ≡ with_shares rows shares
 all_joined rows [] rising = sym (no_shares rows)

@@ -87,9 +87,9 @@ pub fn interval_rows(
         total: 0,
     };
     let mut shares = Vec::new(alloc);
-    for row in rows {
-        if row.stands {
-            let step = go_on(meter, &mut tally, &row.entry);
+    for entered in rows {
+        if entered.stands {
+            let step = go_on(meter, &mut tally, &entered.entry);
             append_shares(&mut shares, &step)?;
         }
     }

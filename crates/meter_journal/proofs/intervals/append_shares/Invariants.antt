@@ -1,4 +1,4 @@
-use Rattle.std.proofs.Common.{◌≡◌, ◌+◌, ◌*◌, ◌^◌, ◌≤◌, length}
+use Rattle.std.proofs.Common.{◌≡◌, ◌+◌, ◌*◌, ◌^◌, ◌≤◌}
 use Rattle.interval_core.specs.Share.{shares_of}
 use Rattle.interval_core.specs.Account.{energy_of}
 use Rattle.meter_journal.proofs.Joining.{joined_all}
