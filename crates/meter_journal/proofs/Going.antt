@@ -1,23 +1,25 @@
 -- Books that go on from row to row.
-use Rattle.std.proofs.Common.{◌≡◌, ℕ, ◌+◌, ◌*◌, ◌^◌, ◌<◌, ◌≤◌, true, false, List, [], ◌∷◌, ◌++◌, reverse, take, drop, length, get_or, refl, sym, ap, subst, ◌∙◌, inl, inr, arith}
-use Rattle.std.proofs.lemmas.Bool.{cases_Bool}
+use Rattle.std.proofs.Common.{◌≡◌, ℕ, ◌+◌, ◌*◌, ◌^◌, ◌<◌, ◌≤◌, true, false, List, [], ◌∷◌, ◌++◌, reverse, take, drop, length, get_or, refl, sym, ap, subst, ◌∙◌, inl, inr, arith, Some, None}
+use Rattle.std.proofs.lemmas.Bool.{cases_Bool, cond-true, cond-false}
+use Rattle.std.proofs.lemmas.Option.{same_Some}
 use Rattle.std.proofs.lemmas.List.{reverse-append, take-append-drop, take_more, take_all}
 use Rattle.energy_core.specs.declared.entries.Last.{Last}
 use Rattle.energy_core.specs.declared.entries.Step.{Step}
 use Rattle.energy_core.specs.declared.entries.Entry.{Entry}
-use Rattle.energy_core.specs.Account.{after, step_to, energy_of}
+use Rattle.energy_core.specs.Account.{step_to, energy_of}
 use Rattle.energy_core.proofs.Soundness.{accounts_are_sound}
 use Rattle.meter_journal.specs.declared.lines.Installed.{Installed}
 use Rattle.meter_journal.specs.declared.lines.EntryRow.{EntryRow}
 use Rattle.meter_journal.specs.Books.{last_after, total_after, steps_after, HasAccount, IsWellInstalled}
 use Rattle.meter_journal.specs.Journal.{entries_in}
-use Rattle.meter_journal.specs.Lists.{latest_first, MayGoOn}
+use Rattle.meter_journal.specs.Lists.{latest_first, behind, step_past, energy_past, MayGoOn}
 use Rattle.interval_core.specs.declared.shares.Share.{Share}
 use Rattle.interval_core.specs.Share.{shares_of}
 use Rattle.interval_core.specs.Account.{SharesAddUp, energy_of as energy_in}
 use Rattle.meter_journal.specs.Intervals.{with_shares, rows_of_steps}
 use Rattle.meter_journal.proofs.Voiding.{whole_with}
 use Rattle.meter_journal.proofs.Joining.{energy_is_total}
+use Rattle.meter_journal.proofs.Forward.{last_on}
 use Rattle.meter_journal.proofs.Keeping.{entries_standing, entries_struck}
 
 account_tail : (meter : Installed) (e : Entry) (es : List Entry) → HasAccount meter (e ∷ es) → HasAccount meter es
@@ -81,23 +83,49 @@ may_go_on meter rows i d last total well h lt on last_is total_is =
     subst (λ (l : Last). MayGoOn meter l total e) (sym last_is) (subst (λ n. MayGoOn meter (last_after meter es) n e) (sym total_is) may)
 
 -- the tally behind one more row
-pub last_next : (meter : Installed) (rows : List EntryRow) (i : ℕ) (d : EntryRow) (last next : Last) → i < length rows → (get_or rows i d).stands ≡ true
-    → last ≡ last_after meter (earlier rows i) → next ≡ after last (get_or rows i d).entry → next ≡ last_after meter (earlier rows (i + 1))
-last_next meter rows i d last next lt on last_is next_is =
-    next_is ∙ ap (λ (l : Last). after l (get_or rows i d).entry) last_is ∙ ap (last_after meter) (sym (earlier_standing rows i d lt on))
+pub last_next : (meter : Installed) (rows : List EntryRow) (i : ℕ) (d : EntryRow) (last next : Last) → i < length rows
+    → last ≡ last_after meter (earlier rows i) → next ≡ behind last (get_or rows i d) → next ≡ last_after meter (earlier rows (i + 1))
+last_next meter rows i d last next lt last_is next_is =
+    next_is ∙ ap (λ (l : Last). behind l (get_or rows i d)) last_is
+    ∙ sym (last_on meter.opening (get_or rows i d) (reverse (take i rows)))
+    ∙ ap (λ (rs : List EntryRow). last_after meter (entries_in rs)) (sym (turned rows i d lt))
 
-pub total_next : (meter : Installed) (rows : List EntryRow) (i : ℕ) (d : EntryRow) (last : Last) (total next : ℕ) (step : Step)
-    → HasAccount meter (entries_in (latest_first rows)) → i < length rows → (get_or rows i d).stands ≡ true
+pub total_next : (meter : Installed) (rows : List EntryRow) (i : ℕ) (d : EntryRow) (last : Last) (total next : ℕ)
+    → HasAccount meter (entries_in (latest_first rows)) → i < length rows
     → last ≡ last_after meter (earlier rows i) → total ≡ total_after meter (earlier rows i)
-    → step ≡ step_to meter.range last (get_or rows i d).entry → next ≡ total + step.mwh → next ≡ total_after meter (earlier rows (i + 1))
-total_next meter rows i d last total next step h lt on last_is total_is step_is next_is =
-    let e : Entry = (get_or rows i d).entry in
+    → next ≡ total + energy_past meter.range last (get_or rows i d) → next ≡ total_after meter (earlier rows (i + 1))
+total_next meter rows i d last total next h lt last_is total_is next_is =
+    let row : EntryRow = get_or rows i d in
     let es : List Entry = earlier rows i in
-    let energy : step.mwh ≡ energy_of meter.range (last_after meter es) e =
-    ap (λ (s : Step). s.mwh) step_is ∙ ap (λ (l : Last). energy_of meter.range l e) last_is in
-    let more : next ≡ total_after meter (e ∷ es) =
-    omega (arith, next_is, total_is, energy, whole_with meter e es (account_next meter rows i d h lt on).follow) in
-    more ∙ ap (total_after meter) (sym (earlier_standing rows i d lt on))
+    let gain : energy_past meter.range last row ≡ energy_past meter.range (last_after meter es) row = ap (λ (l : Last). energy_past meter.range l row) last_is in
+    elim (cases_Bool row.stands) [
+      | inl on ↦
+          let energy : energy_past meter.range (last_after meter es) row ≡ energy_of meter.range (last_after meter es) row.entry = cond-true _ _ _ on in
+          let more : next ≡ total_after meter (row.entry ∷ es) =
+          omega (arith, next_is, total_is, gain, energy, whole_with meter row.entry es (account_next meter rows i d h lt on).follow) in
+          more ∙ ap (total_after meter) (sym (earlier_standing rows i d lt on))
+      | inr off ↦
+          let energy : energy_past meter.range (last_after meter es) row ≡ 0 = cond-false _ _ _ off in
+          let more : next ≡ total_after meter es = omega (arith, next_is, total_is, gain, energy) in
+          more ∙ ap (total_after meter) (sym (earlier_struck rows i d lt off))
+    ]
+
+-- where there is a step, the row stands; where there is none, it does not
+pub step_is : (range : ℕ) (rows : List EntryRow) (i : ℕ) (d : EntryRow) (last : Last) (step : Step) → Some step ≡ step_past range last (get_or rows i d)
+    → ((get_or rows i d).stands ≡ true) × (step ≡ step_to range last (get_or rows i d).entry)
+step_is range rows i d last step is =
+    elim (cases_Bool (get_or rows i d).stands) [
+      | inl on ↦ (on, same_Some _ _ (is ∙ cond-true _ _ _ on))
+      | inr off ↦ absurd (let e : Some step ≡ None = is ∙ cond-false _ _ _ off in cc)
+    ]
+
+pub no_step : (range : ℕ) (rows : List EntryRow) (i : ℕ) (d : EntryRow) (last : Last) → None ≡ step_past range last (get_or rows i d)
+    → (get_or rows i d).stands ≡ false
+no_step range rows i d last is =
+    elim (cases_Bool (get_or rows i d).stands) [
+      | inl on ↦ absurd (let e : None ≡ Some (step_to range last (get_or rows i d).entry) = is ∙ cond-true _ _ _ on in cc)
+      | inr off ↦ off
+    ]
 
 -- the interval rows behind one more row
 pub shares_next : (meter : Installed) (rows : List EntryRow) (i : ℕ) (d : EntryRow) (last : Last) (shares next : List Share) (step : Step)

@@ -1,8 +1,9 @@
 -- A meter's rows as a list keeps them: the oldest first.
-use Rattle.std.specs.Prelude.{◌≡◌, ℕ, ◌+◌, ◌*◌, ◌^◌, ◌≤◌, ◌<◌, List, [], ◌∷◌, reverse, take, length, Some, if◌then◌else◌}
+use Rattle.std.specs.Prelude.{◌≡◌, ℕ, ◌+◌, ◌*◌, ◌^◌, ◌≤◌, ◌<◌, List, [], ◌∷◌, reverse, take, length, Option, Some, None, if◌then◌else◌}
 use Rattle.energy_core.specs.declared.entries.Last.{Last}
 use Rattle.energy_core.specs.declared.entries.Entry.{Entry}
-use Rattle.energy_core.specs.Account.{after, energy_of, IsScale, Follows}
+use Rattle.energy_core.specs.declared.entries.Step.{Step}
+use Rattle.energy_core.specs.Account.{after, energy_of, step_to, IsScale, Follows}
 use Rattle.meter_journal.specs.declared.lines.Installed.{Installed}
 use Rattle.meter_journal.specs.declared.lines.EntryRow.{EntryRow}
 use Rattle.meter_journal.specs.declared.rows.FoundRow.{FoundRow}
@@ -23,6 +24,13 @@ behind last row = if row.stands then after last row.entry else last
 abbrev pub behind_all : Last → List EntryRow → Last
 behind_all last [] = last
 behind_all last (row ∷ rows) = behind_all (behind last row) rows
+
+-- the step to a row, and its energy, from where the counter stood; a struck one has none
+abbrev pub step_past : (range : ℕ) → Last → EntryRow → Option Step
+step_past range last row = if row.stands then Some (step_to range last row.entry) else None
+
+abbrev pub energy_past : (range : ℕ) → Last → EntryRow → ℕ
+energy_past range last row = if row.stands then energy_of range last row.entry else 0
 
 -- rows in their order, each reading that stands with the rollovers of its neighbour
 abbrev pub rolled_on : Last → List EntryRow → List EntryRow

@@ -1,5 +1,5 @@
 //! A meter's books, anew from the rows that stand.
-ghost use Rattle.std.specs.Prelude.{◌≡◌, ◌+◌, ◌*◌, ◌^◌, ◌≤◌, ◌<◌, IfOk};
+ghost use Rattle.std.specs.Prelude.{◌≡◌, ◌+◌, ◌*◌, ◌^◌, ◌≤◌, ◌<◌, true, IfOk};
 ghost use Rattle.energy_core.specs.Account as account;
 ghost use Rattle.meter_journal.specs.Books as books;
 ghost use Rattle.meter_journal.specs.Journal.{entries_in};
@@ -45,6 +45,23 @@ fn go_on(meter: &Installed, tally: &mut Tally, entry: &Entry) -> Step
     }
 }
 
+/// Goes on by a row, and answers the step to it. One that was struck changes nothing, and has none.
+fn go_past(meter: &Installed, tally: &mut Tally, row: &EntryRow) -> Option<Step>
+    requires range_low { 65536 ≤ meter.now.range }
+    requires range_high { meter.now.range ≤ 4294967296 }
+    requires follows { let entry = row.now.entry in
+        row.now.stands ≡ true → lists.MayGoOn meter.now tally.old.last tally.old.total entry }
+    ensures step { result ≡ lists.step_past meter.now.range tally.old.last row.now }
+    ensures last { tally.new.last ≡ lists.behind tally.old.last row.now }
+    ensures total { let gain = lists.energy_past meter.now.range tally.old.last row.now in
+        tally.new.total ≡ tally.old.total + gain }
+{
+    if !row.stands {
+        return None;
+    }
+    Some(go_on(meter, tally, &row.entry))
+}
+
 /// The tally behind these rows.
 pub fn tally_behind(meter: &Installed, rows: &[EntryRow]) -> Tally
     requires range_low { 65536 ≤ meter.now.range }
@@ -61,9 +78,7 @@ pub fn tally_behind(meter: &Installed, rows: &[EntryRow]) -> Tally
         total: 0,
     };
     for row in rows {
-        if row.stands {
-            let _step = go_on(meter, &mut tally, &row.entry);
-        }
+        let _step = go_past(meter, &mut tally, row);
     }
     tally
 }
@@ -87,9 +102,8 @@ pub fn interval_rows(
         total: 0,
     };
     let mut shares = Vec::new(alloc);
-    for entered in rows {
-        if entered.stands {
-            let step = go_on(meter, &mut tally, &entered.entry);
+    for row in rows {
+        if let Some(step) = go_past(meter, &mut tally, row) {
             append_shares(&mut shares, &step)?;
         }
     }

@@ -5,9 +5,9 @@ use Rattle.meter_journal.specs.Journal.{entries_in}
 use Rattle.meter_journal.specs.Lists.{latest_first}
 use Rattle.meter_journal.proofs.books.interval_rows.Given as goal
 
-abbrev pub invariant-loop-entered : goal.invariant-loop-entered
-invariant-loop-entered l = record {
-  last : l.tally.last ≡ last_after l.meter (entries_in (latest_first (take l.entered-index l.rows)));
-  total : l.tally.total ≡ total_after l.meter (entries_in (latest_first (take l.entered-index l.rows)));
-  shares : l.shares.items ≡ rows_of_steps (steps_after l.meter (entries_in (latest_first (take l.entered-index l.rows))));
+abbrev pub invariant-loop-row : goal.invariant-loop-row
+invariant-loop-row l = record {
+  last : l.tally.last ≡ last_after l.meter (entries_in (latest_first (take l.row-index l.rows)));
+  total : l.tally.total ≡ total_after l.meter (entries_in (latest_first (take l.row-index l.rows)));
+  shares : l.shares.items ≡ rows_of_steps (steps_after l.meter (entries_in (latest_first (take l.row-index l.rows))));
 }
