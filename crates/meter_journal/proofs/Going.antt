@@ -2,7 +2,7 @@
 use Rattle.std.proofs.Common.{◌≡◌, ℕ, ◌+◌, ◌*◌, ◌^◌, ◌<◌, ◌≤◌, true, false, List, [], ◌∷◌, ◌++◌, reverse, take, drop, length, get_or, refl, sym, ap, subst, ◌∙◌, inl, inr, arith, Some, None}
 use Rattle.std.proofs.lemmas.Bool.{cases_Bool, cond-true, cond-false}
 use Rattle.std.proofs.lemmas.Option.{same_Some}
-use Rattle.std.proofs.lemmas.List.{reverse-append, take-append-drop, take_more, take_all}
+use Rattle.std.proofs.lemmas.List.{reverse-append, take-append-drop, take_all}
 use Rattle.energy_core.specs.declared.entries.Last.{Last}
 use Rattle.energy_core.specs.declared.entries.Step.{Step}
 use Rattle.energy_core.specs.declared.entries.Entry.{Entry}
@@ -19,7 +19,7 @@ use Rattle.interval_core.specs.Account.{SharesAddUp, energy_of as energy_in}
 use Rattle.meter_journal.specs.Intervals.{with_shares, rows_of_steps}
 use Rattle.meter_journal.proofs.Voiding.{whole_with}
 use Rattle.meter_journal.proofs.Joining.{energy_is_total}
-use Rattle.meter_journal.proofs.Forward.{last_on}
+use Rattle.meter_journal.proofs.Forward.{turned, last_more}
 use Rattle.meter_journal.proofs.Keeping.{entries_standing, entries_struck}
 
 account_tail : (meter : Installed) (e : Entry) (es : List Entry) → HasAccount meter (e ∷ es) → HasAccount meter es
@@ -43,9 +43,6 @@ account_at meter rows i h =
     let split : reverse rows ≡ reverse (drop i rows) ++ reverse (take i rows) =
     ap (λ (rs : List EntryRow). reverse rs) (sym (take-append-drop i rows)) ∙ reverse-append (take i rows) (drop i rows) in
     account_below meter (reverse (drop i rows)) (reverse (take i rows)) (subst (λ (rs : List EntryRow). HasAccount meter (entries_in rs)) split h)
-
-turned : (rows : List EntryRow) (i : ℕ) (d : EntryRow) → i < length rows → reverse (take (i + 1) rows) ≡ get_or rows i d ∷ reverse (take i rows)
-turned rows i d lt = ap (λ (rs : List EntryRow). reverse rs) (take_more rows i d lt) ∙ reverse-append (take i rows) (get_or rows i d ∷ [])
 
 -- one more row that stands, and one that does not
 pub earlier_standing : (rows : List EntryRow) (i : ℕ) (d : EntryRow) → i < length rows → (get_or rows i d).stands ≡ true
@@ -86,9 +83,7 @@ may_go_on meter rows i d last total well h lt on last_is total_is =
 pub last_next : (meter : Installed) (rows : List EntryRow) (i : ℕ) (d : EntryRow) (last next : Last) → i < length rows
     → last ≡ last_after meter (earlier rows i) → next ≡ behind last (get_or rows i d) → next ≡ last_after meter (earlier rows (i + 1))
 last_next meter rows i d last next lt last_is next_is =
-    next_is ∙ ap (λ (l : Last). behind l (get_or rows i d)) last_is
-    ∙ sym (last_on meter.opening (get_or rows i d) (reverse (take i rows)))
-    ∙ ap (λ (rs : List EntryRow). last_after meter (entries_in rs)) (sym (turned rows i d lt))
+    last_more meter.opening rows i d last next lt last_is next_is
 
 pub total_next : (meter : Installed) (rows : List EntryRow) (i : ℕ) (d : EntryRow) (last : Last) (total next : ℕ)
     → HasAccount meter (entries_in (latest_first rows)) → i < length rows

@@ -17,13 +17,9 @@ abbrev pub AreNumbered : List EntryRow → Type 0
 AreNumbered [] = Unit {0}
 AreNumbered (row ∷ rows) = (row.place ≡ length rows + 2) × AreNumbered rows
 
--- where the counter stands behind a row, and behind rows in their order
+-- where the counter stands behind a row
 abbrev pub behind : Last → EntryRow → Last
 behind last row = if row.stands then after last row.entry else last
-
-abbrev pub behind_all : Last → List EntryRow → Last
-behind_all last [] = last
-behind_all last (row ∷ rows) = behind_all (behind last row) rows
 
 -- the step to a row, and its energy, from where the counter stood; a struck one has none
 abbrev pub step_past : (range : ℕ) → Last → EntryRow → Option Step
