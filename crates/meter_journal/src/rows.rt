@@ -1,0 +1,173 @@
+//! A meter's rows in a list, the oldest first.
+ghost use Rattle.std.specs.Prelude.{◌≡◌, ◌+◌, ◌≤◌, ◌<◌, ◌++◌, length, take, drop, find, IfSome, IfNone, None};
+ghost use Rattle.energy_core.specs.Account.{last_of};
+ghost use Rattle.meter_journal.specs.Journal as journal;
+ghost use Rattle.meter_journal.specs.Fitting as fitting;
+ghost use Rattle.meter_journal.specs.Lists as lists;
+
+use crate::lines::{EntryKind, EntryRow};
+use energy_core::{Entry, Last};
+
+/// The row of a new entry behind these.
+pub fn row_behind(rows: &[EntryRow], kind: EntryKind, entry: Entry) -> EntryRow
+    ensures { result ≡ journal.new_row rows.now kind entry }
+{
+    EntryRow {
+        place: rows.len() as u64 + 2,
+        kind,
+        entry,
+        stands: true,
+    }
+}
+
+/// Whether entries of this kind are readings.
+fn is_reading(kind: EntryKind) -> bool
+    ensures { result ≡ journal.is_reading kind }
+{
+    match kind {
+        EntryKind::Reading => true,
+        EntryKind::Manual | EntryKind::Closing | EntryKind::Reset | EntryKind::Rescale => false,
+    }
+}
+
+/// Whether a row is that of an accepted reading.
+fn is_read(row: &EntryRow) -> bool
+    ensures { result ≡ journal.is_read row.now.kind row.now.entry }
+{
+    match row.entry {
+        Entry::Step { .. } => is_reading(row.kind),
+        Entry::Change { .. } => false,
+    }
+}
+
+/// Whether a row may be voided, as far as its kind and that of the next row that stands go.
+pub fn is_voidable(row: &EntryRow, next: &Option<EntryRow>) -> bool
+    ensures { result ≡ fitting.is_voidable row.now next.now }
+{
+    let is_free = match next {
+        Some(next) => is_read(next),
+        None => true,
+    };
+    row.stands && is_read(row) && is_free
+}
+
+/// Where the counter stands behind a row. One that was struck changes nothing.
+fn behind(last: &Last, row: &EntryRow) -> Last
+    ensures { result ≡ lists.behind last.now row.now }
+{
+    if !row.stands {
+        return *last;
+    }
+    match row.entry {
+        Entry::Step { at, raw, .. } => Last {
+            at,
+            raw,
+            sf: last.sf,
+        },
+        Entry::Change { at, after, sf, .. } => Last { at, raw: after, sf },
+    }
+}
+
+/// Where the counter stands behind these rows.
+pub fn last_behind(opening: &Last, rows: &[EntryRow]) -> Last
+    ensures { let es = journal.entries_in (lists.latest_first rows.now) in
+        result ≡ last_of opening.now es }
+{
+    let mut last = *opening;
+    for row in rows {
+        last = behind(&last, row);
+    }
+    last
+}
+
+/// An entry with the rollovers that its neighbour gives it.
+fn with_rolls(last: &Last, entry: &Entry) -> Entry
+    ensures { result ≡ journal.with_rolls last.now entry.now }
+{
+    match *entry {
+        Entry::Step { at, raw, .. } => Entry::Step {
+            at,
+            raw,
+            rolls: u8::from(raw < last.raw),
+        },
+        Entry::Change { .. } => *entry,
+    }
+}
+
+/// A row behind where the counter stands: a reading that stands takes the rollovers of its neighbour.
+fn rolled(last: &Last, row: &EntryRow) -> EntryRow
+    ensures { result ≡ journal.rolled last.now row.now }
+{
+    let mut next = *row;
+    if row.stands && is_reading(row.kind) {
+        next.entry = with_rolls(last, &row.entry);
+    }
+    next
+}
+
+/// Gives the readings from an index on, if they stand, the rollovers of their neighbours.
+fn roll_on(last: &Last, rows: &mut [EntryRow], from: usize)
+    requires { from ≤ length rows.old }
+    ensures { rows.new ≡ take from rows.old ++ lists.rolled_on last.now (drop from rows.old) }
+{
+    let mut stand = *last;
+    for i in from..rows.len() {
+        let row = rolled(&stand, &rows[i]);
+        rows[i] = row;
+        stand = behind(&stand, &row);
+    }
+}
+
+/// Voids the entry at a place: its row is struck, and the readings after it take the rollovers of their neighbours.
+pub fn strike(opening: &Last, rows: &mut [EntryRow], place: u64)
+    requires numbered { lists.AreNumbered (lists.latest_first rows.old) }
+    requires after_the_opening { 2 ≤ place }
+    requires there { place < length rows.old + 2 }
+    ensures { let before = lists.latest_first rows.old in
+        lists.latest_first rows.new ≡ journal.with_void opening.now place before }
+{
+    let index = (place - 2) as usize;
+    let last = last_behind(opening, &rows[..index]);
+    let mut row = rows[index];
+    row.stands = false;
+    rows[index] = row;
+    roll_on(&last, rows, index + 1);
+}
+
+/// A row that was looked for, its index in the list, and the next row that stands.
+#[derive(Clone, Copy, Debug, PartialEq, Eq)]
+pub struct FoundRow {
+    pub index: usize,
+    pub row: EntryRow,
+    pub next: Option<EntryRow>,
+}
+
+/// The first row from an index on that stands.
+fn next_standing(rows: &[EntryRow], from: usize) -> Option<EntryRow>
+    requires { from ≤ length rows.now }
+    ensures { result ≡ find (λ row. row.stands) (drop from rows.now) }
+{
+    for row in &rows[from..] {
+        if row.stands {
+            return Some(*row);
+        }
+    }
+    None
+}
+
+/// The row at a place. It is found by its number, without a search.
+pub fn find_row(rows: &[EntryRow], place: u64) -> Option<FoundRow>
+    requires { lists.AreNumbered (lists.latest_first rows.now) }
+    ensures missing { IfNone result (journal.row_at place (lists.latest_first rows.now) ≡ None) }
+    ensures found { IfSome result (lists.IsFound rows.now place) }
+{
+    if place < 2 || place - 2 >= rows.len() as u64 {
+        return None;
+    }
+    let index = (place - 2) as usize;
+    Some(FoundRow {
+        index,
+        row: rows[index],
+        next: next_standing(rows, index + 1),
+    })
+}
