@@ -1,3 +1,4 @@
 pub mod Gathering
 pub mod Streams
 pub mod Examples
+pub mod Exchanging

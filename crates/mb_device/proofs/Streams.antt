@@ -14,12 +14,13 @@ use Rattle.mb_wire.specs.declared.frames.Frame.{Frame}
 use Rattle.mb_wire.specs.declared.frames.Framing.{Framing}
 use Rattle.mb_wire.specs.declared.frames.Framing.TheVariants.{Need, Whole, Foreign, Garbled}
 use Rattle.mb_wire.specs.Links.{TakeConsumes}
+use Rattle.mb_wire.specs.declared.link.LastTake.{LastTake}
 use Rattle.mb_wire.specs.declared.link.Took.{Took}
 use Rattle.mb_wire.specs.declared.link.Took.TheVariants as took
 use Rattle.mb_wire.proofs.Readings.{AllByRecursion-append, Reads-is, Reads-only, span_of-append}
 use Rattle.mb_device.specs.Maps.{Maps}
 use Rattle.mb_device.specs.Device.{answer_to, maps_after}
-use Rattle.mb_device.specs.Serving.{AllAnswered, Answered, Around, BrokenOff, Gives, HeldTells, PieceTells, ServeTells, Served, Serves, Standing, Faulted, Holds, TurnTells, Turns, answer_frame, answers, held_frames, is_own, is_serving, maps_after_all, own_frames}
+use Rattle.mb_device.specs.Serving.{AllAnswered, Answered, Around, BrokenOff, Gives, GivesPart, HeldTells, PieceTells, ServeTells, Served, Serves, Standing, Faulted, Holds, TellsTake, TurnTells, Turns, answer_frame, answers, has_ended, held_frames, is_own, is_read_fault, is_serving, maps_after_all, own_frames}
 use Rattle.mb_device.specs.declared.serving.ServeFault.{ServeFault}
 use Rattle.mb_device.specs.declared.serving.ServeFault.TheVariants as fault
 use Rattle.mb_device.specs.declared.serving.Turned.{Turned}
@@ -180,6 +181,7 @@ all_then_broken xs ys a b c first next =
       in_order = ap (λ t. xs ++ t) next.in_order ∙ sym (append_assoc xs next.earlier _);
       part = next.part;
       unsent = next.unsent;
+      left = next.left;
       whole = ap (λ m. answer_frame m next.frame) (sym so_far) ∙ next.whole;
       given = subst (Appends a.given c.given) sent (Appends-trans a.given b.given c.given _ _ first.given next.given);
       maps =
@@ -205,6 +207,7 @@ BrokenOff-before xs ys a b h =
       in_order = ap (λ t. t ++ ys) h.in_order ∙ append_assoc h.earlier (h.frame ∷ h.later) ys;
       part = h.part;
       unsent = h.unsent;
+      left = h.left;
       whole = h.whole;
       given = h.given;
       maps = h.maps;
@@ -213,12 +216,14 @@ BrokenOff-before xs ys a b h =
 -- a part was taken, and the rest is given
 pub Gives-then : {X E : Type 0} (result : Result X E) (a b c : Option (List ℕ)) (bytes : List ℕ) (n : ℕ) → Appends a b (take n bytes) → Gives result b c (from n bytes) → Gives result a c bytes
 Gives-then (Ok x) a b c bytes n first next = subst (Appends a c) (whole_again n bytes) (Appends-trans a b c _ _ first next)
-Gives-then (Err e) a b c bytes n first next = (
-  take n bytes ++ next.0,
-  next.1,
-  sym (whole_again n bytes) ∙ ap (λ t. take n bytes ++ t) next.2 ∙ sym (append_assoc (take n bytes) next.0 next.1),
-  Appends-trans a b c _ _ first next.3,
-)
+Gives-then (Err e) a b c bytes n first next =
+    record {
+      part = take n bytes ++ next.part;
+      unsent = next.unsent;
+      left = next.left;
+      whole = sym (whole_again n bytes) ∙ ap (λ t. take n bytes ++ t) next.whole ∙ sym (append_assoc (take n bytes) next.part next.unsent);
+      given = Appends-trans a b c _ _ first next.given;
+    }
 
 -- the frame that a reader lends is the one that it holds
 lent_frame : (shown : Option Frame) (held : Option (List ℕ)) (frame : Frame) → option_map spelled shown ≡ option_map fields_of held → shown ≡ Some frame
@@ -242,8 +247,8 @@ held_answered shown held frame old new same is given maps =
     }
 
 pub held_broken_off : (shown : Option Frame) (held : Option (List ℕ)) (frame : Frame) (old new : Around) → option_map spelled shown ≡ option_map fields_of held → shown ≡ Some frame
-    → (part unsent : List ℕ) → spelling frame.tid frame.unit (answer_to old.maps frame.pdu.now) ≡ part ++ unsent → Appends old.given new.given part → new.maps ≡ maps_after old.maps frame.pdu.now → BrokenOff (held_frames held) old new
-held_broken_off shown held frame old new same is part unsent gives given maps =
+    → GivesPart old.given new.given (spelling frame.tid frame.unit (answer_to old.maps frame.pdu.now)) → new.maps ≡ maps_after old.maps frame.pdu.now → BrokenOff (held_frames held) old new
+held_broken_off shown held frame old new same is gives maps =
     let lent = lent_frame shown held frame same is in
     let f = lent.0 in
     subst (λ h. BrokenOff (held_frames h) old new) (sym lent.1) record {
@@ -251,10 +256,11 @@ held_broken_off shown held frame old new same is part unsent gives given maps =
       frame = f;
       later = [];
       in_order = refl;
-      part = part;
-      unsent = unsent;
-      whole = sym (answer_is old.maps frame f lent.2) ∙ gives;
-      given = given;
+      part = gives.part;
+      unsent = gives.unsent;
+      left = gives.left;
+      whole = sym (answer_is old.maps frame f lent.2) ∙ gives.whole;
+      given = gives.given;
       maps = maps ∙ ap (λ (x : Fields). maps_after old.maps x.pdu) lent.2;
     }
 
@@ -350,7 +356,7 @@ turn_fault e held piece left came_as n old mid new bytes is few kept given maps 
 -- ---- turns, one after another
 
 -- bytes behind those that were taken
-taken_more : (held taken more : List ℕ) → (own_frames (held ++ (taken ++ more)) ≡ own_frames (held ++ taken) ++ own_frames (rest (held ++ taken) ++ more)) × (rest (held ++ (taken ++ more)) ≡ rest (rest (held ++ taken) ++ more))
+pub taken_more : (held taken more : List ℕ) → (own_frames (held ++ (taken ++ more)) ≡ own_frames (held ++ taken) ++ own_frames (rest (held ++ taken) ++ more)) × (rest (held ++ (taken ++ more)) ≡ rest (rest (held ++ taken) ++ more))
 taken_more held taken more =
     let joined : held ++ (taken ++ more) ≡ (held ++ taken) ++ more = sym (append_assoc held taken more) in
     (ap own_frames joined ∙ own_frames-then (held ++ taken) more, ap rest joined ∙ (frames-then (held ++ taken) more).1)
@@ -439,6 +445,13 @@ pub turn_serves : (turned : Turned) (old new : Around) (before after : Standing)
 turn_serves turned old new before after serving turns =
     let holds = held_by before serving in
     ap is_serving (turns holds.0 holds.1).stands
+
+-- the take of a turn that did not end was no end
+pub goes_on : (result : Result Turned ServeFault) (turned : Turned) (last : Option LastTake) → TellsTake (has_ended result) (is_read_fault result) last → result ≡ Ok turned → turned.ended ≡ false → TellsTake false false last
+goes_on result turned last tells is going =
+    let first : has_ended result ≡ false = ap has_ended is ∙ going in
+    let second : is_read_fault result ≡ false = ap is_read_fault is in
+    record { answer = tells.answer; taken = tells.taken; end = sym first ∙ tells.end; failure = sym second ∙ tells.failure }
 
 -- a turn does not use up turns
 pub turn_is_no_end : (e : ServeFault) (old new : Around) (before after : Standing) → is_serving before ≡ true → ((held : List ℕ) → before ≡ Holds held → Turns held (Err e) old new after) → e ≡ fault.TurnsUsed → ⊥

@@ -1,11 +1,15 @@
 -- What a server does with the bytes of a stream: which frames it answers, and where it stands after them.
-use Rattle.std.specs.Prelude.{◌≡◌, ℕ, ◌==◌, ◌≤◌, Bool, true, false, List, [], ◌∷◌, ◌++◌, length, Ok, Err, Some, None}
+use Rattle.std.specs.Prelude.{◌≡◌, ℕ, ◌==◌, ◌≤◌, ◌<◌, Bool, true, false, is_err, List, [], ◌∷◌, ◌++◌, length, Ok, Err, Some, None}
 use Rattle.std.specs.List.{filter}
 use Rattle.std.specs.Io.KnownBytes.{Appends, Consumes, IsAtEnd}
 use Rattle.std.specs.declared.result.Result.{Result}
 use Rattle.std.specs.declared.option.Option.{Option}
 use Rattle.mb_wire.specs.Frames.{IsBad, IsFrame, IsOpen, frames, rest, protocol_of, tid_of, unit_of, pdu_of}
 use Rattle.mb_wire.specs.Reader.{Held, spelling}
+use Rattle.mb_wire.specs.declared.link.LastTake.{LastTake}
+use Rattle.mb_wire.specs.declared.link.LinkFailed.{LinkFailed}
+use Rattle.mb_wire.specs.declared.link.Took.{Took}
+use Rattle.mb_wire.specs.declared.link.Took.TheVariants.{Bytes, End, Idle}
 use Rattle.mb_device.specs.Maps.{Maps}
 use Rattle.mb_device.specs.Device.{answer_to, maps_after}
 use Rattle.mb_device.specs.declared.serving.ServeFault.{ServeFault}
@@ -62,6 +66,7 @@ pub record BrokenOff (frames : List (List ℕ)) (old new : Around) : Type 0 wher
   pub in_order : frames ≡ earlier ++ frame ∷ later
   pub part : List ℕ
   pub unsent : List ℕ
+  pub left : 0 < length unsent
   pub whole : answer_frame (maps_after_all old.maps earlier) frame ≡ part ++ unsent
   pub given : Appends old.given new.given (answers old.maps earlier ++ part)
   pub maps : new.maps ≡ maps_after_all old.maps (earlier ++ frame ∷ [])
@@ -98,6 +103,34 @@ ServeTells (Err Write) held taken remaining = Unit {0}
 ServeTells (Err Garbled) held taken remaining = IsBad (rest (held ++ taken))
 ServeTells (Err TurnsUsed) held taken remaining = IsOpen (rest (held ++ taken))
 
+-- a turn came to the end of the input
+abbrev pub has_ended : Result Turned ServeFault → Bool
+has_ended (Ok turned) = turned.ended
+has_ended (Err fault) = false
+
+-- a take failed
+abbrev pub is_read_fault : {X : Type 0} → Result X ServeFault → Bool
+is_read_fault (Ok x) = false
+is_read_fault (Err Read) = true
+is_read_fault (Err Write) = false
+is_read_fault (Err Garbled) = false
+is_read_fault (Err TurnsUsed) = false
+
+-- a take answered that nothing more will come
+abbrev pub is_end : Result Took LinkFailed → Bool
+is_end (Ok (Bytes n)) = false
+is_end (Ok End) = true
+is_end (Ok Idle) = false
+is_end (Err failed) = false
+
+-- The last take had room for 260 bytes. It came to the end exactly where that is told, and failed
+-- exactly where that is told.
+pub record TellsTake (ended failed : Bool) (last : Option LastTake) : Type 0 where
+  pub answer : Result Took LinkFailed
+  pub taken : last ≡ Some (record { room = 260; answer = answer })
+  pub end : ended ≡ is_end answer
+  pub failure : failed ≡ is_err answer
+
 -- a turn of a server that holds these bytes
 pub record Turns (held : List ℕ) (result : Result Turned ServeFault) (old new : Around) (standing : Standing) : Type 0 where
   pub taken : List ℕ
@@ -124,10 +157,18 @@ pub record Serves (held : List ℕ) (result : Result ℕ ServeFault) (old new : 
   pub stands : standing ≡ standing_after result (held ++ taken)
   pub tells : ServeTells result held taken new.remaining
 
+-- a part of the bytes was given, and not all of them
+pub record GivesPart (old new : Option (List ℕ)) (bytes : List ℕ) : Type 0 where
+  pub part : List ℕ
+  pub unsent : List ℕ
+  pub left : 0 < length unsent
+  pub whole : bytes ≡ part ++ unsent
+  pub given : Appends old new part
+
 -- bytes are given whole, or a part of them where the peer did not take all
 abbrev pub Gives : {X E : Type 0} → Result X E → Option (List ℕ) → Option (List ℕ) → List ℕ → Type 0
 Gives (Ok x) old new bytes = Appends old new bytes
-Gives (Err failed) old new bytes = (part unsent : List ℕ) × (bytes ≡ part ++ unsent) × Appends old new part
+Gives (Err failed) old new bytes = GivesPart old new bytes
 
 -- the frame that is held, if one is
 abbrev pub held_frames : Option (List ℕ) → List (List ℕ)

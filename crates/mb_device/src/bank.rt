@@ -110,6 +110,7 @@ impl Bank {
         ensures overlap { (result ≡ Err BankFault.AreasOverlap) ↔ (any_overlap areas.now ≡ true) }
         ensures range { (result ≡ Err BankFault.OutOfRange) ↔ ((any_overlap areas.now ≡ false) × (list_any is_out_of_range areas.now ≡ true)) }
         ensures values { IfOk result (λ bank. (kind : Kind) (address : ℕ) → address < 65536 → value_at bank kind address ≡ first_value areas.now kind address) }
+        ensures addresses { IfOk result (λ bank. (kind : Kind) → length (table_of bank kind) ≡ 65536) }
     {
         if has_overlap(areas) {
             return Err(BankFault::AreasOverlap);
@@ -122,6 +123,7 @@ impl Bank {
 
     fn begin(alloc: Global, areas: &[Area]) -> Result<Bank, AllocError>
         ensures values { IfOk result (λ bank. (kind : Kind) (address : ℕ) → address < 65536 → value_at bank kind address ≡ first_value areas.now kind address) }
+        ensures addresses { IfOk result (λ bank. (kind : Kind) → length (table_of bank kind) ≡ 65536) }
     {
         Ok(Bank {
             coils: begin_table(alloc, areas, Kind::Coil)?,

@@ -5,11 +5,13 @@
 mod answer;
 mod bank;
 mod kinds;
+mod laws;
 mod packing;
 mod serving;
 
 pub use bank::Bank;
 pub use kinds::{Area, BankFault, Kind};
+pub use laws::turns_compose;
 pub use serving::{ServeFault, Server, Turned};
 
 #[cfg(test)]

@@ -1,11 +1,11 @@
 // A server: frames come over a link, and their answers go back.
-ghost use Rattle.std.specs.Prelude.{◌≡◌, ◌≤◌, ◌<◌, ◌+◌, ◌^◌, ◌++◌, ℕ, List, [], length, not, true, is_err, IfOk, Err};
+ghost use Rattle.std.specs.Prelude.{◌≡◌, ◌≤◌, ◌<◌, ◌+◌, ◌^◌, ◌++◌, ℕ, List, [], length, not, true, is_err, is_ok, IfOk, Err};
 ghost use Rattle.std.specs.Io.KnownBytes.{Keeps};
 ghost use Rattle.mb_wire.specs.Frames.{IsOpen};
 ghost use Rattle.mb_wire.specs.Links.{risen};
 ghost use Rattle.mb_wire.specs.Reader.{spelling};
 ghost use Rattle.mb_device.specs.Device.{answer_to, maps_after};
-ghost use Rattle.mb_device.specs.Serving.{Answered, Faulted, Gives, HeldTells, Holds, HoldsFrame, PieceTells, Serves, Turns, around, held_frames, is_link_fault, is_serving, own_frames, serve_fault_number, standing_in};
+ghost use Rattle.mb_device.specs.Serving.{Answered, Faulted, Gives, HeldTells, Holds, HoldsFrame, PieceTells, Serves, TellsTake, Turns, around, has_ended, held_frames, is_link_fault, is_read_fault, is_serving, own_frames, serve_fault_number, standing_in};
 
 use crate::bank::Bank;
 use mb_wire::{Frame, FrameReader, Framing, Link, LinkFailed, Took, write_frame};
@@ -72,6 +72,7 @@ fn give_all<L: Link>(link: &mut L, bytes: &[u8]) -> Result<(), LinkFailed>
     ensures remaining { Keeps (L.remaining link.old) (L.remaining link.new) }
     ensures failures { L.failed link.new ≡ risen (is_err result) (L.failed link.old) }
     ensures takes { L.taken link.new ≡ L.taken link.old }
+    ensures last { L.last link.new ≡ L.last link.old }
 {
     if bytes.is_empty() {
         return Ok(());
@@ -93,6 +94,7 @@ fn answer_frame<L: Link>(frame: &Frame<'_>, link: &mut L, bank: &mut Bank) -> Re
     ensures remaining { Keeps (L.remaining link.old) (L.remaining link.new) }
     ensures failures { L.failed link.new ≡ risen (is_err result) (L.failed link.old) }
     ensures takes { L.taken link.new ≡ L.taken link.old }
+    ensures last { L.last link.new ≡ L.last link.old }
 {
     let mut pdu = [0; 253];
     let length = bank.answer(frame.pdu, &mut pdu);
@@ -114,6 +116,7 @@ fn answer_held<L: Link>(
     ensures remaining { Keeps (L.remaining link.old) (L.remaining link.new) }
     ensures failures { L.failed link.new ≡ risen (is_link_fault result) (L.failed link.old) }
     ensures takes { L.taken link.new ≡ L.taken link.old }
+    ensures last { L.last link.new ≡ L.last link.old }
 {
     match reader.frame() {
         Some(frame) => match answer_frame(&frame, link, bank) {
@@ -138,6 +141,7 @@ fn answer_piece<L: Link>(
     ensures remaining { Keeps (L.remaining link.old) (L.remaining link.new) }
     ensures failures { L.failed link.new ≡ risen (is_link_fault result) (L.failed link.old) }
     ensures takes { L.taken link.new ≡ L.taken link.old }
+    ensures last { L.last link.new ≡ L.last link.old }
 {
     let fed = reader.feed(piece);
     let answered = answer_held(reader, link, bank)?;
@@ -164,6 +168,7 @@ fn take_turn<L: Link>(
     ensures few { IfOk result (λ turned. turned.answered ≤ 260) }
     ensures failures { L.failed link.new ≡ risen (is_link_fault result) (L.failed link.old) }
     ensures takes { L.taken link.new ≡ risen true (L.taken link.old) }
+    ensures take { TellsTake (has_ended result) (is_read_fault result) (L.last link.new) }
 {
     let mut piece = [0; 260];
     match link.take(&mut piece) {
@@ -221,6 +226,7 @@ impl Server {
         ensures few { IfOk result (λ turned. turned.answered ≤ 260) }
         ensures failures { L.failed link.new ≡ risen (is_link_fault result) (L.failed link.old) }
         ensures takes { L.taken link.new ≡ risen (is_serving self.old) (L.taken link.old) }
+        ensures take { is_serving self.old ≡ true → TellsTake (has_ended result) (is_read_fault result) (L.last link.new) }
     {
         if self.failed {
             return Err(ServeFault::Garbled);
@@ -245,6 +251,8 @@ impl Server {
             (result ≡ Err ServeFault.Garbled) × (self.new ≡ Faulted) × (link.new ≡ link.old) × (bank.new ≡ bank.old) }
         ensures failures { L.failed link.new ≡ risen (is_link_fault result) (L.failed link.old) }
         ensures turns { L.taken link.new ≤ L.taken link.old + max_turns }
+        ensures last_turn { is_serving self.old ≡ true → 1 ≤ max_turns →
+            TellsTake (is_ok result) (is_read_fault result) (L.last link.new) }
         ensures turns_used { result ≡ Err ServeFault.TurnsUsed → L.taken link.old + max_turns < 2 ^ 64 →
             L.taken link.new ≡ L.taken link.old + max_turns }
     {

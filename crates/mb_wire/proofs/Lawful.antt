@@ -3,7 +3,7 @@ use Rattle.std.proofs.Common.{◌≡◌, ◌≤◌, ℕ, sym, ap, ◌∙◌, sub
 use Rattle.mb_wire.specs.Bytes.{words_of}
 use Rattle.mb_wire.specs.Coils.{coils_of}
 use Rattle.mb_wire.specs.Requests.{IsLawful, IsLawfulQuery, IsWithin, query_of}
-use Rattle.mb_wire.specs.Replies.{AnswersQuery, FitsRequest, answer_of}
+use Rattle.mb_wire.specs.Replies.{AnswersQuery, AnswersRequest, FitsRequest, answer_of}
 use Rattle.mb_wire.specs.declared.requests.Request.{Request}
 use Rattle.mb_wire.specs.declared.requests.Request.TheVariants.{ReadCoils, ReadDiscrete, ReadHolding, ReadInput, WriteCoil, WriteRegister, WriteCoils, WriteRegisters}
 use Rattle.mb_wire.specs.declared.requests.Wanted.TheVariants.{Coils}
@@ -23,8 +23,18 @@ lawful_query (WriteCoils address quantity bytes) h =
     subst P (sym (length-coils_of-whole quantity bytes.now h.1)) h.0
 lawful_query (WriteRegisters address bytes) h = h.0
 
-pub answers_query : (request : Request) (reply : Reply) → FitsRequest request reply → AnswersQuery (query_of request) (answer_of reply)
+pub answers_query : (request : Request) (reply : Reply) → AnswersRequest request reply → AnswersQuery (query_of request) (answer_of reply)
 answers_query request (Bits quantity bytes) h = h.0 ∙ ap Coils (sym (length-coils_of-whole quantity bytes.now h.1))
 answers_query request (Words bytes) h = h.0
 answers_query request Echo h = h
 answers_query request (Exception code) h = h
+
+-- a reply that fits answers the request
+pub fitting_answers : (request : Request) (reply : Reply) → FitsRequest request reply → AnswersRequest request reply
+fitting_answers request (Bits quantity bytes) h = h.1
+fitting_answers request (Words bytes) h = h.1
+fitting_answers request Echo h = h.1
+fitting_answers request (Exception code) h = h
+
+pub fitting_query : (request : Request) (reply : Reply) → FitsRequest request reply → AnswersQuery (query_of request) (answer_of reply)
+fitting_query request reply h = answers_query request reply (fitting_answers request reply h)

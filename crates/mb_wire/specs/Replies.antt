@@ -4,7 +4,7 @@ use Rattle.std.specs.declared.result.Result.{Result}
 use Rattle.std.specs.declared.option.Option.{Option}
 use Rattle.mb_wire.specs.Bytes.{number_at, words_of, word_bytes}
 use Rattle.mb_wire.specs.Coils.{bytes_for, cleared_after, coils_of, packed}
-use Rattle.mb_wire.specs.Requests.{Query, ReadCoils, ReadDiscrete, ReadHolding, ReadInput, WriteCoil, WriteRegister, WriteCoils, WriteRegisters, query_of, function_of, address_of, field_of, query_bytes}
+use Rattle.mb_wire.specs.Requests.{IsLawful, Query, ReadCoils, ReadDiscrete, ReadHolding, ReadInput, WriteCoil, WriteRegister, WriteCoils, WriteRegisters, query_of, function_of, address_of, field_of, query_bytes}
 use Rattle.mb_wire.specs.RequestFaults.{value_unless}
 use Rattle.mb_wire.specs.declared.requests.Request.{Request}
 use Rattle.mb_wire.specs.declared.requests.Wanted.{Wanted}
@@ -84,12 +84,19 @@ AnswersQuery query Echo = wanted_by query ≡ Head
 AnswersQuery query (Exception code) = Unit {0}
 
 -- a reply that brings what the request asks for, and as many bytes as it says
-abbrev pub FitsRequest : Request → Reply → Type 0
-FitsRequest request (lent.Bits quantity bytes) =
+abbrev pub AnswersRequest : Request → Reply → Type 0
+AnswersRequest request (lent.Bits quantity bytes) =
     (wanted_by (query_of request) ≡ Coils quantity) × (length bytes.now ≡ bytes_for quantity)
-FitsRequest request (lent.Words bytes) =
+AnswersRequest request (lent.Words bytes) =
     (wanted_by (query_of request) ≡ Registers (length (words_of bytes.now))) × (length bytes.now ≡ 2 * length (words_of bytes.now))
-FitsRequest request lent.Echo = wanted_by (query_of request) ≡ Head
+AnswersRequest request lent.Echo = wanted_by (query_of request) ≡ Head
+AnswersRequest request (lent.Exception code) = Unit {0}
+
+-- the reply fits the request: an exception fits any, and what answers a lawful request fits it
+abbrev pub FitsRequest : Request → Reply → Type 0
+FitsRequest request (lent.Bits quantity bytes) = IsLawful request × AnswersRequest request (lent.Bits quantity bytes)
+FitsRequest request (lent.Words bytes) = IsLawful request × AnswersRequest request (lent.Words bytes)
+FitsRequest request lent.Echo = IsLawful request × AnswersRequest request lent.Echo
 FitsRequest request (lent.Exception code) = Unit {0}
 
 -- coil number i, from 0

@@ -3,7 +3,7 @@ ghost use Rattle.std.specs.Prelude.{◌≡◌, ◌≢◌, ℕ, ◌+◌, ◌*◌,
 ghost use Rattle.std.specs.Option.{option_map};
 ghost use Rattle.mb_wire.specs.Frames.{IsOpen, IsBad, IsGoodSpan, span_of, tid_of, unit_of, pdu_of, protocol_of, IsFrame, IsOwn, Reads, frames, rest};
 ghost use Rattle.mb_wire.specs.Reader.{Held, Tells, IsEnd, held_after, ended, fields_of, spelled, spelling};
-ghost use Rattle.mb_wire.specs.Bytes.{word};
+ghost use Rattle.mb_wire.specs.Bytes.{AreBytes, word};
 
 use byteorder::{BigEndian, ByteOrder};
 use std::marker::Model;
@@ -284,8 +284,13 @@ pub fn one_reading()
         (frames bytes ≡ others) × (rest bytes ≡ left) }
 {}
 
-/// What is written is a frame, and has these fields.
+/// What is written is a frame with these fields, and a frame is the one spelling of its fields.
 pub fn one_spelling()
     ensures frame { (tid unit : ℕ) (pdu : List ℕ) → tid < 65536 → 1 ≤ length pdu → length pdu ≤ 253 →
-        IsFrame (spelling tid unit pdu) × IsOwn (spelling tid unit pdu) × (fields_of (spelling tid unit pdu) ≡ record { tid = tid; unit = unit; pdu = pdu }) }
+        IsFrame (spelling tid unit pdu) × IsOwn (spelling tid unit pdu)
+        × (fields_of (spelling tid unit pdu) ≡ record { tid = tid; unit = unit; pdu = pdu }) }
+    ensures spelled { (bytes : List ℕ) → AreBytes bytes → IsFrame bytes → IsOwn bytes →
+        bytes ≡ spelling (tid_of bytes) (unit_of bytes) (pdu_of bytes) }
+    ensures same { (one other : List ℕ) → AreBytes one → IsFrame one → IsOwn one →
+        AreBytes other → IsFrame other → IsOwn other → fields_of one ≡ fields_of other → one ≡ other }
 {}

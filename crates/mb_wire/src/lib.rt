@@ -16,7 +16,7 @@ mod span;
 pub use decoding::decode_request;
 pub use frames::{Fed, Frame, FrameReader, Framing, one_reading, one_spelling, write_frame};
 pub use laws::{one_reply, one_request};
-pub use link::{Link, LinkFailed, Took};
+pub use link::{LastTake, Link, LinkFailed, Took};
 pub use memory_link::MemoryLink;
 pub use replies::{Reply, ReplyFault, decode_reply, encode_reply};
 pub use requests::{Request, RequestFault, encode_request};

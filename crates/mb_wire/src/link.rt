@@ -1,8 +1,9 @@
 // The bytes to and from a peer.
-ghost use Rattle.std.specs.Prelude.{◌≡◌, ◌≤◌, ℕ, List, length, true, is_err, None, IfOk};
+ghost use Rattle.std.specs.Prelude.{◌≡◌, ◌≤◌, ℕ, List, length, true, is_err, Some, None, IfOk};
 ghost use Rattle.std.specs.Io.KnownBytes.{Keeps, WriteAppends};
 ghost use Rattle.mb_wire.specs.Links.{TakeConsumes, TakesAtMost, is_failed_give, risen};
 ghost use Rattle.std.specs.declared.option.Option.{Option};
+ghost use Rattle.mb_wire.specs.declared.link.LastTake.{LastTake};
 
 /// What a take gave.
 #[derive(Clone, Copy, Debug, PartialEq, Eq)]
@@ -19,6 +20,13 @@ pub enum Took {
 #[derive(Clone, Copy, Debug, PartialEq, Eq)]
 pub struct LinkFailed;
 
+/// What a take had room for, and what it answered.
+#[derive(Clone, Copy, Debug, PartialEq, Eq)]
+pub struct LastTake {
+    pub room: usize,
+    pub answer: Result<Took, LinkFailed>,
+}
+
 /// A link to a peer. The counts stay at 2^64 - 1.
 pub trait Link {
     // The bytes that takes will hand out from here on, and those given so far, where they are known.
@@ -31,13 +39,17 @@ pub trait Link {
 
     ghost taken: { Self → ℕ };
 
+    // The last take, none before the first.
+    ghost last: { Self → Option LastTake };
+
     /// Takes what the peer sent, to the front of the piece.
     fn take(&mut self, piece: &mut [u8]) -> Result<Took, LinkFailed>
         ensures bound { TakesAtMost result piece.new }
         ensures bytes { TakeConsumes (remaining self.old) (remaining self.new) result piece.new }
         ensures given { Keeps (given self.old) (given self.new) }
         ensures failures { failed self.new ≡ risen (is_err result) (failed self.old) }
-        ensures takes { taken self.new ≡ risen true (taken self.old) };
+        ensures takes { taken self.new ≡ risen true (taken self.old) }
+        ensures last { last self.new ≡ Some (record { room = length piece.old; answer = result }) };
 
     /// Gives bytes to the peer, and says how many it took: the first so many.
     fn give(&mut self, bytes: &[u8]) -> Result<usize, LinkFailed>
@@ -45,7 +57,8 @@ pub trait Link {
         ensures bytes { WriteAppends (given self.old) (given self.new) result bytes.now }
         ensures remaining { Keeps (remaining self.old) (remaining self.new) }
         ensures failures { failed self.new ≡ risen (is_failed_give result bytes.now) (failed self.old) }
-        ensures takes { taken self.new ≡ taken self.old };
+        ensures takes { taken self.new ≡ taken self.old }
+        ensures last { last self.new ≡ last self.old };
 
     /// How many calls failed: answered LinkFailed, or took nothing of what was given.
     fn failures(&self) -> u64
@@ -54,4 +67,8 @@ pub trait Link {
     /// How many takes there were.
     fn takes(&self) -> u64
         ensures { result ≡ taken self.now };
+
+    /// The last take, none before the first.
+    fn last_take(&self) -> Option<LastTake>
+        ensures { result ≡ last self.now };
 }

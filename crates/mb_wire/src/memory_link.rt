@@ -1,8 +1,9 @@
 // A link over slices, which fails where it is told to.
 ghost use Rattle.std.specs.Prelude.{◌≡◌, ◌≤◌, ◌+◌, ◌-◌, ◌==◌, ℕ, List, [], length, min, take, true, is_err, Some, None, IfOk};
-ghost use Rattle.mb_wire.specs.Links.{is_call};
+ghost use Rattle.mb_wire.specs.Links.{TakeConsumes, TakesAtMost, is_call, is_failed_give, risen};
 
-use crate::link::{Link, LinkFailed, Took};
+use crate::link::{LastTake, Link, LinkFailed, Took};
+use std::marker::Model;
 
 /// A link over an input and an output that lie in memory. Takes and gives are counted together from
 /// 1, and one of them may be told to fail.
@@ -16,12 +17,32 @@ pub struct MemoryLink<'a> {
     fails: Option<u64>,
     failures: u64,
     takes: u64,
-    ghost room: { filled ≤ length output.now },
-    ghost some: { 1 ≤ piece },
+    last: Option<LastTake>,
+}
+
+impl<'a> Model for MemoryLink<'a> {
+    ghost use Rattle.std.specs.Prelude.{◌≤◌, length, take};
+    ghost use Rattle.mb_wire.specs.MemoryLinks.{Memory};
+
+    ghost Value = { Memory };
+
+    ghost view = { λ link. record {
+      input = link.input.now;
+      output = take link.filled link.output.now;
+      room = length link.output.now;
+      piece = link.piece;
+      calls = link.calls;
+      fails = link.fails;
+      failures = link.failures;
+      takes = link.takes;
+      last = link.last;
+    } };
+
+    ghost invariant = { λ link. (link.filled ≤ length link.output.now) × (1 ≤ link.piece) };
 }
 
 impl<'a> MemoryLink<'a> {
-    ghost use Rattle.mb_wire.specs.MemoryLinks.{IsFresh, input_left, output_given};
+    ghost use Rattle.mb_wire.specs.MemoryLinks.{IsFresh};
 
     /// A link that hands out and takes at most `piece` bytes a call, and whose call number `fails`
     /// fails.
@@ -32,9 +53,11 @@ impl<'a> MemoryLink<'a> {
         fails: Option<u64>,
     ) -> MemoryLink<'a>
         requires { 1 ≤ piece }
-        ensures input { input_left result ≡ input.entry.now }
-        ensures output { output_given result ≡ [] }
-        ensures fresh { IsFresh result (length output.entry.now) piece fails }
+        ensures input { result.input ≡ input.entry.now }
+        ensures room { result.room ≡ length output.entry.now }
+        ensures piece { result.piece ≡ piece }
+        ensures fails { result.fails ≡ fails }
+        ensures fresh { IsFresh result }
     {
         MemoryLink {
             input,
@@ -45,12 +68,13 @@ impl<'a> MemoryLink<'a> {
             fails,
             failures: 0,
             takes: 0,
+            last: None,
         }
     }
 
     /// The bytes given so far.
     pub fn given(&self) -> &[u8]
-        ensures { result.now ≡ output_given self.entry.now }
+        ensures { result.now ≡ self.now.output }
     {
         &self.output[..self.filled]
     }
@@ -66,29 +90,21 @@ fn fails_at(fails: Option<u64>, call: u64) -> bool
     }
 }
 
-impl Link for MemoryLink<'_> {
-    ghost use Rattle.std.specs.Io.KnownBytes.{WriteAppends};
-    ghost use Rattle.mb_wire.specs.Links.{TakeConsumes, TakesAtMost, is_failed_give, risen};
-    ghost use Rattle.mb_wire.specs.MemoryLinks.{IsCounted, give_answer, input_left, output_given, take_answer};
+impl MemoryLink<'_> {
+    ghost use Rattle.std.specs.Prelude.{◌++◌};
+    ghost use Rattle.mb_wire.specs.MemoryLinks.{CallsOnce, filled, handed_out, take_answer};
 
-    ghost remaining = { λ link. Some link.input.now };
-
-    ghost given = { λ link. Some (take link.filled link.output.now) };
-
-    ghost failed = { λ link. link.failures };
-
-    ghost taken = { λ link. link.takes };
-
-    fn take(&mut self, piece: &mut [u8]) -> Result<Took, LinkFailed>
-        ensures counted { IsCounted self.old self.new }
-        ensures exact { result ≡ take_answer self.old (length piece.old) }
+    // Copies bytes of the input to the front of the piece, or fails.
+    fn hand_out(&mut self, piece: &mut [u8]) -> Result<Took, LinkFailed>
+        ensures answered { result ≡ take_answer self.old (length piece.old) }
         ensures bound { TakesAtMost result piece.new }
-        ensures bytes { TakeConsumes (Some (input_left self.old)) (Some (input_left self.new)) result piece.new }
-        ensures given { output_given self.new ≡ output_given self.old }
+        ensures piece { piece.new ≡ filled (handed_out result self.old.input) piece.old }
+        ensures call { CallsOnce self.old self.new }
+        ensures input { self.old.input ≡ handed_out result self.old.input ++ self.new.input }
+        ensures output { self.new.output ≡ self.old.output }
         ensures failures { self.new.failures ≡ risen (is_err result) self.old.failures }
-        ensures takes { self.new.takes ≡ risen true self.old.takes }
+        ensures takes { self.new.takes ≡ self.old.takes }
     {
-        self.takes = self.takes.saturating_add(1);
         self.calls = self.calls.saturating_add(1);
         if fails_at(self.fails, self.calls) {
             self.failures = self.failures.saturating_add(1);
@@ -102,15 +118,43 @@ impl Link for MemoryLink<'_> {
         self.input = &self.input[count..];
         Ok(Took::Bytes(count))
     }
+}
+
+impl Link for MemoryLink<'_> {
+    ghost use Rattle.std.specs.Io.KnownBytes.{WriteAppends};
+    ghost use Rattle.mb_wire.specs.MemoryLinks.{LeavesGive, LeavesTake, filled, give_answer, handed_out, take_answer};
+
+    ghost remaining = { λ link. Some link.input };
+
+    ghost given = { λ link. Some link.output };
+
+    ghost failed = { λ link. link.failures };
+
+    ghost taken = { λ link. link.takes };
+
+    ghost last = { λ link. link.last };
+
+    fn take(&mut self, piece: &mut [u8]) -> Result<Took, LinkFailed>
+        ensures answered { result ≡ take_answer self.old (length piece.old) }
+        ensures bound { TakesAtMost result piece.new }
+        ensures bytes { TakeConsumes (Some self.old.input) (Some self.new.input) result piece.new }
+        ensures piece { piece.new ≡ filled (handed_out result self.old.input) piece.old }
+        ensures after { LeavesTake self.old self.new (length piece.old) result }
+    {
+        let answer = self.hand_out(piece);
+        self.takes = self.takes.saturating_add(1);
+        self.last = Some(LastTake {
+            room: piece.len(),
+            answer,
+        });
+        answer
+    }
 
     fn give(&mut self, bytes: &[u8]) -> Result<usize, LinkFailed>
-        ensures counted { IsCounted self.old self.new }
-        ensures exact { result ≡ give_answer self.old (length bytes.now) }
+        ensures answered { result ≡ give_answer self.old (length bytes.now) }
         ensures bound { IfOk result (λ n. n ≤ length bytes.now) }
-        ensures bytes { WriteAppends (Some (output_given self.old)) (Some (output_given self.new)) result bytes.now }
-        ensures remaining { input_left self.new ≡ input_left self.old }
-        ensures failures { self.new.failures ≡ risen (is_failed_give result bytes.now) self.old.failures }
-        ensures takes { self.new.takes ≡ self.old.takes }
+        ensures bytes { WriteAppends (Some self.old.output) (Some self.new.output) result bytes.now }
+        ensures after { LeavesGive self.old self.new result bytes.now }
     {
         self.calls = self.calls.saturating_add(1);
         let free = self.output.len() - self.filled;
@@ -134,5 +178,9 @@ impl Link for MemoryLink<'_> {
 
     fn takes(&self) -> u64 {
         self.takes
+    }
+
+    fn last_take(&self) -> Option<LastTake> {
+        self.last
     }
 }

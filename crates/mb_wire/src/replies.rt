@@ -2,7 +2,7 @@
 ghost use Rattle.std.specs.Prelude.{◌≡◌, ◌≤◌, ◌+◌, ℕ, ◌↔◌, ◌++◌, List, length, take, false, Ok, None, IfOk};
 ghost use Rattle.mb_wire.specs.Bytes.{AreBytes};
 ghost use Rattle.mb_wire.specs.Requests.{Query, IsLawful, query_of, function_of};
-ghost use Rattle.mb_wire.specs.Replies.{Answer, FitsRequest, SpellsReply, answer_bytes, answer_from, answer_in, answer_of, bit_at, brings_bytes, byte_count, echo_of, fault_number, is_exception, is_wrong_byte_count, is_wrong_echo, is_wrong_function, is_wrong_length, read_as, reply_cleared, reply_fault, reply_of, wanted_by, word_at};
+ghost use Rattle.mb_wire.specs.Replies.{Answer, AnswersRequest, FitsRequest, SpellsReply, answer_bytes, answer_from, answer_in, answer_of, bit_at, brings_bytes, byte_count, echo_of, fault_number, is_exception, is_wrong_byte_count, is_wrong_echo, is_wrong_function, is_wrong_length, read_as, reply_cleared, reply_fault, reply_of, wanted_by, word_at};
 
 use crate::bytes::{append, append_coils, append_words, head, read_number};
 use crate::requests::{Request, Wanted};
@@ -140,7 +140,7 @@ fn find_fault(request: &Request<'_>, pdu: &[u8]) -> Option<ReplyFault>
 fn read_reply<'a>(request: &Request<'_>, pdu: &'a [u8]) -> Reply<'a>
     requires { reply_fault (query_of request.now) pdu.now ≡ None }
     ensures value { answer_of result ≡ answer_from (query_of request.now) pdu.now }
-    ensures fits { FitsRequest request.now result }
+    ensures answers { AnswersRequest request.now result }
 {
     if says_exception(request, pdu) {
         return Reply::Exception(pdu[1]);
@@ -158,7 +158,8 @@ fn read_reply<'a>(request: &Request<'_>, pdu: &'a [u8]) -> Reply<'a>
 /// Reads the reply to a request from its PDU, or finds the least fault.
 pub fn decode_reply<'a>(request: &Request<'_>, pdu: &'a [u8]) -> Result<Reply<'a>, ReplyFault>
     ensures exact { read_as result ≡ reply_of request.now pdu.now }
-    ensures fits { IfOk result (λ reply. FitsRequest request.now reply) }
+    ensures answers { IfOk result (AnswersRequest request.now) }
+    ensures fits { IsLawful request.now → IfOk result (FitsRequest request.now) }
     ensures writes_back { IfOk result (λ reply. answer_bytes (query_of request.now) (answer_of reply) ≡ reply_cleared (query_of request.now) pdu.now) }
 {
     match find_fault(request, pdu) {
@@ -168,8 +169,7 @@ pub fn decode_reply<'a>(request: &Request<'_>, pdu: &'a [u8]) -> Result<Reply<'a
 }
 
 fn write_reply(request: &Request<'_>, reply: &Reply<'_>, out: &mut [u8; 253]) -> usize
-    requires lawful { IsLawful request.now }
-    requires fits { FitsRequest request.now reply.now }
+    requires { FitsRequest request.now reply.now }
     ensures some { 1 ≤ result }
     ensures few { result ≤ 253 }
     ensures written { take result out.new ≡ answer_bytes (query_of request.now) (answer_of reply.now) }
@@ -195,8 +195,7 @@ fn write_reply(request: &Request<'_>, reply: &Reply<'_>, out: &mut [u8; 253]) ->
 /// Writes the reply's PDU to the front of `out`, and says how many bytes it has. Spare bits are
 /// written as 0.
 pub fn encode_reply(request: &Request<'_>, reply: &Reply<'_>, out: &mut [u8; 253]) -> usize
-    requires lawful { IsLawful request.now }
-    requires fits { FitsRequest request.now reply.now }
+    requires { FitsRequest request.now reply.now }
     ensures some { 1 ≤ result }
     ensures few { result ≤ 253 }
     ensures written { take result out.new ≡ answer_bytes (query_of request.now) (answer_of reply.now) }

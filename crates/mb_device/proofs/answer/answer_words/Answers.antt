@@ -7,13 +7,13 @@ use Rattle.mb_device.specs.Maps.{are_there, values_at}
 use Rattle.mb_device.proofs.Gathering.{length-values_at, slice_is, there_fits, words_are, words_fit}
 use Rattle.mb_device.proofs.answer.answer_words.Goals as goal
 
-pub encode_reply-requires-clause-fits : goal.encode_reply-requires-clause-fits
-encode_reply-requires-clause-fits c =
+pub encode_reply-requires : goal.encode_reply-requires
+encode_reply-requires c =
     let table = c.args.table.now in
     let there : are_there table c.args.address c.args.quantity ≡ true = sym c.has_all.ensures ∙ c.if-has_all.true in
     let fits = there_fits table c.args.address c.args.quantity there in
     let same = slice_is table c.from-first.result c.from.result c.args.address c.args.quantity c.from-first.ensures c.from.ensures in
-    words_fit (query_of c.args.request.now) c.args.quantity _ _ (values_at table c.args.address c.args.quantity) same c.pack_words-count.ensures.written (length-values_at table c.args.address c.args.quantity fits) c.requires.wanted
+    (c.requires.lawful, words_fit (query_of c.args.request.now) c.args.quantity _ _ (values_at table c.args.address c.args.quantity) same c.pack_words-count.ensures.written (length-values_at table c.args.address c.args.quantity fits) c.requires.wanted)
 
 pub returns-then-has_all-clause-written : goal.returns-then-has_all-clause-written
 returns-then-has_all-clause-written c =

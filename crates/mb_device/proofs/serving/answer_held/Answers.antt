@@ -7,5 +7,4 @@ returns-in-Ok-clause-answered g c =
 
 pub returns-in-Err-clause-answered : goal.returns-in-Err-clause-answered
 returns-in-Err-clause-answered g c =
-    let given = c.in-Err.ensures.given in
-    held_broken_off c.frame.result c.args.reader.now.frame c.in-Some.frame _ _ c.frame.ensures c.in-Some.is given.0 given.1 given.2 given.3 c.answer_frame.ensures.maps
+    held_broken_off c.frame.result c.args.reader.now.frame c.in-Some.frame _ _ c.frame.ensures c.in-Some.is c.in-Err.ensures.given c.answer_frame.ensures.maps

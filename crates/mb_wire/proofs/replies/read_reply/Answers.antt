@@ -6,8 +6,8 @@ use Rattle.mb_wire.specs.declared.requests.Wanted.TheVariants.{Registers}
 use Rattle.mb_wire.proofs.Answering.{registers_fit}
 use Rattle.mb_wire.proofs.replies.read_reply.Goals as goal
 
-pub returns-in-Registers-clause-fits : goal.returns-in-Registers-clause-fits
-returns-in-Registers-clause-fits c =
+pub returns-in-Registers-clause-answers : goal.returns-in-Registers-clause-answers
+returns-in-Registers-clause-answers c =
     let pdu = c.args.pdu.now in
     let query = query_of c.args.request.now in
     let plain : is_exception query pdu ≡ false = sym c.says_exception.ensures ∙ c.if-says_exception.false in

@@ -1,6 +1,6 @@
 use Rattle.std.proofs.Common.{rules, ◌≡◌, ◌+◌, ◌-◌, ◌^◌, min, Bool, Err, refl, sym, ap, ◌∙◌, subst, arith}
 use Rattle.mb_wire.specs.Links.{risen}
-use Rattle.mb_device.proofs.Streams.{Served-more, Served-none, Serves-end, Serves-fault, Serves-used, has_not_failed, turn_is_no_end, turn_serves}
+use Rattle.mb_device.proofs.Streams.{Served-more, Served-none, Serves-end, Serves-fault, Serves-used, goes_on, has_not_failed, turn_is_no_end, turn_serves}
 use Rattle.mb_device.specs.Serving.{Serves, around}
 use Rattle.mb_device.proofs.serving.Server.serve.Goals as goal
 
@@ -11,6 +11,7 @@ loop-turn-init g c =
       served = λ held e. Served-none held _ c.args.self.now (c.has_failed.ensures.held held e) e;
       serving = serving;
       from_serving = serving;
+      going = λ some. absurd (omega (arith, some));
       few = omega arith;
       failures = refl;
       takes = omega arith;
@@ -26,6 +27,7 @@ loop-turn-preserved g c =
       served = λ held e. Served-more held c.loop-turn.answered c.in_ok-turned.turned _ _ _ c.loop-turn.self c.turn.new.self (so_far.served held e) c.in_ok-turned.ensures.serving;
       serving = turn_serves c.in_ok-turned.turned _ _ c.loop-turn.self c.turn.new.self so_far.serving c.in_ok-turned.ensures.serving;
       from_serving = so_far.from_serving;
+      going = λ _. goes_on c.turn.result c.in_ok-turned.turned _ (c.turn.ensures.take so_far.serving) c.in_ok-turned.was c.if-turned.false;
       few = omega (arith, so_far.few, c.in_ok-turned.ensures.few);
       failures = c.in_ok-turned.ensures.failures ∙ so_far.failures;
       takes = omega (arith, taken, so_far.takes);

@@ -1,5 +1,5 @@
-use Rattle.std.proofs.Common.{◌≡◌, ℕ, ◌+◌, ◌*◌, ◌^◌, ◌<◌, ◌≤◌, List, true}
-use Rattle.mb_device.specs.Serving.{Holds, Served, around, is_serving}
+use Rattle.std.proofs.Common.{◌≡◌, ℕ, ◌+◌, ◌*◌, ◌^◌, ◌<◌, ◌≤◌, List, true, false}
+use Rattle.mb_device.specs.Serving.{Holds, Served, TellsTake, around, is_serving}
 use Rattle.mb_device.proofs.serving.Server.serve.Given as goal
 
 abbrev pub invariant-loop-turn : goal.invariant-loop-turn
@@ -10,6 +10,7 @@ invariant-loop-turn g l = record {
       l.self;
   serving : is_serving l.self ≡ true;
   from_serving : is_serving l.fn.self ≡ true;
+  going : 1 ≤ l._turn → TellsTake false false (g.L.Link.last l.link);
   few : l.answered ≤ 260 * l._turn;
   failures : g.L.Link.failed l.link ≡ g.L.Link.failed l.fn.link;
   takes : g.L.Link.taken l.link ≤ g.L.Link.taken l.fn.link + l._turn;
