@@ -11,7 +11,7 @@ use http_status::Status;
 use httparse::spans::HeaderSpan;
 
 /// The most bytes of a body.
-pub const MOST_BODY: u64 = 65_536;
+pub const MOST_BODY: usize = 65_536;
 
 /// What the headers of a command say.
 #[derive(Clone, Copy)]
@@ -59,7 +59,7 @@ fn test_headers<'b>(
     let Some(size) = digits(size) else {
         return Err(Status::BadRequest);
     };
-    if size > MOST_BODY {
+    if size > MOST_BODY as u64 {
         return Err(Status::ContentTooLarge);
     }
     let Given::Once(caller) = caller else {
