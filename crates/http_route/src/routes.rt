@@ -45,7 +45,7 @@ impl Route {
     }
 }
 
-/// The router of the table. It is `Err` for want of memory alone.
+/// The router of the table. An `Err` is want of memory, since the routes fit one another; no clause says so.
 pub fn router(alloc: Global) -> Result<Router<Route>, InsertError>
     ensures { IfOk result (λ r. r ≡ routes) }
 {

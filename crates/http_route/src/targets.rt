@@ -64,8 +64,8 @@ fn bare_route<'v>(router: &Router<Route>, target: &'v str) -> Option<Found<'v>>
     }
 }
 
-#[tactic(auto, using(crate::proofs::Plain::all_ascii, crate::proofs::Plain::not_ascii))]
 /// The route of a target, and what its parameter took. The table is the router's: `router` makes it.
+#[tactic(auto, using(crate::proofs::Plain::all_ascii, crate::proofs::Plain::not_ascii))]
 pub fn route_of<'v>(router: &Router<Route>, target: &'v [u8]) -> Option<Found<'v>>
     requires { IsUtf8 target.now }
     ensures route { option_map (λ f. f.route) result ≡ route_in router.now target.now }

@@ -12,7 +12,7 @@ static REQUEST: &[u8] =
 #[test]
 fn a_request_comes_in_pieces_of_any_size(rt: HostRuntime) -> Result<(), Fail> {
     let router = router(rt.alloc())?;
-    for piece in [1, 7, 100] {
+    for piece in 1..100usize {
         let mut room = vec![in rt.alloc(); 0u8; 73_728]?;
         let mut link = MemoryLink::new(REQUEST, &mut [], piece, None);
         let mut inbox = Inbox::new(&mut room);
@@ -24,15 +24,13 @@ fn a_request_comes_in_pieces_of_any_size(rt: HostRuntime) -> Result<(), Fail> {
     Ok(())
 }
 
-// How far the head of the request reaches, and its body.
-const HEAD: usize = 85;
-
+// How many bytes the request has.
 const WHOLE: usize = 89;
 
 #[test]
 fn an_end_inside_a_request_is_short(rt: HostRuntime) -> Result<(), Fail> {
     let router = router(rt.alloc())?;
-    for end in [0, 1, 30, HEAD - 1, HEAD, WHOLE - 1] {
+    for end in 0..WHOLE {
         let mut room = vec![in rt.alloc(); 0u8; 73_728]?;
         let mut link = MemoryLink::new(&REQUEST[..end], &mut [], 9, None);
         let mut inbox = Inbox::new(&mut room);
