@@ -1,8 +1,10 @@
 -- What was taken from a link.
-use Rattle.std.specs.Prelude.{◌≡◌, ◌<◌, ◌+◌, ◌-◌, ◌^◌, min, ℕ, Bool, true, false, List, [], ◌++◌, length, take, Option, Some, option_map, Result, Ok, Err}
+use Rattle.std.specs.Prelude.{◌≡◌, ◌<◌, ◌+◌, ◌-◌, ◌^◌, min, ℕ, Bool, true, false, List, [], ◌++◌, length, take, Option, Some, None, option_map, Result, Ok, Err}
 use Rattle.std.specs.Io.KnownBytes.{Consumes, IsAtEnd, Keeps}
 use Rattle.mb_wire.specs.declared.link.LastTake.{LastTake}
-use Rattle.mb_wire.specs.declared.link.Took.TheVariants.{End}
+use Rattle.mb_wire.specs.declared.link.Took.{Took}
+use Rattle.mb_wire.specs.declared.link.Took.TheVariants.{Bytes, End, Idle}
+use Rattle.mb_wire.specs.declared.link.LinkFailed.{LinkFailed}
 use Rattle.http_read.specs.declared.inbox.Inbox.{Inbox}
 use Rattle.http_read.specs.declared.inbox.TakeFault.{TakeFault}
 use Rattle.http_read.specs.declared.inbox.TakeFault.TheVariants.{Read, Short, TurnsUsed}
@@ -53,3 +55,14 @@ EndedBy (Ok x) last = Unit {0}
 EndedBy (Err Read) last = option_map (λ t. t.answer) last ≡ Some (Err (record {}))
 EndedBy (Err Short) last = option_map (λ t. t.answer) last ≡ Some (Ok End)
 EndedBy (Err TurnsUsed) last = Unit {0}
+
+-- how many bytes the last take brought
+abbrev pub brought_by : Result Took LinkFailed → ℕ
+brought_by (Ok (Bytes n)) = n
+brought_by (Ok End) = 0
+brought_by (Ok Idle) = 0
+brought_by (Err failed) = 0
+
+abbrev pub brought : Option LastTake → ℕ
+brought None = 0
+brought (Some take) = brought_by take.answer

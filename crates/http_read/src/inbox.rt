@@ -28,10 +28,10 @@ pub struct Inbox<'a> {
 }
 
 impl<'a> Inbox<'a> {
-    ghost use Rattle.std.specs.Prelude.{◌≡◌, ◌<◌, ◌+◌, [], length, Ok};
+    ghost use Rattle.std.specs.Prelude.{◌≡◌, ◌<◌, ◌+◌, [], length, Ok, OnOk};
     ghost use Rattle.std.specs.Io.KnownBytes.{Keeps};
     ghost use Rattle.mb_wire.specs.Links.{risen};
-    ghost use Rattle.http_read.specs.Taking.{CountsTakes, EndedBy, TakesOn, bytes_in, is_read_fault, room_of};
+    ghost use Rattle.http_read.specs.Taking.{CountsTakes, EndedBy, TakesOn, brought, bytes_in, is_read_fault, room_of};
 
     /// Nothing was taken yet.
     pub fn new(room: &'a mut [u8]) -> Inbox<'a>
@@ -60,6 +60,8 @@ impl<'a> Inbox<'a> {
             (L.remaining link.old) (L.remaining link.new) }
         ensures takes { CountsTakes result self.old self.new (L.taken link.old) (L.taken link.new) }
         ensures last { EndedBy result (L.last link.new) }
+        ensures brought { OnOk result
+            (length (bytes_in self.new) ≡ length (bytes_in self.old) + brought (L.last link.new)) }
         ensures given { Keeps (L.given link.old) (L.given link.new) }
         ensures failures { L.failed link.new ≡ risen (is_read_fault result) (L.failed link.old) }
         ensures counted { result ≡ Ok (record {}) → self.new.takes ≡ self.old.takes + 1 }

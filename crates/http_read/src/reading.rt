@@ -1,9 +1,10 @@
 // Reads on until a head has come, or a bad one, and until a body has come.
-ghost use Rattle.std.specs.Prelude.{◌≡◌, ◌≤◌};
+ghost use Rattle.std.specs.Prelude.{◌≡◌, ◌≤◌, ◌<◌, OnOk, length};
 ghost use Rattle.std.specs.Io.KnownBytes.{Keeps};
 ghost use Rattle.mb_wire.specs.Links.{risen};
 ghost use Rattle.http_read.specs.Taking.{CountsTakes, EndedBy, bytes_in, is_read_fault, room_of};
-ghost use Rattle.http_read.specs.Reading.{ReadsHead, ReadsUpTo};
+ghost use Rattle.http_read.specs.Reading.{ReadsHead, ReadsUpTo, StopsAtOnce};
+ghost use Rattle.http_head.specs.Heads.{IsOpenHead};
 
 use crate::inbox::{Inbox, TakeFault};
 use http_head::{Look, look_at};
@@ -16,6 +17,7 @@ pub fn read_head<L: Link>(inbox: &mut Inbox<'_>, link: &mut L) -> Result<Look, T
         (L.remaining link.old) (L.remaining link.new) }
     ensures takes { CountsTakes result inbox.old inbox.new (L.taken link.old) (L.taken link.new) }
     ensures last { EndedBy result (L.last link.new) }
+    ensures stops { OnOk result (StopsAtOnce IsOpenHead inbox.old inbox.new (L.last link.new)) }
     ensures given { Keeps (L.given link.old) (L.given link.new) }
     ensures failures { L.failed link.new ≡ risen (is_read_fault result) (L.failed link.old) }
 {
@@ -39,6 +41,8 @@ pub fn read_body<L: Link>(
         (L.remaining link.old) (L.remaining link.new) }
     ensures takes { CountsTakes result inbox.old inbox.new (L.taken link.old) (L.taken link.new) }
     ensures last { EndedBy result (L.last link.new) }
+    ensures stops { OnOk result
+        (StopsAtOnce (λ bytes. length bytes < count) inbox.old inbox.new (L.last link.new)) }
     ensures given { Keeps (L.given link.old) (L.given link.new) }
     ensures failures { L.failed link.new ≡ risen (is_read_fault result) (L.failed link.old) }
 {
