@@ -1,0 +1,41 @@
+// A body as a value of JSON.
+ghost use Rattle.std.specs.Prelude.{◌≡◌, ◌≢◌, ◌<◌, IfErr, IfOk, IsUtf8, Some, None, length};
+ghost use Rattle.serde_json.specs.View.{view};
+ghost use Rattle.serde_json.specs.Read.{read};
+
+use serde_json::Value;
+use std::alloc::Global;
+
+/// What a body holds.
+pub type Body = Value;
+
+/// Why a body is no command's.
+#[derive(Clone, Copy, Debug, PartialEq, Eq)]
+pub enum BodyFault {
+    /// It is no JSON, or a member that is wanted is missing or of another kind.
+    Malformed,
+    /// All members are there, and a number is negative that must not be.
+    Negative,
+    /// Memory was refused.
+    Memory,
+}
+
+/// The value that the bytes of a body spell.
+pub fn body_of(alloc: Global, bytes: &[u8]) -> Result<Body, BodyFault>
+    ensures utf8 { IfOk result (λ body. IsUtf8 bytes.now) }
+    ensures spelled { IfOk result (λ body. read bytes.now ≡ Some (view body)) }
+    ensures malformed { result ≡ Err BodyFault.Malformed → IsUtf8 bytes.now → read bytes.now ≡ None }
+    ensures memory { result ≡ Err BodyFault.Memory → 0 < length bytes.now }
+    ensures never { result ≢ Err BodyFault.Negative }
+{
+    match Value::from_slice(alloc, bytes) {
+        Ok(body) => Ok(body),
+        Err(error) => {
+            if error.is_memory() {
+                Err(BodyFault::Memory)
+            } else {
+                Err(BodyFault::Malformed)
+            }
+        }
+    }
+}

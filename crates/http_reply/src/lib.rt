@@ -1,0 +1,16 @@
+//! The text of a reply, and what brings it to a link. No call takes memory.
+#![tactic(auto)]
+
+mod bodies;
+mod outbox;
+mod outlet;
+mod reply;
+mod text;
+
+pub use bodies::{
+    Kind, MeterReply, PollReply, RowFault, done_body, fault_body, faults_body, meter_body,
+    poll_body, refused_body,
+};
+pub use outlet::Outlet;
+pub use reply::{put_json, put_text_head};
+pub use text::Text;

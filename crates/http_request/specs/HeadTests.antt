@@ -1,0 +1,52 @@
+-- The tests of a head, in their order.
+use Rattle.std.specs.Prelude.{ℕ, Bool, true, false, not, if◌then◌else◌, List, [], ◌∷◌, map, take, is_none, Option, Some, None}
+use Rattle.std.specs.Str.{bytes_eq}
+use Rattle.httparse.specs.Grammar.{RequestHead}
+use Rattle.httparse.specs.Spans.{header_bytes, name_and_value, span_bytes}
+use Rattle.http_head.specs.declared.head.Head.{Head}
+use Rattle.http_route.specs.Routes.{Table}
+use Rattle.http_route.specs.Targets.{is_question, method_of, route_in}
+use Rattle.http_route.specs.declared.routes.Route.{Route}
+use Rattle.http_request.specs.Tests.{first_failed, post_headers_of, post_tests}
+use Rattle.http_status.specs.declared.Status.{Status}
+use Rattle.http_status.specs.declared.Status.TheVariants.{NotFound, MethodNotAllowed}
+
+-- what the tests read of a head: the method, the target, and each header's name and value
+pub record Start : Type 0 where
+  pub method : List ℕ
+  pub target : List ℕ
+  pub headers : List (List ℕ × List ℕ)
+
+abbrev pub start_of : RequestHead → Start
+start_of h = record { method = h.method; target = h.target; headers = map name_and_value h.fields }
+
+-- the same at the places that a look found
+abbrev pub start_at : List ℕ → Head → Start
+start_at bytes at = record {
+  method = span_bytes bytes at.method;
+  target = span_bytes bytes at.target;
+  headers = map (header_bytes bytes) (take at.count at.headers);
+}
+
+-- the method is the route's, in its case
+abbrev pub has_method : Route → List ℕ → Bool
+has_method route method = bytes_eq method (method_of route)
+
+abbrev pub has_other_method : Option Route → List ℕ → Bool
+has_other_method None method = false
+has_other_method (Some route) method = not (has_method route method)
+
+abbrev pub asks : Option Route → Bool
+asks None = false
+asks (Some route) = is_question route
+
+-- A row for each test and the status that it answers. A question has no more tests than these two.
+abbrev pub head_tests : Table → Start → List (Bool × Status)
+head_tests table start =
+    (is_none (route_in table start.target), NotFound)
+    ∷ (has_other_method (route_in table start.target) start.method, MethodNotAllowed)
+    ∷ (if asks (route_in table start.target) then [] else post_tests (post_headers_of start.headers))
+
+-- the status of the first test of a head that fails
+abbrev pub head_fault : Table → Start → Option Status
+head_fault table start = first_failed (head_tests table start)

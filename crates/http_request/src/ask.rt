@@ -1,0 +1,46 @@
+// What a head asks for.
+ghost use Rattle.std.specs.Prelude.{◌≡◌, IsUtf8};
+ghost use Rattle.httparse.specs.Spans.{span_bytes};
+ghost use Rattle.http_head.specs.Heads.{IsPlaced};
+ghost use Rattle.http_request.specs.HeadTests.{has_method, start_at};
+ghost use Rattle.http_request.specs.Asking.{TestsHead};
+
+use crate::posted::{Posted, post_headers};
+use http_head::Head;
+use http_route::{Found, Route, route_of};
+use http_status::Status;
+use matchit::Router;
+
+/// What a head asks for.
+#[derive(Clone, Copy)]
+pub enum Ask<'b> {
+    /// A question, whose body is not read.
+    Question(Found<'b>),
+    /// A command, whose body is still to be read.
+    Command(Found<'b>, Posted<'b>),
+}
+
+fn has_method(route: Route, method: &[u8]) -> bool
+    ensures { result ≡ has_method route method.now }
+{
+    method == route.method()
+}
+
+/// What a head asks for, or the status of the first test that fails.
+pub fn ask_of<'b>(router: &Router<Route>, bytes: &'b [u8], head: &Head) -> Result<Ask<'b>, Status>
+    requires text { IsUtf8 (span_bytes bytes.now head.now.target) }
+    requires placed { IsPlaced bytes.now head.now }
+    ensures { TestsHead router.now (start_at bytes.now head.now) result }
+{
+    let Some(found) = route_of(router, head.target.of(bytes)) else {
+        return Err(Status::NotFound);
+    };
+    if !has_method(found.route, head.method.of(bytes)) {
+        return Err(Status::MethodNotAllowed);
+    }
+    if found.route.is_question() {
+        return Ok(Ask::Question(found));
+    }
+    let posted = post_headers(bytes, &head.headers[..head.count])?;
+    Ok(Ask::Command(found, posted))
+}

@@ -1,0 +1,22 @@
+use Rattle.std.proofs.Common.{◌≡◌, refl}
+use Rattle.matchit.proofs.OnLiterals.{matchit_on_literals}
+use Rattle.http_route.proofs.routes.router.Goals as goal
+
+pub returns : goal.returns
+unfolding matchit_on_literals
+returns c =
+    let a = c.in_ok-insert.ensures in
+    let b = c.in_ok-insert-2.ensures in
+    let d = c.in_ok-insert-3.ensures in
+    let e = c.in_ok-insert-4.ensures in
+    let f = c.in_ok-insert-5.ensures in
+    let g = c.in_ok-insert-6.ensures in
+    let h = c.in_ok-insert-7.ensures in
+    let i = c.in_ok-insert-8.ensures in
+    let j = c.in_ok-insert-9.ensures in
+    let k = c.in_ok-insert-10.ensures in
+    let l = c.in_ok-insert-11.ensures in
+    let m = c.in_ok-insert-12.ensures in
+    let n = c.in_ok-insert-13.ensures in
+    let o = c.in_ok-insert-14.ensures in
+    rw (o.1, n.1, m.1, l.1, k.1, j.1, i.1, h.1, g.1, f.1, e.1, d.1, b.1, a.1, c.new-router.ensures) refl

@@ -1,0 +1,136 @@
+// Heads: where one ends, its limits, and its headers by name.
+use http_head::{Given, Look, has_head_end, header_value, look_at};
+use std::alloc::{AllocError, Global};
+use std::test::Fail;
+
+static ENDED: [&[u8]; 4] = [b"a\n\n", b"a\r\n\r\n", b"\n\r\na\n\r\nmore", b"a\nb\n\r\n"];
+
+static UNENDED: [&[u8]; 6] = [
+    b"",
+    b"\n\n",
+    b"a\n",
+    b"a\r\n\r",
+    b"a\n\rb\n",
+    b"\r\n\n\r\na",
+];
+
+#[test]
+fn a_head_ends_at_an_empty_line(rt: HostRuntime) {
+    for bytes in &ENDED {
+        assert!(rt; has_head_end(bytes));
+    }
+    for bytes in &UNENDED {
+        assert!(rt; !has_head_end(bytes));
+    }
+}
+
+static OPEN: [&[u8]; 4] = [
+    b"",
+    b"GET / HTTP/1.1\r\n",
+    b"GET / HTTP/1.1\r\nfoo bar\r\n",
+    b"no request at all",
+];
+
+static BAD: [&[u8]; 7] = [
+    b"GET / HTTP/1.1\r\nfoo bar\r\n\r\n",
+    b"GET  / HTTP/1.1\r\n\r\n",
+    b"GET / HTTP/2.0\r\n\r\n",
+    b"GET /\r\n\r\n",
+    b"GET / HTTP/1.1\r\nA : b\r\n\r\n",
+    b"GET / HTTP/1.1\r\nA: b\r\n c\r\n\r\n",
+    b"GET /\xff HTTP/1.1\r\n\r\n",
+];
+
+static WHOLE: [&[u8]; 4] = [
+    b"GET / HTTP/1.1\r\n\r\n",
+    b"\r\nGET / HTTP/1.0\nHost: a\n\n",
+    b"POST /devices HTTP/1.1\r\nA:\r\n\r\n{}",
+    b"get /%20 HTTP/1.1\r\nA: \xff\r\n\r\n",
+];
+
+#[test]
+fn a_look_reads_on_until_the_head_has_ended(rt: HostRuntime) {
+    for bytes in &OPEN {
+        assert!(rt; matches!(look_at(bytes), Look::Open));
+    }
+    for bytes in &BAD {
+        assert!(rt; matches!(look_at(bytes), Look::NoHead));
+    }
+    for bytes in &WHOLE {
+        assert!(rt; matches!(look_at(bytes), Look::Whole(_)));
+    }
+}
+
+// A head of so many headers.
+fn head_of_headers(alloc: Global, count: u8) -> Result<Vec<u8>, AllocError> {
+    let mut head = Vec::from_slice(alloc, b"GET / HTTP/1.1\r\n")?;
+    for _ in 0..count {
+        head.extend_from_slice(b"A: b\r\n")?;
+    }
+    head.extend_from_slice(b"\r\n")?;
+    Ok(head)
+}
+
+#[test]
+fn a_head_has_at_most_64_headers(rt: HostRuntime) -> Result<(), Fail> {
+    let most = head_of_headers(rt.alloc(), 64)?;
+    assert!(rt; matches!(look_at(&most), Look::Whole(_)));
+    let over = head_of_headers(rt.alloc(), 65)?;
+    assert!(rt; matches!(look_at(&over), Look::TooLarge));
+    assert!(rt; matches!(look_at_first(&over, 407), Look::Open));
+    Ok(())
+}
+
+// A head with a value of so many bytes, 22 more in all.
+fn head_of_value(alloc: Global, count: u16) -> Result<Vec<u8>, AllocError> {
+    let mut head = Vec::from_slice(alloc, b"GET / HTTP/1.1\r\nA:")?;
+    for _ in 0..count {
+        head.extend_from_slice(b"x")?;
+    }
+    head.extend_from_slice(b"\r\n\r\n")?;
+    Ok(head)
+}
+
+// A look at so many bytes at the front.
+fn look_at_first(bytes: &[u8], count: usize) -> Look {
+    look_at(bytes.get(..count).unwrap_or(bytes))
+}
+
+#[test]
+fn a_head_has_at_most_8192_bytes(rt: HostRuntime) -> Result<(), Fail> {
+    let most = head_of_value(rt.alloc(), 8170)?;
+    assert_eq!(rt; most.len(), 8192);
+    assert!(rt; matches!(look_at(&most), Look::Whole(_)));
+    assert!(rt; matches!(look_at_first(&most, 8191), Look::Open));
+    Ok(())
+}
+
+#[test]
+fn a_head_of_8193_bytes_is_past_the_limit(rt: HostRuntime) -> Result<(), Fail> {
+    let over = head_of_value(rt.alloc(), 8171)?;
+    assert_eq!(rt; over.len(), 8193);
+    assert!(rt; matches!(look_at(&over), Look::TooLarge));
+    assert!(rt; matches!(look_at_first(&over, 8192), Look::TooLarge));
+    assert!(rt; matches!(look_at_first(&over, 8191), Look::Open));
+    Ok(())
+}
+
+static HEADERS: &[u8] = b"GET / HTTP/1.1\r\nHost: a\r\nHOST: b\r\nContent-length:  7 \r\n\r\n";
+
+// How often a header is given in it, and its value where that is once.
+fn given(name: &[u8]) -> Given<'static> {
+    match look_at(HEADERS) {
+        Look::Whole(head) => header_value(HEADERS, &head.headers[..head.count], name),
+        _ => Given::Never,
+    }
+}
+
+#[test]
+fn headers_are_sought_in_any_case(rt: HostRuntime) {
+    let names: [&[u8]; 3] = [b"content-length", b"CONTENT-LENGTH", b"Content-Length"];
+    for name in names {
+        assert_eq!(rt; given(name), Given::Once(b"7"));
+    }
+    assert_eq!(rt; given(b"host"), Given::Often);
+    assert_eq!(rt; given(b"content-lengths"), Given::Never);
+}

@@ -1,0 +1,89 @@
+// Replies that go to a link.
+use http_reply::{Outlet, put_json, put_text_head};
+use http_status::Status;
+use mb_wire::{Link, MemoryLink};
+use std::test::Fail;
+
+static STATUSES: [(Status, &[u8]); 10] = [
+    (Status::Fine, b"HTTP/1.1 200 OK\r\n"),
+    (Status::BadRequest, b"HTTP/1.1 400 Bad Request\r\n"),
+    (Status::NotFound, b"HTTP/1.1 404 Not Found\r\n"),
+    (
+        Status::MethodNotAllowed,
+        b"HTTP/1.1 405 Method Not Allowed\r\n",
+    ),
+    (Status::Conflict, b"HTTP/1.1 409 Conflict\r\n"),
+    (Status::LengthRequired, b"HTTP/1.1 411 Length Required\r\n"),
+    (
+        Status::ContentTooLarge,
+        b"HTTP/1.1 413 Content Too Large\r\n",
+    ),
+    (
+        Status::Unprocessable,
+        b"HTTP/1.1 422 Unprocessable Content\r\n",
+    ),
+    (
+        Status::FieldsTooLarge,
+        b"HTTP/1.1 431 Request Header Fields Too Large\r\n",
+    ),
+    (Status::Unavailable, b"HTTP/1.1 503 Service Unavailable\r\n"),
+];
+
+#[test]
+fn a_reply_begins_with_its_status_line(rt: HostRuntime) {
+    for (status, line) in &STATUSES {
+        let mut output = [0; 200];
+        let mut link = MemoryLink::new(b"", &mut output, 200, None);
+        let mut outlet = Outlet::new(&mut link);
+        put_json(*status, b"{}", &mut outlet);
+        assert!(rt; outlet.finish().is_ok());
+        assert!(rt; link.given().starts_with(line));
+    }
+}
+
+static JSON: &[u8] =
+    b"HTTP/1.1 404 Not Found\r\nContent-Type: application/json\r\nContent-Length: 13\r\nConnection: close\r\n\r\n{\"refused\":1}";
+
+static TEXT: &[u8] =
+    b"HTTP/1.1 200 OK\r\nContent-Type: text/plain\r\nConnection: close\r\n\r\nend 0\n";
+
+#[test]
+fn replies_have_their_headers(rt: HostRuntime) {
+    let mut output = [0; 400];
+    let mut link = MemoryLink::new(b"", &mut output, 400, None);
+    let mut outlet = Outlet::new(&mut link);
+    put_json(Status::NotFound, b"{\"refused\":1}", &mut outlet);
+    put_text_head(&mut outlet);
+    outlet.put(b"end 0\n");
+    assert!(rt; outlet.finish().is_ok());
+    let len = JSON.len();
+    assert_eq!(rt; link.given().get(..len), Some(JSON));
+    assert_eq!(rt; link.given().get(len..), Some(TEXT));
+}
+
+#[test]
+fn each_give_may_fail(rt: HostRuntime) {
+    for call in 1..12u64 {
+        let mut output = [0; 200];
+        let mut link = MemoryLink::new(b"", &mut output, 10, Some(call));
+        let mut outlet = Outlet::new(&mut link);
+        put_json(Status::NotFound, b"{\"refused\":1}", &mut outlet);
+        assert!(rt; outlet.finish().is_err());
+        assert_eq!(rt; link.failures(), 1);
+        assert!(rt; JSON.starts_with(link.given()));
+    }
+}
+
+static BLOCK: [u8; 300] = [b'x'; 300];
+
+#[test]
+fn nothing_is_given_after_a_failed_give(rt: HostRuntime) {
+    let mut output = [0; 2000];
+    let mut link = MemoryLink::new(b"", &mut output, 100, Some(2));
+    let mut outlet = Outlet::new(&mut link);
+    for _ in 0..4 {
+        outlet.put(&BLOCK);
+    }
+    assert!(rt; outlet.finish().is_err());
+    assert_eq!(rt; (link.given().len(), link.failures()), (100, 1));
+}
