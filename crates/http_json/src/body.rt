@@ -24,7 +24,8 @@ pub enum BodyFault {
 pub fn body_of(alloc: Global, bytes: &[u8]) -> Result<Body, BodyFault>
     ensures utf8 { IfOk result (λ body. IsUtf8 bytes.now) }
     ensures spelled { IfOk result (λ body. read bytes.now ≡ Some (view body)) }
-    ensures malformed { result ≡ Err BodyFault.Malformed → IsUtf8 bytes.now → read bytes.now ≡ None }
+    ensures malformed { result ≡ Err BodyFault.Malformed → IsUtf8 bytes.now
+        → read bytes.now ≡ None }
     ensures memory { result ≡ Err BodyFault.Memory → 0 < length bytes.now }
     ensures never { result ≢ Err BodyFault.Negative }
 {

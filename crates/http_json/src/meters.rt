@@ -60,7 +60,8 @@ pub fn install_in(body: &Body) -> Result<InstallBody<'_>, BodyFault>
 
 /// The exchange that a body describes.
 pub fn exchange_in(body: &Body) -> Result<ExchangeBody<'_>, BodyFault>
-    ensures { Reads (fault_of exchange_members (view body.now)) (IsExchange (view body.now)) result }
+    ensures { Reads (fault_of exchange_members (view body.now))
+        (IsExchange (view body.now)) result }
 {
     let last = whole(body, "last")?;
     let rolls = whole(body, "rolls")?;

@@ -1,5 +1,5 @@
 -- Bytes that come in parts.
-use Rattle.std.proofs.Common.{◌≡◌, ◌∙◌, ℕ, true, List, ◌++◌, sym, ap, append_assoc}
+use Rattle.std.proofs.Common.{◌≡◌, ◌∙◌, ℕ, true, List, ◌++◌, ap, append_assoc}
 use Rattle.std.specs.declared.option.Option.{Option}
 use Rattle.std.proofs.KnownBytes.{Consumes-trans}
 use Rattle.http_head.specs.Heads.{IsOpenHead, Looks, is_open}

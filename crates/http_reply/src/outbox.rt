@@ -85,7 +85,8 @@ impl Outbox {
         ensures sends { (base : Option (List ℕ)) (all : List ℕ)
             → Sends base (L.given link.old) (held_back self.old) self.old.failed all
             → Sends base (L.given link.new) (held_back self.new) self.new.failed all }
-        ensures room { self.new.failed ≡ false → 512 < self.new.filled + count → held_back self.new ≡ [] }
+        ensures room { self.new.failed ≡ false → 512 < self.new.filled + count
+            → held_back self.new ≡ [] }
         ensures stays { self.old.failed ≡ true → self.new.failed ≡ true }
         ensures failures { L.failed link.new
             ≡ risen (self.new.failed && not self.old.failed) (L.failed link.old) }
@@ -115,7 +116,8 @@ impl Outbox {
         requires empty { held_back self.old ≡ [] }
         ensures sends { (base : Option (List ℕ)) (all : List ℕ)
             → Sends base (L.given link.old) (held_back self.old) self.old.failed all
-            → Sends base (L.given link.new) (held_back self.new) self.new.failed (all ++ bytes.now) }
+            → Sends base (L.given link.new) (held_back self.new) self.new.failed
+            (all ++ bytes.now) }
         ensures failures { L.failed link.new ≡ risen self.new.failed (L.failed link.old) }
         ensures remaining { Keeps (L.remaining link.old) (L.remaining link.new) }
         ensures takes { L.taken link.new ≡ L.taken link.old }
@@ -128,7 +130,8 @@ impl Outbox {
     pub(crate) fn put<L: Link>(&mut self, link: &mut L, bytes: &[u8])
         ensures sends { (base : Option (List ℕ)) (all : List ℕ)
             → Sends base (L.given link.old) (held_back self.old) self.old.failed all
-            → Sends base (L.given link.new) (held_back self.new) self.new.failed (all ++ bytes.now) }
+            → Sends base (L.given link.new) (held_back self.new) self.new.failed
+            (all ++ bytes.now) }
         ensures stays { self.old.failed ≡ true → self.new.failed ≡ true }
         ensures failures { L.failed link.new
             ≡ risen (self.new.failed && not self.old.failed) (L.failed link.old) }

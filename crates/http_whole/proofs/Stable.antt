@@ -1,20 +1,18 @@
 -- A head stays where more bytes come behind it.
-use Rattle.std.proofs.Common.{◌≡◌, ◌∙◌, ℕ, ◌+◌, ◌-◌, ◌<◌, ◌≤◌, ◌⊎◌, inl, inr, List, [], ◌∷◌, ◌++◌, length, take, drop, map, Option, Ok, Err, refl, sym, ap, subst, arith, append_assoc, length-drop, length-append}
+use Rattle.std.proofs.Common.{◌≡◌, ◌∙◌, ℕ, ◌+◌, ◌-◌, ◌<◌, ◌≤◌, List, [], ◌∷◌, ◌++◌, length, take, drop, map, Option, refl, sym, ap, subst, arith, length-drop, length-append}
 use Rattle.std.specs.Prelude.{All}
 use Rattle.std.proofs.lemmas.List.{drop-append-le, take-append-le}
 use Rattle.std.proofs.lemmas.List.Elements.{All-head, All-tail}
-use Rattle.httparse.specs.Grammar.{ReadsRequest, RequestHead}
+use Rattle.httparse.specs.Grammar.{ReadsRequest}
 use Rattle.httparse.specs.Spans.{IsHeaderWithin, IsWithin, header_bytes, span_bytes}
 use Rattle.httparse.specs.declared.spans.HeaderSpan.{HeaderSpan}
 use Rattle.httparse.specs.declared.spans.Span.{Span}
 use Rattle.httparse.proofs.GrammarLemmas.{ReadsRequest-append}
-use Rattle.http_head.specs.Heads.{IsHeadAt, IsOpenHead}
+use Rattle.http_head.specs.Heads.{IsHeadAt}
 use Rattle.http_head.specs.declared.head.Head.{Head}
-use Rattle.http_read.specs.Reading.{EndsAt}
 use Rattle.http_read.proofs.Coming.{Came-then}
 use Rattle.http_read.specs.Taking.{Came}
-use Rattle.http_read.specs.declared.inbox.TakeFault.{TakeFault}
-use Rattle.http_request.specs.HeadTests.{Start, start_at}
+use Rattle.http_request.specs.HeadTests.{start_at}
 use Rattle.http_route.specs.Routes.{Table}
 use Rattle.http_whole.specs.Whole.{IsWhole, LacksBody, body_size}
 

@@ -1,4 +1,4 @@
-use Rattle.std.proofs.Common.{rules, ◌≡◌, ◌++◌, inr, Ok, Err, subst, sym}
+use Rattle.std.proofs.Common.{rules, ◌≡◌, inr, Err, subst, sym}
 use Rattle.http_head.specs.Heads.{Looks}
 use Rattle.http_read.specs.Taking.{bytes_in}
 use Rattle.http_whole.specs.Whole.{Holds, ReadsRequest}
