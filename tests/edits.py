@@ -79,12 +79,15 @@ def functions_of(crate, file):
 
 def owner_of(line):
     """Returns the pattern of the part of a function's name that stands for its impl or trait."""
+    taken = re.match(r"impl<(.*?)> ", line)
     while re.search(r"<[^<>]*>", line):
         line = re.sub(r"<[^<>]*>", "", line)
     found = re.match(r"impl (?:(\S+) for )?&?(\S+)", line)
     if not found:
         return re.search(r"trait (\w+)", line)[1]
     trait, kind = (it.split("::")[-1] if it else "" for it in found.groups())
+    if taken and kind in re.findall(r"(?:^|, )(\w+)", taken[1]):
+        kind = "Any"
     return rf"{kind}{trait}\d*\w*" if trait else kind
 
 

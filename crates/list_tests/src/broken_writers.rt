@@ -2,7 +2,7 @@
 ghost use Rattle.std.specs.Prelude.{◌≤◌, IfOk, length};
 
 use crate::given::list_of;
-use point_list::{CountedWriter, PointList, WriteListFault, write_list};
+use point_list::{PointList, WriteListFault, write_list};
 use std::alloc::Global;
 use std::io::{self, ErrorKind, Write};
 use std::test::Fail;
@@ -19,13 +19,13 @@ struct Narrow {
     interrupted: bool,
 }
 
-fn narrow_writer(alloc: Global, room: usize, fails: bool) -> CountedWriter<Narrow> {
-    CountedWriter::new(Narrow {
+fn narrow_writer(alloc: Global, room: usize, fails: bool) -> Narrow {
+    Narrow {
         taken: Vec::new(alloc),
         room,
         fails,
         interrupted: false,
-    })
+    }
 }
 
 impl Narrow {
@@ -56,12 +56,11 @@ impl Write for Narrow {
     }
 }
 
-// Whether a writer that has room for a part of the text gets that part, and the fault is told and counted.
+// Whether a writer that has room for a part of the text gets that part, and the fault is told.
 fn is_told(alloc: Global, list: &PointList, room: usize, fails: bool) -> bool {
     let mut output = narrow_writer(alloc, room, fails);
     write_list(alloc, list, &mut output) == Err(WriteListFault::Write)
-        && Some(output.writer.taken.as_slice()) == TEXT.get(..room)
-        && output.failures == 1
+        && Some(output.taken.as_slice()) == TEXT.get(..room)
 }
 
 #[test]
@@ -82,16 +81,6 @@ fn is_interrupted(rt: HostRuntime) -> Result<(), Fail> {
     let list = list_of(rt.alloc(), TEXT)?;
     let mut output = narrow_writer(rt.alloc(), TEXT.len(), true);
     assert_eq!(rt; write_list(rt.alloc(), &list, &mut output), Ok(()));
-    assert_eq!(rt; output.writer.taken.as_slice(), TEXT);
-    assert_eq!(rt; output.failures, 0);
+    assert_eq!(rt; output.taken.as_slice(), TEXT);
     Ok(())
-}
-
-#[test]
-fn fails_again(rt: HostRuntime) {
-    let mut output = narrow_writer(rt.alloc(), 1, true);
-    assert!(rt; output.write_whole(b"ab").is_err());
-    assert!(rt; output.write_whole(b"c").is_err());
-    assert!(rt; output.write_whole(b"").is_ok());
-    assert_eq!(rt; output.failures, 2);
 }

@@ -2,7 +2,6 @@
 #![tactic(auto)]
 
 mod chain_points;
-mod counted;
 mod fault;
 mod fields;
 mod lawful;
@@ -18,7 +17,6 @@ mod writing;
 mod written;
 
 pub use chain_points::from_chain;
-pub use counted::{CountedWriter, WriteFailed};
 pub use fault::{FaultyRow, FaultyRows, ListFault, RowFault};
 pub use laws::texts_spell_one_list;
 pub use list::PointList;

@@ -1,14 +1,13 @@
 //! Writing a point list.
 ghost use Rattle.std.specs.Prelude.{◌≡◌, IfOk, OnOk};
 ghost use Rattle.point_list.specs.Lists.{SpellsList};
-ghost use Rattle.point_list.specs.Writing.{WritesText, failures_after, is_write_fault};
+ghost use Rattle.point_list.specs.Writing.{HandsOver};
 ghost use Rattle.point_list.specs.Written.{list_text};
 
-use crate::counted::CountedWriter;
 use crate::list::PointList;
 use crate::written::{point_rows, text_of_rows};
 use std::alloc::{AllocError, Global};
-use std::io::Write;
+use sun_points::Sink;
 
 /// Why a list was not written.
 #[derive(Clone, Copy, Debug, PartialEq, Eq)]
@@ -43,22 +42,18 @@ fn list_text(alloc: Global, list: &PointList) -> Result<Vec<u8>, AllocError>
 
 /// Writes a list as comma-separated values, so that its text is read as the same list. The text is made whole before
 /// any of it is written.
-pub fn write_list<W: Write>(
+pub fn write_list<S: Sink>(
     alloc: Global,
     list: &PointList,
-    output: &mut CountedWriter<W>,
+    output: &mut S,
 ) -> Result<(), WriteListFault>
-    ensures text { let old = W.contents output.old.writer in
-        let new = W.contents output.new.writer in
-        WritesText result (list_text list.now) old new }
+    ensures text { HandsOver S.takes result (list_text list.now) output.old output.new }
     ensures spelled { OnOk result (SpellsList (list_text list.now) list.now) }
-    ensures failures { output.new.failures
-        ≡ failures_after (is_write_fault result) output.old.failures }
 {
     let Ok(text) = list_text(alloc, list) else {
         return Err(WriteListFault::Memory);
     };
-    match output.write_whole(&text) {
+    match output.take_text(&text) {
         Ok(()) => Ok(()),
         Err(_) => Err(WriteListFault::Write),
     }

@@ -4,3 +4,4 @@ pub mod PointText
 pub mod Scale
 pub mod Decimal
 pub mod Text
+pub mod Writing

@@ -1,36 +1,51 @@
-// Writers that take a few bytes and then fail.
+// Writers that take a few bytes at a time, are interrupted, and then fail or take nothing.
+ghost use Rattle.std.specs.Prelude.{◌≤◌, IfOk, length};
 
 use std::alloc::Global;
-use std::io;
+use std::io::{self, ErrorKind};
 use std::test::Fail;
-use sun_points::{Point, Scale, write_scaled};
+use sun_points::{Point, Scale, Text, write_scaled};
 
+// Takes up to three bytes at a time, while there is room, and is interrupted before each time. With no room left it
+// fails, or takes nothing.
 #[derive(Drop)]
-struct Failing {
-    room: usize,
+struct Narrow {
     taken: Vec<u8>,
-    failed: bool,
+    room: usize,
+    fails: bool,
+    interrupted: bool,
 }
 
-impl Failing {
-    fn new(alloc: Global, room: usize) -> Failing {
-        Failing {
-            room,
+impl Narrow {
+    fn new(alloc: Global, room: usize, fails: bool) -> Narrow {
+        Narrow {
             taken: Vec::new(alloc),
-            failed: false,
+            room,
+            fails,
+            interrupted: false,
         }
+    }
+
+    fn take(&mut self, bytes: &[u8]) -> io::Result<usize>
+        ensures { IfOk result (λ n. n ≤ length bytes.now) }
+    {
+        let count = bytes.len().min(self.room).min(3);
+        self.taken.extend_from_slice(&bytes[..count])?;
+        self.room -= count;
+        Ok(count)
     }
 }
 
-impl io::Write for Failing {
-    fn write(&mut self, buf: &[u8]) -> io::Result<usize> {
-        let count = buf.len().min(self.room);
-        if count == 0 && !buf.is_empty() {
-            return Err(io::Error::from(io::ErrorKind::StorageFull));
+impl io::Write for Narrow {
+    fn write(&mut self, bytes: &[u8]) -> io::Result<usize> {
+        self.interrupted = !self.interrupted;
+        if self.interrupted {
+            return Err(io::Error::from(ErrorKind::Interrupted));
         }
-        self.taken.extend_from_slice(&buf[..count])?;
-        self.room -= count;
-        Ok(count)
+        if self.fails && self.room == 0 {
+            return Err(io::Error::from(ErrorKind::StorageFull));
+        }
+        self.take(bytes)
     }
 
     fn flush(&mut self) -> io::Result<()> {
@@ -38,39 +53,32 @@ impl io::Write for Failing {
     }
 }
 
-fn is_full(outcome: io::Result<()>) -> bool {
-    match outcome {
-        Ok(()) => false,
-        Err(error) => error.kind() == io::ErrorKind::StorageFull,
-    }
-}
-
-// What a writer with room for so many bytes has got of -12.34.
-fn cut_value(alloc: Global, room: usize) -> Result<Failing, Fail> {
-    let scale = Scale::new(0xFFFE).ok_or("no scale")?;
-    let mut output = Failing::new(alloc, room);
-    output.failed = is_full(write_scaled(-1234, scale, &mut output));
-    Ok(output)
-}
-
-// The same of a point.
-fn cut_point(alloc: Global, point: &Point<'_>, room: usize) -> Failing {
-    let mut output = Failing::new(alloc, room);
-    output.failed = is_full(point.write(Scale::default(), &mut output));
-    output
-}
-
-fn is_cut(output: &Failing, room: usize, text: &str) -> bool {
+// Whether a writer got as much of the text as it had room for, and the right error was told where that is not all.
+fn is_cut(output: &Narrow, outcome: io::Result<()>, room: usize, text: &str) -> bool {
     let all = text.as_bytes();
-    let count = room.min(all.len());
-    output.taken.as_slice() == &all[..count] && output.failed == (count < all.len())
+    let told = match outcome {
+        Ok(()) => room >= all.len(),
+        Err(error) if output.fails => room < all.len() && error.kind() == ErrorKind::StorageFull,
+        Err(error) => room < all.len() && error.kind() == ErrorKind::WriteZero,
+    };
+    told && output.taken.as_slice() == &all[..room.min(all.len())]
+}
+
+fn cut_value(alloc: Global, room: usize, fails: bool) -> Result<bool, Fail> {
+    let scale = Scale::new(0xFFFE).ok_or("no scale")?;
+    let mut output = Narrow::new(alloc, room, fails);
+    let outcome = write_scaled(-1234, scale, &mut output);
+    Ok(is_cut(&output, outcome, room, "-12.34"))
 }
 
 #[test]
 fn a_scaled_value_is_cut(rt: HostRuntime) -> Result<(), Fail> {
     for room in 0..8usize {
-        let output = cut_value(rt.alloc(), room)?;
-        assert!(rt; is_cut(&output, room, "-12.34"), "{room}");
+        assert!(rt; cut_value(rt.alloc(), room, true)?, "fails at {room}");
+        assert!(rt;
+            cut_value(rt.alloc(), room, false)?,
+            "takes nothing at {room}"
+        );
     }
     Ok(())
 }
@@ -82,12 +90,31 @@ static POINTS: [(Point<'static>, &str); 4] = [
     (Point::Bits(0xAB), "0x000000ab"),
 ];
 
+fn cut_point(alloc: Global, point: &Point<'_>, text: &str, room: usize, fails: bool) -> bool {
+    let mut output = Narrow::new(alloc, room, fails);
+    let outcome = point.write(Scale::default(), &mut output);
+    is_cut(&output, outcome, room, text)
+}
+
 #[test]
 fn a_point_is_cut(rt: HostRuntime) {
     for (point, text) in &POINTS {
         for room in 0..12usize {
-            let output = cut_point(rt.alloc(), point, room);
-            assert!(rt; is_cut(&output, room, text), "{text}");
+            assert!(rt; cut_point(rt.alloc(), point, text, room, true), "{text}");
+            assert!(rt; cut_point(rt.alloc(), point, text, room, false), "{text}");
+        }
+    }
+}
+
+static TEXTS: [([u16; 3], &str); 2] = [([0x4142, 0x4344, 0x4500], "ABCDE"), ([0, 0, 0], "")];
+
+#[test]
+fn a_text_is_cut(rt: HostRuntime) {
+    for (words, text) in &TEXTS {
+        let point = Point::Text(Text { words });
+        for room in 0..7usize {
+            assert!(rt; cut_point(rt.alloc(), &point, text, room, true), "{text}");
+            assert!(rt; cut_point(rt.alloc(), &point, text, room, false), "{text}");
         }
     }
 }

@@ -1,9 +1,8 @@
-use Rattle.std.proofs.Common.{◌≡◌, ◌-◌, ℕ, Option, List, [], ◌++◌, Bor, length, take, drop, sym, ap, ◌∙◌, append_assoc, take-append-drop}
+use Rattle.std.proofs.Common.{◌≡◌, ◌-◌, ℕ, List, ◌++◌, Bor, length, take, drop, sym, ap, ◌∙◌, append_assoc, take-append-drop}
 use Rattle.std.proofs.lemmas.List.{take_rest}
 use Rattle.std.proofs.KnownBytes.{Appends-kept, Appends-trans}
-use Rattle.std.specs.Io.KnownBytes.{Appends}
-use Rattle.point_list.proofs.counted.write_bytes.Goals as goal
-use Rattle.point_list.proofs.counted.write_bytes.Goals.{in-Ok, in-Err}
+use Rattle.sun_points.proofs.sink.write_whole.Goals as goal
+use Rattle.sun_points.proofs.sink.write_whole.Goals.{in-Ok, in-Err}
 
 -- a write took the front of the rest
 moves_front : (all done rest left : List ℕ) (n : ℕ) → all ≡ done ++ rest → left ≡ take (length rest - n) (drop n rest) → all ≡ (done ++ take n rest) ++ left
