@@ -1,5 +1,5 @@
 //! Point lists with the reads of their plans.
-use planned_list::PlannedList;
+use planned_list::{PlannedList, lists_are_planned_once};
 use point_list::read_list;
 use std::alloc::Global;
 use std::test::Fail;
@@ -36,6 +36,7 @@ fn planned(alloc: Global, rows: &[u8]) -> Result<PlannedList, Fail> {
 
 #[test]
 fn reads_of_lists(rt: HostRuntime) -> Result<(), Fail> {
+    lists_are_planned_once();
     for case in &CASES {
         let list = planned(rt.alloc(), case.rows)?;
         assert_eq!(rt; list.points().len(), case.points);

@@ -2,6 +2,8 @@
 #![tactic(auto)]
 
 mod copies;
+mod laws;
 mod list;
 
+pub use laws::lists_are_planned_once;
 pub use list::PlannedList;
