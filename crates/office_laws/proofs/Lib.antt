@@ -6,3 +6,4 @@ pub mod LawfulReadings
 pub mod LawfulChanges
 pub mod LawfulExchange
 pub mod Rounds
+pub mod Bounds

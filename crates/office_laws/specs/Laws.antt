@@ -1,6 +1,6 @@
 -- What lawful facts say of meters.
-use Rattle.std.specs.Prelude.{◌≡◌, ◌+◌, List}
-use Rattle.std.specs.List.{Contains}
+use Rattle.std.specs.Prelude.{◌≤◌, ℕ, ◌≡◌, ◌+◌, List}
+use Rattle.std.specs.List.{All, Contains}
 use Rattle.energy_core.specs.Value.{value_of}
 use Rattle.energy_core.specs.Account.{set_anew, recorded}
 use Rattle.energy_core.specs.TrueRun.{Item}
@@ -10,7 +10,8 @@ use Rattle.meter_journal.specs.Laws as journals
 use Rattle.meter_journal.specs.Truth as truth
 use Rattle.office_events.specs.declared.facts.Opening.{Opening}
 use Rattle.office_events.specs.declared.facts.Fact.{Fact}
-use Rattle.office_rules.specs.Facts.{openings_in}
+use Rattle.office_events.specs.declared.facts.Fact.TheVariants as fact
+use Rattle.office_rules.specs.Facts.{moment_limit, poll_limit, request_limit, moment_in, openings_in}
 use Rattle.office_rules.specs.Meters.{opened, installed, journal_of, entries_of, steps_in, installation_of}
 use Rattle.office_rules.specs.Intervals.{rows_of_opening}
 use Rattle.office_rules.specs.Lawful.{AreLawful}
@@ -51,3 +52,24 @@ pub record IsUntraced (facts : List Fact) (opening : Opening) : Type 0 where
 
 abbrev pub VoidsLeaveNoTrace : Type 0
 VoidsLeaveNoTrace = (facts : List Fact) (opening : Opening) → AreLawful facts → IsRecorded facts opening → IsUntraced facts opening
+
+-- the number of the poll that a fact speaks of, and that of the request
+abbrev pub poll_in : Fact → ℕ
+poll_in (fact.Hold held) = held.poll
+poll_in (fact.Poll poll) = poll.number
+poll_in (fact.Outcome ended) = ended.poll
+poll_in _ = 0
+
+abbrev pub request_in : Fact → ℕ
+request_in (fact.Reply reply) = reply.number
+request_in _ = 0
+
+-- a moment and a number that a column of a table can hold
+pub record IsBounded (f : Fact) : Type 0 where
+  pub moment : moment_in f ≤ moment_limit
+  pub poll : poll_in f ≤ poll_limit
+  pub request : request_in f ≤ request_limit
+
+-- No lawful fact is past these limits.
+abbrev pub FactsAreBounded : Type 0
+FactsAreBounded = (facts : List Fact) → AreLawful facts → All IsBounded facts

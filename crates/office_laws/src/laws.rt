@@ -1,5 +1,5 @@
 //! Laws of lawful facts.
-ghost use Rattle.office_laws.specs.Laws.{JournalsFit, MetersAreKept, TruthIsRecorded, VoidsLeaveNoTrace};
+ghost use Rattle.office_laws.specs.Laws.{FactsAreBounded, JournalsFit, MetersAreKept, TruthIsRecorded, VoidsLeaveNoTrace};
 
 use meter_journal::{
     interval_rows_add_up, interval_rows_are_accounts, journals_are_kept, journals_balance,
@@ -37,3 +37,8 @@ pub fn voids_leave_no_trace()
     rows_stand();
     journal_voids();
 }
+
+/// No moment, no poll's number and no request's number of lawful facts is past its limit.
+pub fn facts_are_bounded()
+    ensures { FactsAreBounded }
+{}

@@ -3,4 +3,6 @@
 
 mod laws;
 
-pub use laws::{journals_fit, meters_are_kept, truth_is_recorded, voids_leave_no_trace};
+pub use laws::{
+    facts_are_bounded, journals_fit, meters_are_kept, truth_is_recorded, voids_leave_no_trace,
+};
