@@ -1,14 +1,13 @@
 -- What stands is a journal by itself.
-use Rattle.std.proofs.Common.{◌≡◌, ℕ, ◌+◌, Bool, true, false, cond, List, [], ◌∷◌, map, refl, sym, ap, subst, ◌∙◌, inl, inr}
+use Rattle.std.proofs.Common.{◌≡◌, true, false, List, [], ◌∷◌, map, refl, sym, ap, subst, ◌∙◌, inl, inr}
 use Rattle.std.proofs.lemmas.Bool.{cases_Bool, cond-true, cond-false}
 use Rattle.energy_core.specs.declared.entries.Last.{Last}
 use Rattle.energy_core.specs.declared.entries.Entry.{Entry}
 use Rattle.meter_journal.specs.declared.lines.Installed.{Installed}
-use Rattle.meter_journal.specs.declared.lines.EntryKind.{EntryKind}
 use Rattle.meter_journal.specs.declared.lines.EntryRow.{EntryRow}
 use Rattle.meter_journal.specs.Books.{last_after, total_after, steps_after}
 use Rattle.meter_journal.specs.Intervals.{rows_of_steps}
-use Rattle.meter_journal.specs.Journal.{Line, Entered, Held, Voided, Journal, is_closing, is_ended, standing, entries_in, entries_of, rows_of}
+use Rattle.meter_journal.specs.Journal.{Entered, Held, Voided, Journal, is_closing, is_ended, standing, entries_of, rows_of}
 use Rattle.meter_journal.specs.Fitting.{EntryFits, AreFitting}
 use Rattle.meter_journal.specs.Standing.{AllStillFit, entering, standing_alone}
 use Rattle.meter_journal.specs.Laws.{VoidsLeaveNoTrace}

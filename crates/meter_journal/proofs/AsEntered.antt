@@ -1,5 +1,5 @@
 -- The rows of a journal are those that were entered, in their order. A void strikes the row that it names, and no other.
-use Rattle.std.proofs.Common.{◌≡◌, ℕ, ◌+◌, ◌<◌, ◌≤◌, ◌==◌, Bool, true, false, not, cond, ◌&&◌, ◌||◌, List, [], ◌∷◌, map, length, refl, sym, ap, subst, ◌∙◌, inl, inr, Option, Some, None, arith}
+use Rattle.std.proofs.Common.{◌≡◌, ℕ, ◌+◌, ◌<◌, ◌≤◌, ◌==◌, Bool, true, false, not, cond, ◌&&◌, ◌||◌, List, [], ◌∷◌, map, length, refl, sym, ap, subst, ◌∙◌, inl, inr, Some, arith}
 use Rattle.std.proofs.lemmas.Bool.{cases_Bool, cond-true, cond-false, eqb-true}
 use Rattle.std.proofs.lemmas.Bool.Decides.{nat_tests}
 use Rattle.energy_core.specs.declared.entries.Last.{Last}
@@ -11,7 +11,7 @@ use Rattle.meter_journal.specs.declared.lines.EntryKind.{EntryKind}
 use Rattle.meter_journal.specs.declared.lines.EntryKind.TheVariants as kind
 use Rattle.meter_journal.specs.declared.lines.EntryRow.{EntryRow}
 use Rattle.meter_journal.specs.Books.{last_after}
-use Rattle.meter_journal.specs.Journal.{Line, Entered, Held, Voided, Journal, Around, is_reading, is_closing, is_ended, standing, entries_in, entries_of, new_row, rows_of, with_rolls, rolled, struck, with_void, passed, row_at}
+use Rattle.meter_journal.specs.Journal.{Entered, Held, Voided, Journal, Around, is_reading, standing, entries_in, new_row, rows_of, with_rolls, rolled, struck, with_void, passed, row_at}
 use Rattle.meter_journal.specs.Fitting.{EntryFits, AreFitting}
 use Rattle.meter_journal.specs.Standing.{is_voided, entered_count, unvoided, AllStillFit}
 use Rattle.meter_journal.specs.Lists.{AreNumbered}

@@ -1,16 +1,15 @@
 -- Rows in a list, the oldest first, against rows with the latest first.
-use Rattle.std.proofs.Common.{◌≡◌, ℕ, zero, suc, ◌+◌, ◌-◌, ◌<◌, ◌≤◌, ◌==◌, Bool, true, false, cond, List, [], ◌∷◌, ◌++◌, map, reverse, take, drop, length, get_or, set, refl, sym, ap, subst, ◌∙◌, inl, inr, ◌⊎◌, Option, Some, None, arith, append_assoc, eq-eqb}
+use Rattle.std.proofs.Common.{◌≡◌, ℕ, zero, suc, ◌+◌, ◌<◌, ◌≤◌, ◌==◌, Bool, true, false, cond, List, [], ◌∷◌, ◌++◌, map, reverse, take, drop, length, get_or, set, refl, sym, ap, subst, ◌∙◌, inl, inr, ◌⊎◌, Option, Some, None, arith, append_assoc, eq-eqb}
 use Rattle.std.specs.List.{find}
 use Rattle.std.specs.Option.{option_map, option_or}
 use Rattle.std.proofs.lemmas.Bool.{cases_Bool, cond-true, cond-false}
 use Rattle.std.proofs.lemmas.Bool.Decides.{nat_tests}
-use Rattle.std.proofs.lemmas.List.{append-nil, reverse-append, length-reverse, length-append, length-take-le, take-append-drop, take_more, take_more_set, take-set, drop_more, drop-set-lt, drop_all, take_all}
+use Rattle.std.proofs.lemmas.List.{append-nil, reverse-append, length-reverse, take-append-drop, take_more, take_more_set, drop_more, drop-set-lt, drop_all, take_all}
 use Rattle.energy_core.specs.declared.entries.Last.{Last}
-use Rattle.energy_core.specs.declared.entries.Entry.{Entry}
-use Rattle.energy_core.specs.Account.{after, last_of}
+use Rattle.energy_core.specs.Account.{last_of}
 use Rattle.meter_journal.specs.declared.lines.EntryRow.{EntryRow}
 use Rattle.meter_journal.specs.Journal.{Around, standing, entries_in, rolled, struck, with_void, if_standing, passed, row_at}
-use Rattle.meter_journal.specs.Lists.{latest_first, AreNumbered, behind, behind_all, rolled_on}
+use Rattle.meter_journal.specs.Lists.{latest_first, AreNumbered, behind, rolled_on}
 
 pub reverse_cons : {X : Type 0} (x : X) (xs : List X) → reverse (x ∷ xs) ≡ reverse xs ++ x ∷ []
 reverse_cons x xs = reverse-append (x ∷ []) xs
@@ -28,16 +27,20 @@ last_on opening row rows =
           ap (λ b. last_of opening (map (λ (r : EntryRow). r.entry) (cond b (row ∷ standing rows) (standing rows)))) off ∙ sym (cond-false _ _ _ off)
     ]
 
-behind_onto : (opening last : Last) (rows done : List EntryRow) → last ≡ last_of opening (entries_in done)
-    → behind_all last rows ≡ last_of opening (entries_in (reverse rows ++ done))
-behind_onto opening last [] done is = is
-behind_onto opening last (row ∷ rows) done is =
-    behind_onto opening (behind last row) rows (row ∷ done) (ap (λ (l : Last). behind l row) is ∙ sym (last_on opening row done))
-    ∙ ap (λ rs. last_of opening (entries_in rs)) (sym (reverse_onto row rows done))
+pub turned : (rows : List EntryRow) (i : ℕ) (d : EntryRow) → i < length rows → latest_first (take (i + 1) rows) ≡ get_or rows i d ∷ latest_first (take i rows)
+turned rows i d lt = ap (λ (rs : List EntryRow). reverse rs) (take_more rows i d lt) ∙ reverse-append (take i rows) (get_or rows i d ∷ [])
 
--- where the counter stands behind rows is where their entries leave it
-pub behind_is_last : (opening : Last) (rows : List EntryRow) → behind_all opening rows ≡ last_of opening (entries_in (latest_first rows))
-behind_is_last opening rows = behind_onto opening opening rows [] refl ∙ ap (λ rs. last_of opening (entries_in rs)) (append-nil (reverse rows))
+pub last_more : (opening : Last) (rows : List EntryRow) (i : ℕ) (d : EntryRow) (last next : Last) → i < length rows
+    → last ≡ last_of opening (entries_in (latest_first (take i rows))) → next ≡ behind last (get_or rows i d)
+    → next ≡ last_of opening (entries_in (latest_first (take (i + 1) rows)))
+last_more opening rows i d last next lt last_is next_is =
+    next_is ∙ ap (λ (l : Last). behind l (get_or rows i d)) last_is
+    ∙ sym (last_on opening (get_or rows i d) (latest_first (take i rows)))
+    ∙ ap (λ (rs : List EntryRow). last_of opening (entries_in rs)) (sym (turned rows i d lt))
+
+pub last_all : (opening : Last) (rows : List EntryRow) (i : ℕ) (last : Last) → length rows ≤ i
+    → last ≡ last_of opening (entries_in (latest_first (take i rows))) → last ≡ last_of opening (entries_in (latest_first rows))
+last_all opening rows i last le is = is ∙ ap (λ (rs : List EntryRow). last_of opening (entries_in (latest_first rs))) (take_all i rows le)
 
 -- ---- what stands behind the first rows
 
@@ -105,18 +108,16 @@ roll_end rows i last le = ap (λ rs. take i rows ++ rolled_on last rs) (drop_all
 pub void_at : (opening : Last) (place n : ℕ) (older : List EntryRow) (row : EntryRow) (newer : List EntryRow) → place < n → NumberedFrom n newer
     → row.place == place ≡ true
     → with_void opening place (latest_first (older ++ row ∷ newer))
-    ≡ latest_first ((older ++ struck row ∷ []) ++ rolled_on (behind_all opening older) newer)
+    ≡ latest_first ((older ++ struck row ∷ []) ++ rolled_on (last_of opening (entries_in (latest_first older))) newer)
 void_at opening place n older row newer lt h at =
     let done : List EntryRow = struck row ∷ reverse older in
     let turn : (x : EntryRow) (xs : List EntryRow) → reverse (older ++ x ∷ xs) ≡ reverse xs ++ x ∷ reverse older =
     λ x xs. reverse-append older (x ∷ xs) ∙ reverse_onto x xs (reverse older) in
     let begun : with_void opening place (row ∷ reverse older) ≡ done = cond-true _ _ _ at in
-    let on : last_of opening (entries_in done) ≡ behind_all opening older = sym (behind_is_last opening older) in
     ap (with_void opening place) (turn row newer)
     ∙ void_onto opening place n newer (row ∷ reverse older) done lt h begun
-    ∙ ap (λ (l : Last). reverse (rolled_on l newer) ++ done) on
-    ∙ sym (turn (struck row) (rolled_on (behind_all opening older) newer))
-    ∙ ap reverse (sym (append_assoc older (struck row ∷ []) (rolled_on (behind_all opening older) newer)))
+    ∙ sym (turn (struck row) (rolled_on (last_of opening (entries_in (latest_first older))) newer))
+    ∙ ap reverse (sym (append_assoc older (struck row ∷ []) (rolled_on (last_of opening (entries_in (latest_first older))) newer)))
 
 -- ---- a row that is looked for
 
@@ -189,7 +190,7 @@ found_in rows place i d next h is lt next_is =
     ∙ ap (λ o. let x : Around = record { before = latest_first (take i rows); row = row; next = o } in Some x) (sym next_is)
 
 pub struck_in : (opening last : Last) (rows : List EntryRow) (place i : ℕ) (d : EntryRow) → AreNumbered (latest_first rows) → place ≡ i + 2
-    → i < length rows → last ≡ behind_all opening (take i rows)
+    → i < length rows → last ≡ last_of opening (entries_in (latest_first (take i rows)))
     → let struck_rows = set rows i (struck (get_or rows i d)) in
     with_void opening place (latest_first rows) ≡ latest_first (take (i + 1) struck_rows ++ rolled_on last (drop (i + 1) struck_rows))
 struck_in opening last rows place i d h is lt last_is =

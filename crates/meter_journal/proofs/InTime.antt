@@ -1,12 +1,12 @@
 -- The steps of entries that follow one another are in time, so that their rows are their account.
-use Rattle.std.proofs.Common.{◌≡◌, ℕ, ◌<◌, ◌≤◌, List, [], ◌∷◌, sym, ◌∙◌, arith}
+use Rattle.std.proofs.Common.{◌<◌, List, [], ◌∷◌, sym, ◌∙◌, arith}
 use Rattle.std.specs.List.{All}
 use Rattle.std.proofs.lemmas.List.Elements.{All-nil, All-cons}
 use Rattle.energy_core.specs.declared.entries.Step.{Step}
 use Rattle.energy_core.specs.declared.entries.Entry.{Entry}
 use Rattle.energy_core.specs.declared.entries.Entry.TheVariants as entry
 use Rattle.energy_core.specs.Account.{step_to, AllFollow}
-use Rattle.interval_core.specs.Account.{IsAccount, SharesAddUp, AccountsAddUp}
+use Rattle.interval_core.specs.Account.{SharesAddUp, AccountsAddUp}
 use Rattle.meter_journal.specs.declared.lines.Installed.{Installed}
 use Rattle.meter_journal.specs.Books.{last_after, steps_after, steps_in, interval_rows}
 use Rattle.meter_journal.specs.Journal.{entries_of}

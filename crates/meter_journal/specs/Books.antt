@@ -1,16 +1,21 @@
 -- What the books of a meter are after entries, and after a journal.
-use Rattle.std.specs.Prelude.{ℕ, List}
+use Rattle.std.specs.Prelude.{ℕ, ◌<◌, List}
 use Rattle.energy_core.specs.declared.entries.Last.{Last}
 use Rattle.energy_core.specs.declared.entries.Step.{Step}
 use Rattle.energy_core.specs.declared.entries.Entry.{Entry}
 use Rattle.energy_core.specs.declared.judging.Reading.{Reading}
 use Rattle.energy_core.specs.declared.judging.Verdict.{Verdict}
-use Rattle.energy_core.specs.Account.{last_of, whole_energy, steps_of}
+use Rattle.energy_core.specs.Account.{last_of, whole_energy, steps_of, IsScale, IsAccount}
 use Rattle.energy_core.specs.Readings.{verdict_on}
 use Rattle.interval_core.specs.declared.shares.Share.{Share}
 use Rattle.meter_journal.specs.declared.lines.Installed.{Installed}
 use Rattle.meter_journal.specs.Journal.{Journal, entries_of}
 use Rattle.meter_journal.specs.Intervals.{rows_of_steps}
+
+-- at opening the counter showed what it can show, at a scale that a register may have
+pub record IsWellInstalled (meter : Installed) : Type 0 where
+  pub raw : meter.opening.raw < meter.range
+  pub scale : IsScale meter.opening.sf
 
 -- where the counter stands after these entries
 abbrev pub last_after : Installed → List Entry → Last
@@ -26,6 +31,10 @@ steps_after meter es = steps_of meter.range meter.opening es
 -- the verdict on a reading that comes after these entries
 abbrev pub verdict_after : Installed → List Entry → Reading → Verdict
 verdict_after meter es reading = verdict_on meter.range meter.ceiling meter.opening es reading
+
+-- these entries have an account, with this energy
+abbrev pub HasAccount : Installed → List Entry → Type 0
+HasAccount meter es = IsAccount meter.range meter.opening es (last_after meter es) (total_after meter es)
 
 -- Where the counter stands, the energy, the steps and the interval rows of the entries of a journal that stand.
 abbrev pub last_in : Installed → Journal → Last

@@ -1,7 +1,10 @@
 -- A meter's rows as a list keeps them: the oldest first.
-use Rattle.std.specs.Prelude.{◌≡◌, ℕ, ◌+◌, List, [], ◌∷◌, reverse, take, length, Some, if◌then◌else◌}
+use Rattle.std.specs.Prelude.{◌≡◌, ℕ, ◌+◌, ◌*◌, ◌^◌, ◌≤◌, ◌<◌, List, [], ◌∷◌, reverse, take, length, Option, Some, None, if◌then◌else◌}
 use Rattle.energy_core.specs.declared.entries.Last.{Last}
-use Rattle.energy_core.specs.Account.{after}
+use Rattle.energy_core.specs.declared.entries.Entry.{Entry}
+use Rattle.energy_core.specs.declared.entries.Step.{Step}
+use Rattle.energy_core.specs.Account.{after, energy_of, step_to, IsScale, Follows}
+use Rattle.meter_journal.specs.declared.lines.Installed.{Installed}
 use Rattle.meter_journal.specs.declared.lines.EntryRow.{EntryRow}
 use Rattle.meter_journal.specs.declared.rows.FoundRow.{FoundRow}
 use Rattle.meter_journal.specs.Journal.{rolled, row_at}
@@ -14,18 +17,29 @@ abbrev pub AreNumbered : List EntryRow → Type 0
 AreNumbered [] = Unit {0}
 AreNumbered (row ∷ rows) = (row.place ≡ length rows + 2) × AreNumbered rows
 
--- where the counter stands behind a row, and behind rows in their order
+-- where the counter stands behind a row
 abbrev pub behind : Last → EntryRow → Last
 behind last row = if row.stands then after last row.entry else last
 
-abbrev pub behind_all : Last → List EntryRow → Last
-behind_all last [] = last
-behind_all last (row ∷ rows) = behind_all (behind last row) rows
+-- the step to a row, and its energy, from where the counter stood; a struck one has none
+abbrev pub step_past : (range : ℕ) → Last → EntryRow → Option Step
+step_past range last row = if row.stands then Some (step_to range last row.entry) else None
+
+abbrev pub energy_past : (range : ℕ) → Last → EntryRow → ℕ
+energy_past range last row = if row.stands then energy_of range last row.entry else 0
 
 -- rows in their order, each reading that stands with the rollovers of its neighbour
 abbrev pub rolled_on : Last → List EntryRow → List EntryRow
 rolled_on last [] = []
 rolled_on last (row ∷ rows) = let next = rolled last row in next ∷ rolled_on (behind last next) rows
+
+-- an entry may be booked where the counter stands, with so much energy booked before
+pub record MayGoOn (meter : Installed) (last : Last) (total : ℕ) (e : Entry) : Type 0 where
+  pub booked : total ≤ 4 * 10 ^ 18
+  pub raw : last.raw < meter.range
+  pub scale : IsScale last.sf
+  pub follows : Follows meter.range last e
+  pub within : total + energy_of meter.range last e ≤ 4 * 10 ^ 18
 
 -- the row at a place, those before it, and the next that stands
 abbrev pub IsFound : List EntryRow → (place : ℕ) → FoundRow → Type 0

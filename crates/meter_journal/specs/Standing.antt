@@ -1,12 +1,10 @@
 -- The entries that stand, without the way in which they came about.
-use Rattle.std.specs.Prelude.{◌≡◌, ℕ, ◌+◌, ◌==◌, Bool, true, false, ◌||◌, List, [], ◌∷◌, map, length, if◌then◌else◌}
+use Rattle.std.specs.Prelude.{◌≡◌, ℕ, ◌+◌, ◌==◌, Bool, true, false, ◌||◌, List, [], ◌∷◌, map, if◌then◌else◌}
 use Rattle.energy_core.specs.declared.entries.Last.{Last}
-use Rattle.energy_core.specs.declared.entries.Entry.{Entry}
 use Rattle.energy_core.specs.Account.{last_of}
 use Rattle.meter_journal.specs.declared.lines.Installed.{Installed}
-use Rattle.meter_journal.specs.declared.lines.EntryKind.{EntryKind}
 use Rattle.meter_journal.specs.declared.lines.EntryRow.{EntryRow}
-use Rattle.meter_journal.specs.Journal.{Line, Entered, Held, Voided, Journal, standing, entries_in, rolled, rows_of}
+use Rattle.meter_journal.specs.Journal.{Entered, Held, Voided, Journal, standing, entries_in, rolled, rows_of}
 use Rattle.meter_journal.specs.Fitting.{EntryFits}
 
 -- a void names the place

@@ -9,7 +9,7 @@ use Rattle.energy_core.specs.TrueRun.{Item, shown, told, newest, advance, true_s
 use Rattle.meter_journal.specs.declared.lines.Installed.{Installed}
 use Rattle.meter_journal.specs.Books.{total_in, steps_in, interval_rows}
 use Rattle.meter_journal.specs.Intervals.{energy_before}
-use Rattle.meter_journal.specs.Journal.{Line, Entered, Held, Voided, Journal, is_reading, entries_of}
+use Rattle.meter_journal.specs.Journal.{Entered, Held, Voided, Journal, is_reading, entries_of}
 
 -- what an entry showed, as a reading at this scale
 abbrev pub reading_by : ℤ → Entry → Option Reading

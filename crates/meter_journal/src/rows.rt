@@ -1,5 +1,6 @@
 //! A meter's rows in a list, the oldest first.
 ghost use Rattle.std.specs.Prelude.{◌≡◌, ◌+◌, ◌≤◌, ◌<◌, ◌++◌, length, take, drop, find, IfSome, IfNone, None};
+ghost use Rattle.energy_core.specs.Account.{last_of};
 ghost use Rattle.meter_journal.specs.Journal as journal;
 ghost use Rattle.meter_journal.specs.Fitting as fitting;
 ghost use Rattle.meter_journal.specs.Lists as lists;
@@ -69,7 +70,8 @@ fn behind(last: &Last, row: &EntryRow) -> Last
 
 /// Where the counter stands behind these rows.
 pub fn last_behind(opening: &Last, rows: &[EntryRow]) -> Last
-    ensures { result ≡ lists.behind_all opening.now rows.now }
+    ensures { let es = journal.entries_in (lists.latest_first rows.now) in
+        result ≡ last_of opening.now es }
 {
     let mut last = *opening;
     for row in rows {

@@ -1,4 +1,4 @@
-use Rattle.std.proofs.Common.{◌≡◌, ◌+◌, ◌-◌, ◌<◌, length, inl, inr, arith}
+use Rattle.std.proofs.Common.{◌-◌, inl, inr, arith}
 use Rattle.meter_journal.proofs.Forward.{found_in, none_there}
 use Rattle.meter_journal.proofs.rows.find_row.Goals as goal
 use Rattle.meter_journal.proofs.rows.find_row.Goals.{then-place-lt2-via-then-place-lt2, then-place-lt2-via-else-place-lt2+then-place-rows}

@@ -1,4 +1,4 @@
-use Rattle.std.proofs.Common.{◌≡◌, ◌+◌, ◌-◌, ◌<◌, length, sym, ap, ◌∙◌, arith}
+use Rattle.std.proofs.Common.{◌-◌, sym, ap, ◌∙◌, arith}
 use Rattle.meter_journal.specs.Lists.{latest_first}
 use Rattle.meter_journal.proofs.Forward.{struck_in}
 use Rattle.meter_journal.proofs.rows.strike.Goals as goal

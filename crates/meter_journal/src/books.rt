@@ -1,0 +1,111 @@
+//! A meter's books, anew from the rows that stand.
+ghost use Rattle.std.specs.Prelude.{◌≡◌, ◌+◌, ◌*◌, ◌^◌, ◌≤◌, ◌<◌, true, IfOk};
+ghost use Rattle.energy_core.specs.Account as account;
+ghost use Rattle.meter_journal.specs.Books as books;
+ghost use Rattle.meter_journal.specs.Journal.{entries_in};
+ghost use Rattle.meter_journal.specs.Intervals.{rows_of_steps};
+ghost use Rattle.meter_journal.specs.Lists as lists;
+
+use crate::intervals::append_shares;
+use crate::lines::{EntryRow, Installed};
+use energy_core::{Entry, Last, Ranged, Step, Terms, enter};
+use interval_core::{Share, shares_add_up};
+use std::alloc::{AllocError, Global};
+
+/// Where a meter's counter stands, and its energy, in mWh.
+#[derive(Clone, Copy, Debug, PartialEq, Eq)]
+pub struct Tally {
+    pub last: Last,
+    pub total: u64,
+}
+
+/// Goes on by one entry, and answers the step to it.
+fn go_on(meter: &Installed, tally: &mut Tally, entry: &Entry) -> Step
+    requires range_low { 65536 ≤ meter.now.range }
+    requires range_high { meter.now.range ≤ 4294967296 }
+    requires follows { lists.MayGoOn meter.now tally.old.last tally.old.total entry.now }
+    ensures step { result ≡ account.step_to meter.now.range tally.old.last entry.now }
+    ensures last { tally.new.last ≡ account.after tally.old.last entry.now }
+    ensures total { tally.new.total ≡ tally.old.total + result.mwh }
+{
+    let Some(counter) = Ranged::new(meter.range) else {
+        unreachable!()
+    };
+    let terms = Terms {
+        ceiling: meter.ceiling,
+        total: tally.total,
+    };
+    match enter(&counter, &terms, &tally.last, entry) {
+        Ok((last, step)) => {
+            let total = tally.total + step.mwh;
+            *tally = Tally { last, total };
+            step
+        }
+        Err(_) => unreachable!(),
+    }
+}
+
+/// Goes on by a row, and answers the step to it. One that was struck changes nothing, and has none.
+fn go_past(meter: &Installed, tally: &mut Tally, row: &EntryRow) -> Option<Step>
+    requires range_low { 65536 ≤ meter.now.range }
+    requires range_high { meter.now.range ≤ 4294967296 }
+    requires follows { let entry = row.now.entry in
+        row.now.stands ≡ true → lists.MayGoOn meter.now tally.old.last tally.old.total entry }
+    ensures step { result ≡ lists.step_past meter.now.range tally.old.last row.now }
+    ensures last { tally.new.last ≡ lists.behind tally.old.last row.now }
+    ensures total { let gain = lists.energy_past meter.now.range tally.old.last row.now in
+        tally.new.total ≡ tally.old.total + gain }
+{
+    if !row.stands {
+        return None;
+    }
+    Some(go_on(meter, tally, &row.entry))
+}
+
+/// The tally behind these rows.
+pub fn tally_behind(meter: &Installed, rows: &[EntryRow]) -> Tally
+    requires range_low { 65536 ≤ meter.now.range }
+    requires range_high { meter.now.range ≤ 4294967296 }
+    requires installed { books.IsWellInstalled meter.now }
+    requires account { books.HasAccount meter.now (entries_in (lists.latest_first rows.now)) }
+    ensures last { let es = entries_in (lists.latest_first rows.now) in
+        result.last ≡ books.last_after meter.now es }
+    ensures total { let es = entries_in (lists.latest_first rows.now) in
+        result.total ≡ books.total_after meter.now es }
+{
+    let mut tally = Tally {
+        last: meter.opening,
+        total: 0,
+    };
+    for row in rows {
+        let _step = go_past(meter, &mut tally, row);
+    }
+    tally
+}
+
+/// The interval rows of the entries that stand, in order. Refused only for want of memory.
+pub fn interval_rows(
+    alloc: Global,
+    meter: &Installed,
+    rows: &[EntryRow],
+) -> Result<Vec<Share>, AllocError>
+    requires range_low { 65536 ≤ meter.now.range }
+    requires range_high { meter.now.range ≤ 4294967296 }
+    requires installed { books.IsWellInstalled meter.now }
+    requires account { books.HasAccount meter.now (entries_in (lists.latest_first rows.now)) }
+    ensures { let es = entries_in (lists.latest_first rows.now) in
+        IfOk result (λ shares. shares.items ≡ rows_of_steps (books.steps_after meter.now es)) }
+{
+    shares_add_up();
+    let mut tally = Tally {
+        last: meter.opening,
+        total: 0,
+    };
+    let mut shares = Vec::new(alloc);
+    for row in rows {
+        if let Some(step) = go_past(meter, &mut tally, row) {
+            append_shares(&mut shares, &step)?;
+        }
+    }
+    Ok(shares)
+}

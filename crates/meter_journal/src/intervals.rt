@@ -1,0 +1,70 @@
+//! Shares of one step after the other, joined where they lie in one interval.
+ghost use Rattle.std.specs.Prelude.{◌≡◌, ◌+◌, ◌*◌, ◌^◌, ◌≤◌, ◌<◌, ◌++◌, ◌∷◌, [], IsSome, IfSome, OnOk, OnErr};
+ghost use Rattle.std.specs.Option.{ForSome, option_to_list};
+ghost use Rattle.interval_core.specs.Share.{interval_count, shares_of};
+ghost use Rattle.interval_core.specs.Account.{energy_of};
+ghost use Rattle.meter_journal.specs.Intervals.{with_shares};
+
+use energy_core::Step;
+use interval_core::{Share, Shares, shares_add_up};
+use std::alloc::AllocError;
+
+/// Takes one more share behind the row that is still open, and answers the row that is done, if it lies in another interval.
+pub fn join(pending: &mut Option<Share>, share: Share) -> Option<Share>
+    requires { ForSome pending.old (λ row. row.mwh + share.mwh < 2 ^ 64) }
+    ensures rows { let so_far = option_to_list pending.old in
+        option_to_list result ++ option_to_list pending.new ≡ with_shares so_far (share ∷ []) }
+    ensures still_open { IsSome pending.new }
+{
+    match *pending {
+        Some(row) if row.start == share.start => {
+            let mwh = row.mwh + share.mwh;
+            *pending = Some(Share {
+                start: row.start,
+                mwh,
+            });
+            None
+        }
+        done => {
+            *pending = Some(share);
+            done
+        }
+    }
+}
+
+/// Joins one more share to these rows.
+fn join_last(rows: &mut Vec<Share>, share: Share) -> Result<(), AllocError>
+    requires { energy_of rows.old.items + share.mwh < 2 ^ 64 }
+    ensures ok { OnOk result (rows.new.items ≡ with_shares rows.old.items (share ∷ [])) }
+    ensures err { OnErr result (rows.new.items ≡ rows.old.items) }
+{
+    let count = rows.len();
+    if count > 0 {
+        let row = rows[count - 1];
+        if row.start == share.start {
+            let mwh = row.mwh + share.mwh;
+            rows[count - 1] = Share {
+                start: row.start,
+                mwh,
+            };
+            return Ok(());
+        }
+    }
+    rows.push(share)?;
+    Ok(())
+}
+
+/// Joins the shares of a later step to these rows. Refused only for want of memory.
+pub fn append_shares(rows: &mut Vec<Share>, step: &Step) -> Result<(), AllocError>
+    requires forward { step.now.from < step.now.till }
+    requires intervals { interval_count step.now ≤ 3000 }
+    requires energy { energy_of rows.old.items + step.now.mwh ≤ 4 * 10 ^ 18 }
+    ensures { OnOk result (rows.new.items ≡ with_shares rows.old.items (shares_of step.now)) }
+{
+    shares_add_up();
+    let mut shares = Shares::of(step);
+    while let Some(share) = shares.next() {
+        join_last(rows, share)?;
+    }
+    Ok(())
+}
