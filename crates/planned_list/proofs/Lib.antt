@@ -1,0 +1,2 @@
+mod OneRule
+mod OnePlan
