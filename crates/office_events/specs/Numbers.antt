@@ -1,0 +1,30 @@
+-- The numbers under which refusals and the causes of a failed store stand in texts.
+use Rattle.std.specs.Prelude.{ℕ}
+use Rattle.office_events.specs.declared.refusals.Refusal.{Refusal}
+use Rattle.office_events.specs.declared.refusals.Refusal.TheVariants as refusal
+use Rattle.office_events.specs.declared.refusals.StoreCause.{StoreCause}
+use Rattle.office_events.specs.declared.refusals.StoreCause.TheVariants as store
+
+abbrev pub refusal_number : Refusal → ℕ
+refusal_number refusal.NotFound = 1
+refusal_number refusal.Exists = 2
+refusal_number refusal.ClockBack = 3
+refusal_number refusal.BadScale = 4
+refusal_number refusal.NegativeStep = 5
+refusal_number refusal.NotLater = 6
+refusal_number refusal.SpanTooLong = 7
+refusal_number refusal.TotalFull = 8
+refusal_number refusal.Ended = 9
+refusal_number refusal.Busy = 10
+refusal_number refusal.Reused = 11
+refusal_number refusal.Limit = 12
+refusal_number (refusal.Store cause) = 13
+refusal_number refusal.Memory = 14
+refusal_number refusal.Stopped = 15
+refusal_number refusal.NotVoidable = 16
+refusal_number (refusal.NotPlausible cause) = 17
+
+abbrev pub store_number : StoreCause → ℕ
+store_number store.Refused = 1
+store_number store.Damaged = 2
+store_number store.NoDay = 3

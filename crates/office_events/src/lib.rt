@@ -1,0 +1,28 @@
+//! What comes to an office, and what it records, answers and tells.
+#![tactic(auto)]
+
+mod answers;
+mod commands;
+mod events;
+mod facts;
+mod naming;
+mod questions;
+mod refusals;
+mod terms;
+
+pub use answers::{Answer, CommandKind, Note};
+pub use commands::{
+    AddDevice, AddRegister, Close, Command, Exchange, GivenScale, Install, Manual, PutList,
+    Rescale, Reset, StartPoll, StartRound, VoidEntry,
+};
+pub use events::{Asked, Event, Piece};
+pub use facts::{
+    BookedEntry, Device, DeviceList, EndedPoll, Fact, HeldReading, Opening, Poll, Register, Reply,
+    ScaleSource, VoidedEntry,
+};
+pub use meter_journal::{EntryKind, EntryRow};
+pub use naming::Name;
+pub use planned_list::PlannedList;
+pub use questions::{EntryPlace, Installation, PollRow};
+pub use refusals::{Refusal, StoreCause};
+pub use terms::{Timeout, Window};

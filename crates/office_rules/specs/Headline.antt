@@ -1,0 +1,68 @@
+-- How the polls of the office end: by their sessions' events, or by an opening.
+use Rattle.std.specs.Prelude.{◌≡◌, ℕ, ◌+◌, ◌==◌, Bool, true, false, List, [], ◌∷◌, ◌++◌, map, length, Option, Some, None}
+use Rattle.std.specs.Option.{option_and_then, option_to_list}
+use Rattle.std.specs.List.{find, flat_map}
+use Rattle.std.specs.List.Sorted.{IsPermutation}
+use Rattle.poll_core.specs.Settling as session
+use Rattle.poll_core.specs.declared.outcome.Outcome.{Outcome}
+use Rattle.poll_core.specs.declared.outcome.Outcome.TheVariants.{Lost}
+use Rattle.poll_core.specs.declared.outcome.LostCause.TheVariants.{Restart}
+use Rattle.office_events.specs.declared.facts.Device.{Device}
+use Rattle.office_events.specs.declared.facts.Poll.{Poll}
+use Rattle.office_rules.specs.Facts.{polls_in, ends_of, pending_in}
+use Rattle.office_rules.specs.Sessions.{Line, EndedSession}
+use Rattle.office_rules.specs.History.{History, facts_of, lines_of, outcome_of}
+
+-- How a poll of a session ended: as the events of the session settle it; where they do not and the office was opened anew,
+-- it is lost.
+abbrev pub end_by : (restarted : Bool) → Option session.Settlement → Option Outcome
+end_by restarted (Some settlement) = Some (outcome_of settlement)
+end_by true None = Some (Lost Restart)
+end_by false None = None
+
+-- the polls that were started on a session, with their outcomes
+abbrev pub polls_on : Device → (restarted : Bool) → List session.Event → List (ℕ × Option Outcome)
+polls_on device restarted events =
+    map (λ result. (result.0.number, end_by restarted result.1)) (session.results device.timeout [] events)
+
+abbrev pub polls_on_present : Device → Option (List session.Event) → List (ℕ × Option Outcome)
+polls_on_present device None = []
+polls_on_present device (Some events) = polls_on device false events
+
+abbrev pub polls_on_ended : Device → List EndedSession → List (ℕ × Option Outcome)
+polls_on_ended device sessions = flat_map (λ ended. polls_on device ended.restarted ended.events) sessions
+
+-- the polls of a device, and of all devices
+abbrev pub polls_of_line : Line → List (ℕ × Option Outcome)
+polls_of_line line = polls_on_present line.device line.present ++ polls_on_ended line.device line.ended
+
+abbrev pub polls_of_lines : List Line → List (ℕ × Option Outcome)
+polls_of_lines lines = flat_map polls_of_line lines
+
+-- The outcome of a poll, by the session on which it was started.
+abbrev pub outcome_in : List Line → ℕ → Option Outcome
+outcome_in lines number = option_and_then (λ poll. poll.1) (find (λ poll. poll.0 == number) (polls_of_lines lines))
+
+-- the polls that wait in the present session of a device
+abbrev pub waiting : Device → Option (List session.Event) → List ℕ
+waiting device None = []
+waiting device (Some events) = map (λ poll. poll.number) (session.pending device.timeout events)
+
+abbrev pub pending_on : Line → List ℕ
+pending_on line = waiting line.device line.present
+
+-- the polls have the numbers from 1 on, the latest first
+abbrev pub AreNumbered : List Poll → Type 0
+AreNumbered [] = Unit {0}
+AreNumbered (poll ∷ polls) = (poll.number ≡ length polls + 1) × AreNumbered polls
+
+-- Each started poll has exactly the outcome that its session gives it, recorded once, or it has none and waits in the
+-- present session of its device.
+pub record PollsEndOnce (history : History) : Type 0 where
+  pub numbered : AreNumbered (polls_in (facts_of history))
+  pub started : IsPermutation (map (λ poll. poll.number) (polls_in (facts_of history)))
+      (map (λ poll. poll.0) (polls_of_lines (lines_of history)))
+  pub ended : (number : ℕ) → map (λ end. end.outcome) (ends_of (facts_of history) number)
+      ≡ option_to_list (outcome_in (lines_of history) number)
+  pub pending : IsPermutation (map (λ poll. poll.number) (pending_in (facts_of history)))
+      (flat_map pending_on (lines_of history))

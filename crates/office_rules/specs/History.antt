@@ -1,0 +1,265 @@
+-- The accepted events, and what the books record of them.
+use Rattle.std.specs.Prelude.{ℕ, ◌+◌, ◌==◌, List, [], ◌∷◌, ◌++◌, map, drop, reverse, Option, Some, None, length, if◌then◌else◌}
+use Rattle.std.specs.Option.{option_map, option_and_then, option_to_list}
+use Rattle.poll_core.specs.Settling as session
+use Rattle.poll_core.specs.declared.outcome.Outcome.{Outcome}
+use Rattle.poll_core.specs.declared.outcome.Outcome.TheVariants as outcome
+use Rattle.poll_core.specs.declared.outcome.LostCause.TheVariants.{Restart}
+use Rattle.mb_wire.specs.declared.span.ReadFunction.{ReadFunction}
+use Rattle.mb_wire.specs.declared.span.ReadFunction.TheVariants.{HoldingRegisters, InputRegisters}
+use Rattle.office_events.specs.declared.facts.Device.{Device}
+use Rattle.office_events.specs.declared.facts.Poll.{Poll}
+use Rattle.office_events.specs.declared.facts.ScaleSource.{ScaleSource}
+use Rattle.office_events.specs.declared.facts.ScaleSource.TheVariants as source
+use Rattle.office_events.specs.declared.facts.Fact.{Fact}
+use Rattle.office_events.specs.declared.facts.Fact.TheVariants as fact
+use Rattle.office_events.specs.declared.commands.GivenScale.{GivenScale}
+use Rattle.office_events.specs.declared.commands.GivenScale.TheVariants as given
+use Rattle.office_events.specs.declared.commands.AddRegister.{AddRegister}
+use Rattle.office_events.specs.declared.commands.Install.{Install}
+use Rattle.office_events.specs.declared.commands.Exchange.{Exchange}
+use Rattle.office_events.specs.declared.answers.CommandKind.{CommandKind}
+use Rattle.office_events.specs.declared.answers.CommandKind.TheVariants as done
+use Rattle.office_events.specs.declared.events.Asked.{Asked}
+use Rattle.office_events.specs.declared.questions.Installation.{Installation}
+use Rattle.planned_list.specs.Lists.{Planned}
+use Rattle.energy_core.specs.declared.entries.Last.{Last}
+use Rattle.energy_core.specs.declared.entries.Entry.{Entry}
+use Rattle.energy_core.specs.declared.entries.Entry.TheVariants as entry
+use Rattle.meter_journal.specs.declared.lines.EntryKind.{EntryKind}
+use Rattle.meter_journal.specs.declared.lines.EntryKind.TheVariants as kind
+use Rattle.mb_wire.specs.declared.span.ReadSpan.{ReadSpan}
+use Rattle.office_rules.specs.Meters.{open_at}
+use Rattle.office_events.specs.declared.commands.Command.{Command}
+use Rattle.office_events.specs.declared.commands.Command.TheVariants as command
+use Rattle.office_events.specs.declared.events.Event.{Event}
+use Rattle.office_events.specs.declared.events.Event.TheVariants as event
+use Rattle.office_rules.specs.Facts.{polls_in, poll_of, pending_in, list_of}
+use Rattle.office_rules.specs.Readings.{with_reply}
+use Rattle.office_rules.specs.Sessions.{Line, Send, line_of, command_in, started_on, sends_at, reaches, device_by, lines_after, line_restarted}
+
+-- What was accepted: an opening of the office, or an event.
+pub data Accepted : Type 0 where
+  Opened : (at : ℕ) → Accepted
+  Fed : (at : ℕ) → (event : Event) → Accepted
+
+-- All that was accepted, the latest first.
+abbrev pub History : Type 0
+History = List Accepted
+
+-- the moment of the latest of them
+abbrev pub latest_of : History → ℕ
+latest_of [] = 0
+latest_of (Opened at ∷ past) = at
+latest_of (Fed at e ∷ past) = at
+
+-- the number of the next poll
+abbrev pub next_poll : List Fact → ℕ
+next_poll facts = length (polls_in facts) + 1
+
+-- How a poll ended, without the words of its reply.
+abbrev pub outcome_of : session.Settlement → Outcome
+outcome_of (session.Answered words) = outcome.Answered
+outcome_of (session.Exception code) = outcome.Exception code
+outcome_of session.Silent = outcome.Silent
+outcome_of (session.Malformed malformation) = outcome.Malformed malformation
+outcome_of (session.Lost cause) = outcome.Lost cause
+
+-- What an outcome means for the meters: an answer is read, anything else is not.
+abbrev pub with_words : ℕ → (number : ℕ) → session.Settlement → List Fact → List Fact
+with_words at number (session.Answered words) facts = with_reply at (poll_of facts number) words facts
+with_words at number _ facts = facts
+
+-- The facts after a poll ended: its outcome, and then the readings of its reply.
+abbrev pub with_outcome : ℕ → (ℕ × session.Settlement) → List Fact → List Fact
+with_outcome at settled facts =
+    with_words at settled.0 settled.1 (fact.Outcome (record { poll = settled.0; at = at; outcome = outcome_of settled.1 }) ∷ facts)
+
+-- the facts after these polls ended, one after the other
+abbrev pub with_outcomes : ℕ → List (ℕ × session.Settlement) → List Fact → List Fact
+with_outcomes at [] facts = facts
+with_outcomes at (settled ∷ later) facts = with_outcomes at later (with_outcome at settled facts)
+
+-- the outcomes that these events settle on a session, in order
+abbrev pub settled_in : Device → List session.Event → List session.Event → List (ℕ × session.Settlement)
+settled_in device before [] = []
+settled_in device before (happening ∷ later) =
+    session.outcomes_at device.timeout before happening ++ settled_in device (before ++ happening ∷ []) later
+
+abbrev pub settled_on : (number at : ℕ) → Event → Device → Option (List session.Event) → List (ℕ × session.Settlement)
+settled_on number at e device None = []
+settled_on number at e device (Some before) = settled_in device before (reaches number at [] e device before)
+
+abbrev pub settled_by : (number at : ℕ) → Event → Line → List (ℕ × session.Settlement)
+settled_by number at e line = settled_on number at e line.device line.present
+
+-- The facts after an event settled what it settles: device by device, in the order in which they were added.
+abbrev pub with_settled : (number at : ℕ) → Event → List Line → List Fact → List Fact
+with_settled number at e [] facts = facts
+with_settled number at e (line ∷ lines) facts =
+    with_settled number at e lines (with_outcomes at (settled_by number at e line) facts)
+
+-- what a command says, as the fact says it
+abbrev pub function_by : ℕ → ReadFunction
+function_by function = if function == 3 then HoldingRegisters else InputRegisters
+
+abbrev pub scale_by : GivenScale → ScaleSource
+scale_by (given.Fixed sf) = source.Fixed sf
+scale_by (given.Register address) = source.Register address
+
+abbrev pub register_by : AddRegister → (name device : List ℕ) → Fact
+register_by c name device =
+    fact.Register (record { name = name; device = device; function = function_by c.function; address = c.address; scale = scale_by c.scale })
+
+abbrev pub opening_by : ℕ → Install → (register meter : List ℕ) → Fact
+opening_by at c register meter =
+    fact.Opening (record { meter = meter; register = register; ceiling = c.ceiling; range = c.range; at = at; raw = c.raw; sf = c.sf })
+
+-- what an exchange installs
+abbrev pub installed_by : Exchange → Install
+installed_by c = record { register = c.register; meter = c.meter; raw = c.raw; sf = c.sf; ceiling = c.ceiling; range = c.range }
+
+-- when a number was read that someone hands in
+abbrev pub read_at : (at : ℕ) → Option ℕ → ℕ
+read_at at None = at
+read_at at (Some earlier) = earlier
+
+-- the register and the entry of a command that makes one, where the counter stands so
+pub record Made : Type 0 where
+  pub register : Option (List ℕ)
+  pub kind : EntryKind
+  pub entry : Entry
+
+abbrev pub made_by : (at : ℕ) → Last → Command → Option Made
+made_by at last (command.Exchange c) = Some (record { register = c.register; kind = kind.Closing; entry = entry.Step at c.last c.rolls })
+made_by at last (command.Reset c) = Some (record { register = c.register; kind = kind.Reset; entry = entry.Change at c.before c.after last.sf })
+made_by at last (command.Rescale c) = Some (record { register = c.register; kind = kind.Rescale; entry = entry.Change at c.before c.after c.sf })
+made_by at last (command.Manual c) = Some (record { register = c.register; kind = kind.Manual; entry = entry.Step (read_at at c.at) c.raw c.rolls })
+made_by at last (command.Close c) = Some (record { register = c.register; kind = kind.Closing; entry = entry.Step at c.raw c.rolls })
+made_by at last _ = None
+
+-- the register at which a command corrects or closes the meter
+abbrev pub corrected_at : Command → Option (List ℕ)
+corrected_at (command.Exchange c) = c.register
+corrected_at (command.Reset c) = c.register
+corrected_at (command.Rescale c) = c.register
+corrected_at (command.Manual c) = c.register
+corrected_at (command.Close c) = c.register
+corrected_at _ = None
+
+abbrev pub made_on : (at : ℕ) → Command → Installation → Option Fact
+made_on at c row = option_map
+    (λ made. fact.Entry (record { meter = row.opening.meter; kind = made.kind; entry = made.entry }))
+    (made_by at row.last c)
+
+-- the entry that it makes at the meter that is open there
+abbrev pub entries_by : (at : ℕ) → List Fact → Command → List Fact
+entries_by at facts c =
+    option_to_list (option_and_then (made_on at c) (option_and_then (open_at facts) (corrected_at c)))
+
+abbrev pub openings_by : (at : ℕ) → Install → List Fact
+openings_by at c = option_to_list (option_and_then (λ register. option_map (λ meter. opening_by at c register meter) c.meter) c.register)
+
+-- the reads that a command wants sent
+abbrev pub reads_of : Planned → List ReadSpan
+reads_of list = map (λ read. read.span) list.reads
+
+abbrev pub round_spans : (from : ℕ) → Option Planned → List ReadSpan
+round_spans from None = []
+round_spans from (Some list) = drop from (reads_of list)
+
+abbrev pub spans_by : List Fact → Command → List ReadSpan
+spans_by facts (command.StartPoll c) = c.span ∷ []
+spans_by facts (command.StartRound c) = round_spans c.from (option_and_then (list_of facts) c.device)
+spans_by facts _ = []
+
+abbrev pub spans_in : List Fact → Option Command → List ReadSpan
+spans_in facts None = []
+spans_in facts (Some c) = spans_by facts c
+
+-- the reads that it sends on the session of the line
+abbrev pub sends_from : (number at : ℕ) → List ReadSpan → Option Line → List Send
+sends_from number at spans None = []
+sends_from number at spans (Some line) = sends_at number at line.device line.present spans
+
+abbrev pub sends_by : (number at : ℕ) → List Line → List Fact → Command → List Send
+sends_by number at lines facts c = sends_from number at (spans_by facts c) (line_of lines (started_on c))
+
+-- their polls
+abbrev pub poll_by : (at : ℕ) → Device → Send → Fact
+poll_by at device send =
+    fact.Poll (record { number = send.number; device = device.name; unit = device.unit; at = at; id = send.id; span = send.span })
+
+abbrev pub polls_from : (number at : ℕ) → List ReadSpan → Option Line → List Fact
+polls_from number at spans None = []
+polls_from number at spans (Some line) = map (poll_by at line.device) (sends_at number at line.device line.present spans)
+
+-- The facts that a command adds, in order. What was handed in for a name is one, where the command is accepted.
+abbrev pub added_by : (number at : ℕ) → List Line → List Fact → Command → List Fact
+added_by number at lines facts (command.AddDevice c) = option_to_list (option_map fact.Device (device_by c))
+added_by number at lines facts (command.PutList c) =
+    option_to_list (option_map (λ device. fact.List (record { device = device; list = c.list })) c.device)
+added_by number at lines facts (command.AddRegister c) =
+    option_to_list (option_and_then (λ name. option_map (λ device. register_by c name device) c.device) c.name)
+added_by number at lines facts (command.Install c) = openings_by at c
+added_by number at lines facts (command.Exchange c) = entries_by at facts (command.Exchange c) ++ openings_by at (installed_by c)
+added_by number at lines facts (command.Reset c) = entries_by at facts (command.Reset c)
+added_by number at lines facts (command.Rescale c) = entries_by at facts (command.Rescale c)
+added_by number at lines facts (command.Manual c) = entries_by at facts (command.Manual c)
+added_by number at lines facts (command.Close c) = entries_by at facts (command.Close c)
+added_by number at lines facts (command.Void c) =
+    option_to_list (option_map (λ meter. fact.Void (record { meter = meter; place = c.place; at = at })) c.meter)
+added_by number at lines facts (command.StartPoll c) = polls_from number at (c.span ∷ []) (line_of lines c.device)
+added_by number at lines facts (command.StartRound c) =
+    polls_from number at (round_spans c.from (option_and_then (list_of facts) c.device)) (line_of lines c.device)
+
+-- the kind under which the answer to a command is kept
+abbrev pub kind_of : Command → CommandKind
+kind_of (command.AddDevice c) = done.Device
+kind_of (command.PutList c) = done.List
+kind_of (command.AddRegister c) = done.Register
+kind_of (command.Install c) = done.Install
+kind_of (command.Exchange c) = done.Exchange
+kind_of (command.Reset c) = done.Reset
+kind_of (command.Rescale c) = done.Rescale
+kind_of (command.Manual c) = done.Manual
+kind_of (command.Close c) = done.Close
+kind_of (command.Void c) = done.Void
+kind_of (command.StartPoll c) = done.Start
+kind_of (command.StartRound c) = done.Start
+
+abbrev pub reply_by : (at : ℕ) → Asked → List Fact
+reply_by at asked = option_to_list (option_map
+    (λ caller. fact.Reply (record { caller = caller; number = asked.number; request = asked.request; kind = kind_of asked.command; at = at }))
+    asked.caller)
+
+-- The facts after an event, the devices standing as they did before it.
+abbrev pub facts_after : (number at : ℕ) → Event → List Line → List Fact → List Fact
+facts_after number at (event.Connected given) lines facts = facts
+facts_after number at (event.Bytes given piece) lines facts = with_settled number at (event.Bytes given piece) lines facts
+facts_after number at event.Tick lines facts = with_settled number at event.Tick lines facts
+facts_after number at (event.Gone given closing) lines facts = with_settled number at (event.Gone given closing) lines facts
+facts_after number at (event.Command c) lines facts = reverse (added_by number at lines facts c) ++ facts
+facts_after number at (event.Asked asked) lines facts =
+    reverse (added_by number at lines facts asked.command ++ reply_by at asked) ++ facts
+
+-- The facts after an opening: each poll that has no outcome is lost.
+abbrev pub lost : ℕ → Poll → Fact
+lost at poll = fact.Outcome (record { poll = poll.number; at = at; outcome = outcome.Lost Restart })
+
+abbrev pub with_lost : ℕ → List Fact → List Fact
+with_lost at facts = reverse (map (lost at) (pending_in facts)) ++ facts
+
+abbrev mutual
+  -- The facts that accepted events leave, the latest first.
+  pub facts_of : History → List Fact
+  facts_of [] = []
+  facts_of (Opened at ∷ past) = with_lost at (facts_of past)
+  facts_of (Fed at e ∷ past) = facts_after (next_poll (facts_of past)) at e (lines_of past) (facts_of past)
+
+  -- The devices, and what happened on their sessions.
+  pub lines_of : History → List Line
+  lines_of [] = []
+  lines_of (Opened at ∷ past) = map line_restarted (lines_of past)
+  lines_of (Fed at e ∷ past) =
+      lines_after (next_poll (facts_of past)) at (spans_in (facts_of past) (command_in e)) e (lines_of past)

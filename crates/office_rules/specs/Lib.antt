@@ -1,0 +1,10 @@
+pub mod Facts
+pub mod Meters
+pub mod Readings
+pub mod Sessions
+pub mod History
+pub mod Refusals
+pub mod Notes
+pub mod Lawful
+pub mod Intervals
+pub mod Headline

@@ -1,0 +1,112 @@
+-- What an accepted event tells: its outcomes and readings, each outcome before its readings; and the frames that its start
+-- wants sent.
+use Rattle.std.specs.Prelude.{ℕ, List, [], ◌∷◌, ◌++◌, Option, Some, None, Result, Ok, Err, if◌then◌else◌}
+use Rattle.std.specs.Option.{option_map, option_to_list}
+use Rattle.energy_core.specs.declared.judging.Reading.{Reading}
+use Rattle.energy_core.specs.declared.judging.Verdict.{Verdict}
+use Rattle.energy_core.specs.declared.judging.Verdict.TheVariants.{Accepted, Held}
+use Rattle.mb_wire.specs.Requests.{request_bytes}
+use Rattle.mb_wire.specs.Reader.{spelling}
+use Rattle.mb_wire.specs.Spans.{span_view, request_of}
+use Rattle.poll_core.specs.Settling as session
+use Rattle.office_events.specs.declared.facts.Poll.{Poll}
+use Rattle.office_events.specs.declared.facts.Register.{Register}
+use Rattle.office_events.specs.declared.facts.Fact.{Fact}
+use Rattle.office_events.specs.declared.facts.Fact.TheVariants as fact
+use Rattle.office_events.specs.declared.answers.Answer.{Answer}
+use Rattle.office_events.specs.declared.answers.Answer.TheVariants as answer
+use Rattle.office_events.specs.declared.refusals.Refusal.{Refusal}
+use Rattle.office_events.specs.declared.answers.Note.{Note}
+use Rattle.office_events.specs.declared.answers.Note.TheVariants as note
+use Rattle.office_events.specs.declared.questions.Installation.{Installation}
+use Rattle.office_events.specs.declared.commands.Command.{Command}
+use Rattle.office_events.specs.declared.facts.Device.{Device}
+use Rattle.mb_wire.specs.declared.span.ReadSpan.{ReadSpan}
+use Rattle.std.specs.List.{flat_map}
+use Rattle.office_events.specs.declared.events.Event.{Event}
+use Rattle.office_events.specs.declared.events.Event.TheVariants as event
+use Rattle.office_rules.specs.Facts.{poll_of, registers_of}
+use Rattle.office_rules.specs.Meters.{open_at}
+use Rattle.office_rules.specs.Readings.{is_read_by, reading_of, judgement, with_register}
+use Rattle.office_rules.specs.Sessions.{Line, Send, line_of, command_in, started_on, sends_at}
+use Rattle.office_rules.specs.History.{History, next_poll, facts_of, lines_of, outcome_of, settled_by, with_outcome, with_outcomes, spans_by}
+
+-- a reading, accepted or held
+abbrev pub as_note : (meter : List ℕ) → Reading → Verdict → Note
+as_note meter reading (Accepted rolls step) = note.Reading meter reading.raw rolls step
+as_note meter reading (Held cause) = note.Held meter reading.raw cause
+
+abbrev pub reading_note : Reading → Installation → Note
+reading_note reading row = as_note row.opening.meter reading (judgement row reading)
+
+-- the notes of a reply at a register
+abbrev pub register_notes : ℕ → Poll → List ℕ → Register → List Fact → List Note
+register_notes at poll words register facts =
+    if is_read_by poll.span register
+    then option_to_list (option_map (reading_note (reading_of at poll.span words register)) (open_at facts register.name))
+    else []
+
+abbrev pub registers_notes : ℕ → Poll → List ℕ → List Register → List Fact → List Note
+registers_notes at poll words [] facts = []
+registers_notes at poll words (register ∷ registers) facts =
+    register_notes at poll words register facts
+    ++ registers_notes at poll words registers (with_register at poll words register facts)
+
+abbrev pub reply_notes : ℕ → Option Poll → List ℕ → List Fact → List Note
+reply_notes at None words facts = []
+reply_notes at (Some poll) words facts = registers_notes at poll words (registers_of facts poll.device) facts
+
+abbrev pub words_notes : ℕ → (number : ℕ) → session.Settlement → List Fact → List Note
+words_notes at number (session.Answered words) facts = reply_notes at (poll_of facts number) words facts
+words_notes at number _ facts = []
+
+-- the notes of a poll that ended: its outcome, and then the readings of its reply
+abbrev pub outcome_notes : ℕ → (ℕ × session.Settlement) → List Fact → List Note
+outcome_notes at settled facts =
+    note.Outcome settled.0 (outcome_of settled.1)
+    ∷ words_notes at settled.0 settled.1 (fact.Outcome (record { poll = settled.0; at = at; outcome = outcome_of settled.1 }) ∷ facts)
+
+abbrev pub outcomes_notes : ℕ → List (ℕ × session.Settlement) → List Fact → List Note
+outcomes_notes at [] facts = []
+outcomes_notes at (settled ∷ later) facts =
+    outcome_notes at settled facts ++ outcomes_notes at later (with_outcome at settled facts)
+
+abbrev pub settled_notes : (number at : ℕ) → Event → List Line → List Fact → List Note
+settled_notes number at e [] facts = []
+settled_notes number at e (line ∷ lines) facts =
+    outcomes_notes at (settled_by number at e line) facts
+    ++ settled_notes number at e lines (with_outcomes at (settled_by number at e line) facts)
+
+-- The notes of an event.
+abbrev pub notes_of : (number at : ℕ) → Event → List Line → List Fact → List Note
+notes_of number at (event.Bytes given piece) lines facts = settled_notes number at (event.Bytes given piece) lines facts
+notes_of number at event.Tick lines facts = settled_notes number at event.Tick lines facts
+notes_of number at (event.Gone given closing) lines facts = settled_notes number at (event.Gone given closing) lines facts
+notes_of number at _ lines facts = []
+
+-- the frame of a read that is sent on the session of a device
+abbrev pub frame_of : Device → Send → List ℕ
+frame_of device send = spelling send.id device.unit (request_bytes (request_of (span_view send.span)))
+
+abbrev pub frames_from : (number at : ℕ) → List ReadSpan → Option Line → List ℕ
+frames_from number at spans None = []
+frames_from number at spans (Some line) = flat_map (frame_of line.device) (sends_at number at line.device line.present spans)
+
+-- The bytes that an event wants sent: the frames of the polls that it starts.
+abbrev pub frames_by : (number at : ℕ) → List Line → List Fact → Option Command → List ℕ
+frames_by number at lines facts None = []
+frames_by number at lines facts (Some c) = frames_from number at (spans_by facts c) (line_of lines (started_on c))
+
+abbrev pub outgoing_of : (number at : ℕ) → Event → List Line → List Fact → List ℕ
+outgoing_of number at e lines facts = frames_by number at lines facts (command_in e)
+
+-- What is told once an event was answered: nothing where it was refused, or was asked before.
+abbrev pub notes_after : History → (at : ℕ) → Event → Result Answer Refusal → List Note
+notes_after past at e (Ok (answer.Again k)) = []
+notes_after past at e (Ok given) = notes_of (next_poll (facts_of past)) at e (lines_of past) (facts_of past)
+notes_after past at e (Err why) = []
+
+abbrev pub outgoing_after : History → (at : ℕ) → Event → Result Answer Refusal → List ℕ
+outgoing_after past at e (Ok (answer.Again k)) = []
+outgoing_after past at e (Ok given) = outgoing_of (next_poll (facts_of past)) at e (lines_of past) (facts_of past)
+outgoing_after past at e (Err why) = []

@@ -1,0 +1,101 @@
+-- What an answered poll means for the meters of its device.
+use Rattle.std.specs.Prelude.{ℕ, ℤ, pos, ◌+◌, ◌-◌, ◌*◌, ◌==◌, nat_le, Bool, true, ◌&&◌, List, [], ◌∷◌, Option, Some, None, slice_index, if◌then◌else◌}
+use Rattle.std.specs.Int.{w16, cast_signed}
+use Rattle.std.specs.Option.{option_map}
+use Rattle.energy_core.specs.declared.entries.Entry.TheVariants.{Step}
+use Rattle.energy_core.specs.declared.judging.Reading.{Reading}
+use Rattle.energy_core.specs.declared.judging.Verdict.{Verdict}
+use Rattle.energy_core.specs.declared.judging.Verdict.TheVariants.{Accepted, Held}
+use Rattle.energy_core.specs.Verdict.{verdict_of}
+use Rattle.mb_wire.specs.Spans.{code_of}
+use Rattle.mb_wire.specs.declared.span.ReadSpan.{ReadSpan}
+use Rattle.office_events.specs.declared.facts.Register.{Register}
+use Rattle.office_events.specs.declared.facts.Poll.{Poll}
+use Rattle.office_events.specs.declared.facts.ScaleSource.{ScaleSource}
+use Rattle.office_events.specs.declared.facts.ScaleSource.TheVariants as source
+use Rattle.meter_journal.specs.declared.lines.EntryKind.TheVariants as kind
+use Rattle.office_events.specs.declared.facts.Fact.{Fact}
+use Rattle.office_events.specs.declared.facts.Fact.TheVariants as fact
+use Rattle.office_events.specs.declared.questions.Installation.{Installation}
+use Rattle.office_events.specs.declared.questions.PollRow.{PollRow}
+use Rattle.office_rules.specs.Facts.{registers_of, poll_of, end_of}
+use Rattle.office_rules.specs.Meters.{open_at}
+
+-- the poll of a number, and how it ended, if it has
+abbrev pub poll_row : List Fact → Poll → PollRow
+poll_row facts poll = record { poll = poll; ended = end_of facts poll.number }
+
+abbrev pub poll_row_of : List Fact → ℕ → Option PollRow
+poll_row_of facts number = option_map (poll_row facts) (poll_of facts number)
+
+-- these registers lie in the span
+abbrev pub holds : ReadSpan → (address count : ℕ) → Bool
+holds span address count = nat_le span.address address && nat_le (address + count) (span.address + span.count)
+
+abbrev pub holds_scale : ReadSpan → ScaleSource → Bool
+holds_scale span (source.Fixed sf) = true
+holds_scale span (source.Register address) = holds span address 1
+
+-- the span is read by the register's function, and holds its counter and its scale
+abbrev pub is_read_by : ReadSpan → Register → Bool
+is_read_by span register =
+    (code_of span.function == code_of register.function) && holds span register.address 2 && holds_scale span register.scale
+
+-- the word at an address, among the words of the span
+abbrev pub word_at : ReadSpan → (words : List ℕ) → (address : ℕ) → ℕ
+word_at span words address = slice_index words (address - span.address)
+
+-- the scale that a word tells, as a signed number; the word for no scale counts as 0
+abbrev pub scale_in : ℕ → ℤ
+scale_in word = if word == 32768 then pos 0 else cast_signed w16 word
+
+abbrev pub scale_of : ReadSpan → List ℕ → ScaleSource → ℤ
+scale_of span words (source.Fixed sf) = sf
+scale_of span words (source.Register address) = scale_in (word_at span words address)
+
+-- what the reply tells of a register: two words, the high one first
+abbrev pub reading_of : ℕ → ReadSpan → List ℕ → Register → Reading
+reading_of at span words register = record {
+  at = at;
+  raw = word_at span words register.address * 65536 + word_at span words (register.address + 1);
+  sf = scale_of span words register.scale;
+}
+
+-- the verdict on a reading of an installation
+abbrev pub judgement : Installation → Reading → Verdict
+judgement row reading =
+    verdict_of row.opening.range (record { ceiling = row.opening.ceiling; total = row.total }) row.last reading
+
+-- An accepted reading is an entry of its meter. A held one is kept with its cause.
+abbrev pub as_fact : (meter : List ℕ) → (poll : ℕ) → Reading → Verdict → Fact
+as_fact meter poll reading (Accepted rolls step) =
+    fact.Entry (record { meter = meter; kind = kind.Reading; entry = Step reading.at reading.raw rolls })
+as_fact meter poll reading (Held cause) =
+    fact.Hold (record { meter = meter; poll = poll; at = reading.at; raw = reading.raw; sf = reading.sf; cause = cause })
+
+abbrev pub reading_fact : (poll : ℕ) → Reading → Installation → Fact
+reading_fact poll reading row = as_fact row.opening.meter poll reading (judgement row reading)
+
+-- The facts after a reading at a register: one more, if a meter is open there.
+abbrev pub with_reading : (poll : ℕ) → Reading → Option Installation → List Fact → List Fact
+with_reading poll reading None facts = facts
+with_reading poll reading (Some row) facts = reading_fact poll reading row ∷ facts
+
+-- the facts after a reply came to a register: it is read if its counter and its scale lie in the span
+abbrev pub with_register : ℕ → Poll → List ℕ → Register → List Fact → List Fact
+with_register at poll words register facts =
+    if is_read_by poll.span register
+    then with_reading poll.number (reading_of at poll.span words register) (open_at facts register.name) facts
+    else facts
+
+-- the facts after a reply came to these registers, one after the other
+abbrev pub with_registers : ℕ → Poll → List ℕ → List Register → List Fact → List Fact
+with_registers at poll words [] facts = facts
+with_registers at poll words (register ∷ registers) facts =
+    with_registers at poll words registers (with_register at poll words register facts)
+
+-- The facts after the reply to a poll: a reading for each register of the device that it tells of, in the order in
+-- which they were added.
+abbrev pub with_reply : ℕ → Option Poll → List ℕ → List Fact → List Fact
+with_reply at None words facts = facts
+with_reply at (Some poll) words facts = with_registers at poll words (registers_of facts poll.device) facts

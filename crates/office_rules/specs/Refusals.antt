@@ -1,0 +1,355 @@
+-- Which events are refused, and why: for each refusal when it applies, and the order in which they are looked at.
+use Rattle.std.specs.Prelude.{◌≡◌, ℕ, ℤ, pos, negsuc, ◌+◌, ◌-◌, ◌==◌, nat_lt, nat_le, int_lt, Bool, true, false, not, ◌||◌, ◌&&◌, min, max, List, [], ◌∷◌, ◌++◌, map, Option, Some, None, is_none, is_some, length, Result, Ok, Err, if◌then◌else◌}
+use Rattle.std.specs.Option.{option_map, option_and_then}
+use Rattle.std.specs.List.{find}
+use Rattle.std.specs.Str.{bytes_eq}
+use Rattle.energy_core.specs.declared.entries.Entry.{Entry}
+use Rattle.energy_core.specs.declared.entries.Entry.TheVariants as entry
+use Rattle.energy_core.specs.declared.entering.TermFault.{TermFault}
+use Rattle.energy_core.specs.declared.entering.TermFault.TheVariants as fault
+use Rattle.energy_core.specs.declared.judging.Cause.{Cause}
+use Rattle.energy_core.specs.declared.judging.Cause.TheVariants as cause
+use Rattle.energy_core.specs.declared.judging.Verdict.{Verdict}
+use Rattle.energy_core.specs.declared.judging.Verdict.TheVariants as verdict
+use Rattle.energy_core.specs.Entering as entering
+use Rattle.energy_core.specs.Verdict.{cause_number}
+use Rattle.meter_journal.specs.declared.lines.EntryRow.{EntryRow}
+use Rattle.meter_journal.specs.Fitting.{reading_at, is_voidable}
+use Rattle.office_events.specs.declared.commands.GivenScale.{GivenScale}
+use Rattle.office_events.specs.declared.commands.GivenScale.TheVariants as given
+use Rattle.office_events.specs.declared.commands.Command.{Command}
+use Rattle.office_events.specs.declared.commands.Command.TheVariants as command
+use Rattle.office_events.specs.declared.events.Asked.{Asked}
+use Rattle.office_events.specs.declared.events.Event.{Event}
+use Rattle.office_events.specs.declared.events.Event.TheVariants as event
+use Rattle.office_events.specs.declared.facts.Opening.{Opening}
+use Rattle.office_events.specs.declared.facts.Reply.{Reply}
+use Rattle.office_events.specs.declared.facts.Fact.{Fact}
+use Rattle.office_events.specs.declared.questions.Installation.{Installation}
+use Rattle.office_events.specs.declared.questions.EntryPlace.{EntryPlace}
+use Rattle.office_events.specs.declared.refusals.Refusal.{Refusal}
+use Rattle.office_events.specs.declared.refusals.Refusal.TheVariants as refusal
+use Rattle.office_events.specs.declared.refusals.StoreCause.TheVariants as store
+use Rattle.office_events.specs.declared.answers.Answer.{Answer}
+use Rattle.office_events.specs.declared.answers.Answer.TheVariants as answer
+use Rattle.office_events.specs.declared.answers.CommandKind.{CommandKind}
+use Rattle.office_rules.specs.Facts.{moment_limit, poll_limit, request_limit, latest_in, polls_in, registers_of, openings_in, register_of, opening_of, list_of, reply_of}
+use Rattle.office_rules.specs.Meters.{installation_at, open_at, rows_of, entry_at}
+use Rattle.office_rules.specs.Readings.{judgement}
+use Rattle.office_rules.specs.Sessions.{Line, line_of, present_of, is_startable}
+use Rattle.office_rules.specs.History.{History, Opened, Fed, facts_of, lines_of, latest_of, next_poll, Made, made_by, corrected_at, spans_by, round_spans, sends_by, kind_of}
+
+-- How many devices, registers of a device, and installations there may be.
+abbrev pub device_limit : ℕ
+device_limit = 64
+
+abbrev pub register_limit : ℕ
+register_limit = 32
+
+abbrev pub installation_limit : ℕ
+installation_limit = 4096
+
+-- no meter was ever installed at the register
+abbrev pub has_no_meter : List Fact → Option (List ℕ) → Bool
+has_no_meter facts register = is_none (option_and_then (installation_at facts) register)
+
+-- the entries of a meter have the places from 2 on; the opening has the place 1
+abbrev pub has_place : List Fact → (place : ℕ) → Option Opening → Bool
+has_place facts place None = false
+has_place facts place (Some opening) = nat_le 1 place && nat_le place (length (rows_of facts opening) + 1)
+
+-- NotFound: no device, list, register, meter or entry has the name or the place that a command speaks of.
+abbrev pub asks_unknown : List Line → List Fact → Command → Bool
+asks_unknown lines facts (command.AddDevice c) = false
+asks_unknown lines facts (command.PutList c) = is_none (line_of lines c.device)
+asks_unknown lines facts (command.AddRegister c) = is_none (line_of lines c.device)
+asks_unknown lines facts (command.Install c) = is_none (option_and_then (register_of facts) c.register)
+asks_unknown lines facts (command.Exchange c) = has_no_meter facts c.register
+asks_unknown lines facts (command.Reset c) = has_no_meter facts c.register
+asks_unknown lines facts (command.Rescale c) = has_no_meter facts c.register
+asks_unknown lines facts (command.Manual c) = has_no_meter facts c.register
+asks_unknown lines facts (command.Close c) = has_no_meter facts c.register
+asks_unknown lines facts (command.Void c) = not (has_place facts c.place (option_and_then (opening_of facts) c.meter))
+asks_unknown lines facts (command.StartPoll c) = is_none (line_of lines c.device)
+asks_unknown lines facts (command.StartRound c) =
+    is_none (line_of lines c.device) || is_none (option_and_then (list_of facts) c.device)
+
+-- Exists: a device, a register or a meter has the new name, or a meter is open at the register.
+abbrev pub asks_taken : List Line → List Fact → Command → Bool
+asks_taken lines facts (command.AddDevice c) = is_some (line_of lines c.name)
+asks_taken lines facts (command.AddRegister c) = is_some (option_and_then (register_of facts) c.name)
+asks_taken lines facts (command.Install c) =
+    is_some (option_and_then (opening_of facts) c.meter) || is_some (option_and_then (open_at facts) c.register)
+asks_taken lines facts (command.Exchange c) = is_some (option_and_then (opening_of facts) c.meter)
+asks_taken lines facts _ = false
+
+-- BadScale: a scale is not from -3 to 3.
+abbrev pub is_off_scale : ℤ → Bool
+is_off_scale sf = int_lt sf (negsuc 2) || int_lt (pos 3) sf
+
+abbrev pub is_bad_scale : GivenScale → Bool
+is_bad_scale (given.Fixed sf) = is_off_scale sf
+is_bad_scale (given.Register address) = false
+
+abbrev pub asks_bad_scale : Command → Bool
+asks_bad_scale (command.AddRegister c) = is_bad_scale c.scale
+asks_bad_scale (command.Install c) = is_off_scale c.sf
+asks_bad_scale (command.Exchange c) = is_off_scale c.sf
+asks_bad_scale (command.Rescale c) = is_off_scale c.sf
+asks_bad_scale _ = false
+
+-- NegativeStep, NotLater, SpanTooLong, TotalFull: the entry that a command makes at the open meter has this fault. Its
+-- numbers are as they were handed in.
+abbrev pub has_fault : TermFault → Installation → Option Made → Bool
+has_fault why row None = false
+has_fault why row (Some made) = entering.refuses row.opening.range row.total row.last made.entry why
+
+abbrev pub makes_fault : (at : ℕ) → TermFault → Command → Option Installation → Bool
+makes_fault at why c None = false
+makes_fault at why c (Some row) = has_fault why row (made_by at row.last c)
+
+abbrev pub asks_faulty : List Fact → (at : ℕ) → TermFault → Command → Bool
+asks_faulty facts at why c = makes_fault at why c (option_and_then (open_at facts) (corrected_at c))
+
+-- Ended: the latest meter at the register was closed.
+abbrev pub is_closed : Option Installation → Bool
+is_closed None = false
+is_closed (Some row) = row.ended
+
+abbrev pub asks_ended : List Fact → Command → Bool
+asks_ended facts c = is_closed (option_and_then (installation_at facts) (corrected_at c))
+
+-- Busy: the device is connected already, or not connected, or its session can start no poll now: its window is full, the
+-- next transaction id waits for a reply, or its stream is garbled.
+abbrev pub is_ready : Option Line → Bool
+is_ready None = false
+is_ready (Some line) = is_startable line.device line.present
+
+abbrev pub can_start : List Line → Option (List ℕ) → Bool
+can_start lines device = is_ready (line_of lines device)
+
+abbrev pub asks_busy : List Line → Command → Bool
+asks_busy lines (command.StartPoll c) = not (can_start lines c.device)
+asks_busy lines (command.StartRound c) = not (can_start lines c.device)
+asks_busy lines _ = false
+
+-- Limit: a name is none, or a number is outside its range.
+abbrev pub is_outside : (low high n : ℕ) → Bool
+is_outside low high n = nat_lt n low || nat_lt high n
+
+-- how many registers lie from the first of the counter and its scale to the last
+abbrev pub registers_spanned : (address : ℕ) → GivenScale → ℕ
+registers_spanned address (given.Fixed sf) = 2
+registers_spanned address (given.Register scale) = max (address + 2) (scale + 1) - min address scale
+
+abbrev pub is_bad_address : GivenScale → Bool
+is_bad_address (given.Fixed sf) = false
+is_bad_address (given.Register address) = nat_lt 65535 address
+
+-- a meter that can't be installed: its name is none, its range is none, it can't show the number, or its ceiling is none
+abbrev pub is_bad_meter : (meter : Option (List ℕ)) → (range raw ceiling : ℕ) → Bool
+is_bad_meter meter range raw ceiling =
+    is_none meter || is_outside 65536 4294967296 range || nat_le range raw || is_outside 1 1000000000 ceiling
+
+abbrev pub is_later : (at : ℕ) → Option ℕ → Bool
+is_later at None = false
+is_later at (Some given) = nat_lt at given
+
+abbrev pub asks_bad_field : (at : ℕ) → Command → Bool
+asks_bad_field at (command.AddDevice c) =
+    is_none c.name || nat_lt 255 c.unit || is_outside 1 60 c.timeout || is_outside 1 16 c.window
+asks_bad_field at (command.AddRegister c) =
+    is_none c.name || is_outside 3 4 c.function || nat_lt 65534 c.address || is_bad_address c.scale
+    || nat_lt 125 (registers_spanned c.address c.scale)
+asks_bad_field at (command.Install c) = is_bad_meter c.meter c.range c.raw c.ceiling
+asks_bad_field at (command.Exchange c) = nat_lt 255 c.rolls || is_bad_meter c.meter c.range c.raw c.ceiling
+asks_bad_field at (command.Manual c) = nat_lt 255 c.rolls || is_later at c.at
+asks_bad_field at (command.Close c) = nat_lt 255 c.rolls
+asks_bad_field at _ = false
+
+-- Limit, too: there is no room for one more, or the plan has no such read.
+abbrev pub is_full_of_registers : List Fact → Option (List ℕ) → Bool
+is_full_of_registers facts None = false
+is_full_of_registers facts (Some device) = nat_le register_limit (length (registers_of facts device))
+
+abbrev pub is_crowded : List Line → List Fact → Command → Bool
+is_crowded lines facts (command.AddDevice c) = nat_le device_limit (length lines)
+is_crowded lines facts (command.AddRegister c) = is_full_of_registers facts c.device
+is_crowded lines facts (command.Install c) = nat_le installation_limit (length (openings_in facts))
+is_crowded lines facts (command.Exchange c) = nat_le installation_limit (length (openings_in facts))
+is_crowded lines facts (command.StartRound c) = length (spans_by facts (command.StartRound c)) == 0
+is_crowded lines facts _ = false
+
+-- Limit: for each reason, with what the open meter can't show.
+abbrev pub asks_beyond : List Line → List Fact → (at : ℕ) → Command → Bool
+asks_beyond lines facts at c = asks_bad_field at c || is_crowded lines facts c || asks_faulty facts at fault.NotBelowRange c
+
+-- Store: the number of the last poll that a command starts would be past the greatest.
+abbrev pub is_start : Command → Bool
+is_start (command.StartPoll c) = true
+is_start (command.StartRound c) = true
+is_start _ = false
+
+abbrev pub sent_count : List Line → List Fact → (at : ℕ) → Command → ℕ
+sent_count lines facts at c = length (sends_by (next_poll facts) at lines facts c)
+
+abbrev pub asks_past_numbers : List Line → List Fact → (at : ℕ) → Command → Bool
+asks_past_numbers lines facts at c = is_start c && nat_lt poll_limit (length (polls_in facts) + sent_count lines facts at c)
+
+-- NotVoidable: the entry is no reading that stands, or the next that stands is none.
+abbrev pub is_not_voidable : Option EntryPlace → Bool
+is_not_voidable None = true
+is_not_voidable (Some place) = not (is_voidable place.row place.next)
+
+abbrev pub voided_place : List Fact → Command → Option EntryPlace
+voided_place facts (command.Void c) = option_and_then (λ meter. entry_at facts meter c.place) c.meter
+voided_place facts _ = None
+
+abbrev pub asks_unvoidable : List Fact → Command → Bool
+asks_unvoidable facts (command.Void c) = is_not_voidable (voided_place facts (command.Void c))
+asks_unvoidable facts _ = false
+
+-- NotPlausible: the verdict holds the next entry after those before the voided one.
+abbrev pub verdict_between : Installation → Entry → Option Verdict
+verdict_between before (entry.Step at raw rolls) = Some (judgement before (reading_at before.last at raw))
+verdict_between before (entry.Change at set_before after sf) = None
+
+abbrev pub verdict_at : Option EntryPlace → Option Verdict
+verdict_at place = option_and_then (λ p. option_and_then (λ (next : EntryRow). verdict_between p.before next.entry) p.next) place
+
+abbrev pub same_cause : Cause → Cause → Bool
+same_cause a b = cause_number a == cause_number b
+
+abbrev pub is_held_for : Cause → Option Verdict → Bool
+is_held_for why None = false
+is_held_for why (Some (verdict.Accepted rolls step)) = false
+is_held_for why (Some (verdict.Held held)) = same_cause why held
+
+-- Whether an event is refused for a reason that lies in its command, after these facts.
+abbrev pub asks_wrongly : List Line → List Fact → (at : ℕ) → Command → Refusal → Bool
+asks_wrongly lines facts at c refusal.NotFound = asks_unknown lines facts c
+asks_wrongly lines facts at c refusal.Exists = asks_taken lines facts c
+asks_wrongly lines facts at c refusal.BadScale = asks_bad_scale c
+asks_wrongly lines facts at c refusal.NegativeStep = asks_faulty facts at fault.NegativeStep c
+asks_wrongly lines facts at c refusal.NotLater = asks_faulty facts at fault.NotLater c
+asks_wrongly lines facts at c refusal.SpanTooLong = asks_faulty facts at fault.SpanTooLong c
+asks_wrongly lines facts at c refusal.TotalFull = asks_faulty facts at fault.TotalFull c
+asks_wrongly lines facts at c refusal.Ended = asks_ended facts c
+asks_wrongly lines facts at c refusal.Busy = asks_busy lines c
+asks_wrongly lines facts at c refusal.Limit = asks_beyond lines facts at c
+asks_wrongly lines facts at c (refusal.Store store.Refused) = asks_past_numbers lines facts at c
+asks_wrongly lines facts at c refusal.NotVoidable = asks_unvoidable facts c
+asks_wrongly lines facts at c (refusal.NotPlausible why) = is_held_for why (verdict_at (voided_place facts c))
+asks_wrongly lines facts at c _ = false
+
+-- The same of an event of a device: it is unknown, or it is connected already, or not.
+abbrev pub comes_wrongly : List Line → Event → Refusal → Bool
+comes_wrongly lines (event.Connected d) refusal.NotFound = is_none (line_of lines d)
+comes_wrongly lines (event.Connected d) refusal.Busy = is_some (present_of lines d)
+comes_wrongly lines (event.Bytes d piece) refusal.NotFound = is_none (line_of lines d)
+comes_wrongly lines (event.Bytes d piece) refusal.Busy = is_none (present_of lines d)
+comes_wrongly lines (event.Gone d closing) refusal.NotFound = is_none (line_of lines d)
+comes_wrongly lines (event.Gone d closing) refusal.Busy = is_none (present_of lines d)
+comes_wrongly lines _ _ = false
+
+-- the caller's name is none, or the number of his request is too great
+abbrev pub is_bad_request : Asked → Refusal → Bool
+is_bad_request asked refusal.Limit = is_none asked.caller || nat_lt request_limit asked.number
+is_bad_request asked _ = false
+
+abbrev pub is_wrong : List Line → List Fact → (at : ℕ) → Event → Refusal → Bool
+is_wrong lines facts at (event.Command c) why = asks_wrongly lines facts at c why
+is_wrong lines facts at (event.Asked asked) why = asks_wrongly lines facts at asked.command why || is_bad_request asked why
+is_wrong lines facts at e why = comes_wrongly lines e why
+
+-- it comes before the latest accepted one, or past the limit
+abbrev pub is_mistimed : (latest at : ℕ) → Refusal → Bool
+is_mistimed latest at refusal.ClockBack = nat_lt at latest
+is_mistimed latest at refusal.Limit = nat_lt moment_limit at
+is_mistimed latest at _ = false
+
+-- Whether an event is refused for a reason, after these accepted ones.
+abbrev pub refuses : History → (at : ℕ) → Event → Refusal → Bool
+refuses past at e why = is_mistimed (latest_of past) at why || is_wrong (lines_of past) (facts_of past) at e why
+
+-- The reasons, in the order in which they are looked at: those that lie in what is asked, and then that the store can number no
+-- more polls.
+abbrev pub all_causes : List Cause
+all_causes = cause.NotAccumulated ∷ cause.ScaleChanged ∷ cause.NotLater ∷ cause.SpanTooLong ∷ cause.GapTooLong ∷ cause.TooFast
+    ∷ cause.TotalFull ∷ cause.NotBelowRange ∷ []
+
+abbrev pub reasons : List Refusal
+reasons = refusal.NotFound ∷ refusal.Exists ∷ refusal.ClockBack ∷ refusal.BadScale ∷ refusal.NegativeStep ∷ refusal.NotLater
+    ∷ refusal.SpanTooLong ∷ refusal.TotalFull ∷ refusal.Ended ∷ refusal.Busy ∷ refusal.Limit ∷ refusal.NotVoidable
+    ∷ map refusal.NotPlausible all_causes ++ refusal.Store store.Refused ∷ []
+
+-- What was kept of a request that was asked before: the same request is answered as it was, another is refused.
+abbrev pub by_reply : Asked → Reply → Result CommandKind Refusal
+by_reply asked reply = if bytes_eq reply.request asked.request then Ok reply.kind else Err refusal.Reused
+
+abbrev pub kept_of : List Fact → Event → Option (Result CommandKind Refusal)
+kept_of facts (event.Asked asked) =
+    option_map (by_reply asked) (option_and_then (λ caller. reply_of facts caller asked.number) asked.caller)
+kept_of facts _ = None
+
+-- Why an event that was not asked before is refused after these accepted ones, if it is.
+abbrev pub refusal_of : History → (at : ℕ) → Event → Option Refusal
+refusal_of past at e = find (refuses past at e) reasons
+
+-- Why an opening of the office on books that hold these facts is refused, if it is: it comes before what is recorded, or
+-- past the limit.
+abbrev pub opening_refusal_of : List Fact → (at : ℕ) → Option Refusal
+opening_refusal_of facts at =
+    if nat_lt at (latest_in facts) then Some refusal.ClockBack
+    else if nat_lt moment_limit at then Some refusal.Limit
+    else None
+
+-- The event is new, and nothing speaks against it.
+pub record IsAccepted (past : History) (at : ℕ) (e : Event) : Type 0 where
+  pub new : kept_of (facts_of past) e ≡ None
+  pub right : refusal_of past at e ≡ None
+
+-- Each of these was accepted after those before it.
+abbrev pub AreAccepted : History → Type 0
+AreAccepted [] = Unit {0}
+AreAccepted (Opened at ∷ past) = (opening_refusal_of (facts_of past) at ≡ None) × AreAccepted past
+AreAccepted (Fed at e ∷ past) = IsAccepted past at e × AreAccepted past
+
+-- What an accepted command is answered. A start tells its first poll, how many polls, and how many reads there are.
+abbrev pub reads_in_all : List Fact → Command → ℕ
+reads_in_all facts (command.StartRound c) = length (round_spans 0 (option_and_then (list_of facts) c.device))
+reads_in_all facts _ = 1
+
+abbrev pub answer_to : List Line → List Fact → (at : ℕ) → Command → Answer
+answer_to lines facts at c =
+    if is_start c
+    then answer.Started (next_poll facts) (sent_count lines facts at c) (reads_in_all facts c)
+    else answer.Done (kind_of c)
+
+abbrev pub answer_of : List Line → List Fact → (at : ℕ) → Event → Answer
+answer_of lines facts at (event.Command c) = answer_to lines facts at c
+answer_of lines facts at (event.Asked asked) = answer_to lines facts at asked.command
+answer_of lines facts at _ = answer.Noted
+
+-- What an event is answered after these accepted ones, where neither the books nor memory fail.
+abbrev pub by_kept : Result CommandKind Refusal → Result Answer Refusal
+by_kept (Ok k) = Ok (answer.Again k)
+by_kept (Err why) = Err why
+
+abbrev pub unless_refused : Answer → Option Refusal → Result Answer Refusal
+unless_refused given None = Ok given
+unless_refused given (Some why) = Err why
+
+abbrev pub unless_kept : Result Answer Refusal → Option (Result CommandKind Refusal) → Result Answer Refusal
+unless_kept given None = given
+unless_kept given (Some kept) = by_kept kept
+
+abbrev pub response_of : History → (at : ℕ) → Event → Result Answer Refusal
+response_of past at e =
+    unless_kept (unless_refused (answer_of (lines_of past) (facts_of past) at e) (refusal_of past at e)) (kept_of (facts_of past) e)
+
+-- What was accepted once an event was answered: a refused one, and one that was asked before, change nothing.
+abbrev pub with_answer : History → (at : ℕ) → Event → Result Answer Refusal → History
+with_answer past at e (Ok (answer.Again k)) = past
+with_answer past at e (Ok given) = Fed at e ∷ past
+with_answer past at e (Err why) = past

@@ -1,0 +1,6 @@
+//! Point lists with the reads of their plans.
+#![tactic(auto)]
+
+mod list;
+
+pub use list::PlannedList;
