@@ -1,0 +1,13 @@
+pub mod Permutations
+pub mod SessionLaws
+pub mod EndedPolls
+pub mod EndedFacts
+pub mod LostPolls
+pub mod Happenings
+pub mod EndedLines
+pub mod OverLines
+pub mod ApartLines
+pub mod QuietFacts
+pub mod Rounds
+pub mod QuietEvents
+pub mod EndOnce

@@ -1,0 +1,15 @@
+//! Each poll ends once.
+ghost use Rattle.office_rules.specs.History.{History};
+ghost use Rattle.office_rules.specs.Refusals.{AreAccepted};
+ghost use Rattle.office_rules.specs.Headline.{PollsEndOnce};
+
+use poll_core::{each_once, one_event_more};
+
+/// Whatever the office accepted, each poll has exactly the outcome that its session gives it, recorded once, or it
+/// has none and waits.
+pub fn polls_end_once()
+    ensures { (history : History) → AreAccepted history → PollsEndOnce history }
+{
+    each_once();
+    one_event_more();
+}

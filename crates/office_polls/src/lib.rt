@@ -1,0 +1,6 @@
+//! How the polls of an office end.
+#![tactic(auto)]
+
+mod endings;
+
+pub use endings::polls_end_once;
