@@ -11,3 +11,4 @@ pub mod QuietFacts
 pub mod Rounds
 pub mod QuietEvents
 pub mod EndOnce
+pub mod PollsOnce
