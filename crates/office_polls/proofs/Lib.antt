@@ -12,3 +12,5 @@ pub mod Rounds
 pub mod QuietEvents
 pub mod EndOnce
 pub mod PollsOnce
+pub mod Times
+pub mod SettledOnce
