@@ -33,7 +33,7 @@ use Rattle.office_polls.proofs.EndedLines.{AreFree, new_by, ends-after, numbers-
 use Rattle.office_polls.proofs.OverLines.{AreOver, waiting_lines, over-after, over-restarted, ends-restarted, numbers-restarted}
 use Rattle.office_polls.proofs.ApartLines.{not_found_if, AreApart, apart-map, apart-push, device-after, device-restarted, find_never, free_other, free_connected}
 use Rattle.office_polls.proofs.QuietEvents.{NoneNew, connects_start, bytes_start, ticks_start, ends_start, connects_settle, IsPassed, passed}
-use Rattle.office_polls.proofs.QuietFacts.{AreQuiet, quiet_polls, quiet_ends, reply_quiet}
+use Rattle.office_polls.proofs.QuietFacts.{AreQuiet, later_part_first, quiet_polls, quiet_ends, quiet_reply}
 use Rattle.office_polls.proofs.Rounds.{numbers, command_adds, commands_settle, new_sent}
 
 -- The polls of the facts and their recorded ends are those of the sessions; no poll waits in a session that has ended, and
@@ -241,16 +241,14 @@ agree_replied : (added replies facts : List Fact) (lines : List Line) → Agree 
     → Agree (reverse (added ++ replies) ++ facts) lines
 agree_replied added replies facts lines h quiet =
     let P : List Fact → Type 0 = λ fs. Agree fs lines in
-    let same : reverse (added ++ replies) ++ facts ≡ reverse replies ++ (reverse added ++ facts) =
-    ap (λ (fs : List Fact). fs ++ facts) (reverse-append added replies) ∙ append_assoc (reverse replies) (reverse added) facts in
-    subst P (sym same) (agree_quiet replies (reverse added ++ facts) lines h quiet)
+    subst P (sym (later_part_first added replies facts)) (agree_quiet replies (reverse added ++ facts) lines h quiet)
 
 agree_asked : (laws : SessionLaws) (at : ℕ) (lines : List Line) (facts : List Fact) (asked : Asked) → Agree facts lines → asks_taken lines facts asked.command ≡ false
     → Agree (reverse (added_by (next_poll facts) at lines facts asked.command ++ reply_by at asked) ++ facts)
     (lines_after (next_poll facts) at (spans_by facts asked.command) (event.Asked asked) lines)
 agree_asked laws at lines facts asked h new =
     agree_replied (added_by (next_poll facts) at lines facts asked.command) (reply_by at asked) facts _
-    (agree_commanded laws at lines facts asked.command h new) (reply_quiet at asked)
+    (agree_commanded laws at lines facts asked.command h new) (quiet_reply at asked)
 
 -- The office is opened anew.
 agree_opened : (at : ℕ) (facts : List Fact) (lines : List Line) → Agree facts lines → Agree (with_lost at facts) (map line_restarted lines)

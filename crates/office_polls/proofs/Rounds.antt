@@ -21,7 +21,7 @@ use Rattle.office_polls.proofs.EndedFacts.{settled_on_all}
 use Rattle.office_polls.proofs.Happenings.{sent_numbers, round_numbers, command_settles}
 use Rattle.office_polls.proofs.EndedLines.{new_on, new_by}
 use Rattle.office_polls.proofs.ApartLines.{AreApart, of_none, told_by, if_named, one_tells}
-use Rattle.office_polls.proofs.QuietFacts.{AreQuiet, later_first, quiet_polls, quiet_ends, quiet_both, quiet_map, quiet_then, openings_quiet, entries_quiet}
+use Rattle.office_polls.proofs.QuietFacts.{AreQuiet, IsQuiet, later_first, quiet_polls, quiet_ends, books_quiet, added_each}
 
 abbrev pub numbers : List Fact → List ℕ
 numbers facts = map (λ poll. poll.number) (polls_in facts)
@@ -109,35 +109,12 @@ none_from number at (Some line) = none_at number at line.device line.present
 
 pub command_adds : (at : ℕ) (lines : List Line) (facts : List Fact) (c : Command) → AreNumbered (polls_in facts)
     → AddsPolls facts (added_by (next_poll facts) at lines facts c) (sends_by (next_poll facts) at lines facts c)
-command_adds at lines facts (command.AddDevice c) h =
-    adds_quiet facts _ _ h (quiet_map fact.Device (λ d. (refl, refl)) (device_by c)) (none_from (next_poll facts) at (line_of lines None))
-command_adds at lines facts (command.PutList c) h =
-    adds_quiet facts _ _ h (quiet_map (λ device. fact.List (record { device = device; list = c.list })) (λ d. (refl, refl)) c.device)
-    (none_from (next_poll facts) at (line_of lines None))
-command_adds at lines facts (command.AddRegister c) h =
-    adds_quiet facts _ _ h
-    (quiet_then (λ name. option_map (λ device. register_by c name device) c.device)
-    (λ name. quiet_map (λ device. register_by c name device) (λ d. (refl, refl)) c.device) c.name)
-    (none_from (next_poll facts) at (line_of lines None))
-command_adds at lines facts (command.Install c) h =
-    adds_quiet facts _ _ h (openings_quiet at c) (none_from (next_poll facts) at (line_of lines None))
-command_adds at lines facts (command.Exchange c) h =
-    adds_quiet facts _ _ h
-    (quiet_both _ _ (entries_quiet at facts (command.Exchange c)) (openings_quiet at (installed_by c)))
-    (none_from (next_poll facts) at (line_of lines None))
-command_adds at lines facts (command.Reset c) h =
-    adds_quiet facts _ _ h (entries_quiet at facts (command.Reset c)) (none_from (next_poll facts) at (line_of lines None))
-command_adds at lines facts (command.Rescale c) h =
-    adds_quiet facts _ _ h (entries_quiet at facts (command.Rescale c)) (none_from (next_poll facts) at (line_of lines None))
-command_adds at lines facts (command.Manual c) h =
-    adds_quiet facts _ _ h (entries_quiet at facts (command.Manual c)) (none_from (next_poll facts) at (line_of lines None))
-command_adds at lines facts (command.Close c) h =
-    adds_quiet facts _ _ h (entries_quiet at facts (command.Close c)) (none_from (next_poll facts) at (line_of lines None))
-command_adds at lines facts (command.Void c) h =
-    adds_quiet facts _ _ h (quiet_map (λ meter. fact.Void (record { meter = meter; place = c.place; at = at })) (λ m. (refl, refl)) c.meter)
-    (none_from (next_poll facts) at (line_of lines None))
 command_adds at lines facts (command.StartPoll c) h = adds_round at (spans_by facts (command.StartPoll c)) (line_of lines c.device) facts h
 command_adds at lines facts (command.StartRound c) h = adds_round at (spans_by facts (command.StartRound c)) (line_of lines c.device) facts h
+command_adds at lines facts c h =
+    adds_quiet facts _ _ h
+    (added_each IsQuiet books_quiet (next_poll facts) at lines facts c (λ d e. record { poll = refl; ended = refl; hold = refl }) (λ e. absurd (cc)))
+    (none_from (next_poll facts) at (line_of lines None))
 
 -- On the sessions a command settles nothing, and the polls that it starts are those that it sends.
 settles_none : (number at : ℕ) (c : Command) (device : Device) (present : Option (List session.Event)) → settled_on number at (event.Command c) device present ≡ []
