@@ -15,10 +15,10 @@ use Rattle.office_rules.specs.Sessions.{Line, line_of, present_of, reaches, conn
 use Rattle.office_polls.proofs.Happenings.{device_happened}
 use Rattle.office_polls.proofs.EndedLines.{AreFree, line_with}
 
-same_eq : (a b : List ℕ) → same a b ≡ true → a ≡ b
+pub same_eq : (a b : List ℕ) → same a b ≡ true → a ≡ b
 same_eq a b h = (bytes_eq-Decides a b).0 h
 
-same_refl : (a : List ℕ) → same a a ≡ true
+pub same_refl : (a : List ℕ) → same a a ≡ true
 same_refl a = (bytes_eq-Decides a a).1 refl
 
 same_back : (a b : List ℕ) → same a b ≡ false → same b a ≡ false

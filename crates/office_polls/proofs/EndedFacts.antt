@@ -27,9 +27,9 @@ use Rattle.office_polls.proofs.Permutations.{same_is, exchanged}
 use Rattle.office_polls.proofs.EndedPolls.{pick}
 
 -- A look-up that sees neither entries nor held readings.
-record IsBlind {X : Type 0} (look : Fact → Option X) : Type 0 where
-  entry : (booked : BookedEntry) → look (fact.Entry booked) ≡ None
-  hold : (held : HeldReading) → look (fact.Hold held) ≡ None
+pub record IsBlind {X : Type 0} (look : Fact → Option X) : Type 0 where
+  pub entry : (booked : BookedEntry) → look (fact.Entry booked) ≡ None
+  pub hold : (held : HeldReading) → look (fact.Hold held) ≡ None
 
 fact_unseen : {X : Type 0} (look : Fact → Option X) → IsBlind look → (meter : List ℕ) (poll : ℕ) (r : Reading) (v : Verdict) → look (as_fact meter poll r v) ≡ None
 fact_unseen look h meter poll r (Accepted rolls step) = h.entry _
@@ -75,19 +75,34 @@ recorded facts = map (λ end. (end.poll, end.outcome)) (ended_in facts)
 abbrev pub as_end : ℕ × session.Settlement → ℕ × Outcome
 as_end settled = (settled.0, outcome_of settled.1)
 
-abbrev end_fact : ℕ → ℕ × session.Settlement → EndedPoll
+abbrev pub end_fact : ℕ → ℕ × session.Settlement → EndedPoll
 end_fact at settled = record { poll = settled.0; at = at; outcome = outcome_of settled.1 }
+
+-- a look-up that sees no outcomes either sees nothing of what is settled
+unseen-with_outcomes : {X : Type 0} (look : Fact → Option X) → IsBlind look → ((ended : EndedPoll) → look (fact.Outcome ended) ≡ None) → (at : ℕ) (settled : List (ℕ × session.Settlement)) (facts : List Fact)
+    → filter_map look (with_outcomes at settled facts) ≡ filter_map look facts
+unseen-with_outcomes look h none at [] facts = refl
+unseen-with_outcomes look h none at (s ∷ later) facts =
+    unseen-with_outcomes look h none at later (with_outcome at s facts)
+    ∙ words_unseen look h at s.0 s.1 (fact.Outcome (end_fact at s) ∷ facts)
+    ∙ ap (λ o. cons_option o (filter_map look facts)) (none (end_fact at s))
+
+pub unseen-with_settled : {X : Type 0} (look : Fact → Option X) → IsBlind look → ((ended : EndedPoll) → look (fact.Outcome ended) ≡ None) → (number at : ℕ) (e : Event) (lines : List Line) (facts : List Fact)
+    → filter_map look (with_settled number at e lines facts) ≡ filter_map look facts
+unseen-with_settled look h none number at e [] facts = refl
+unseen-with_settled look h none number at e (line ∷ lines) facts =
+    unseen-with_settled look h none number at e lines (with_outcomes at (settled_by number at e line) facts)
+    ∙ unseen-with_outcomes look h none at (settled_by number at e line) facts
+
+pub ended-with_outcome : (at : ℕ) (settled : ℕ × session.Settlement) (facts : List Fact) → ended_in (with_outcome at settled facts) ≡ end_fact at settled ∷ ended_in facts
+ended-with_outcome at settled facts = words_unseen as_ended ended_blind at settled.0 settled.1 (fact.Outcome (end_fact at settled) ∷ facts)
 
 pub polls-with_outcome : (at : ℕ) (settled : ℕ × session.Settlement) (facts : List Fact) → polls_in (with_outcome at settled facts) ≡ polls_in facts
 polls-with_outcome at settled facts = words_unseen as_poll polls_blind at settled.0 settled.1 (fact.Outcome (end_fact at settled) ∷ facts)
 
 pub recorded-with_outcome : (at : ℕ) (settled : ℕ × session.Settlement) (facts : List Fact) → recorded (with_outcome at settled facts) ≡ as_end settled ∷ recorded facts
 recorded-with_outcome at settled facts =
-    ap (λ ends. map (λ (end : EndedPoll). (end.poll, end.outcome)) ends) (words_unseen as_ended ended_blind at settled.0 settled.1 (fact.Outcome (end_fact at settled) ∷ facts))
-
-pub polls-with_outcomes : (at : ℕ) (settled : List (ℕ × session.Settlement)) (facts : List Fact) → polls_in (with_outcomes at settled facts) ≡ polls_in facts
-polls-with_outcomes at [] facts = refl
-polls-with_outcomes at (s ∷ later) facts = polls-with_outcomes at later (with_outcome at s facts) ∙ polls-with_outcome at s facts
+    ap (λ ends. map (λ (end : EndedPoll). (end.poll, end.outcome)) ends) (ended-with_outcome at settled facts)
 
 pub recorded-with_outcomes : (at : ℕ) (settled : List (ℕ × session.Settlement)) (facts : List Fact) → IsPermutation (recorded (with_outcomes at settled facts)) (map as_end settled ++ recorded facts)
 recorded-with_outcomes at [] facts = IsPermutation-refl (recorded facts)
@@ -101,9 +116,7 @@ abbrev pub settled_on_all : (number at : ℕ) → Event → List Line → List (
 settled_on_all number at e lines = flat_map (settled_by number at e) lines
 
 pub polls-with_settled : (number at : ℕ) (e : Event) (lines : List Line) (facts : List Fact) → polls_in (with_settled number at e lines facts) ≡ polls_in facts
-polls-with_settled number at e [] facts = refl
-polls-with_settled number at e (line ∷ lines) facts =
-    polls-with_settled number at e lines (with_outcomes at (settled_by number at e line) facts) ∙ polls-with_outcomes at (settled_by number at e line) facts
+polls-with_settled number at e lines facts = unseen-with_settled as_poll polls_blind (λ ended. refl) number at e lines facts
 
 pub recorded-with_settled : (number at : ℕ) (e : Event) (lines : List Line) (facts : List Fact) → IsPermutation (recorded (with_settled number at e lines facts)) (map as_end (settled_on_all number at e lines) ++ recorded facts)
 recorded-with_settled number at e [] facts = IsPermutation-refl (recorded facts)

@@ -14,3 +14,5 @@ pub mod EndOnce
 pub mod PollsOnce
 pub mod Times
 pub mod SettledOnce
+pub mod DeviceLines
+pub mod OpenPolls
