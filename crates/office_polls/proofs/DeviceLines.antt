@@ -15,8 +15,8 @@ use Rattle.office_events.specs.declared.events.Event.TheVariants as event
 use Rattle.office_rules.specs.Facts.{same, is_named, devices_in, device_of, pending_in, as_device}
 use Rattle.office_rules.specs.Sessions.{Line, line_of, line_after, device_by, new_line, lines_added, lines_after, line_restarted, command_in}
 use Rattle.office_rules.specs.History.{History, Opened, Fed, next_poll, added_by, reply_by, spans_in, with_settled, facts_after, facts_of, lines_of, lost}
-use Rattle.office_polls.proofs.EndedFacts.{IsBlind, unseen-with_settled}
-use Rattle.office_polls.proofs.ApartLines.{device-after, same_eq, same_refl}
+use Rattle.office_polls.proofs.EndedFacts.{unseen-with_settled}
+use Rattle.office_polls.proofs.ApartLines.{device-after, same_refl}
 use Rattle.office_polls.proofs.QuietFacts.{HoldsOfBooks, added_each, reply_each, each_mapped, unseen, later_part_first}
 
 -- the devices of lines

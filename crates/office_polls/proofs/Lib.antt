@@ -16,3 +16,4 @@ pub mod Times
 pub mod SettledOnce
 pub mod DeviceLines
 pub mod OpenPolls
+pub mod FittingPolls

@@ -1,5 +1,5 @@
 -- Polls that wait are open; what is settled of them keeps what each outcome of an open poll keeps.
-use Rattle.std.proofs.Common.{◌≡◌, ℕ, ◌+◌, ◌<◌, ◌≤◌, ◌==◌, true, false, cond, List, [], ◌∷◌, ◌++◌, map, reverse, length, refl, sym, ap, subst, ◌∙◌, Option, arith, append_assoc}
+use Rattle.std.proofs.Common.{◌≡◌, ℕ, ◌+◌, ◌<◌, ◌≤◌, ◌==◌, true, false, cond, List, [], ◌∷◌, ◌++◌, map, reverse, length, refl, sym, ap, subst, ◌∙◌, arith, append_assoc}
 use Rattle.std.specs.List.{find, filter, flat_map}
 use Rattle.std.specs.Option.{is_some}
 use Rattle.std.proofs.lemmas.Bool.{eqb-true, eq-eqb}
@@ -11,7 +11,7 @@ use Rattle.office_events.specs.declared.facts.Poll.{Poll}
 use Rattle.office_events.specs.declared.facts.EndedPoll.{EndedPoll}
 use Rattle.office_events.specs.declared.facts.Fact.{Fact}
 use Rattle.office_events.specs.declared.events.Event.{Event}
-use Rattle.office_rules.specs.Facts.{polls_in, ended_in, poll_of, ends_of, pending_in}
+use Rattle.office_rules.specs.Facts.{polls_in, poll_of, ends_of, pending_in}
 use Rattle.office_rules.specs.Sessions.{Line}
 use Rattle.office_rules.specs.History.{History, facts_of, lines_of, settled_by, with_outcome, with_outcomes, with_settled, lost, with_lost}
 use Rattle.office_rules.specs.Headline.{AreNumbered, PollsEndOnce, pending_on}

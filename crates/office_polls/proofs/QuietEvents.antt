@@ -1,5 +1,5 @@
 -- Events that start nothing, and what is known of an accepted one.
-use Rattle.std.proofs.Common.{◌≡◌, ℕ, Bool, true, false, List, [], ◌∷◌, refl, Option, Some, None, if◌then◌else◌}
+use Rattle.std.proofs.Common.{◌≡◌, ℕ, Bool, true, false, List, [], ◌∷◌, ◌++◌, take, refl, Option, Some, None, if◌then◌else◌}
 use Rattle.std.specs.List.{flat_map, find}
 use Rattle.poll_core.specs.Settling as session
 use Rattle.poll_core.specs.Settling.{Start, Piece, Tick, Close}
@@ -9,6 +9,7 @@ use Rattle.office_events.specs.declared.events.Event.{Event}
 use Rattle.office_events.specs.declared.events.Event.TheVariants as event
 use Rattle.office_events.specs.declared.refusals.Refusal.{Refusal}
 use Rattle.office_events.specs.declared.refusals.Refusal.TheVariants as refusal
+use Rattle.office_events.specs.declared.refusals.StoreCause.TheVariants as store
 use Rattle.office_rules.specs.Facts.{is_named}
 use Rattle.office_rules.specs.Sessions.{Line}
 use Rattle.office_rules.specs.History.{settled_on, settled_by}
@@ -74,6 +75,11 @@ connects_settle number at given lines =
 pub record IsPassed (refuses : Refusal → Bool) : Type 0 where
   pub there : refuses refusal.Exists ≡ false
   pub busy : refuses refusal.Busy ≡ false
+  pub few : refuses (refusal.Store store.Refused) ≡ false
+
+last_not_found : {X : Type 0} (p : X → Bool) (xs : List X) (x : X) → find p (xs ++ x ∷ []) ≡ None → p x ≡ false
+last_not_found p [] x h = (not_found_if (p x) x None h).0
+last_not_found p (y ∷ ys) x h = last_not_found p ys x (not_found_if (p y) y (find p (ys ++ x ∷ [])) h).1
 
 pub passed : (refuses : Refusal → Bool) → find refuses reasons ≡ None → IsPassed refuses
 passed refuses h =
@@ -87,4 +93,4 @@ passed refuses h =
     let full = not_found_if (refuses refusal.TotalFull) _ _ long.1 in
     let ended = not_found_if (refuses refusal.Ended) _ _ full.1 in
     let busy = not_found_if (refuses refusal.Busy) _ _ ended.1 in
-    record { there = there.0; busy = busy.0 }
+    record { there = there.0; busy = busy.0; few = last_not_found refuses (take 20 reasons) (refusal.Store store.Refused) h }

@@ -2,19 +2,17 @@
 use Rattle.std.proofs.Common.{◌≡◌, ℕ, suc, ◌+◌, Bool, true, false, cond, List, [], ◌∷◌, ◌++◌, map, reverse, length, refl, sym, ap, subst, ◌∙◌, arith, Option, Some, None, if◌then◌else◌}
 use Rattle.std.specs.List.{flat_map}
 use Rattle.std.specs.List.Sorted.{IsPermutation}
-use Rattle.std.specs.Option.{option_map}
 use Rattle.std.proofs.lemmas.List.Sorted.{IsPermutation-refl, IsPermutation-trans, IsPermutation-middle}
 use Rattle.mb_wire.specs.declared.span.ReadSpan.{ReadSpan}
 use Rattle.poll_core.specs.Settling as session
 use Rattle.office_events.specs.declared.facts.Device.{Device}
 use Rattle.office_events.specs.declared.facts.Fact.{Fact}
-use Rattle.office_events.specs.declared.facts.Fact.TheVariants as fact
 use Rattle.office_events.specs.declared.commands.Command.{Command}
 use Rattle.office_events.specs.declared.commands.Command.TheVariants as command
 use Rattle.office_events.specs.declared.events.Event.TheVariants as event
 use Rattle.office_rules.specs.Facts.{is_named, polls_in, ended_in}
-use Rattle.office_rules.specs.Sessions.{Line, Send, line_of, started_on, start_by, is_startable, sends_on, sends_at, device_by}
-use Rattle.office_rules.specs.History.{next_poll, register_by, installed_by, poll_by, polls_from, sends_from, sends_by, spans_by, added_by, settled_on, settled_by}
+use Rattle.office_rules.specs.Sessions.{Line, Send, line_of, started_on, start_by, is_startable, sends_on, sends_at}
+use Rattle.office_rules.specs.History.{next_poll, poll_by, polls_from, sends_from, sends_by, spans_by, added_by, settled_on, settled_by}
 use Rattle.office_rules.specs.Headline.{AreNumbered}
 use Rattle.office_polls.proofs.Permutations.{same_is}
 use Rattle.office_polls.proofs.EndedFacts.{settled_on_all}
