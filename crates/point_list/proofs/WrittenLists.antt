@@ -1,5 +1,5 @@
 -- A written list lacks nothing, and spells the same list.
-use Rattle.std.proofs.Common.{◌≡◌, ◌≢◌, ◌+◌, ◌≤◌, ◌<◌, ◌∙◌, ℕ, zero, suc, Bool, true, false, IsTrue, List, [], ◌∷◌, Some, None, Option, length, map, max, min, take, drop, get_or, refl, sym, ap, arith, inl, inr, subst}
+use Rattle.std.proofs.Common.{◌≡◌, ◌≢◌, ◌+◌, ◌≤◌, ◌<◌, ◌∙◌, ℕ, zero, suc, Bool, true, false, IsTrue, List, [], ◌∷◌, Some, None, Option, length, map, max, min, take, drop, get_or, refl, ap, arith, inl, inr, subst}
 use Rattle.std.specs.Prelude.{nat_le, nat_lt, ◌==◌, is_some, IsSomeAnd}
 use Rattle.std.specs.Prelude.{IfOk, OnOk, Ok, Err}
 use Rattle.std.specs.declared.result.Result.{Result}
