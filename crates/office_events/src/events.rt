@@ -5,7 +5,7 @@ use poll_core::Closing;
 use std::marker::Model;
 
 /// Bytes that came to the office: of a device, or of a request.
-#[derive(Drop)]
+#[derive(Clone, Drop)]
 pub struct Piece {
     bytes: Vec<u8>,
 }

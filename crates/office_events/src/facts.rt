@@ -20,7 +20,7 @@ pub struct Device {
 }
 
 /// The point list of a device.
-#[derive(Drop)]
+#[derive(Clone, Drop)]
 pub struct DeviceList {
     pub device: Name,
     pub list: PlannedList,
@@ -113,7 +113,7 @@ pub struct VoidedEntry {
 }
 
 /// What an asked command was answered, kept for good under its caller and number.
-#[derive(Drop)]
+#[derive(Clone, Drop)]
 pub struct Reply {
     pub caller: Name,
     pub number: u64,

@@ -1,6 +1,7 @@
 //! A point list, and the reads by which its points are polled.
 ghost use Rattle.std.specs.Prelude.{◌≡◌, IfOk};
 
+use crate::copies::copy_list;
 use point_list::{ListedPoint, PointList};
 use read_plan::{PlannedRead, plan};
 use std::alloc::{AllocError, Global};
@@ -50,5 +51,18 @@ impl PlannedList {
         ensures planned { IsPlanned self.now }
     {
         self.reads.as_slice()
+    }
+}
+
+impl Clone for PlannedList {
+    ghost use Rattle.std.specs.Prelude.{◌≡◌};
+
+    ghost is_clone = { λ list copy. copy ≡ list };
+
+    fn clone(&self) -> Result<PlannedList, AllocError> {
+        let alloc = *self.reads.allocator();
+        let list = copy_list(alloc, &self.list)?;
+        let reads = self.reads.as_slice().to_vec(alloc)?;
+        Ok(PlannedList { list, reads })
     }
 }

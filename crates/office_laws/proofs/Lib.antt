@@ -1,0 +1,8 @@
+mod Lookups
+mod Lists
+mod Openings
+mod Journals
+pub mod LawfulReadings
+pub mod LawfulChanges
+pub mod LawfulExchange
+pub mod Rounds

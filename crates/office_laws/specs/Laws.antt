@@ -1,0 +1,53 @@
+-- What lawful facts say of meters.
+use Rattle.std.specs.Prelude.{◌≡◌, ◌+◌, List}
+use Rattle.std.specs.List.{Contains}
+use Rattle.energy_core.specs.Value.{value_of}
+use Rattle.energy_core.specs.Account.{set_anew, recorded}
+use Rattle.energy_core.specs.TrueRun.{Item}
+use Rattle.interval_core.specs.Account.{IsAccount, energy_of}
+use Rattle.meter_journal.specs.Fitting.{AreFitting}
+use Rattle.meter_journal.specs.Laws as journals
+use Rattle.meter_journal.specs.Truth as truth
+use Rattle.office_events.specs.declared.facts.Opening.{Opening}
+use Rattle.office_events.specs.declared.facts.Fact.{Fact}
+use Rattle.office_rules.specs.Facts.{openings_in}
+use Rattle.office_rules.specs.Meters.{opened, installed, journal_of, entries_of, steps_in, installation_of}
+use Rattle.office_rules.specs.Intervals.{rows_of_opening}
+use Rattle.office_rules.specs.Lawful.{AreLawful}
+
+-- the opening is recorded
+abbrev pub IsRecorded : List Fact → Opening → Type 0
+IsRecorded facts opening = Contains (openings_in facts) opening
+
+-- Each line of a meter's journal may follow those before it.
+abbrev pub JournalsFit : Type 0
+JournalsFit = (facts : List Fact) (opening : Opening) → AreLawful facts → IsRecorded facts opening
+    → AreFitting (installed opening) (journal_of facts opening.meter)
+
+-- The energy of an installation, what its counter showed at opening, and what each change was set to, are together what it
+-- shows, a full range for each recorded rollover at the scale of its step, and what it showed before each change. The account is that of the
+-- entries that stand, and is sound; the interval rows are those of its steps, and add up to the energy.
+pub record IsKept (facts : List Fact) (opening : Opening) : Type 0 where
+  pub energy : (installation_of facts opening).total + value_of (opened opening) + set_anew (entries_of facts opening)
+      ≡ value_of (installation_of facts opening).last + recorded opening.range (opened opening) (entries_of facts opening)
+  pub account : journals.IsKept (installed opening) (journal_of facts opening.meter)
+  pub rows : IsAccount (steps_in facts opening) (rows_of_opening facts opening)
+  pub sum : energy_of (rows_of_opening facts opening) ≡ (installation_of facts opening).total
+
+abbrev pub MetersAreKept : Type 0
+MetersAreKept = (facts : List Fact) (opening : Opening) → AreLawful facts → IsRecorded facts opening → IsKept facts opening
+
+-- Where the readings that stand and all readings since the last void are a true run, none of the latter was held, and the
+-- steps, the energy and the interval rows are the true ones.
+abbrev pub TruthIsRecorded : Type 0
+TruthIsRecorded = (facts : List Fact) (opening : Opening) (first : Item) (items : List Item) → AreLawful facts → IsRecorded facts opening
+    → truth.ShowsTrueRun (installed opening) (journal_of facts opening.meter) first items
+    → truth.IsKeptTruly (installed opening) (journal_of facts opening.meter) first items
+
+-- The entries that stand are those that no void names, and leave what they would leave had nothing else come.
+pub record IsUntraced (facts : List Fact) (opening : Opening) : Type 0 where
+  pub rows : journals.HasItsRows (installed opening) (journal_of facts opening.meter)
+  pub alone : journals.LeavesNoTrace (installed opening) (journal_of facts opening.meter)
+
+abbrev pub VoidsLeaveNoTrace : Type 0
+VoidsLeaveNoTrace = (facts : List Fact) (opening : Opening) → AreLawful facts → IsRecorded facts opening → IsUntraced facts opening
