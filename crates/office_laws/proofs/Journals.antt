@@ -5,6 +5,7 @@ use Rattle.std.proofs.lemmas.Bool.{cases_Bool, cond-true, cond-false}
 use Rattle.std.proofs.lemmas.Option.{same_Some}
 use Rattle.meter_journal.specs.Journal as journal
 use Rattle.meter_journal.specs.Fitting as journals
+use Rattle.meter_journal.specs.Books as books
 use Rattle.meter_journal.specs.Laws as laws
 use Rattle.office_events.specs.declared.facts.Opening.{Opening}
 use Rattle.office_events.specs.declared.facts.Fact.{Fact}
@@ -108,7 +109,7 @@ installed_fits (fact.Outcome e ∷ facts) o h there = installed_fits facts o h.1
 installed_fits (fact.Reply r ∷ facts) o h there = installed_fits facts o h.1 there
 
 -- what was installed has its numbers in their ranges
-well : (facts : List Fact) (o : Opening) → AreLawful facts → IsInstalled facts o → laws.IsWellInstalled (installed o)
+well : (facts : List Fact) (o : Opening) → AreLawful facts → IsInstalled facts o → books.IsWellInstalled (installed o)
 well [] o h there = absurd (cc)
 well (fact.Device d ∷ facts) o h there = well facts o h.1 there
 well (fact.List l ∷ facts) o h there = well facts o h.1 there
@@ -116,7 +117,7 @@ well (fact.Register r ∷ facts) o h there = well facts o h.1 there
 well (fact.Opening p ∷ facts) o h there =
     by_opening facts p o there
     (λ is. let fits : OpeningFits facts p = h.0.0 in
-    subst (λ (x : Opening). laws.IsWellInstalled (installed x)) is (record { raw = fits.raw; scale = fits.scale }))
+    subst (λ (x : Opening). books.IsWellInstalled (installed x)) is (record { raw = fits.raw; scale = fits.scale }))
     (λ before. well facts o h.1 before)
 well (fact.Entry b ∷ facts) o h there = well facts o h.1 there
 well (fact.Hold b ∷ facts) o h there = well facts o h.1 there
