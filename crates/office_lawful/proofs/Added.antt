@@ -7,7 +7,6 @@ use Rattle.std.proofs.lemmas.Bool.Decides.{nat_tests}
 use Rattle.mb_wire.specs.declared.span.ReadSpan.{ReadSpan}
 use Rattle.energy_core.specs.Account.{moment_of}
 use Rattle.energy_core.specs.declared.entries.Last.{Last}
-use Rattle.poll_core.specs.Settling as session
 use Rattle.office_events.specs.declared.facts.Device.{Device}
 use Rattle.office_events.specs.declared.facts.DeviceList.{DeviceList}
 use Rattle.office_events.specs.declared.facts.Register.{Register}
@@ -24,7 +23,7 @@ use Rattle.office_events.specs.declared.commands.Command.TheVariants as command
 use Rattle.office_events.specs.declared.events.Asked.{Asked}
 use Rattle.office_rules.specs.Facts.{moment_in, latest_in}
 use Rattle.office_rules.specs.Meters.{open_at}
-use Rattle.office_rules.specs.Sessions.{Line, Send, line_of, sends_at, device_by}
+use Rattle.office_rules.specs.Sessions.{Line, line_of, sends_at, device_by}
 use Rattle.office_rules.specs.History.{Made, made_by, made_on, corrected_at, read_at, entries_by, openings_by, opening_by, installed_by, register_by, poll_by, polls_from, spans_by, added_by, reply_by, kind_of}
 
 -- each of these facts

@@ -1,9 +1,8 @@
 -- The facts after a device, a list, a register and a meter that are not refused are lawful.
-use Rattle.std.proofs.Common.{◌≡◌, ℕ, ◌≤◌, nat_lt, nat_le, true, false, ◌||◌, List, [], ◌∷◌, ◌++◌, reverse, refl, sym, ◌∙◌, Option, Some, None, arith}
+use Rattle.std.proofs.Common.{◌≡◌, ℕ, ◌≤◌, nat_lt, nat_le, true, false, ◌||◌, List, ◌++◌, reverse, refl, sym, ◌∙◌, Option, Some, None, arith}
 use Rattle.std.specs.Option.{is_some, is_none, option_map, option_and_then, option_to_list}
 use Rattle.std.proofs.lemmas.Bool.{or_parts, ltb-false}
 use Rattle.planned_list.specs.Lists.{Planned, IsPlanned}
-use Rattle.office_events.specs.declared.facts.Device.{Device}
 use Rattle.office_events.specs.declared.facts.Fact.{Fact}
 use Rattle.office_events.specs.declared.facts.Fact.TheVariants as fact
 use Rattle.office_events.specs.declared.commands.AddDevice.{AddDevice}

@@ -1,5 +1,5 @@
 -- The lines of the office are those of the devices in its facts.
-use Rattle.std.proofs.Common.{◌≡◌, ℕ, Bool, true, false, cond, List, [], ◌∷◌, ◌++◌, map, reverse, refl, sym, ap, ◌∙◌, Option, Some, None}
+use Rattle.std.proofs.Common.{◌≡◌, ℕ, true, false, List, [], ◌∷◌, ◌++◌, map, reverse, refl, sym, ap, ◌∙◌, Option, Some, None}
 use Rattle.std.specs.Option.{is_some, option_map, option_to_list}
 use Rattle.std.specs.List.{list_any}
 use Rattle.std.proofs.lemmas.List.{map-append, append-nil, reverse-append}
@@ -14,11 +14,11 @@ use Rattle.office_events.specs.declared.events.Event.{Event}
 use Rattle.office_events.specs.declared.events.Event.TheVariants as event
 use Rattle.office_rules.specs.Facts.{same, devices_in, device_of, pending_in, as_device}
 use Rattle.office_rules.specs.Sessions.{Line, line_of, line_after, device_by, new_line, lines_added, line_restarted, command_in}
-use Rattle.office_rules.specs.History.{History, Opened, Fed, next_poll, with_settled, facts_after, facts_of, lines_of, added_by, reply_by, spans_by}
+use Rattle.office_rules.specs.History.{History, Opened, Fed, next_poll, with_settled, facts_after, facts_of, lines_of, added_by, reply_by}
 use Rattle.office_laws.proofs.Lookups.{same_turned, is_some-find, list_any-map, list_any-agree}
 use Rattle.office_polls.proofs.ApartLines.{device-after}
 use Rattle.office_lawful.proofs.KeptFacts.{SkipsSettled, by_outcomes, settled_on_all, settled_is, as_lost, lost_is}
-use Rattle.office_lawful.proofs.Added.{Each, Allows, adds_device, command_each, unseen_added, unseen_reply, replied_is, any_time}
+use Rattle.office_lawful.proofs.Added.{Allows, adds_device, command_each, unseen_added, unseen_reply, replied_is, any_time}
 
 -- the devices of lines
 abbrev pub devices_on : List Line → List Device

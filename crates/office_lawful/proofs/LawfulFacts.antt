@@ -1,7 +1,7 @@
 -- The facts of accepted events are lawful.
-use Rattle.std.proofs.Common.{◌≡◌, ℕ, ◌+◌, ◌≤◌, nat_lt, true, false, ◌||◌, List, [], ◌∷◌, ◌++◌, map, reverse, length, refl, sym, ap, subst, ◌∙◌, Option, Some, None, arith}
+use Rattle.std.proofs.Common.{◌≡◌, ℕ, ◌+◌, ◌≤◌, nat_lt, false, List, [], ◌∷◌, ◌++◌, map, reverse, length, refl, sym, ap, subst, Option, Some, None, arith}
 use Rattle.std.specs.List.{flat_map}
-use Rattle.std.specs.Option.{is_none, option_and_then}
+use Rattle.std.specs.Option.{option_and_then}
 use Rattle.std.proofs.lemmas.Bool.{or_parts, ltb-false}
 use Rattle.office_events.specs.declared.facts.Poll.{Poll}
 use Rattle.office_events.specs.declared.facts.Fact.{Fact}
@@ -11,11 +11,11 @@ use Rattle.office_events.specs.declared.events.Asked.{Asked}
 use Rattle.office_events.specs.declared.events.Event.{Event}
 use Rattle.office_events.specs.declared.events.Event.TheVariants as event
 use Rattle.office_events.specs.declared.refusals.Refusal.TheVariants as refusal
-use Rattle.office_rules.specs.Facts.{moment_limit, poll_limit, latest_in, pending_in, list_of, polls_in}
+use Rattle.office_rules.specs.Facts.{moment_limit, poll_limit, latest_in, pending_in, polls_in}
 use Rattle.office_rules.specs.Meters.{open_at}
 use Rattle.office_rules.specs.Sessions.{Line, line_of, command_in}
 use Rattle.office_rules.specs.History.{History, Opened, Fed, next_poll, latest_of, read_at, corrected_at, sends_by, spans_by, added_by, reply_by, with_settled, with_lost, facts_of, lines_of}
-use Rattle.office_rules.specs.Refusals.{refusal_of, is_later, is_bad_meter, opening_refusal_of, asks_bad_field, IsAccepted, AreAccepted}
+use Rattle.office_rules.specs.Refusals.{refusal_of, is_later, opening_refusal_of, asks_bad_field, IsAccepted, AreAccepted}
 use Rattle.office_rules.specs.Headline.{pending_on, PollsEndOnce}
 use Rattle.office_rules.specs.Lawful.{AreLawful}
 use Rattle.office_laws.specs.Laws.{MetersAreKept}

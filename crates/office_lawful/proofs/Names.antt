@@ -1,5 +1,5 @@
 -- The names of lawful facts, and which meter is open at a register.
-use Rattle.std.proofs.Common.{◌≡◌, ℕ, true, false, cond, Bool, List, [], ◌∷◌, refl, sym, ap, subst, ◌∙◌, inl, inr, Option, Some, None}
+use Rattle.std.proofs.Common.{◌≡◌, ℕ, true, false, cond, Bool, List, [], ◌∷◌, sym, ap, subst, ◌∙◌, inl, inr, Option, Some, None}
 use Rattle.std.specs.Prelude.{All}
 use Rattle.std.specs.List.{cons_option}
 use Rattle.std.specs.Option.{option_map, option_and_then}
@@ -19,7 +19,7 @@ use Rattle.office_rules.specs.Facts.{same, devices_in, registers_in, openings_in
 use Rattle.office_rules.specs.Meters.{held_line, is_ended, installation_of, if_open, open_at, journal_of}
 use Rattle.office_rules.specs.Lawful.{AreLawful}
 use Rattle.office_lawful.specs.Laws.{NamesAreDistinct}
-use Rattle.office_laws.proofs.Lookups.{same_text, same_itself, find_none, AreApart, each_found, all_differ}
+use Rattle.office_laws.proofs.Lookups.{same_text, same_itself, AreApart, each_found, all_differ}
 use Rattle.office_laws.proofs.Openings.{openings_apart}
 
 devices_apart : (facts : List Fact) → AreLawful facts → AreApart (λ (d : Device). d.name) (devices_in facts)

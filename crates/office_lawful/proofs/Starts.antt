@@ -1,12 +1,11 @@
 -- The facts after polls that are not refused are lawful.
-use Rattle.std.proofs.Common.{◌≡◌, ℕ, ◌+◌, ◌≤◌, true, false, List, [], ◌∷◌, ◌++◌, reverse, length, refl, sym, ap, subst, ◌∙◌, Option, Some, None}
+use Rattle.std.proofs.Common.{◌≡◌, ℕ, ◌+◌, ◌≤◌, true, false, List, ◌++◌, reverse, length, refl, sym, ap, subst, ◌∙◌, Option, Some, None}
 use Rattle.std.specs.Option.{is_some}
 use Rattle.mb_wire.specs.declared.span.ReadSpan.{ReadSpan}
 use Rattle.poll_core.specs.Settling as session
-use Rattle.office_events.specs.declared.facts.Device.{Device}
 use Rattle.office_events.specs.declared.facts.Fact.{Fact}
 use Rattle.office_rules.specs.Facts.{moment_limit, poll_limit, is_named, device_of, polls_in}
-use Rattle.office_rules.specs.Sessions.{Line, line_of, sends_at}
+use Rattle.office_rules.specs.Sessions.{Line, line_of}
 use Rattle.office_rules.specs.History.{next_poll, polls_from, sends_from}
 use Rattle.office_rules.specs.Lawful.{AreLawful}
 use Rattle.office_laws.proofs.Lookups.{same_text, find_passes}

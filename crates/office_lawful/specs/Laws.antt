@@ -1,5 +1,5 @@
 -- What holds of the facts of an office, whatever it accepted.
-use Rattle.std.specs.Prelude.{◌≡◌, ◌≢◌, ℕ, false, List, [], ◌∷◌, Option, Some, None, All}
+use Rattle.std.specs.Prelude.{◌≡◌, ◌≢◌, false, List, [], ◌∷◌, Option, Some, All}
 use Rattle.std.specs.List.{AllPairs}
 use Rattle.energy_core.specs.TrueRun.{Item}
 use Rattle.meter_journal.specs.Truth.{ShowsTrueRun, IsKeptTruly}
