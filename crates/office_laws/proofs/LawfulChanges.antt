@@ -31,7 +31,7 @@ use Rattle.office_rules.specs.Lawful.{LineFits, AreLawful}
 use Rattle.office_laws.proofs.Lookups.{same_itself}
 
 -- none of the reasons applies
-not_refused : (past : History) (at : ℕ) (e : Event) → refusal_of past at e ≡ None → AllByRecursion (λ why. refuses past at e why ≡ false) reasons
+pub not_refused : (past : History) (at : ℕ) (e : Event) → refusal_of past at e ≡ None → AllByRecursion (λ why. refuses past at e why ≡ false) reasons
 not_refused past at e h = none_pass (refuses past at e) reasons h
 
 same_cause_itself : (c : Cause) → same_cause c c ≡ true

@@ -36,7 +36,7 @@ some_there true x y o e here later = here refl
 some_there false x y o e here later = later e
 
 -- a register where a meter was installed was added
-register_known : (facts : List Fact) (r : List ℕ) (o : Opening) → AreLawful facts → installed_at facts r ≡ Some o → is_some (register_of facts r) ≡ true
+pub register_known : (facts : List Fact) (r : List ℕ) (o : Opening) → AreLawful facts → installed_at facts r ≡ Some o → is_some (register_of facts r) ≡ true
 register_known [] r o h e = absurd (cc)
 register_known (fact.Device d ∷ facts) r o h e = register_known facts r o h.1 e
 register_known (fact.List l ∷ facts) r o h e = register_known facts r o h.1 e
@@ -53,15 +53,15 @@ register_known (fact.Poll p ∷ facts) r o h e = register_known facts r o h.1 e
 register_known (fact.Outcome x ∷ facts) r o h e = register_known facts r o h.1 e
 register_known (fact.Reply x ∷ facts) r o h e = register_known facts r o h.1 e
 
-inside : (low high n : ℕ) → is_outside low high n ≡ false → (low ≤ n) × (n ≤ high)
+pub inside : (low high n : ℕ) → is_outside low high n ≡ false → (low ≤ n) × (n ≤ high)
 inside low high n h =
     let parts = or_parts (nat_lt n low) (nat_lt high n) h in
     (ltb-false n low parts.0, ltb-false high n parts.1)
 
-lawful_scale : (sf : ℤ) → is_off_scale sf ≡ false → (negsuc 2 ≤ℤ sf) × (sf ≤ℤ pos 3)
+pub lawful_scale : (sf : ℤ) → is_off_scale sf ≡ false → (negsuc 2 ≤ℤ sf) × (sf ≤ℤ pos 3)
 lawful_scale sf h = (grind (arith, ints), grind (arith, ints))
 
-below : (a b : ℕ) → nat_le a b ≡ false → b < a
+pub below : (a b : ℕ) → nat_le a b ≡ false → b < a
 below a b h = grind (arith, nat_tests)
 
 record IsGood (facts : List Fact) (m : List ℕ) (range raw ceiling : ℕ) (sf : ℤ) : Type 0 where

@@ -1,7 +1,7 @@
-mod Lookups
-mod Lists
-mod Openings
-mod Journals
+pub mod Lookups
+pub mod Lists
+pub mod Openings
+pub mod Journals
 pub mod LawfulReadings
 pub mod LawfulChanges
 pub mod LawfulExchange

@@ -1,0 +1,14 @@
+mod Names
+mod Times
+mod Added
+mod KeptFacts
+mod DeviceLines
+mod SettledOnce
+mod Outcomes
+mod Taken
+mod Corrections
+mod Additions
+mod Starts
+mod Replies
+mod LawfulFacts
+mod Books
