@@ -1,8 +1,8 @@
 -- One more item in order: it lies within reach of the last beginning, or is the next beginning.
-use Rattle.std.proofs.Common.{◌≡◌, ◌≢◌, ◌∙◌, ℕ, ◌+◌, ◌-◌, ◌<◌, ◌≤◌, ◌⊎◌, List, [], ◌∷◌, ◌++◌, length, get_or, take, sym, refl, ap, arith, inl, inr, subst}
-use Rattle.std.specs.List.{All, AllPairs, Any, Contains}
+use Rattle.std.proofs.Common.{◌≡◌, ◌∙◌, ℕ, ◌+◌, ◌-◌, ◌<◌, ◌≤◌, ◌⊎◌, List, [], ◌∷◌, ◌++◌, length, get_or, take, sym, refl, ap, arith, inl, inr, subst}
+use Rattle.std.specs.List.{AllPairs, Any, Contains}
 use Rattle.std.proofs.lemmas.Bool.{cases_lt, cases_eq}
-use Rattle.std.proofs.lemmas.List.{get_or-take, get_or_default, get_or_push, length-take-le, length_push, take_more}
+use Rattle.std.proofs.lemmas.List.{get_or-take, get_or_default, length-take-le, take_more}
 use Rattle.std.proofs.lemmas.List.Elements.{All-push, All-weaker, Contains-append_left, Contains-push}
 use Rattle.std.proofs.lemmas.List.Quantifiers.{Any-push, all_pairs_push}
 use Rattle.point_list.specs.declared.point.RegisterTable.{RegisterTable}
@@ -11,7 +11,7 @@ use Rattle.read_plan.specs.declared.run.Run.{Run}
 use Rattle.read_plan.specs.Beginnings.{AreBeginnings, BeginsApart}
 use Rattle.point_list.specs.Points.{function_of}
 use Rattle.read_plan.specs.Plans.{ComesBefore, IsReadable, LiesWithinReach, SameArea}
-use Rattle.read_plan.proofs.PlanLemmas.{all-at, same_area-sym, same_area-trans}
+use Rattle.read_plan.proofs.PlanLemmas.{same_area-sym, same_area-trans}
 
 pub same-function : (a b : RegisterTable) → function_of a ≡ function_of b → a ≡ b
 same-function Holding Holding e = refl

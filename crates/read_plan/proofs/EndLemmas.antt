@@ -1,7 +1,7 @@
 -- A search among items by their ends finds the greatest end within reach.
-use Rattle.std.proofs.Common.{◌≡◌, ◌≢◌, ◌∙◌, ℕ, ◌+◌, ◌-◌, ◌<◌, ◌≤◌, ◌⊎◌, Bool, true, false, List, length, get_or, sym, refl, ap, arith, inl, inr, subst, eqb, ltb, leb, cond}
+use Rattle.std.proofs.Common.{◌≡◌, ◌∙◌, ℕ, ◌+◌, ◌-◌, ◌<◌, ◌≤◌, ◌⊎◌, true, false, List, length, get_or, sym, refl, ap, arith, inl, inr, subst, eqb, ltb, leb}
 use Rattle.std.specs.Prelude.{◌&&◌, ◌||◌}
-use Rattle.std.specs.List.{All, AllPairs, Any, Contains}
+use Rattle.std.specs.List.{AllPairs, Contains}
 use Rattle.std.specs.List.Sorted.{IsPartitionedBy, IsPartitionPoint}
 use Rattle.std.proofs.lemmas.Bool.{cases_lt, cases_eq, cases_Bool, false≢true}
 use Rattle.std.proofs.lemmas.Bool.Decides.{nat_tests}
@@ -11,7 +11,6 @@ use Rattle.read_plan.specs.Beginnings.{IsGreatestEnd, ends_by}
 use Rattle.point_list.specs.Points.{function_of}
 use Rattle.read_plan.specs.Plans.{EndsBefore, SameArea}
 use Rattle.read_plan.proofs.BeginningLemmas.{same-function}
-use Rattle.read_plan.proofs.PlanLemmas.{same_area-sym}
 
 test-true : (f g a b x y : ℕ) → f ≡ g → a ≡ b → x ≤ y → (ltb f g || eqb f g && (ltb a b || eqb a b && leb x y)) ≡ true
 test-true f g a b x y ef ea le = grind (arith, nat_tests)

@@ -1,5 +1,5 @@
 -- The items of a point list are readable, and lie in their areas.
-use Rattle.std.proofs.Common.{◌≡◌, ◌∙◌, ℕ, suc, [], ◌∷◌, ◌+◌, ◌<◌, ◌≤◌, Bool, true, List, length, map, max, min, get_or, sym, refl, ap, arith, inl, inr, subst, IsTrue, Some, None, IsSomeAnd}
+use Rattle.std.proofs.Common.{◌≡◌, ◌∙◌, ℕ, suc, [], ◌∷◌, ◌<◌, ◌≤◌, Bool, List, length, map, get_or, sym, refl, ap, arith, inl, inr, subst, Some, None, IsSomeAnd}
 use Rattle.std.specs.declared.option.Option.{Option}
 use Rattle.std.specs.List.{All, Any, Contains, find}
 use Rattle.std.proofs.lemmas.Bool.{cases_lt, cases_Bool}

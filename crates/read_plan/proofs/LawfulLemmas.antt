@@ -1,8 +1,8 @@
 -- The rule's reads are lawful where the items are readable and lie in their areas.
-use Rattle.std.proofs.Common.{◌≡◌, ◌∙◌, ℕ, ◌+◌, ◌<◌, ◌≤◌, List, length, get_or, take, sym, arith}
-use Rattle.std.specs.List.{All, Any, Contains}
+use Rattle.std.proofs.Common.{◌≤◌, List, get_or, arith}
+use Rattle.std.specs.List.{All, Any}
 use Rattle.read_plan.specs.declared.run.Run.{Run}
-use Rattle.read_plan.specs.Plans.{FollowsRule, IsHeld, IsInArea, IsLawful, IsReadable, LiesWithinReach, SameArea}
+use Rattle.read_plan.specs.Plans.{FollowsRule, IsInArea, IsLawful, IsReadable, LiesWithinReach, SameArea}
 use Rattle.read_plan.proofs.PlanLemmas.{all-at, same_area-sym, same_area-trans}
 
 any-weaker : (P Q : Run → Type 0) (xs : List Run) → ((x : Run) → P x → Q x) → Any P xs → Any Q xs

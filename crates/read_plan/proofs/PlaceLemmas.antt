@@ -1,6 +1,6 @@
 -- A search among reads by their ends finds the first read that holds an item.
-use Rattle.std.proofs.Common.{◌≡◌, ◌≢◌, ◌∙◌, ℕ, ◌+◌, ◌<◌, ◌≤◌, Bool, true, false, List, length, [], ◌∷◌, map, get_or, take, sym, refl, ap, arith, inl, inr, subst, not}
-use Rattle.std.specs.List.{All, Any, Contains}
+use Rattle.std.proofs.Common.{◌≡◌, ◌∙◌, ℕ, ◌<◌, ◌≤◌, Bool, true, false, List, length, [], ◌∷◌, get_or, sym, refl, ap, arith, inl, inr, subst, not}
+use Rattle.std.specs.List.{All}
 use Rattle.std.specs.List.Sorted.{IsPartitionedBy, IsPartitionPoint}
 use Rattle.std.proofs.lemmas.Bool.{cases_Bool, cases_eq, cases_lt}
 use Rattle.std.proofs.lemmas.List.{get_or-map, get_or-take, get_or_default, length-map, length-take-le}
@@ -11,7 +11,7 @@ use Rattle.read_plan.specs.Beginnings.{ends_by}
 use Rattle.read_plan.specs.PlannedReads.{IsFirstHolding, IsPlan, Planned, read_run, read_runs}
 use Rattle.read_plan.specs.Plans.{ComesBefore, EndsBefore, FollowsRule, Holds, IsHeld, IsReadable, LiesWithinReach, SameArea}
 use Rattle.read_plan.proofs.EndLemmas.{ends_by-false, ends_by-true}
-use Rattle.read_plan.proofs.PlanLemmas.{all-at, any-take, anything, first-before, same_area-sym, same_area-trans}
+use Rattle.read_plan.proofs.PlanLemmas.{all-at, any-take, anything, first-before, same_area-trans}
 
 holds-ends : (r x : Run) → Holds r x → ¬ EndsBefore r x
 holds-ends r x h (inl o) = let e = ap function_of h.same_area.table in omega (arith, e, o)

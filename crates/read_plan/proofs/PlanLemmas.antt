@@ -1,11 +1,11 @@
 -- The rule's plan has the fewest reads.
-use Rattle.std.proofs.Common.{◌≡◌, ◌≢◌, ◌∙◌, ℕ, ◌+◌, ◌-◌, ◌<◌, ◌≤◌, ◌⊎◌, List, length, get_or, take, sym, refl, ap, arith, inl, inr, subst}
-use Rattle.std.specs.List.{All, AllPairs, Any, Contains}
+use Rattle.std.proofs.Common.{◌≡◌, ◌∙◌, ℕ, ◌<◌, ◌≤◌, List, length, get_or, take, sym, ap, arith, inl, inr, subst}
+use Rattle.std.specs.List.{All, Any, Contains}
 use Rattle.std.proofs.lemmas.List.{get_or-take, get_or_default, length-take-le}
 use Rattle.point_list.specs.declared.point.RegisterTable.TheVariants.{Holding}
 use Rattle.read_plan.specs.declared.run.Run.{Run}
 use Rattle.point_list.specs.Points.{function_of}
-use Rattle.read_plan.specs.Plans.{BeginsAtFirstUnheld, ComesBefore, EndsAtLastInReach, FollowsRule, Holds, IsHeld, IsLawful, IsReadable, LiesWithinReach, SameArea}
+use Rattle.read_plan.specs.Plans.{ComesBefore, FollowsRule, Holds, IsHeld, IsLawful, IsReadable, LiesWithinReach, SameArea}
 use Rattle.read_plan.proofs.Pigeons.{pigeonhole}
 
 abbrev pub anything : Run

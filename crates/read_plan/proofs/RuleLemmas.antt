@@ -1,6 +1,6 @@
 -- Reads from the beginnings to the greatest ends within reach are the rule's.
-use Rattle.std.proofs.Common.{◌≡◌, ◌≢◌, ◌∙◌, ℕ, ◌+◌, ◌-◌, ◌<◌, ◌≤◌, ◌⊎◌, List, length, get_or, take, sym, refl, ap, arith, inl, inr, subst}
-use Rattle.std.specs.List.{All, AllPairs, AllZip, Any, Contains}
+use Rattle.std.proofs.Common.{◌≡◌, ◌∙◌, ℕ, ◌+◌, ◌<◌, ◌≤◌, List, length, get_or, take, sym, refl, ap, arith, inl, inr, subst}
+use Rattle.std.specs.List.{All, AllZip, Any, Contains}
 use Rattle.std.specs.List.Sorted.{IsPermutation}
 use Rattle.std.proofs.lemmas.Bool.{cases_lt}
 use Rattle.std.proofs.lemmas.List.{get_or-take, get_or_default, length-take-le}

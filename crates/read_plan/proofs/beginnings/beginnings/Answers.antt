@@ -1,7 +1,5 @@
-use Rattle.std.proofs.Common.{◌<◌, ◌≡◌, ◌∙◌, ℕ, length, get_or, sym, List}
+use Rattle.std.proofs.Common.{◌<◌, ◌≡◌, length, get_or}
 use Rattle.std.proofs.lemmas.List.{get_or_default}
-use Rattle.read_plan.specs.declared.run.Run.{Run}
-use Rattle.read_plan.specs.Beginnings.{AreBeginnings}
 use Rattle.read_plan.proofs.BeginningLemmas.{beginnings-push, beginnings-skip}
 use Rattle.read_plan.proofs.PlanLemmas.{anything}
 use Rattle.read_plan.proofs.beginnings.beginnings.Goals as goal

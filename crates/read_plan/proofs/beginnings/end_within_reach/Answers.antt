@@ -1,8 +1,7 @@
-use Rattle.std.proofs.Common.{◌≡◌, ◌+◌, ◌<◌, rules, refl, true, false}
-use Rattle.std.specs.List.Sorted.{IsPartitionPoint}
+use Rattle.std.proofs.Common.{◌+◌, rules, refl}
 use Rattle.std.proofs.lemmas.List.Sorted.{IsPartitionPoint-from_clause}
 use Rattle.read_plan.specs.declared.run.Run.{Run}
-use Rattle.read_plan.specs.Beginnings.{IsGreatestEnd, ends_by}
+use Rattle.read_plan.specs.Beginnings.{ends_by}
 use Rattle.read_plan.proofs.EndLemmas.{ends-partitioned, greatest-end}
 use Rattle.read_plan.proofs.PlanLemmas.{anything}
 use Rattle.read_plan.proofs.beginnings.end_within_reach.Goals as goal

@@ -1,10 +1,7 @@
-use Rattle.std.proofs.Common.{◌≡◌, ◌∙◌, ◌<◌, ◌≤◌, List, length, map, sym, subst, arith, ap}
-use Rattle.std.specs.List.{All}
+use Rattle.std.proofs.Common.{◌≡◌, ◌∙◌, length, arith, ap}
 use Rattle.std.proofs.lemmas.List.{length-map}
-use Rattle.read_plan.specs.declared.run.Run.{Run}
 use Rattle.read_plan.specs.Items.{item_of, items_of, runs_of}
 use Rattle.read_plan.specs.PlannedReads.{read_run, read_runs}
-use Rattle.read_plan.specs.Plans.{FollowsRule, IsInArea, IsLawful, IsReadable}
 use Rattle.read_plan.proofs.ItemLemmas.{items-begun, items-in-areas, items-inside, items-low, items-readable, starts-each}
 use Rattle.read_plan.proofs.LawfulLemmas.{reads-inside, rule-lawful}
 use Rattle.read_plan.proofs.PlanLemmas.{fewest}

@@ -1,4 +1,4 @@
-use Rattle.std.proofs.Common.{◌≡◌, ◌<◌, length, get_or, refl, sym, take, ap, ◌++◌, ◌∷◌, []}
+use Rattle.std.proofs.Common.{◌<◌, length, get_or, refl}
 use Rattle.std.proofs.lemmas.List.{get_or_default}
 use Rattle.std.proofs.lemmas.List.Elements.{all_zip_more}
 use Rattle.read_plan.specs.declared.run.Run.{Run}

@@ -1,8 +1,7 @@
-use Rattle.std.proofs.Common.{◌<◌, rules}
+use Rattle.std.proofs.Common.{◌<◌}
 use Rattle.std.proofs.lemmas.List.Sorted.{All-permutation}
 use Rattle.std.proofs.lemmas.Result.{IfOk-weaker}
 use Rattle.std.specs.List.{AllZip}
-use Rattle.read_plan.specs.declared.run.Run.{Run}
 use Rattle.read_plan.specs.Beginnings.{ReadsFrom}
 use Rattle.read_plan.specs.Plans.{FollowsRule, IsReadable}
 use Rattle.read_plan.proofs.RuleLemmas.{beginnings-among, beginnings-keep, rule-of-sorted}
