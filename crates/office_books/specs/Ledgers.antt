@@ -1,0 +1,52 @@
+-- What is promised of books, and how a call may change it.
+use Rattle.std.specs.Prelude.{◌≡◌, ℕ, List, [], ◌∷◌, ◌++◌, reverse, Result, IfOk, OnOk, OnErr, IsOk}
+use Rattle.interval_core.specs.declared.zone.Zone.{Zone}
+use Rattle.office_events.specs.declared.facts.Fact.{Fact}
+use Rattle.office_rules.specs.Lawful.{AreLawful}
+use Rattle.office_books.specs.declared.faults.BooksFault.{BooksFault}
+use Rattle.office_books.specs.Faults.{faults_after}
+
+-- What is known of books at a moment: which facts they hold, which lists of facts a stop just now may leave in their
+-- place, that no wrong answer of a store was taken as true, how often the store failed, and whose civil days are meant.
+pub record Ledger : Type 1 where
+  pub holds : List Fact → Type 0
+  pub may_leave : List (List Fact) → Type 0
+  pub is_clean : Type 0
+  pub fault_count : ℕ
+  pub zone : Zone
+
+-- A wrong answer that was taken as true stays one, failures are counted, and the zone stays.
+pub record GoesOn {T : Type 0} (old new : Ledger) (result : Result T BooksFault) : Type 0 where
+  pub clean : new.is_clean → old.is_clean
+  pub faults : new.fault_count ≡ faults_after result old.fault_count
+  pub zone : new.zone ≡ old.zone
+
+-- The books hold what they held, and a stop leaves no more than it left.
+pub record KeepsFacts (old new : Ledger) : Type 0 where
+  pub facts : (held : List Fact) → old.holds held → new.holds held
+  pub left : (left : List (List Fact)) → old.may_leave left → new.may_leave left
+
+-- A look-up changes nothing.
+pub record OnlyReads {T : Type 0} (old new : Ledger) (result : Result T BooksFault) : Type 0 where
+  pub goes : GoesOn old new result
+  pub keeps : KeepsFacts old new
+
+-- What is answered is what the facts say.
+abbrev pub Finds : {T : Type 0} → (old new : Ledger) → Result T BooksFault → (List Fact → T → Type 0) → Type 0
+Finds old new result says = (held : List Fact) → old.holds held → new.is_clean → IfOk result (says held)
+
+-- the facts after these, the latest first
+abbrev pub with_facts : (facts : List Fact) → (held : List Fact) → List Fact
+with_facts facts held = reverse facts ++ held
+
+-- Facts that may follow are booked at Ok, all of them, and nothing else can be left by a stop from then on. Where the
+-- books fail, none of them is held, and a stop may yet leave all of them. To book no facts changes nothing and succeeds.
+pub record Books (old new : Ledger) (facts : List Fact) (result : Result (Unit {0}) BooksFault) : Type 0 where
+  pub booked : (held : List Fact) → old.holds held → AreLawful (with_facts facts held) → OnOk result (new.holds (with_facts facts held))
+  pub settled : (held : List Fact) → old.holds held → AreLawful (with_facts facts held)
+      → OnOk result (new.may_leave (with_facts facts held ∷ []))
+  pub refused : (held : List Fact) → old.holds held → OnErr result (new.holds held)
+  pub under_way : (held : List Fact) (left : List (List Fact)) → old.holds held → AreLawful (with_facts facts held)
+      → old.may_leave left → OnErr result (new.may_leave (left ++ with_facts facts held ∷ []))
+  pub nothing : facts ≡ [] → IsOk result × KeepsFacts old new
+  pub goes : GoesOn old new result

@@ -1,0 +1,6 @@
+pub mod Ledgers
+pub mod Faults
+pub mod Sound
+pub mod Repeats
+pub mod Rows
+pub mod Same

@@ -1,0 +1,15 @@
+-- What a request is to the one that is kept under its caller and number.
+use Rattle.std.specs.Prelude.{ℕ, List, Option, if◌then◌else◌}
+use Rattle.std.specs.Option.{option_map}
+use Rattle.std.specs.Str.{bytes_eq}
+use Rattle.office_events.specs.declared.facts.Reply.{Reply}
+use Rattle.office_events.specs.declared.facts.Fact.{Fact}
+use Rattle.office_rules.specs.Facts.{reply_of}
+use Rattle.office_books.specs.declared.repeats.Repeat.{Repeat}
+use Rattle.office_books.specs.declared.repeats.Repeat.TheVariants.{Same, Other}
+
+abbrev pub as_repeat : (request : List ℕ) → Reply → Repeat
+as_repeat request reply = if bytes_eq reply.request request then Same reply.kind else Other
+
+abbrev pub repeat_of : List Fact → (caller : List ℕ) → (number : ℕ) → (request : List ℕ) → Option Repeat
+repeat_of facts caller number request = option_map (as_repeat request) (reply_of facts caller number)

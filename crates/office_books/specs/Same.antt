@@ -1,0 +1,19 @@
+-- When two lists of facts are the same books: each table has the same rows.
+use Rattle.std.specs.Prelude.{◌≡◌, ℕ, List}
+use Rattle.std.specs.List.Sorted.{IsPermutation}
+use Rattle.office_events.specs.declared.facts.Opening.{Opening}
+use Rattle.office_events.specs.declared.facts.Fact.{Fact}
+use Rattle.office_rules.specs.Facts.{devices_in, registers_in, openings_in, holds_in, voids_in, polls_in, ended_in, replies_in, list_of}
+use Rattle.office_rules.specs.Meters.{rows_of}
+
+pub record AreSame (facts others : List Fact) : Type 0 where
+  pub devices : devices_in facts ≡ devices_in others
+  pub lists : (device : List ℕ) → list_of facts device ≡ list_of others device
+  pub registers : registers_in facts ≡ registers_in others
+  pub openings : openings_in facts ≡ openings_in others
+  pub entries : (opening : Opening) → rows_of facts opening ≡ rows_of others opening
+  pub holds : IsPermutation (holds_in facts) (holds_in others)
+  pub voids : IsPermutation (voids_in facts) (voids_in others)
+  pub polls : polls_in facts ≡ polls_in others
+  pub outcomes : IsPermutation (ended_in facts) (ended_in others)
+  pub replies : IsPermutation (replies_in facts) (replies_in others)

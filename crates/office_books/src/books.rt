@@ -1,0 +1,151 @@
+//! Books: what holds the facts, however it is kept.
+use crate::faults::BooksFault;
+use crate::repeats::Repeat;
+use crate::sinks::RowSink;
+use interval_core::{Share, Zone};
+use office_events::{
+    Device, EntryPlace, Fact, Installation, Name, PlannedList, Poll, PollRow, Register,
+};
+
+/// Books hold lawful facts, the latest first. A look-up answers what the facts say, and changes none; `book` adds facts, all
+/// of them or none. What is said of an answer is said where `is_clean` holds after the call: where the store gave back what
+/// was written to it. Books in memory are always clean; of books that are not, nothing is promised but their failures' count.
+pub trait Books: Drop {
+    ghost use Rattle.std.specs.Prelude.{◌≡◌, ℕ, List, reverse, length};
+    ghost use Rattle.office_events.specs.declared.facts.Fact.{Fact};
+    ghost use Rattle.office_rules.specs.Facts.{devices_in, register_of, registers_of, list_of, openings_in, polls_in, pending_in, latest_in};
+    ghost use Rattle.office_rules.specs.Meters.{meter_of, installation_at, entry_at};
+    ghost use Rattle.office_rules.specs.Readings.{poll_row_of};
+    ghost use Rattle.office_rules.specs.Intervals.{rows_of_meter, rows_of_register};
+    ghost use Rattle.office_books.specs.Ledgers as ledgers;
+    ghost use Rattle.office_books.specs.Ledgers.{Ledger, Finds, OnlyReads};
+    ghost use Rattle.office_books.specs.Sound.{ReadsInstallation, ReadsPlace};
+    ghost use Rattle.office_books.specs.Repeats.{repeat_of};
+    ghost use Rattle.office_books.specs.Rows.{HandsOn};
+    ghost use Rattle.office_books.specs.Same.{AreSame};
+
+    /// What is known of them.
+    ghost ledger: { Self → Ledger };
+
+    /// How often the store failed. It stays at the greatest number.
+    fn faults(&self) -> u64
+        ensures { result ≡ (ledger self.now).fault_count };
+
+    /// The zone of the civil days.
+    fn zone(&self) -> Zone
+        ensures { result ≡ (ledger self.now).zone };
+
+    /// By this law what they hold are all tables: two lists of facts that they hold differ in no row.
+    fn tables_are_held(&self)
+        ensures { (held others : List Fact) → (ledger self.now).is_clean → (ledger self.now).holds held
+            → (ledger self.now).holds others → AreSame held others };
+
+    /// The devices, in the order in which they were added.
+    fn devices(&mut self) -> Result<Vec<Device>, BooksFault>
+        ensures found { Finds (ledger self.old) (ledger self.new) result
+            (λ held v. v.items ≡ reverse (devices_in held)) }
+        ensures reads { OnlyReads (ledger self.old) (ledger self.new) result };
+
+    /// The point list of a device, with the reads of its plan.
+    fn list(&mut self, device: &Name) -> Result<Option<PlannedList>, BooksFault>
+        ensures found { Finds (ledger self.old) (ledger self.new) result
+            (λ held list. list ≡ list_of held device.now) }
+        ensures reads { OnlyReads (ledger self.old) (ledger self.new) result };
+
+    /// The register of a name.
+    fn register(&mut self, name: &Name) -> Result<Option<Register>, BooksFault>
+        ensures found { Finds (ledger self.old) (ledger self.new) result
+            (λ held row. row ≡ register_of held name.now) }
+        ensures reads { OnlyReads (ledger self.old) (ledger self.new) result };
+
+    /// The registers of a device, in the order in which they were added.
+    fn registers(&mut self, device: &Name) -> Result<Vec<Register>, BooksFault>
+        ensures found { Finds (ledger self.old) (ledger self.new) result
+            (λ held v. v.items ≡ registers_of held device.now) }
+        ensures reads { OnlyReads (ledger self.old) (ledger self.new) result };
+
+    /// How many registers a device has.
+    fn register_count(&mut self, device: &Name) -> Result<usize, BooksFault>
+        ensures found { Finds (ledger self.old) (ledger self.new) result
+            (λ held n. n ≡ length (registers_of held device.now)) }
+        ensures reads { OnlyReads (ledger self.old) (ledger self.new) result };
+
+    /// The installation of a meter, as it stands.
+    fn meter(&mut self, name: &Name) -> Result<Option<Installation>, BooksFault>
+        ensures found { Finds (ledger self.old) (ledger self.new) result
+            (λ held row. row ≡ meter_of held name.now) }
+        ensures reads { ReadsInstallation (ledger self.old) (ledger self.new) result };
+
+    /// The latest installation at a register, as it stands.
+    fn installation(&mut self, register: &Name) -> Result<Option<Installation>, BooksFault>
+        ensures found { Finds (ledger self.old) (ledger self.new) result
+            (λ held row. row ≡ installation_at held register.now) }
+        ensures reads { ReadsInstallation (ledger self.old) (ledger self.new) result };
+
+    /// How many meters were installed.
+    fn installation_count(&mut self) -> Result<usize, BooksFault>
+        ensures found { Finds (ledger self.old) (ledger self.new) result
+            (λ held n. n ≡ length (openings_in held)) }
+        ensures reads { OnlyReads (ledger self.old) (ledger self.new) result };
+
+    /// The entry of a meter at a place from 2 on: where the meter stood before it, and the next that stands.
+    fn entry(&mut self, meter: &Name, place: u64) -> Result<Option<EntryPlace>, BooksFault>
+        ensures found { Finds (ledger self.old) (ledger self.new) result
+            (λ held row. row ≡ entry_at held meter.now place) }
+        ensures reads { ReadsPlace (ledger self.old) (ledger self.new) result };
+
+    /// The poll of a number, and how it ended.
+    fn poll(&mut self, number: u64) -> Result<Option<PollRow>, BooksFault>
+        ensures found { Finds (ledger self.old) (ledger self.new) result
+            (λ held row. row ≡ poll_row_of held number) }
+        ensures reads { OnlyReads (ledger self.old) (ledger self.new) result };
+
+    /// How many polls were started.
+    fn poll_count(&mut self) -> Result<u64, BooksFault>
+        ensures found { Finds (ledger self.old) (ledger self.new) result
+            (λ held n. n ≡ length (polls_in held)) }
+        ensures reads { OnlyReads (ledger self.old) (ledger self.new) result };
+
+    /// The polls that have no outcome, in the order in which they were started.
+    fn pending(&mut self) -> Result<Vec<Poll>, BooksFault>
+        ensures found { Finds (ledger self.old) (ledger self.new) result
+            (λ held v. v.items ≡ pending_in held) }
+        ensures reads { OnlyReads (ledger self.old) (ledger self.new) result };
+
+    /// The greatest moment that is recorded, in seconds since 1970-01-01 UTC.
+    fn latest(&mut self) -> Result<u64, BooksFault>
+        ensures found { Finds (ledger self.old) (ledger self.new) result
+            (λ held n. n ≡ latest_in held) }
+        ensures reads { OnlyReads (ledger self.old) (ledger self.new) result };
+
+    /// What a request is to the one that is kept under its caller and number, if one is.
+    fn repeat(
+        &mut self,
+        caller: &Name,
+        number: u64,
+        request: &[u8],
+    ) -> Result<Option<Repeat>, BooksFault>
+        ensures found { Finds (ledger self.old) (ledger self.new) result
+            (λ held kept. kept ≡ repeat_of held caller.now number request.now) }
+        ensures reads { OnlyReads (ledger self.old) (ledger self.new) result };
+
+    /// Hands on the energy of a meter by quarter hours, in order of their starts.
+    fn intervals<K: RowSink<Share>>(&mut self, meter: &Name, sink: &mut K) -> Result<(), BooksFault>
+        ensures rows { HandsOn (ledger self.old) (ledger self.new) (K.taken sink.old) (K.taken sink.new) result
+            (λ held. rows_of_meter held meter.now) }
+        ensures reads { OnlyReads (ledger self.old) (ledger self.new) result };
+
+    /// Hands on the energy of a register by quarter hours: meter after meter, in the order in which they were installed.
+    fn register_intervals<K: RowSink<Share>>(
+        &mut self,
+        register: &Name,
+        sink: &mut K,
+    ) -> Result<(), BooksFault>
+        ensures rows { HandsOn (ledger self.old) (ledger self.new) (K.taken sink.old) (K.taken sink.new) result
+            (λ held. rows_of_register held register.now) }
+        ensures reads { OnlyReads (ledger self.old) (ledger self.new) result };
+
+    /// Adds facts that may follow those that are held: all of them, or none.
+    fn book(&mut self, facts: Vec<Fact>) -> Result<(), BooksFault>
+        ensures books { ledgers.Books (ledger self.old) (ledger self.new) facts.items result };
+}

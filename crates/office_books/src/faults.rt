@@ -1,0 +1,69 @@
+//! Why books did not do what they were asked.
+use office_events::{Refusal, StoreCause};
+use std::alloc::{AllocError, AllocFailed};
+
+/// How a store failed.
+#[derive(Clone, Copy, Debug, PartialEq, Eq)]
+pub enum StoreFault {
+    /// It refused.
+    Refused,
+    /// It holds what cannot be.
+    Damaged,
+}
+
+/// Why books did not do what they were asked.
+#[derive(Clone, Copy, Debug, PartialEq, Eq)]
+pub enum BooksFault {
+    Store(StoreFault),
+    Memory,
+}
+
+impl From<AllocError> for BooksFault {
+    ghost use Rattle.std.specs.Prelude.{◌≡◌};
+    ghost use Rattle.office_books.specs.declared.faults.BooksFault.TheVariants.{Memory};
+
+    ghost from_gives = { λ _ e. e ≡ Memory };
+
+    fn from(_error: AllocError) -> Self {
+        BooksFault::Memory
+    }
+}
+
+impl<T: Drop> From<AllocFailed<T>> for BooksFault {
+    ghost use Rattle.std.specs.Prelude.{◌≡◌};
+    ghost use Rattle.office_books.specs.declared.faults.BooksFault.TheVariants.{Memory};
+
+    ghost from_gives = { λ _ e. e ≡ Memory };
+
+    fn from(_error: AllocFailed<T>) -> Self {
+        BooksFault::Memory
+    }
+}
+
+impl From<StoreFault> for StoreCause {
+    ghost use Rattle.std.specs.Prelude.{◌≡◌};
+    ghost use Rattle.office_books.specs.Faults.{as_cause};
+
+    ghost from_gives = { λ fault cause. cause ≡ as_cause fault };
+
+    fn from(fault: StoreFault) -> Self {
+        match fault {
+            StoreFault::Refused => StoreCause::Refused,
+            StoreFault::Damaged => StoreCause::Damaged,
+        }
+    }
+}
+
+impl From<BooksFault> for Refusal {
+    ghost use Rattle.std.specs.Prelude.{◌≡◌};
+    ghost use Rattle.office_books.specs.Faults.{as_refusal};
+
+    ghost from_gives = { λ fault refusal. refusal ≡ as_refusal fault };
+
+    fn from(fault: BooksFault) -> Self {
+        match fault {
+            BooksFault::Store(fault) => Refusal::Store(StoreCause::from(fault)),
+            BooksFault::Memory => Refusal::Memory,
+        }
+    }
+}
