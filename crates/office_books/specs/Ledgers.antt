@@ -1,5 +1,5 @@
 -- What is promised of books, and how a call may change it.
-use Rattle.std.specs.Prelude.{◌≡◌, ℕ, List, [], ◌∷◌, ◌++◌, reverse, Result, IfOk, OnOk, OnErr, IsOk}
+use Rattle.std.specs.Prelude.{◌≡◌, ◌⊎◌, ℕ, List, [], ◌∷◌, ◌++◌, reverse, Result, IfOk, OnOk, OnErr, IsOk}
 use Rattle.interval_core.specs.declared.zone.Zone.{Zone}
 use Rattle.office_events.specs.declared.facts.Fact.{Fact}
 use Rattle.office_rules.specs.Lawful.{AreLawful}
@@ -49,4 +49,16 @@ pub record Books (old new : Ledger) (facts : List Fact) (result : Result (Unit {
   pub under_way : (held : List Fact) (left : List (List Fact)) → old.holds held → AreLawful (with_facts facts held)
       → old.may_leave left → OnErr result (new.may_leave (left ++ with_facts facts held ∷ []))
   pub nothing : facts ≡ [] → IsOk result × KeepsFacts old new
+  pub goes : GoesOn old new result
+
+-- A call takes the books from these facts to later ones. At Ok they hold the later ones, and a stop leaves nothing else, or
+-- nothing was recorded and it leaves what it left. Where the call fails they hold what they held, and a stop may yet leave
+-- the later ones.
+pub record Moves {T : Type 0} (old new : Ledger) (held later : List Fact) (result : Result T BooksFault) : Type 0 where
+  pub holds : old.holds held → new.is_clean → OnOk result (new.holds later)
+  pub refused : old.holds held → OnErr result (new.holds held)
+  pub settled : (left : List (List Fact)) → old.holds held → new.is_clean → old.may_leave left
+      → OnOk result (new.may_leave (later ∷ []) ⊎ ((later ≡ held) × new.may_leave left))
+  pub under_way : (left : List (List Fact)) → old.holds held → new.is_clean → old.may_leave left
+      → OnErr result (new.may_leave left ⊎ new.may_leave (left ++ later ∷ []))
   pub goes : GoesOn old new result

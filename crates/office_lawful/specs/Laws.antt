@@ -29,6 +29,11 @@ ListsArePlanned [] = Unit {0}
 ListsArePlanned (Opened at ∷ past) = ListsArePlanned past
 ListsArePlanned (Fed at e ∷ past) = PutsPlanned (command_in e) × ListsArePlanned past
 
+-- what an office accepted: each of it after all before, and each list planned
+pub record IsPast (history : History) : Type 0 where
+  pub accepted : AreAccepted history
+  pub planned : ListsArePlanned history
+
 -- Whatever the office accepted, each fact may follow those before it.
 abbrev pub FactsAreLawful : Type 0
 FactsAreLawful = (history : History) → AreAccepted history → ListsArePlanned history → AreLawful (facts_of history)
