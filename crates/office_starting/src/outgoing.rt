@@ -1,0 +1,49 @@
+//! The bytes that an office wants sent.
+use std::marker::Model;
+
+/// At most 260 bytes: the frames of 16 reads are 192.
+#[derive(Drop)]
+pub struct Outgoing {
+    bytes: [u8; 260],
+    len: usize,
+}
+
+impl Model for Outgoing {
+    ghost use Rattle.std.specs.Prelude.{◌≡◌, ℕ, ◌≤◌, List, length, take};
+
+    ghost Value = { List ℕ };
+
+    ghost view = { λ o. take o.len o.bytes };
+
+    ghost invariant = { λ o. (o.len ≤ 260) × (length o.bytes ≡ 260) };
+}
+
+impl Outgoing {
+    ghost use Rattle.std.specs.Prelude.{◌≡◌, ◌≤◌, ◌+◌, ◌++◌, [], length, take};
+
+    /// No bytes.
+    pub fn none() -> Outgoing
+        ensures { result ≡ [] }
+    {
+        Outgoing {
+            bytes: [0; 260],
+            len: 0,
+        }
+    }
+
+    /// Adds bytes behind those that are there.
+    pub(crate) fn add(&mut self, frame: &[u8])
+        requires { length self.old + length frame.now ≤ 260 }
+        ensures { self.new ≡ self.old ++ frame.now }
+    {
+        let end = self.len + frame.len();
+        self.bytes[self.len..end].copy_from_slice(frame);
+        self.len = end;
+    }
+
+    pub fn as_slice(&self) -> &[u8]
+        ensures { result.now ≡ self.now }
+    {
+        &self.bytes[..self.len]
+    }
+}

@@ -1,0 +1,125 @@
+//! The reads of a list that the session of a device lets through, one after the other.
+ghost use Rattle.std.specs.Prelude.{◌≡◌, ◌≤◌, ◌++◌, ℕ, List, [], None, map, length, IfOk};
+ghost use Rattle.std.specs.List.{flat_map};
+ghost use Rattle.poll_core.specs.Settling as session;
+ghost use Rattle.poll_core.specs.Standing.{last_moment};
+ghost use Rattle.office_rules.specs.Sessions as sessions;
+ghost use Rattle.office_rules.specs.Sessions.{sends_on, start_by};
+ghost use Rattle.office_rules.specs.History.{poll_by};
+ghost use Rattle.office_rules.specs.Notes.{frame_of};
+ghost use Rattle.office_lines.specs.Keeping.{KeepsLine, KeepsSession};
+ghost use Rattle.office_starting.specs.Starts.{polls_of, frames_of, line_sent, IsBefore};
+
+use crate::outgoing::Outgoing;
+use mb_wire::ReadSpan;
+use office_events::{Device, Fact, Poll};
+use office_lines::Line;
+use poll_core::Session;
+use std::alloc::{AllocError, Global};
+
+/// How many of these reads the session lets through now.
+fn count_on(kept: &Session, device: &Device, spans: &[ReadSpan]) -> usize
+    ensures few { result ≤ 16 }
+    ensures inside { result ≤ length spans.now }
+    ensures count { (number at : ℕ) (events : List session.Event) → KeepsSession device.now kept.now events
+        → result ≡ length (sends_on number at device.now events spans.now) }
+{
+    kept.ready()
+        .count
+        .min(device.window.polls())
+        .min(spans.len())
+}
+
+/// The facts of the polls of these reads, as far as the session lets them through, in order.
+fn poll_facts(
+    alloc: Global,
+    kept: &Session,
+    device: &Device,
+    number: u64,
+    moment: u64,
+    spans: &[ReadSpan],
+) -> Result<Vec<Fact>, AllocError>
+    requires { number ≤ 4611686018427387905 }
+    ensures { (events : List session.Event) → KeepsSession device.now kept.now events
+        → IfOk result (λ facts. facts.items ≡ map (poll_by moment device.now) (sends_on number moment device.now events spans.now)) }
+{
+    let mut facts = Vec::new(alloc);
+    let mut id = kept.ready().id;
+    for i in 0..count_on(kept, device, spans) {
+        facts.push(Fact::Poll(Poll {
+            number: number + i as u64,
+            device: device.name,
+            unit: device.unit,
+            at: moment,
+            id,
+            span: spans[i],
+        }))?;
+        id = id.wrapping_add(1);
+    }
+    Ok(facts)
+}
+
+/// The facts of the polls of these reads, as far as the session of the device lets them through, in order. `number` is that
+/// of the first.
+pub fn polls_on(
+    alloc: Global,
+    line: &Line,
+    number: u64,
+    moment: u64,
+    spans: &[ReadSpan],
+) -> Result<Vec<Fact>, AllocError>
+    requires { number ≤ 4611686018427387905 }
+    ensures { (kept : sessions.Line) → KeepsLine line.now kept
+        → IfOk result (λ facts. facts.items ≡ polls_of number moment spans.now kept) }
+{
+    match &line.session {
+        None => Ok(Vec::new(alloc)),
+        Some(kept) => poll_facts(alloc, kept, &line.device, number, moment, spans),
+    }
+}
+
+/// Starts the polls of these reads on the session, as far as it lets them through, in order.
+fn start_each(
+    kept: &mut Session,
+    device: &Device,
+    number: u64,
+    moment: u64,
+    spans: &[ReadSpan],
+) -> Outgoing
+    requires number { number ≤ 4611686018427387905 }
+    requires limit { moment ≤ 4102444800 }
+    requires rests { kept.old.settling ≡ None }
+    ensures keeps { (events : List session.Event) → KeepsSession device.now kept.old events → last_moment events ≤ moment
+        → KeepsSession device.now kept.new (events ++ map (start_by moment device.now) (sends_on number moment device.now events spans.now)) }
+    ensures sent { (events : List session.Event) → KeepsSession device.now kept.old events → last_moment events ≤ moment
+        → result ≡ flat_map (frame_of device.now) (sends_on number moment device.now events spans.now) }
+    ensures rests { kept.new.settling ≡ None }
+{
+    let mut outgoing = Outgoing::none();
+    let mut bytes = [0; 260];
+    for i in 0..count_on(kept, device, spans) {
+        match kept.start(moment, number + i as u64, device.unit, spans[i], &mut bytes) {
+            Ok(len) => outgoing.add(&bytes[..len]),
+            Err(_) => return outgoing,
+        }
+    }
+    outgoing
+}
+
+/// Starts the polls of these reads on the session of the device, as far as it lets them through, in order, and answers the
+/// frames that it wants sent. `number` is that of the first.
+pub fn start_on(line: &mut Line, number: u64, moment: u64, spans: &[ReadSpan]) -> Outgoing
+    requires number { number ≤ 4611686018427387905 }
+    requires limit { moment ≤ 4102444800 }
+    ensures keeps { (kept : sessions.Line) → KeepsLine line.old kept → IsBefore moment kept
+        → KeepsLine line.new (line_sent number moment spans.now kept) }
+    ensures sent { (kept : sessions.Line) → KeepsLine line.old kept → IsBefore moment kept
+        → result ≡ frames_of number moment spans.now kept }
+{
+    let Some(mut kept) = line.session.take() else {
+        return Outgoing::none();
+    };
+    let outgoing = start_each(&mut kept, &line.device, number, moment, spans);
+    line.session = Some(kept);
+    outgoing
+}
