@@ -1,0 +1,101 @@
+-- How calls on books follow one another.
+use Rattle.std.proofs.Common.{◌≡◌, ℕ, List, [], ◌∷◌, inl, inr, refl, sym, ◌∙◌, Result, Ok, Err, ap}
+use Rattle.office_events.specs.declared.facts.Fact.{Fact}
+use Rattle.office_rules.specs.Lawful.{AreLawful}
+use Rattle.office_books.specs.declared.faults.BooksFault.{BooksFault}
+use Rattle.office_books.specs.declared.faults.BooksFault.TheVariants.{Store, Memory}
+use Rattle.office_books.specs.Faults.{faults_after}
+use Rattle.office_books.specs.Ledgers.{Ledger, GoesOn, KeepsFacts, OnlyReads, Books, Moves, with_facts}
+
+-- a failure goes on as one, whatever was to be answered
+pub goes_failed : {T S : Type 0} (old new : Ledger) (why : BooksFault) → GoesOn {T = T} old new (Err why) → GoesOn {T = S} old new (Err why)
+goes_failed old new (Store fault) goes = record { clean = goes.clean; faults = goes.faults; zone = goes.zone }
+goes_failed old new Memory goes = record { clean = goes.clean; faults = goes.faults; zone = goes.zone }
+
+pub goes_on_then : {T S : Type 0} (old between new : Ledger) (x : T) (result : Result S BooksFault)
+    → GoesOn old between (Ok x) → GoesOn between new result → GoesOn old new result
+goes_on_then old between new x (Ok y) first after = record {
+  clean = λ c. first.clean (after.clean c);
+  faults = after.faults ∙ first.faults;
+  zone = after.zone ∙ first.zone;
+}
+goes_on_then {S = S} old between new x (Err (Store fault)) first after = record {
+  clean = λ c. first.clean (after.clean c);
+  faults = after.faults ∙ ap (faults_after {T = S} (Err (Store fault))) first.faults;
+  zone = after.zone ∙ first.zone;
+}
+goes_on_then old between new x (Err Memory) first after = record {
+  clean = λ c. first.clean (after.clean c);
+  faults = after.faults ∙ first.faults;
+  zone = after.zone ∙ first.zone;
+}
+
+-- a look-up that fails moves nothing
+pub failed_reading : {T S : Type 0} (old new : Ledger) (held later : List Fact) (why : BooksFault) → OnlyReads {T = T} old new (Err why)
+    → Moves {T = S} old new held later (Err why)
+failed_reading old new held later why reads = record {
+  holds = λ h c. tt;
+  refused = λ h. reads.keeps.facts held h;
+  settled = λ left h c may. tt;
+  under_way = λ left h c may. inl (reads.keeps.left left may);
+  goes = goes_failed old new why reads.goes;
+}
+
+-- what moves after a look-up
+pub read_then : {T S : Type 0} (old between new : Ledger) (held later : List Fact) (x : T) (result : Result S BooksFault)
+    → OnlyReads old between (Ok x) → Moves between new held later result → Moves old new held later result
+read_then old between new held later x result reads moves = record {
+  holds = λ h c. moves.holds (reads.keeps.facts held h) c;
+  refused = λ h. moves.refused (reads.keeps.facts held h);
+  settled = λ left h c may. moves.settled left (reads.keeps.facts held h) c (reads.keeps.left left may);
+  under_way = λ left h c may. moves.under_way left (reads.keeps.facts held h) c (reads.keeps.left left may);
+  goes = goes_on_then old between new x result reads.goes moves.goes;
+}
+
+-- facts that are booked
+pub booked : (old new : Ledger) (held facts : List Fact) (result : Result (Unit {0}) BooksFault)
+    → ((held : List Fact) → old.holds held → AreLawful (with_facts facts held)) → Books old new facts result
+    → Moves old new held (with_facts facts held) result
+booked old new held facts (Ok done) lawful books = record {
+  holds = λ h c. books.booked held h (lawful held h);
+  refused = λ h. tt;
+  settled = λ left h c may. inl (books.settled held h (lawful held h));
+  under_way = λ left h c may. tt;
+  goes = books.goes;
+}
+booked old new held facts (Err why) lawful books = record {
+  holds = λ h c. tt;
+  refused = λ h. books.refused held h;
+  settled = λ left h c may. tt;
+  under_way = λ left h c may. inr (books.under_way held left h (lawful held h) may);
+  goes = books.goes;
+}
+
+-- what is answered in the end is another value
+pub answered : {T S : Type 0} (old new : Ledger) (held later : List Fact) (x : T) (y : S) → Moves old new held later (Ok x) → Moves old new held later (Ok y)
+answered old new held later x y moves = record {
+  holds = moves.holds;
+  refused = λ h. tt;
+  settled = moves.settled;
+  under_way = λ left h c may. tt;
+  goes = record { clean = moves.goes.clean; faults = moves.goes.faults; zone = moves.goes.zone };
+}
+
+pub failed : {T S : Type 0} (old new : Ledger) (held later : List Fact) (why : BooksFault) → Moves {T = T} old new held later (Err why) → Moves {T = S} old new held later (Err why)
+failed old new held later why moves = record {
+  holds = λ h c. tt;
+  refused = moves.refused;
+  settled = λ left h c may. tt;
+  under_way = moves.under_way;
+  goes = goes_failed old new why moves.goes;
+}
+
+-- want of memory before anything was asked
+pub unmoved : {S : Type 0} (ledger : Ledger) (held later : List Fact) → Moves {T = S} ledger ledger held later (Err Memory)
+unmoved ledger held later = record {
+  holds = λ h c. tt;
+  refused = λ h. h;
+  settled = λ left h c may. tt;
+  under_way = λ left h c may. inl may;
+  goes = record { clean = λ c. c; faults = refl; zone = refl };
+}
