@@ -1,0 +1,162 @@
+//! Meters that are installed, corrected and closed.
+ghost use Rattle.std.specs.Prelude.{◌≡◌, ◌≤◌, ◌++◌, [], ◌∷◌, false, List, None, Some, Option, IfOk};
+ghost use Rattle.std.specs.Option.{option_map, option_and_then, option_to_list};
+ghost use Rattle.office_events.specs.declared.facts.Fact.{Fact};
+ghost use Rattle.office_events.specs.declared.facts.Fact.TheVariants as fact;
+ghost use Rattle.office_events.specs.declared.commands.Command.TheVariants as command;
+ghost use Rattle.office_rules.specs.Meters.{open_at};
+ghost use Rattle.office_rules.specs.History as history;
+ghost use Rattle.office_rules.specs.Refusals.{asks_bad_field, asks_bad_scale};
+ghost use Rattle.office_lines.specs.Ranges.{FitsCounter};
+ghost use Rattle.office_books.specs.Ledgers.{Finds, OnlyReads};
+
+use energy_core::Entry;
+use office_books::{Books, BooksFault};
+use office_events::{
+    BookedEntry, Close, Command, EntryKind, Exchange, Fact, Install, Installation, Manual, Name,
+    Opening, Rescale, Reset, VoidEntry, VoidedEntry,
+};
+
+/// The opening that a command makes.
+pub fn opening_by(moment: u64, install: &Install) -> Option<Fact>
+    requires field { asks_bad_field moment (command.Install install.now) ≡ false }
+    requires scale { asks_bad_scale (command.Install install.now) ≡ false }
+    ensures { option_to_list result ≡ history.openings_by moment install.now }
+{
+    Some(Fact::Opening(Opening {
+        meter: install.meter?,
+        register: install.register?,
+        ceiling: install.ceiling,
+        range: install.range,
+        at: moment,
+        raw: install.raw as u32,
+        sf: install.sf as i16,
+    }))
+}
+
+/// What an exchange installs.
+pub fn installed_by(exchange: &Exchange) -> Install
+    ensures { result ≡ history.installed_by exchange.now }
+{
+    Install {
+        register: exchange.register,
+        meter: exchange.meter,
+        raw: exchange.raw,
+        sf: exchange.sf,
+        ceiling: exchange.ceiling,
+        range: exchange.range,
+    }
+}
+
+/// The entry that an exchange makes at the meter that it closes.
+pub fn closing_by(moment: u64, row: &Installation, exchange: &Exchange) -> Fact
+    requires field { asks_bad_field moment (command.Exchange exchange.now) ≡ false }
+    requires counter { FitsCounter (command.Exchange exchange.now) }
+    ensures { Some result ≡ history.made_on moment (command.Exchange exchange.now) row.now }
+{
+    Fact::Entry(BookedEntry {
+        meter: row.opening.meter,
+        kind: EntryKind::Closing,
+        entry: Entry::Step {
+            at: moment,
+            raw: exchange.last as u32,
+            rolls: exchange.rolls as u8,
+        },
+    })
+}
+
+/// The entry that a reset makes.
+pub fn reset_by(moment: u64, row: &Installation, reset: &Reset) -> Fact
+    requires counter { FitsCounter (command.Reset reset.now) }
+    ensures { Some result ≡ history.made_on moment (command.Reset reset.now) row.now }
+{
+    Fact::Entry(BookedEntry {
+        meter: row.opening.meter,
+        kind: EntryKind::Reset,
+        entry: Entry::Change {
+            at: moment,
+            before: reset.before as u32,
+            after: reset.after as u32,
+            sf: row.last.sf,
+        },
+    })
+}
+
+/// The entry that a change of the scale makes.
+pub fn rescale_by(moment: u64, row: &Installation, rescale: &Rescale) -> Fact
+    requires scale { asks_bad_scale (command.Rescale rescale.now) ≡ false }
+    requires counter { FitsCounter (command.Rescale rescale.now) }
+    ensures { Some result ≡ history.made_on moment (command.Rescale rescale.now) row.now }
+{
+    Fact::Entry(BookedEntry {
+        meter: row.opening.meter,
+        kind: EntryKind::Rescale,
+        entry: Entry::Change {
+            at: moment,
+            before: rescale.before as u32,
+            after: rescale.after as u32,
+            sf: rescale.sf as i16,
+        },
+    })
+}
+
+/// The entry of a number that someone read off.
+pub fn manual_by(moment: u64, row: &Installation, manual: &Manual) -> Fact
+    requires field { asks_bad_field moment (command.Manual manual.now) ≡ false }
+    requires counter { FitsCounter (command.Manual manual.now) }
+    ensures { Some result ≡ history.made_on moment (command.Manual manual.now) row.now }
+{
+    Fact::Entry(BookedEntry {
+        meter: row.opening.meter,
+        kind: EntryKind::Manual,
+        entry: Entry::Step {
+            at: manual.at.unwrap_or(moment),
+            raw: manual.raw as u32,
+            rolls: manual.rolls as u8,
+        },
+    })
+}
+
+/// The entry that a closing makes.
+pub fn close_by(moment: u64, row: &Installation, close: &Close) -> Fact
+    requires field { asks_bad_field moment (command.Close close.now) ≡ false }
+    requires counter { FitsCounter (command.Close close.now) }
+    ensures { Some result ≡ history.made_on moment (command.Close close.now) row.now }
+{
+    Fact::Entry(BookedEntry {
+        meter: row.opening.meter,
+        kind: EntryKind::Closing,
+        entry: Entry::Step {
+            at: moment,
+            raw: close.raw as u32,
+            rolls: close.rolls as u8,
+        },
+    })
+}
+
+/// That an entry stands no more.
+pub fn void_by(moment: u64, void: &VoidEntry) -> Option<Fact>
+    ensures { result ≡ option_map (λ meter. fact.Void (record { meter = meter; place = void.now.place; at = moment })) void.now.meter }
+{
+    Some(Fact::Void(VoidedEntry {
+        meter: void.meter?,
+        place: void.place,
+        at: moment,
+    }))
+}
+
+/// The meter that is open at a register.
+pub fn open_meter<B: Books>(
+    books: &mut B,
+    register: &Option<Name>,
+) -> Result<Option<Installation>, BooksFault>
+    ensures found { Finds (B.ledger books.old) (B.ledger books.new) result
+        (λ held row. row ≡ option_and_then (open_at held) register.now) }
+    ensures reads { OnlyReads (B.ledger books.old) (B.ledger books.new) result }
+{
+    let Some(register) = register else {
+        return Ok(None);
+    };
+    let row = books.installation(register)?;
+    Ok(row.filter(|row| !row.ended))
+}

@@ -1,0 +1,109 @@
+//! The reads that a command wants sent.
+ghost use Rattle.std.specs.Prelude.{◌≡◌, true, List, [], ◌∷◌, map, length, IfOk};
+ghost use Rattle.std.specs.Option.{option_and_then};
+ghost use Rattle.office_rules.specs.Facts.{list_of};
+ghost use Rattle.office_rules.specs.History.{spans_by, round_spans};
+ghost use Rattle.office_rules.specs.Refusals.{is_start, reads_in_all};
+ghost use Rattle.office_events.specs.declared.commands.Command.TheVariants as command;
+ghost use Rattle.office_books.specs.Ledgers.{Finds, OnlyReads};
+
+use mb_wire::ReadSpan;
+use office_books::{Books, BooksFault};
+use office_events::{Command, Name, PlannedList, StartRound};
+use read_plan::PlannedRead;
+use std::alloc::{AllocError, Global};
+
+/// The reads that are left, and how many there are in all.
+#[derive(Drop)]
+pub struct Reads {
+    pub spans: Vec<ReadSpan>,
+    pub of: u64,
+}
+
+/// The list of a device.
+fn list_of<B: Books>(
+    books: &mut B,
+    device: &Option<Name>,
+) -> Result<Option<PlannedList>, BooksFault>
+    ensures found { Finds (B.ledger books.old) (B.ledger books.new) result
+        (λ held list. list ≡ option_and_then (list_of held) device.now) }
+    ensures reads { OnlyReads (B.ledger books.old) (B.ledger books.new) result }
+{
+    match device {
+        None => Ok(None),
+        Some(device) => books.list(device),
+    }
+}
+
+/// The registers of these reads.
+fn spans_of(alloc: Global, reads: &[PlannedRead]) -> Result<Vec<ReadSpan>, AllocError>
+    ensures { IfOk result (λ spans. spans.items ≡ map (λ read. read.span) reads.now) }
+{
+    reads.iter().map(|read| read.span).collect(alloc)
+}
+
+/// The reads of a list from one on.
+fn reads_from(alloc: Global, list: &Option<PlannedList>, from: u64) -> Result<Reads, AllocError>
+    ensures spans { IfOk result (λ reads. reads.spans.items ≡ round_spans from list.now) }
+    ensures all { IfOk result (λ reads. reads.of ≡ length (round_spans 0 list.now)) }
+{
+    let Some(list) = list else {
+        return Ok(Reads {
+            spans: Vec::new(alloc),
+            of: 0,
+        });
+    };
+    let reads = list.reads();
+    let from = (from as usize).min(reads.len());
+    let spans = spans_of(alloc, &reads[from..])?;
+    Ok(Reads {
+        spans,
+        of: reads.len() as u64,
+    })
+}
+
+/// The reads of a round.
+fn reads_of_round<B: Books>(
+    alloc: Global,
+    books: &mut B,
+    round: &StartRound,
+) -> Result<Reads, BooksFault>
+    ensures spans { Finds (B.ledger books.old) (B.ledger books.new) result
+        (λ held reads. reads.spans.items ≡ spans_by held (command.StartRound round.now)) }
+    ensures all { Finds (B.ledger books.old) (B.ledger books.new) result
+        (λ held reads. reads.of ≡ reads_in_all held (command.StartRound round.now)) }
+    ensures reads { OnlyReads (B.ledger books.old) (B.ledger books.new) result }
+{
+    let list = list_of(books, &round.device)?;
+    Ok(reads_from(alloc, &list, round.from)?)
+}
+
+/// One read.
+fn only(alloc: Global, span: ReadSpan) -> Result<Reads, AllocError>
+    ensures spans { IfOk result (λ reads. reads.spans.items ≡ span ∷ []) }
+    ensures all { IfOk result (λ reads. reads.of ≡ 1) }
+{
+    let mut spans = Vec::new(alloc);
+    spans.push(span)?;
+    Ok(Reads { spans, of: 1 })
+}
+
+/// The reads that a command wants sent.
+pub fn reads_by<B: Books>(
+    alloc: Global,
+    books: &mut B,
+    command: &Command,
+) -> Result<Reads, BooksFault>
+    requires { is_start command.now ≡ true }
+    ensures spans { Finds (B.ledger books.old) (B.ledger books.new) result
+        (λ held reads. reads.spans.items ≡ spans_by held command.now) }
+    ensures all { Finds (B.ledger books.old) (B.ledger books.new) result
+        (λ held reads. reads.of ≡ reads_in_all held command.now) }
+    ensures reads { OnlyReads (B.ledger books.old) (B.ledger books.new) result }
+{
+    match command {
+        Command::StartPoll(start) => Ok(only(alloc, start.span)?),
+        Command::StartRound(round) => reads_of_round(alloc, books, round),
+        _ => unreachable!(),
+    }
+}
