@@ -1,5 +1,5 @@
 -- The reads that are left of a plan.
-use Rattle.std.proofs.Common.{◌≡◌, ◌≤◌, ◌-◌, ℕ, suc, zero, min, List, [], ◌∷◌, map, take, drop, length, refl, sym, ap, ◌∙◌, inl, inr, arith}
+use Rattle.std.proofs.Common.{◌≡◌, ◌-◌, ℕ, suc, zero, min, List, [], ◌∷◌, map, take, drop, length, refl, sym, ap, ◌∙◌, inl, inr, arith}
 use Rattle.std.proofs.lemmas.Bool.{cases_lt}
 use Rattle.std.proofs.lemmas.List.{drop_all, take_all, length-drop}
 

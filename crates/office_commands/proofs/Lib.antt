@@ -1,2 +1,4 @@
 pub mod Trying
 pub mod Dropping
+pub mod Carried
+pub mod Begun

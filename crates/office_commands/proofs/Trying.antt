@@ -1,9 +1,9 @@
 -- Facts that were looked up, and then booked.
-use Rattle.std.proofs.Common.{◌≡◌, List, [], ◌∷◌, ◌++◌, ◌⊎◌, inl, inr, sym, subst, ap, Result, Ok, Err}
+use Rattle.std.proofs.Common.{◌≡◌, List, [], ◌∷◌, ◌++◌, ◌⊎◌, inl, inr, sym, subst, Result, Ok, Err}
 use Rattle.office_events.specs.declared.facts.Fact.{Fact}
 use Rattle.office_rules.specs.Lawful.{AreLawful}
 use Rattle.office_books.specs.declared.faults.BooksFault.{BooksFault}
-use Rattle.office_books.specs.Ledgers.{Ledger, GoesOn, OnlyReads, Books, Moves, with_facts}
+use Rattle.office_books.specs.Ledgers.{Ledger, Books, Moves, with_facts}
 use Rattle.office_commands.specs.Carrying.{Tries}
 
 -- what the books were asked

@@ -10,13 +10,21 @@ use Rattle.office_events.specs.declared.facts.Fact.{Fact}
 use Rattle.office_rules.specs.Sessions as sessions
 use Rattle.office_rules.specs.Sessions.{starts_by, with_happenings, lines_added}
 use Rattle.office_rules.specs.History.{History, Fed, facts_of, lines_of, next_poll, added_by, reply_by, spans_by}
-use Rattle.office_rules.specs.Notes.{frames_by, outgoing_of}
+use Rattle.office_rules.specs.Notes as notes
+use Rattle.office_rules.specs.Notes.{outgoing_of}
+use Rattle.office_starting.specs.Starts as starts
 use Rattle.office_rules.specs.Refusals.{answer_to, answer_of}
 use Rattle.office_lines.specs.declared.lines.Line.{Line}
 use Rattle.office_lines.specs.Keeping.{KeepsLines}
 use Rattle.office_books.specs.declared.faults.BooksFault.{BooksFault}
 use Rattle.office_books.specs.Ledgers.{Ledger, GoesOn, Moves, with_facts}
 use Rattle.office_commands.specs.declared.results.Done.{Done}
+
+-- the event asks a command
+abbrev pub AsksCommand : Event → Type 0
+AsksCommand (event.Command c) = Unit {0}
+AsksCommand (event.Asked asked) = Unit {0}
+AsksCommand _ = ⊥
 
 -- what is kept of an event
 abbrev pub replies_by : (at : ℕ) → Event → List Fact
@@ -54,7 +62,7 @@ pub record Obeys (old new : Ledger) (after : List Line) (lines : List sessions.L
   pub books : Moves old new held (facts_obeyed at lines held c replies) result
   pub stands : old.holds held → new.is_clean → OnOk result (KeepsLines after (lines_obeyed (next_poll held) at (spans_by held c) c lines))
   pub answer : old.holds held → new.is_clean → IfOk result (λ done. done.answer ≡ answer_to lines held at c)
-  pub sent : old.holds held → new.is_clean → IfOk result (λ done. done.outgoing ≡ frames_by (next_poll held) at lines held (Some c))
+  pub sent : old.holds held → new.is_clean → IfOk result (λ done. done.outgoing ≡ notes.frames_by (next_poll held) at lines held (Some c))
 
 -- The same of an accepted event after what was accepted before it.
 pub record Carries (old new : Ledger) (after : List Line) (past : History) (at : ℕ) (e : Event) (result : Result Done BooksFault) : Type 0 where
@@ -64,3 +72,16 @@ pub record Carries (old new : Ledger) (after : List Line) (past : History) (at :
       → IfOk result (λ done. done.answer ≡ answer_of (lines_of past) (facts_of past) at e)
   pub sent : old.holds (facts_of past) → new.is_clean
       → IfOk result (λ done. done.outgoing ≡ outgoing_of (next_poll (facts_of past)) at e (lines_of past) (facts_of past))
+
+-- what a command wants started on a line: the reads, their polls and frames, and the line then
+abbrev pub sends_by : (at : ℕ) → sessions.Line → List Fact → Command → List sessions.Send
+sends_by at line held c = starts.sends_of (next_poll held) at (spans_by held c) line
+
+abbrev pub polls_by : (at : ℕ) → sessions.Line → List Fact → Command → List Fact
+polls_by at line held c = starts.polls_of (next_poll held) at (spans_by held c) line
+
+abbrev pub frames_by : (at : ℕ) → sessions.Line → List Fact → Command → List ℕ
+frames_by at line held c = starts.frames_of (next_poll held) at (spans_by held c) line
+
+abbrev pub line_by : (at : ℕ) → sessions.Line → List Fact → Command → sessions.Line
+line_by at line held c = starts.line_sent (next_poll held) at (spans_by held c) line

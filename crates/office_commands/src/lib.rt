@@ -2,16 +2,15 @@
 #![tactic(auto)]
 
 mod additions;
+mod carrying;
 mod meters;
 mod records;
 mod registers;
 mod replies;
 mod results;
 mod rounds;
+mod starting;
 
-pub use additions::facts_by;
+pub use carrying::carry_out;
 pub use office_starting::Outgoing;
-pub use records::record;
-pub use replies::reply_of;
 pub use results::Done;
-pub use rounds::{Reads, reads_by};

@@ -1,3 +1,4 @@
 pub mod Idle
 pub mod Keeping
+pub mod Moments
 pub mod Ranges

@@ -20,9 +20,10 @@ use Rattle.office_rules.specs.Sessions as sessions
 use Rattle.office_rules.specs.Sessions.{Send, is_startable, start_by, sends_on, sends_at, with_happenings}
 use Rattle.office_rules.specs.History.{poll_by}
 use Rattle.office_rules.specs.Notes.{frame_of}
+use Rattle.office_lines.specs.Moments.{none_later}
 use Rattle.office_lines.specs.Keeping.{KeepsSession, KeepsPresent, KeepsLine}
 use Rattle.office_lines.specs.declared.lines.Line.{Line}
-use Rattle.office_starting.specs.Starts.{none_later, IsBefore, sent_from, line_sent}
+use Rattle.office_starting.specs.Starts.{IsBefore, sent_from, line_sent}
 use Rattle.office_laws.proofs.Rounds.{round_count}
 
 -- how many reads a session lets through

@@ -1,9 +1,9 @@
 -- The reads that are started on the session of a device: what is recorded, what is sent, and where the session then stands.
-use Rattle.std.specs.Prelude.{ℕ, ◌≤◌, List, map, Option, Some, None}
+use Rattle.std.specs.Prelude.{ℕ, List, map, Option, Some, None}
 use Rattle.std.specs.List.{flat_map}
 use Rattle.mb_wire.specs.declared.span.ReadSpan.{ReadSpan}
 use Rattle.poll_core.specs.Settling as session
-use Rattle.poll_core.specs.Standing.{last_moment}
+use Rattle.office_lines.specs.Moments.{none_later}
 use Rattle.office_events.specs.declared.facts.Fact.{Fact}
 use Rattle.office_rules.specs.Sessions.{Line, Send, start_by, sends_at, with_happenings}
 use Rattle.office_rules.specs.History.{poll_by}
@@ -30,9 +30,5 @@ abbrev pub line_sent : (number at : ℕ) → List ReadSpan → Line → Line
 line_sent number at spans line = sent_from at line (sends_of number at spans line) line.present
 
 -- nothing on the session of the line is later than this moment
-abbrev pub none_later : ℕ → Option (List session.Event) → Type 0
-none_later at None = Unit {0}
-none_later at (Some events) = last_moment events ≤ at
-
 abbrev pub IsBefore : ℕ → Line → Type 0
 IsBefore at line = none_later at line.present

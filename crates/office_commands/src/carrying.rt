@@ -1,0 +1,204 @@
+//! Commands that are accepted, carried out.
+ghost use Rattle.std.specs.Prelude.{◌≡◌, ◌≤◌, ◌+◌, ◌++◌, [], true, false, List, Some, OnOk, OnErr, vec_len, vec_capacity};
+ghost use Rattle.std.specs.Option.{option_to_list};
+ghost use Rattle.office_events.specs.declared.commands.Command.TheVariants as commands;
+ghost use Rattle.office_events.specs.declared.events.Event.{Event};
+ghost use Rattle.office_rules.specs.Sessions as sessions;
+ghost use Rattle.office_rules.specs.Sessions.{command_in, started_on, new_line, lines_added};
+ghost use Rattle.office_rules.specs.History.{History, lines_of};
+ghost use Rattle.office_rules.specs.Refusals.{IsAccepted, is_start};
+ghost use Rattle.office_lines.specs.Keeping.{KeepsLines};
+ghost use Rattle.office_lines.specs.Ranges.{IsCommandInRange, AsksInRange};
+ghost use Rattle.office_lawful.specs.Laws.{IsPast, PutsPlanned};
+ghost use Rattle.office_commands.specs.Carrying.{AsksCommand, Carries, replies_by};
+
+use crate::records::record;
+use crate::registers::device_by;
+use crate::replies::reply_of;
+use crate::results::Done;
+use crate::starting::start;
+use office_books::{Books, BooksFault};
+use office_events::{AddDevice, Command, Device, Event, Fact, Name};
+use office_lawful::facts_are_lawful;
+use office_lines::{Line, place_of};
+use poll_core::{each_once, one_event_more};
+use std::alloc::Global;
+
+/// That a list that a command puts is planned.
+fn puts_planned(command: &Command)
+    ensures { PutsPlanned (Some command.now) }
+{
+    match command {
+        Command::PutList(put) => {
+            let _planned = put.list.points();
+        }
+        Command::AddDevice(_) => {}
+        Command::AddRegister(_) => {}
+        Command::Install(_) => {}
+        Command::Exchange(_) => {}
+        Command::Reset(_) => {}
+        Command::Rescale(_) => {}
+        Command::Manual(_) => {}
+        Command::Close(_) => {}
+        Command::Void(_) => {}
+        Command::StartPoll(_) => {}
+        Command::StartRound(_) => {}
+    }
+}
+
+/// The line of a device that was added, for which there is room; none where that failed.
+fn add_line(lines: &mut Vec<Line>, device: Option<Device>, done: &Result<Done, BooksFault>)
+    requires room { vec_len lines.old + 1 ≤ vec_capacity lines.old }
+    ensures added { (kept : List sessions.Line) → KeepsLines lines.old.items kept
+        → OnOk done.now (KeepsLines lines.new.items (kept ++ new_line device)) }
+    ensures unchanged { OnErr done.now (lines.new.items ≡ lines.old.items) }
+{
+    if done.is_err() {
+        return;
+    }
+    if let Some(device) = device {
+        lines.push_reserved(Line {
+            device,
+            session: None,
+        });
+    }
+}
+
+/// Adds a device: room for its line is made before it is booked.
+fn add_device<B: Books>(
+    alloc: Global,
+    lines: &mut Vec<Line>,
+    books: &mut B,
+    moment: u64,
+    add: &AddDevice,
+    command: &Command,
+    reply: Option<Fact>,
+) -> Result<Done, BooksFault>
+    requires range { IsCommandInRange moment command.now }
+    requires adds { command.now ≡ commands.AddDevice add.now }
+    ensures carried { (past : History) (e : Event) → IsPast past → KeepsLines lines.old.items (lines_of past) → IsAccepted past moment e
+        → command_in e ≡ Some command.now → replies_by moment e ≡ option_to_list reply
+        → Carries (B.ledger books.old) (B.ledger books.new) lines.new.items past moment e result }
+    ensures unchanged { OnErr result (lines.new.items ≡ lines.old.items) }
+{
+    facts_are_lawful();
+    puts_planned(command);
+    let device = device_by(add);
+    lines.reserve(1)?;
+    let done = record(alloc, books, moment, command, reply);
+    add_line(lines, device, &done);
+    done
+}
+
+/// Carries out a command that changes no line.
+fn note<B: Books>(
+    alloc: Global,
+    lines: &[Line],
+    books: &mut B,
+    moment: u64,
+    command: &Command,
+    reply: Option<Fact>,
+) -> Result<Done, BooksFault>
+    requires range { IsCommandInRange moment command.now }
+    requires no_start { is_start command.now ≡ false }
+    requires no_line { lines_added (Some command.now) ≡ [] }
+    ensures carried { (past : History) (e : Event) → IsPast past → KeepsLines lines.now (lines_of past) → IsAccepted past moment e
+        → command_in e ≡ Some command.now → replies_by moment e ≡ option_to_list reply
+        → Carries (B.ledger books.old) (B.ledger books.new) lines.now past moment e result }
+{
+    facts_are_lawful();
+    puts_planned(command);
+    record(alloc, books, moment, command, reply)
+}
+
+/// Starts the polls that a command wants started on the session of its device.
+fn start_at<B: Books>(
+    alloc: Global,
+    lines: &mut [Line],
+    books: &mut B,
+    moment: u64,
+    command: &Command,
+    device: &Option<Name>,
+    reply: Option<Fact>,
+) -> Result<Done, BooksFault>
+    requires start { is_start command.now ≡ true }
+    requires device { device.now ≡ started_on command.now }
+    requires limit { moment ≤ 4102444800 }
+    ensures carried { (past : History) (e : Event) → IsPast past → KeepsLines lines.old (lines_of past) → IsAccepted past moment e
+        → command_in e ≡ Some command.now → replies_by moment e ≡ option_to_list reply
+        → Carries (B.ledger books.old) (B.ledger books.new) lines.new past moment e result }
+    ensures unchanged { OnErr result (lines.new ≡ lines.old) }
+{
+    facts_are_lawful();
+    each_once();
+    one_event_more();
+    puts_planned(command);
+    let Some(place) = place_of(lines, device) else {
+        // The device of an accepted start is there.
+        return Err(BooksFault::Memory);
+    };
+    start(alloc, &mut lines[place], books, moment, command, reply)
+}
+
+/// Carries out a command that is accepted.
+fn obey<B: Books>(
+    alloc: Global,
+    lines: &mut Vec<Line>,
+    books: &mut B,
+    moment: u64,
+    command: &Command,
+    reply: Option<Fact>,
+) -> Result<Done, BooksFault>
+    requires range { IsCommandInRange moment command.now }
+    requires limit { moment ≤ 4102444800 }
+    ensures carried { (past : History) (e : Event) → IsPast past → KeepsLines lines.old.items (lines_of past) → IsAccepted past moment e
+        → command_in e ≡ Some command.now → replies_by moment e ≡ option_to_list reply
+        → Carries (B.ledger books.old) (B.ledger books.new) lines.new.items past moment e result }
+    ensures unchanged { OnErr result (lines.new.items ≡ lines.old.items) }
+{
+    match command {
+        Command::AddDevice(add) => add_device(alloc, lines, books, moment, add, command, reply),
+        Command::PutList(_) => note(alloc, lines, books, moment, command, reply),
+        Command::AddRegister(_) => note(alloc, lines, books, moment, command, reply),
+        Command::Install(_) => note(alloc, lines, books, moment, command, reply),
+        Command::Exchange(_) => note(alloc, lines, books, moment, command, reply),
+        Command::Reset(_) => note(alloc, lines, books, moment, command, reply),
+        Command::Rescale(_) => note(alloc, lines, books, moment, command, reply),
+        Command::Manual(_) => note(alloc, lines, books, moment, command, reply),
+        Command::Close(_) => note(alloc, lines, books, moment, command, reply),
+        Command::Void(_) => note(alloc, lines, books, moment, command, reply),
+        Command::StartPoll(start) => {
+            start_at(alloc, lines, books, moment, command, &start.device, reply)
+        }
+        Command::StartRound(round) => {
+            start_at(alloc, lines, books, moment, command, &round.device, reply)
+        }
+    }
+}
+
+/// Carries out an event that is accepted and asks a command: what it adds is booked, all at once, with what is kept of the
+/// request; its polls are started, and the line of a device that it adds is made. Where that fails, nothing has changed.
+pub fn carry_out<B: Books>(
+    alloc: Global,
+    lines: &mut Vec<Line>,
+    books: &mut B,
+    moment: u64,
+    event: &Event,
+) -> Result<Done, BooksFault>
+    requires asks { AsksCommand event.now }
+    requires range { AsksInRange moment (command_in event.now) }
+    requires limit { moment ≤ 4102444800 }
+    ensures carried { (past : History) → IsPast past → KeepsLines lines.old.items (lines_of past) → IsAccepted past moment event.now
+        → Carries (B.ledger books.old) (B.ledger books.new) lines.new.items past moment event.now result }
+    ensures unchanged { OnErr result (lines.new.items ≡ lines.old.items) }
+{
+    let reply = reply_of(moment, event)?;
+    match event {
+        Event::Command(command) => obey(alloc, lines, books, moment, command, reply),
+        Event::Asked(asked) => obey(alloc, lines, books, moment, &asked.command, reply),
+        Event::Connected(_) => unreachable!(),
+        Event::Bytes(_, _) => unreachable!(),
+        Event::Tick => unreachable!(),
+        Event::Gone(_, _) => unreachable!(),
+    }
+}
