@@ -1,0 +1,17 @@
+//! Laws of what one more line changes in the books of a meter. Each function's clause is the law; its body calls the law
+//! below that it stands on, or is empty.
+ghost use Rattle.meter_journal.specs.Changes.{RowsLieWithin, VoidsGoNoFurther};
+
+use interval_core::shares_add_up;
+
+/// Each interval row begins before the counter's last moment, and its quarter hour ends behind the opening.
+pub fn rows_lie_within()
+    ensures { RowsLieWithin }
+{
+    shares_add_up();
+}
+
+/// After a void the counter stands at no later moment than before.
+pub fn voids_go_no_further()
+    ensures { VoidsGoNoFurther }
+{}
