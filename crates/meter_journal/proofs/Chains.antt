@@ -12,7 +12,6 @@ use Rattle.interval_core.specs.Account.{SharesAddUp}
 use Rattle.meter_journal.specs.declared.lines.Installed.{Installed}
 use Rattle.meter_journal.specs.declared.lines.EntryRow.{EntryRow}
 use Rattle.meter_journal.specs.Books.{last_after, steps_after, steps_in, interval_rows}
-use Rattle.meter_journal.specs.Intervals.{rows_of_steps}
 use Rattle.meter_journal.specs.Journal.{Around, entries_in, entries_of, rows_of, with_void}
 use Rattle.meter_journal.specs.Changes.{LiesWithin, RowsLieWithin, VoidsGoNoFurther}
 use Rattle.meter_journal.proofs.Keeping.{Leaves, voids_leave, rows_are_sound, journals_are_kept}
@@ -66,11 +65,11 @@ lies_touched meter (e ∷ es) s h lies =
     elim (cases_lt (last_after meter es).at (s + 900)) [
       | inl lt ↦ inl (lies.whole, omega (arith, lies.before, now), lt)
       | inr ge ↦ inr (lies_touched meter es s h.1 (record {
-          whole = lies.whole;
-          behind = lies.behind;
-          before = omega (arith, ge);
-          gone_on = omega (arith, lies.behind, ge);
-        }))
+        whole = lies.whole;
+        behind = lies.behind;
+        before = omega (arith, ge);
+        gone_on = omega (arith, lies.behind, ge);
+      }))
     ]
 
 all_lie : (opened last : ℕ) (rows : List Share) → ((s : ℕ) → Among s rows → Lies opened last s) → All (LiesWithin opened last) rows
@@ -78,7 +77,7 @@ all_lie opened last [] h = All-nil (LiesWithin opened last)
 all_lie opened last (row ∷ rows) h =
     let here = h row.start (inl (omega arith)) in
     All-cons (LiesWithin opened last) row rows
-    (record { quarter = here.whole; behind = here.behind; before = here.before })
+    (record { quarter = here.whole; behind = here.behind; before = here.before; gone_on = here.gone_on })
     (all_lie opened last rows (λ s there. h s (inr there)))
 
 pub rows_lie_within : SharesAddUp → RowsLieWithin

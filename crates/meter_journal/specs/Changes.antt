@@ -6,11 +6,13 @@ use Rattle.meter_journal.specs.Books.{IsWellInstalled, last_in, interval_rows}
 use Rattle.meter_journal.specs.Journal.{Voided, Journal}
 use Rattle.meter_journal.specs.Fitting.{AreFitting}
 
--- the row is that of a quarter hour that begins before the counter's last moment and ends behind its opening
+-- the row is that of a quarter hour that begins before the counter's last moment and ends behind its opening; so the
+-- counter has gone on since then
 pub record LiesWithin (opened last : ℕ) (row : Share) : Type 0 where
   pub quarter : row.start % 900 ≡ 0
   pub behind : opened < row.start + 900
   pub before : row.start < last
+  pub gone_on : opened < last
 
 -- The interval rows of a journal lie between its opening and where its counter stands.
 abbrev pub RowsLieWithin : Type 0

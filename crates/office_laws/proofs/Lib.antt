@@ -7,3 +7,5 @@ pub mod LawfulChanges
 pub mod LawfulExchange
 pub mod Rounds
 pub mod Bounds
+pub mod InTurn
+pub mod RegisterRows

@@ -2,7 +2,9 @@
 #![tactic(auto)]
 
 mod laws;
+mod registers;
 
 pub use laws::{
     facts_are_bounded, journals_fit, meters_are_kept, truth_is_recorded, voids_leave_no_trace,
 };
+pub use registers::registers_are_in_turn;
