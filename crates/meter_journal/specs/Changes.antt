@@ -1,9 +1,17 @@
 -- What one more line changes in the books of a meter.
-use Rattle.std.specs.Prelude.{◌≡◌, ℕ, ◌+◌, ◌%◌, ◌<◌, ◌≤◌, ◌∷◌, All}
+use Rattle.std.specs.Prelude.{◌≡◌, ℕ, ◌+◌, ◌%◌, ◌<◌, ◌≤◌, ◌∷◌, All, Ok}
+use Rattle.energy_core.specs.declared.entries.Entry.{Entry}
+use Rattle.energy_core.specs.declared.entries.Step.{Step}
+use Rattle.energy_core.specs.Account.{after, energy_of, step_to}
+use Rattle.energy_core.specs.Entering.{entered}
 use Rattle.interval_core.specs.declared.shares.Share.{Share}
+use Rattle.interval_core.specs.Share.{shares_of}
 use Rattle.meter_journal.specs.declared.lines.Installed.{Installed}
-use Rattle.meter_journal.specs.Books.{IsWellInstalled, last_in, interval_rows}
-use Rattle.meter_journal.specs.Journal.{Voided, Journal}
+use Rattle.meter_journal.specs.declared.lines.EntryKind.{EntryKind}
+use Rattle.meter_journal.specs.Books.{IsWellInstalled, last_in, total_in, interval_rows}
+use Rattle.meter_journal.specs.Intervals.{with_shares, with_each}
+use Rattle.meter_journal.specs.Journal.{Entered, Voided, Journal}
+use Rattle.meter_journal.specs.Lists.{MayGoOn}
 use Rattle.meter_journal.specs.Fitting.{AreFitting}
 
 -- the row is that of a quarter hour that begins before the counter's last moment and ends behind its opening; so the
@@ -23,3 +31,25 @@ RowsLieWithin = (meter : Installed) (lines : Journal) → IsWellInstalled meter 
 abbrev pub VoidsGoNoFurther : Type 0
 VoidsGoNoFurther = (meter : Installed) (lines : Journal) (place : ℕ) → IsWellInstalled meter → AreFitting meter (Voided place ∷ lines)
     → (last_in meter (Voided place ∷ lines)).at ≤ (last_in meter lines).at
+
+-- the step from where the counter stands to one more entry
+abbrev pub step_on : Installed → Journal → Entry → Step
+step_on meter lines e = step_to meter.range (last_in meter lines) e
+
+-- One more entry is booked where the counter stands. The counter then stands where the entry says, the energy grows by that
+-- of the step, and the interval rows by its shares: they are joined to the last row, or added each to the row of its interval.
+pub record GoesOn (meter : Installed) (lines : Journal) (k : EntryKind) (e : Entry) : Type 0 where
+  pub may : MayGoOn meter (last_in meter lines) (total_in meter lines) e
+  pub booked : entered meter.range (total_in meter lines) (last_in meter lines) e
+      ≡ Ok (last_in meter (Entered k e ∷ lines), step_on meter lines e)
+  pub last : last_in meter (Entered k e ∷ lines) ≡ after (last_in meter lines) e
+  pub total : total_in meter (Entered k e ∷ lines)
+      ≡ total_in meter lines + energy_of meter.range (last_in meter lines) e
+  pub joined : interval_rows meter (Entered k e ∷ lines)
+      ≡ with_shares (interval_rows meter lines) (shares_of (step_on meter lines e))
+  pub added : interval_rows meter (Entered k e ∷ lines)
+      ≡ with_each (shares_of (step_on meter lines e)) (interval_rows meter lines)
+
+abbrev pub EntriesGoOn : Type 0
+EntriesGoOn = (meter : Installed) (lines : Journal) (k : EntryKind) (e : Entry) → IsWellInstalled meter
+    → AreFitting meter (Entered k e ∷ lines) → GoesOn meter lines k e

@@ -9,3 +9,4 @@ pub mod Rounds
 pub mod Bounds
 pub mod InTurn
 pub mod RegisterRows
+pub mod Stepping
