@@ -1,15 +1,16 @@
 -- What one more line changes in the books of a meter.
-use Rattle.std.specs.Prelude.{◌≡◌, ℕ, ◌+◌, ◌%◌, ◌<◌, ◌≤◌, ◌∷◌, All, Ok}
+use Rattle.std.specs.Prelude.{◌≡◌, ℕ, ◌+◌, ◌%◌, ◌<◌, ◌≤◌, List, ◌∷◌, All, Ok}
 use Rattle.energy_core.specs.declared.entries.Entry.{Entry}
 use Rattle.energy_core.specs.declared.entries.Step.{Step}
 use Rattle.energy_core.specs.Account.{after, energy_of, step_to}
 use Rattle.energy_core.specs.Entering.{entered}
 use Rattle.interval_core.specs.declared.shares.Share.{Share}
 use Rattle.interval_core.specs.Share.{shares_of}
+use Rattle.interval_core.specs.Account.{energy_of as energy_in_rows}
 use Rattle.meter_journal.specs.declared.lines.Installed.{Installed}
 use Rattle.meter_journal.specs.declared.lines.EntryKind.{EntryKind}
 use Rattle.meter_journal.specs.Books.{IsWellInstalled, last_in, total_in, interval_rows}
-use Rattle.meter_journal.specs.Intervals.{with_shares, with_each}
+use Rattle.meter_journal.specs.Intervals.{with_shares, with_each, without_each}
 use Rattle.meter_journal.specs.Journal.{Entered, Voided, Journal}
 use Rattle.meter_journal.specs.Lists.{MayGoOn}
 use Rattle.meter_journal.specs.Fitting.{AreFitting}
@@ -53,3 +54,11 @@ pub record GoesOn (meter : Installed) (lines : Journal) (k : EntryKind) (e : Ent
 abbrev pub EntriesGoOn : Type 0
 EntriesGoOn = (meter : Installed) (lines : Journal) (k : EntryKind) (e : Entry) → IsWellInstalled meter
     → AreFitting meter (Entered k e ∷ lines) → GoesOn meter lines k e
+
+-- Shares that are added bring their energy, and rows from which shares are taken have no more than before.
+pub record MoveEnergy (shares rows : List Share) : Type 0 where
+  pub added : energy_in_rows (with_each shares rows) ≡ energy_in_rows rows + energy_in_rows shares
+  pub taken : energy_in_rows (without_each shares rows) ≤ energy_in_rows rows
+
+abbrev pub SharesMoveEnergy : Type 0
+SharesMoveEnergy = (shares rows : List Share) → MoveEnergy shares rows

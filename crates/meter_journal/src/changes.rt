@@ -1,6 +1,7 @@
 //! Laws of what one more line changes in the books of a meter. Each function's clause is the law; its body calls the law
 //! below that it stands on, or is empty.
-ghost use Rattle.meter_journal.specs.Changes.{EntriesGoOn, RowsLieWithin, VoidsGoNoFurther};
+ghost use Rattle.meter_journal.specs.Changes.{EntriesGoOn, RowsLieWithin, SharesMoveEnergy, VoidsGoNoFurther};
+ghost use Rattle.meter_journal.specs.Voids.{VoidsChangeTwoRows};
 
 use interval_core::shares_add_up;
 
@@ -22,3 +23,16 @@ pub fn entries_go_on()
 {
     shares_add_up();
 }
+
+/// A void changes the row of its entry and that of the next entry, and no other. The shares of the steps to and from its
+/// entry go out of the interval rows, and those of the step between its neighbours come in.
+pub fn voids_change_two_rows()
+    ensures { VoidsChangeTwoRows }
+{
+    shares_add_up();
+}
+
+/// Interval rows gain the energy of the shares that are added to them, and gain none where shares are taken out.
+pub fn shares_move_energy()
+    ensures { SharesMoveEnergy }
+{}
