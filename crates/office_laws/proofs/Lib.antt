@@ -10,3 +10,4 @@ pub mod Bounds
 pub mod InTurn
 pub mod RegisterRows
 pub mod Stepping
+pub mod GivingWay

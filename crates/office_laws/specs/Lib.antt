@@ -1,3 +1,4 @@
 pub mod Laws
 pub mod Registers
 pub mod Steps
+pub mod Voids
