@@ -1,17 +1,18 @@
 -- What one more line changes in the books of a meter.
-use Rattle.std.specs.Prelude.{◌≡◌, ℕ, ◌+◌, ◌%◌, ◌<◌, ◌≤◌, List, ◌∷◌, All, Ok}
+use Rattle.std.specs.Prelude.{◌≡◌, ℕ, ◌+◌, ◌%◌, ◌<◌, ◌≤◌, List, ◌∷◌, All, Some, Ok}
 use Rattle.energy_core.specs.declared.entries.Entry.{Entry}
 use Rattle.energy_core.specs.declared.entries.Step.{Step}
 use Rattle.energy_core.specs.Account.{after, energy_of, step_to}
 use Rattle.energy_core.specs.Entering.{entered}
+use Rattle.energy_core.specs.Laws.{IsSound}
 use Rattle.interval_core.specs.declared.shares.Share.{Share}
 use Rattle.interval_core.specs.Share.{shares_of}
 use Rattle.interval_core.specs.Account.{energy_of as energy_in_rows}
 use Rattle.meter_journal.specs.declared.lines.Installed.{Installed}
 use Rattle.meter_journal.specs.declared.lines.EntryKind.{EntryKind}
-use Rattle.meter_journal.specs.Books.{IsWellInstalled, last_in, total_in, interval_rows}
+use Rattle.meter_journal.specs.Books.{IsWellInstalled, HasAccount, last_after, total_after, last_in, total_in, interval_rows}
 use Rattle.meter_journal.specs.Intervals.{with_shares, with_each, without_each}
-use Rattle.meter_journal.specs.Journal.{Entered, Voided, Journal}
+use Rattle.meter_journal.specs.Journal.{Entered, Voided, Journal, Around, entries_in, rows_of, row_at}
 use Rattle.meter_journal.specs.Lists.{MayGoOn}
 use Rattle.meter_journal.specs.Fitting.{AreFitting}
 
@@ -30,15 +31,16 @@ RowsLieWithin = (meter : Installed) (lines : Journal) → IsWellInstalled meter 
 
 -- After a void the counter stands at no later moment.
 abbrev pub VoidsGoNoFurther : Type 0
-VoidsGoNoFurther = (meter : Installed) (lines : Journal) (place : ℕ) → IsWellInstalled meter → AreFitting meter (Voided place ∷ lines)
-    → (last_in meter (Voided place ∷ lines)).at ≤ (last_in meter lines).at
+VoidsGoNoFurther = (meter : Installed) (lines : Journal) (place : ℕ) → IsWellInstalled meter
+    → AreFitting meter (Voided place ∷ lines) → (last_in meter (Voided place ∷ lines)).at ≤ (last_in meter lines).at
 
 -- the step from where the counter stands to one more entry
 abbrev pub step_on : Installed → Journal → Entry → Step
 step_on meter lines e = step_to meter.range (last_in meter lines) e
 
--- One more entry is booked where the counter stands. The counter then stands where the entry says, the energy grows by that
--- of the step, and the interval rows by its shares: they are joined to the last row, or added each to the row of its interval.
+-- One more entry is booked where the counter stands. The counter then stands where the entry says, the energy grows by
+-- that of the step, and the interval rows by its shares: these are joined to the last row, or added each to the row of its
+-- interval.
 pub record GoesOn (meter : Installed) (lines : Journal) (k : EntryKind) (e : Entry) : Type 0 where
   pub may : MayGoOn meter (last_in meter lines) (total_in meter lines) e
   pub booked : entered meter.range (total_in meter lines) (last_in meter lines) e
@@ -62,3 +64,13 @@ pub record MoveEnergy (shares rows : List Share) : Type 0 where
 
 abbrev pub SharesMoveEnergy : Type 0
 SharesMoveEnergy = (shares rows : List Share) → MoveEnergy shares rows
+
+-- Where the counter stood before an entry there was an account, and it was sound.
+pub record WasKept (meter : Installed) (around : Around) : Type 0 where
+  pub account : HasAccount meter (entries_in around.before)
+  pub sound : let es = entries_in around.before in
+      IsSound meter.range meter.opening es (last_after meter es) (total_after meter es)
+
+abbrev pub PlacesWereKept : Type 0
+PlacesWereKept = (meter : Installed) (lines : Journal) (place : ℕ) (around : Around) → IsWellInstalled meter
+    → AreFitting meter lines → row_at place (rows_of meter.opening lines) ≡ Some around → WasKept meter around

@@ -56,8 +56,8 @@ AreTherein [] rows = Unit {0}
 AreTherein (share ∷ shares) rows =
     All (λ row. row.start ≡ share.start → share.mwh ≤ row.mwh) rows × AreTherein shares (without_share share rows)
 
--- The energy is that of the steps that stay and of those that are taken out; after the void, of those that are put in. Each of
--- these can be shared out over its intervals.
+-- The energy is that of the steps that stay and of those that are taken out; after the void, of those that are put in.
+-- Each of these can be shared out over its intervals.
 pub record ExchangesSteps (meter : Installed) (lines : Journal) (place : ℕ) (around : Around) : Type 0 where
   pub staying : ℕ
   pub before : total_in meter lines ≡ staying + energy_in (steps_out meter around)
@@ -65,8 +65,8 @@ pub record ExchangesSteps (meter : Installed) (lines : Journal) (place : ℕ) (a
   pub out : All IsShareable (steps_out meter around)
   pub put : All IsShareable (steps_put meter around)
 
--- Of the interval rows the shares of the steps out are taken out and those of the step put in are added, and rows that no
--- step reaches any more are gone.
+-- Of the interval rows the shares of the steps out are taken out and those of the step put in are added, and rows that
+-- no step reaches any more are gone.
 pub record ExchangesShares (meter : Installed) (lines : Journal) (place : ℕ) (around : Around) : Type 0 where
   pub therein : AreTherein (all_shares (steps_out meter around)) (interval_rows meter lines)
   pub intervals : let rest = without_each (all_shares (steps_out meter around)) (interval_rows meter lines) in
@@ -74,8 +74,8 @@ pub record ExchangesShares (meter : Installed) (lines : Journal) (place : ℕ) (
       ≡ rows_until meter.opening.at (last_in meter (Voided place ∷ lines)).at
       (with_each (all_shares (steps_put meter around)) rest)
 
--- The entry at the place was voided. Two rows change: its own, and that of the next entry. The counter stands where it stood,
--- or where it stood before the entry if none came next.
+-- The entry at the place was voided. Two rows change: its own, and that of the next entry. The counter stands where it
+-- stood, or where it stood before the entry if none came next.
 pub record IsVoided (meter : Installed) (lines : Journal) (place : ℕ) (around : Around) : Type 0 where
   pub rows : rows_of meter.opening (Voided place ∷ lines)
       ≡ map (changed_by place around.next (last_before meter.opening around)) (rows_of meter.opening lines)

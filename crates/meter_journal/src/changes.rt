@@ -1,6 +1,6 @@
 //! Laws of what one more line changes in the books of a meter. Each function's clause is the law; its body calls the law
 //! below that it stands on, or is empty.
-ghost use Rattle.meter_journal.specs.Changes.{EntriesGoOn, RowsLieWithin, SharesMoveEnergy, VoidsGoNoFurther};
+ghost use Rattle.meter_journal.specs.Changes.{EntriesGoOn, PlacesWereKept, RowsLieWithin, SharesMoveEnergy, VoidsGoNoFurther};
 ghost use Rattle.meter_journal.specs.Voids.{VoidsChangeTwoRows};
 
 use interval_core::shares_add_up;
@@ -35,4 +35,9 @@ pub fn voids_change_two_rows()
 /// Interval rows gain the energy of the shares that are added to them, and gain none where shares are taken out.
 pub fn shares_move_energy()
     ensures { SharesMoveEnergy }
+{}
+
+/// Where the counter stood before an entry there was a sound account.
+pub fn places_were_kept()
+    ensures { PlacesWereKept }
 {}

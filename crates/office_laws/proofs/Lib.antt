@@ -11,3 +11,4 @@ pub mod InTurn
 pub mod RegisterRows
 pub mod Stepping
 pub mod GivingWay
+pub mod InRange

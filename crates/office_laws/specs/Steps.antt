@@ -27,13 +27,15 @@ pub record Stays (f : Fact) (facts : List Fact) (opening : Opening) : Type 0 whe
 
 -- A fact that is no line of a meter's journal changes nothing of the meter.
 abbrev pub OtherMetersStay : Type 0
-OtherMetersStay = (f : Fact) (facts : List Fact) (opening : Opening) → line_of opening.meter f ≡ None → Stays f facts opening
+OtherMetersStay = (f : Fact) (facts : List Fact) (opening : Opening) → line_of opening.meter f ≡ None
+    → Stays f facts opening
 
 -- A held reading changes nothing of any meter.
 abbrev pub HoldsChangeNothing : Type 0
 HoldsChangeNothing = (held : HeldReading) (facts : List Fact) (opening : Opening) → Stays (fact.Hold held) facts opening
 
--- A new installation is found by its name and at its register. Its counter stands where it was opened, without energy or rows.
+-- A new installation is found by its name and at its register. Its counter stands where it was opened, without energy or
+-- rows.
 pub record Begins (facts : List Fact) (opening : Opening) : Type 0 where
   pub by_name : opening_of (fact.Opening opening ∷ facts) opening.meter ≡ Some opening
   pub at_register : installed_at (fact.Opening opening ∷ facts) opening.register ≡ Some opening
@@ -43,7 +45,8 @@ pub record Begins (facts : List Fact) (opening : Opening) : Type 0 where
   pub intervals : rows_of_opening (fact.Opening opening ∷ facts) opening ≡ []
 
 abbrev pub OpeningsBegin : Type 0
-OpeningsBegin = (opening : Opening) (facts : List Fact) → AreLawful (fact.Opening opening ∷ facts) → Begins facts opening
+OpeningsBegin = (opening : Opening) (facts : List Fact) → AreLawful (fact.Opening opening ∷ facts)
+    → Begins facts opening
 
 -- an installation after one more entry of its meter
 abbrev pub moved_by : EntryKind → Entry → Installation → Installation
@@ -58,9 +61,9 @@ moved_by k e row = record {
 abbrev pub step_from : Installation → Entry → Step
 step_from row e = step_to row.opening.range row.last e
 
--- One more entry is booked where the meter's counter stands, which is still open. The installation moves on to it, a row
--- stands behind the others, and the interval rows grow by the step's shares: they are joined to the last row, or added each
--- to the row of its interval.
+-- One more entry is booked where the counter of the meter, which is still open, stands. The installation moves on to it, a
+-- row stands behind the others, and the interval rows grow by the shares of the step: these are joined to the last row, or
+-- added each to the row of its interval.
 pub record MovesOn (booked : BookedEntry) (facts : List Fact) (opening : Opening) : Type 0 where
   pub unended : (installation_of facts opening).ended ≡ false
   pub goes_on : journals.GoesOn (installed opening) (journal_of facts opening.meter) booked.kind booked.entry

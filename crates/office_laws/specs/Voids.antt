@@ -12,9 +12,9 @@ use Rattle.office_rules.specs.Intervals.{rows_of_opening}
 use Rattle.office_rules.specs.Lawful.{AreLawful}
 use Rattle.office_rules.specs.Meters.{opened, installed, journal_of, rows_of, installation_of, place_in, entry_at}
 
--- The entry at the place is there. Its row and that of the next entry change, and no other row of the meter. The counter stands
--- where it stood, or where it stood before the entry if none came next; the energy of the steps around the entry goes out,
--- and that of the step between its neighbours comes in, in the whole and interval by interval.
+-- The entry at the place is there. Its row and that of the next entry change, and no other row of the meter. The counter
+-- stands where it stood, or where it stood before the entry if none came next; the energy of the steps around the entry
+-- goes out, and that of the step between its neighbours comes in, in the whole and interval by interval.
 pub record GivesWay (voided : VoidedEntry) (facts : List Fact) (opening : Opening) : Type 0 where
   pub around : Around
   pub found : entry_at facts voided.meter voided.place ≡ Some (place_in facts opening around)
@@ -35,5 +35,5 @@ pub record GivesWay (voided : VoidedEntry) (facts : List Fact) (opening : Openin
       (with_each put (without_each out (rows_of_opening facts opening)))
 
 abbrev pub VoidedEntriesGiveWay : Type 0
-VoidedEntriesGiveWay = (voided : VoidedEntry) (facts : List Fact) (opening : Opening) → AreLawful (fact.Void voided ∷ facts)
-    → opening_of facts voided.meter ≡ Some opening → GivesWay voided facts opening
+VoidedEntriesGiveWay = (voided : VoidedEntry) (facts : List Fact) (opening : Opening)
+    → AreLawful (fact.Void voided ∷ facts) → opening_of facts voided.meter ≡ Some opening → GivesWay voided facts opening

@@ -6,7 +6,8 @@ mod registers;
 mod steps;
 
 pub use laws::{
-    facts_are_bounded, journals_fit, meters_are_kept, truth_is_recorded, voids_leave_no_trace,
+    facts_are_bounded, installations_are_in_range, journals_fit, meters_are_kept,
+    truth_is_recorded, voids_leave_no_trace,
 };
 pub use registers::registers_are_in_turn;
 pub use steps::{
