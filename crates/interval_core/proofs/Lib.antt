@@ -6,6 +6,7 @@ mod CountLemmas
 mod AccountLemmas
 mod FoldLemmas
 mod OneLemmas
+mod OtherOrder
 mod SpreadLemmas
 mod RowLemmas
 mod Rows

@@ -1,6 +1,7 @@
 -- What the interval rows of a register come to, civil day by civil day.
 use Rattle.std.specs.Prelude.{◌≡◌, ◌↔◌, ℕ, ℤ, ◌+◌, ◌<◌, ◌<ℤ◌, ◌==◌, if◌then◌else◌, List, [], ◌∷◌, map, filter, length, All, Contains}
 use Rattle.std.specs.List.{list_any}
+use Rattle.std.specs.List.Sorted.{IsPermutation}
 use Rattle.std.specs.Ordering.{int_eq}
 use Rattle.jiff.specs.Words.{epoch_day}
 use Rattle.interval_core.specs.declared.shares.Share.{Share}
@@ -53,3 +54,8 @@ pub record AreAccounts (zone : Zone) (rows : List Share) (accounts : List DayAcc
 abbrev pub AccountsAreOne : Type 0
 AccountsAreOne = (zone : Zone) (rows : List Share) → (accounts : List DayAccount) × AreAccounts zone rows accounts
     × ((others : List DayAccount) → AreAccounts zone rows others → others ≡ accounts)
+
+-- The order of the rows doesn't matter.
+abbrev pub AccountsIgnoreOrder : Type 0
+AccountsIgnoreOrder = (zone : Zone) (rows others : List Share) (accounts : List DayAccount) → AreAccounts zone rows accounts
+    → IsPermutation rows others → AreAccounts zone others accounts

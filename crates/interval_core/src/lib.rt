@@ -11,7 +11,9 @@ mod zone;
 
 pub use day::{DayFault, day_of};
 pub use jiff::civil::Date as Day;
-pub use laws::{accounts_add_up, accounts_are_one, shares_add_up, zones_are_one};
+pub use laws::{
+    accounts_add_up, accounts_are_one, accounts_ignore_order, shares_add_up, zones_are_one,
+};
 pub use report::write_day;
 pub use shares::{INTERVAL, Share, Shares};
 pub use totals::{DayFold, DayTotal, by_day};

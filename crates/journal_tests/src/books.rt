@@ -3,9 +3,10 @@ use crate::samples::HOUSE;
 use energy_core::{Entry, Last};
 use interval_core::Share;
 use meter_journal::{
-    EntryKind, EntryRow, interval_rows, interval_rows_add_up, interval_rows_are_accounts,
-    journals_are_kept, journals_balance, rows_stand, standing_entries_fit, tally_behind,
-    truth_is_kept, voids_leave_no_trace,
+    EntryKind, EntryRow, entries_go_on, interval_rows, interval_rows_add_up,
+    interval_rows_are_accounts, journals_are_kept, journals_balance, places_were_kept,
+    rows_lie_within, rows_stand, shares_move_energy, standing_entries_fit, tally_behind,
+    truth_is_kept, voids_change_two_rows, voids_go_no_further, voids_leave_no_trace,
 };
 use std::test::Fail;
 
@@ -80,4 +81,14 @@ fn laws_hold() {
     rows_stand();
     standing_entries_fit();
     voids_leave_no_trace();
+}
+
+#[test]
+fn laws_of_one_more_line_hold() {
+    rows_lie_within();
+    entries_go_on();
+    voids_go_no_further();
+    places_were_kept();
+    voids_change_two_rows();
+    shares_move_energy();
 }

@@ -203,7 +203,7 @@ rows_are_entered meter (Voided place ∷ lines) h =
     }
 
 -- an entry that fits has the rollovers that its neighbour gives it
-settled : (meter : Installed) (es : List Entry) (k : EntryKind) (e : Entry) → EntryFits meter es k e → own_rolls k (last_after meter es) e ≡ e
+pub settled : (meter : Installed) (es : List Entry) (k : EntryKind) (e : Entry) → EntryFits meter es k e → own_rolls k (last_after meter es) e ≡ e
 settled meter es kind.Reading (entry.Step at raw rolls) h = ap (λ n. entry.Step at raw n) (sym (rolls_of meter es at raw rolls h))
 settled meter es kind.Reading (entry.Change at before new sf) h = absurd h
 settled meter es kind.Manual e h = refl
@@ -211,14 +211,14 @@ settled meter es kind.Closing e h = refl
 settled meter es kind.Reset e h = refl
 settled meter es kind.Rescale e h = refl
 
-abbrev row_with : (place : ℕ) → EntryKind → Entry → Bool → EntryRow
+abbrev pub row_with : (place : ℕ) → EntryKind → Entry → Bool → EntryRow
 row_with place k e stands = record { place = place; kind = k; entry = e; stands = stands }
 
 same_row : (p p' : ℕ) (k k' : EntryKind) (e e' : Entry) (s s' : Bool) → p ≡ p' → k ≡ k' → e ≡ e' → s ≡ s' → row_with p k e s ≡ row_with p' k' e' s'
 same_row p p' k k' e e' s s' hp hk he hs =
     ap (λ x. row_with x k e s) hp ∙ ap (λ x. row_with p' x e s) hk ∙ ap (λ x. row_with p' k' x s) he ∙ ap (λ x. row_with p' k' e' x) hs
 
-rolled_is : (last : Last) (n : ℕ) (k : EntryKind) (e : Entry) → rolled last (row_with n k e true) ≡ row_with n k (own_rolls k last e) true
+pub rolled_is : (last : Last) (n : ℕ) (k : EntryKind) (e : Entry) → rolled last (row_with n k e true) ≡ row_with n k (own_rolls k last e) true
 rolled_is last n kind.Reading e = refl
 rolled_is last n kind.Manual e = refl
 rolled_is last n kind.Closing e = refl

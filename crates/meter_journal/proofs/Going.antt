@@ -30,7 +30,7 @@ account_tail meter e es h =
 abbrev earlier : List EntryRow → (i : ℕ) → List Entry
 earlier rows i = entries_in (latest_first (take i rows))
 
-account_below : (meter : Installed) (newer older : List EntryRow) → HasAccount meter (entries_in (newer ++ older)) → HasAccount meter (entries_in older)
+pub account_below : (meter : Installed) (newer older : List EntryRow) → HasAccount meter (entries_in (newer ++ older)) → HasAccount meter (entries_in older)
 account_below meter [] older h = h
 account_below meter (row ∷ newer) older h =
     account_below meter newer older (elim (cases_Bool row.stands) [

@@ -1,5 +1,6 @@
 -- The energy of steps by quarter hour, row by row.
-use Rattle.std.specs.Prelude.{ℕ, ◌+◌, ◌==◌, nat_lt, List, [], ◌∷◌, if◌then◌else◌}
+use Rattle.std.specs.Prelude.{ℕ, ◌+◌, ◌-◌, ◌==◌, nat_lt, List, [], ◌∷◌, map, if◌then◌else◌}
+use Rattle.std.specs.List.{flat_map}
 use Rattle.energy_core.specs.declared.entries.Step.{Step}
 use Rattle.interval_core.specs.declared.shares.Share.{Share}
 use Rattle.interval_core.specs.Share.{shares_of}
@@ -27,3 +28,30 @@ rows_of_steps (step ∷ steps) = with_shares (rows_of_steps steps) (shares_of st
 abbrev pub energy_before : (bound : ℕ) → List Share → ℕ
 energy_before bound [] = 0
 energy_before bound (row ∷ rows) = (if nat_lt row.start bound then row.mwh else 0) + energy_before bound rows
+
+-- a share added to the row of its interval; where there is none, it stands behind the others
+abbrev pub with_share : Share → List Share → List Share
+with_share share [] = share ∷ []
+with_share share (row ∷ rows) =
+    if row.start == share.start
+    then record { start = row.start; mwh = row.mwh + share.mwh } ∷ rows
+    else row ∷ with_share share rows
+
+abbrev pub with_each : (shares : List Share) → List Share → List Share
+with_each [] rows = rows
+with_each (share ∷ shares) rows = with_each shares (with_share share rows)
+
+-- a share taken out of the row of its interval
+abbrev pub less : Share → Share → Share
+less share row = if row.start == share.start then record { start = row.start; mwh = row.mwh - share.mwh } else row
+
+abbrev pub without_share : Share → List Share → List Share
+without_share share rows = map (less share) rows
+
+abbrev pub without_each : (shares : List Share) → List Share → List Share
+without_each [] rows = rows
+without_each (share ∷ shares) rows = without_each shares (without_share share rows)
+
+-- the shares of several steps, step by step
+abbrev pub all_shares : List Step → List Share
+all_shares steps = flat_map shares_of steps

@@ -19,18 +19,18 @@ use Rattle.office_laws.proofs.Openings.{openings_apart}
 use Rattle.std.proofs.lemmas.List.Elements.{All-contains}
 
 -- about another meter, or about this one
-by_name : {P : Type 0} (a b : List ℕ) → (same a b ≡ true → a ≡ b → P) → (same a b ≡ false → P) → P
+pub by_name : {P : Type 0} (a b : List ℕ) → (same a b ≡ true → a ≡ b → P) → (same a b ≡ false → P) → P
 by_name a b here elsewhere =
     elim (cases_Bool (same a b)) [
       | inl e ↦ here e (same_text a b e)
       | inr e ↦ elsewhere e
     ]
 
-none_and_some : {X P : Type 0} (o : Option X) (x : X) → o ≡ None → o ≡ Some x → P
+pub none_and_some : {X P : Type 0} (o : Option X) (x : X) → o ≡ None → o ≡ Some x → P
 none_and_some o x n s = absurd (let e : None ≡ Some x = sym n ∙ s in cc)
 
 -- a line is that of its own meter
-abbrev line_if : (meter m : List ℕ) → journal.Line → Option journal.Line
+abbrev pub line_if : (meter m : List ℕ) → journal.Line → Option journal.Line
 line_if meter m line = cond (same meter m) (Some line) None
 
 no_line : (facts : List Fact) (m meter : List ℕ) (line : journal.Line) → LineFits facts meter line → opening_of facts m ≡ None
@@ -62,7 +62,7 @@ nothing_before (fact.Reply r ∷ facts) m h none = nothing_before facts m h.1 no
 abbrev pub IsInstalled : List Fact → Opening → Type 0
 IsInstalled facts opening = opening_of facts opening.meter ≡ Some opening
 
-abbrev Fitting : List Fact → Opening → Type 0
+abbrev pub Fitting : List Fact → Opening → Type 0
 Fitting facts o = journals.AreFitting (installed o) (journal_of facts o.meter)
 
 one_line : (facts : List Fact) (o : Opening) (meter : List ℕ) (line : journal.Line) → LineFits facts meter line → IsInstalled facts o
@@ -78,7 +78,7 @@ one_line facts o meter line fits there rest =
     (λ e. subst (λ b. journals.AreFitting (installed o) (cons_option (cond b (Some line) None) (journal_of facts o.meter))) (sym e) rest)
 
 -- the later of two openings is that of its meter, or the earlier one is
-by_opening : {P : Type 0} (facts : List Fact) (p o : Opening) → IsInstalled (fact.Opening p ∷ facts) o
+pub by_opening : {P : Type 0} (facts : List Fact) (p o : Opening) → IsInstalled (fact.Opening p ∷ facts) o
     → (p ≡ o → P) → (IsInstalled facts o → P) → P
 by_opening facts p o found here elsewhere =
     by_name p.meter o.meter
@@ -86,7 +86,7 @@ by_opening facts p o found here elsewhere =
     (λ e. elsewhere (sym (cond-false _ _ _ e) ∙ found))
 
 -- the journal of an installed meter fits
-installed_fits : (facts : List Fact) (o : Opening) → AreLawful facts → IsInstalled facts o → Fitting facts o
+pub installed_fits : (facts : List Fact) (o : Opening) → AreLawful facts → IsInstalled facts o → Fitting facts o
 installed_fits [] o h there = tt
 installed_fits (fact.Device d ∷ facts) o h there = installed_fits facts o h.1 there
 installed_fits (fact.List l ∷ facts) o h there = installed_fits facts o h.1 there
@@ -109,7 +109,7 @@ installed_fits (fact.Outcome e ∷ facts) o h there = installed_fits facts o h.1
 installed_fits (fact.Reply r ∷ facts) o h there = installed_fits facts o h.1 there
 
 -- what was installed has its numbers in their ranges
-well : (facts : List Fact) (o : Opening) → AreLawful facts → IsInstalled facts o → IsWellInstalled (installed o)
+pub well : (facts : List Fact) (o : Opening) → AreLawful facts → IsInstalled facts o → IsWellInstalled (installed o)
 well [] o h there = absurd (cc)
 well (fact.Device d ∷ facts) o h there = well facts o h.1 there
 well (fact.List l ∷ facts) o h there = well facts o h.1 there
@@ -127,7 +127,7 @@ well (fact.Outcome e ∷ facts) o h there = well facts o h.1 there
 well (fact.Reply r ∷ facts) o h there = well facts o h.1 there
 
 -- what is recorded as an opening is found by its meter's name
-found : (facts : List Fact) (o : Opening) → AreLawful facts → IsRecorded facts o → IsInstalled facts o
+pub found : (facts : List Fact) (o : Opening) → AreLawful facts → IsRecorded facts o → IsInstalled facts o
 found facts o h there =
     All-contains (λ (x : Opening). IsInstalled facts x) (openings_in facts) o
     (each_found (λ (x : Opening). x.meter) (openings_in facts) (openings_apart facts h)) there

@@ -7,3 +7,8 @@ pub mod LawfulChanges
 pub mod LawfulExchange
 pub mod Rounds
 pub mod Bounds
+pub mod InTurn
+pub mod RegisterRows
+pub mod Stepping
+pub mod GivingWay
+pub mod InRange

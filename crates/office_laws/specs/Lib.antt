@@ -1,1 +1,5 @@
 pub mod Laws
+pub mod Ranges
+pub mod Registers
+pub mod Steps
+pub mod Voids

@@ -1,9 +1,10 @@
 //! Laws of lawful facts.
 ghost use Rattle.office_laws.specs.Laws.{FactsAreBounded, JournalsFit, MetersAreKept, TruthIsRecorded, VoidsLeaveNoTrace};
+ghost use Rattle.office_laws.specs.Ranges.{InstallationsAreInRange};
 
 use meter_journal::{
     interval_rows_add_up, interval_rows_are_accounts, journals_are_kept, journals_balance,
-    rows_stand, truth_is_kept, voids_leave_no_trace as journal_voids,
+    places_were_kept, rows_stand, truth_is_kept, voids_leave_no_trace as journal_voids,
 };
 
 /// In lawful facts each line of a meter's journal may follow those before it.
@@ -42,3 +43,11 @@ pub fn voids_leave_no_trace()
 pub fn facts_are_bounded()
     ensures { FactsAreBounded }
 {}
+
+/// In lawful facts the numbers of each installation are in their ranges, also where it stood before an entry.
+pub fn installations_are_in_range()
+    ensures { InstallationsAreInRange }
+{
+    journals_are_kept();
+    places_were_kept();
+}

@@ -1,0 +1,76 @@
+-- What one more line changes in the books of a meter.
+use Rattle.std.specs.Prelude.{◌≡◌, ℕ, ◌+◌, ◌%◌, ◌<◌, ◌≤◌, List, ◌∷◌, All, Some, Ok}
+use Rattle.energy_core.specs.declared.entries.Entry.{Entry}
+use Rattle.energy_core.specs.declared.entries.Step.{Step}
+use Rattle.energy_core.specs.Account.{after, energy_of, step_to}
+use Rattle.energy_core.specs.Entering.{entered}
+use Rattle.energy_core.specs.Laws.{IsSound}
+use Rattle.interval_core.specs.declared.shares.Share.{Share}
+use Rattle.interval_core.specs.Share.{shares_of}
+use Rattle.interval_core.specs.Account.{energy_of as energy_in_rows}
+use Rattle.meter_journal.specs.declared.lines.Installed.{Installed}
+use Rattle.meter_journal.specs.declared.lines.EntryKind.{EntryKind}
+use Rattle.meter_journal.specs.Books.{IsWellInstalled, HasAccount, last_after, total_after, last_in, total_in, interval_rows}
+use Rattle.meter_journal.specs.Intervals.{with_shares, with_each, without_each}
+use Rattle.meter_journal.specs.Journal.{Entered, Voided, Journal, Around, entries_in, rows_of, row_at}
+use Rattle.meter_journal.specs.Lists.{MayGoOn}
+use Rattle.meter_journal.specs.Fitting.{AreFitting}
+
+-- the row is that of a quarter hour that begins before the counter's last moment and ends behind its opening; so the
+-- counter has gone on since then
+pub record LiesWithin (opened last : ℕ) (row : Share) : Type 0 where
+  pub quarter : row.start % 900 ≡ 0
+  pub behind : opened < row.start + 900
+  pub before : row.start < last
+  pub gone_on : opened < last
+
+-- The interval rows of a journal lie between its opening and where its counter stands.
+abbrev pub RowsLieWithin : Type 0
+RowsLieWithin = (meter : Installed) (lines : Journal) → IsWellInstalled meter → AreFitting meter lines
+    → All (LiesWithin meter.opening.at (last_in meter lines).at) (interval_rows meter lines)
+
+-- After a void the counter stands at no later moment.
+abbrev pub VoidsGoNoFurther : Type 0
+VoidsGoNoFurther = (meter : Installed) (lines : Journal) (place : ℕ) → IsWellInstalled meter
+    → AreFitting meter (Voided place ∷ lines) → (last_in meter (Voided place ∷ lines)).at ≤ (last_in meter lines).at
+
+-- the step from where the counter stands to one more entry
+abbrev pub step_on : Installed → Journal → Entry → Step
+step_on meter lines e = step_to meter.range (last_in meter lines) e
+
+-- One more entry is booked where the counter stands. The counter then stands where the entry says, the energy grows by
+-- that of the step, and the interval rows by its shares: these are joined to the last row, or added each to the row of its
+-- interval.
+pub record GoesOn (meter : Installed) (lines : Journal) (k : EntryKind) (e : Entry) : Type 0 where
+  pub may : MayGoOn meter (last_in meter lines) (total_in meter lines) e
+  pub booked : entered meter.range (total_in meter lines) (last_in meter lines) e
+      ≡ Ok (last_in meter (Entered k e ∷ lines), step_on meter lines e)
+  pub last : last_in meter (Entered k e ∷ lines) ≡ after (last_in meter lines) e
+  pub total : total_in meter (Entered k e ∷ lines)
+      ≡ total_in meter lines + energy_of meter.range (last_in meter lines) e
+  pub joined : interval_rows meter (Entered k e ∷ lines)
+      ≡ with_shares (interval_rows meter lines) (shares_of (step_on meter lines e))
+  pub added : interval_rows meter (Entered k e ∷ lines)
+      ≡ with_each (shares_of (step_on meter lines e)) (interval_rows meter lines)
+
+abbrev pub EntriesGoOn : Type 0
+EntriesGoOn = (meter : Installed) (lines : Journal) (k : EntryKind) (e : Entry) → IsWellInstalled meter
+    → AreFitting meter (Entered k e ∷ lines) → GoesOn meter lines k e
+
+-- Shares that are added bring their energy, and rows from which shares are taken have no more than before.
+pub record MoveEnergy (shares rows : List Share) : Type 0 where
+  pub added : energy_in_rows (with_each shares rows) ≡ energy_in_rows rows + energy_in_rows shares
+  pub taken : energy_in_rows (without_each shares rows) ≤ energy_in_rows rows
+
+abbrev pub SharesMoveEnergy : Type 0
+SharesMoveEnergy = (shares rows : List Share) → MoveEnergy shares rows
+
+-- Where the counter stood before an entry there was an account, and it was sound.
+pub record WasKept (meter : Installed) (around : Around) : Type 0 where
+  pub account : HasAccount meter (entries_in around.before)
+  pub sound : let es = entries_in around.before in
+      IsSound meter.range meter.opening es (last_after meter es) (total_after meter es)
+
+abbrev pub PlacesWereKept : Type 0
+PlacesWereKept = (meter : Installed) (lines : Journal) (place : ℕ) (around : Around) → IsWellInstalled meter
+    → AreFitting meter lines → row_at place (rows_of meter.opening lines) ≡ Some around → WasKept meter around

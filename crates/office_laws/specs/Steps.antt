@@ -1,0 +1,81 @@
+-- What one more fact changes of an installation, over lawful facts.
+use Rattle.std.specs.Prelude.{◌≡◌, ◌+◌, true, false, List, [], ◌∷◌, Some, None, if◌then◌else◌}
+use Rattle.energy_core.specs.declared.entries.Entry.{Entry}
+use Rattle.energy_core.specs.declared.entries.Step.{Step}
+use Rattle.energy_core.specs.Account.{after, energy_of, step_to}
+use Rattle.interval_core.specs.Share.{shares_of}
+use Rattle.meter_journal.specs.declared.lines.EntryKind.{EntryKind}
+use Rattle.meter_journal.specs.Changes as journals
+use Rattle.meter_journal.specs.Intervals.{with_shares, with_each}
+use Rattle.meter_journal.specs.Journal.{is_closing, new_row}
+use Rattle.office_events.specs.declared.facts.Opening.{Opening}
+use Rattle.office_events.specs.declared.facts.BookedEntry.{BookedEntry}
+use Rattle.office_events.specs.declared.facts.HeldReading.{HeldReading}
+use Rattle.office_events.specs.declared.facts.Fact.{Fact}
+use Rattle.office_events.specs.declared.facts.Fact.TheVariants as fact
+use Rattle.office_events.specs.declared.questions.Installation.{Installation}
+use Rattle.office_rules.specs.Facts.{opening_of, installed_at}
+use Rattle.office_rules.specs.Intervals.{rows_of_opening}
+use Rattle.office_rules.specs.Lawful.{AreLawful}
+use Rattle.office_rules.specs.Meters.{line_of, opened, installed, journal_of, rows_of, installation_of}
+
+-- The installation, its rows and its interval rows stay as they were.
+pub record Stays (f : Fact) (facts : List Fact) (opening : Opening) : Type 0 where
+  pub installation : installation_of (f ∷ facts) opening ≡ installation_of facts opening
+  pub rows : rows_of (f ∷ facts) opening ≡ rows_of facts opening
+  pub intervals : rows_of_opening (f ∷ facts) opening ≡ rows_of_opening facts opening
+
+-- A fact that is no line of a meter's journal changes nothing of the meter.
+abbrev pub OtherMetersStay : Type 0
+OtherMetersStay = (f : Fact) (facts : List Fact) (opening : Opening) → line_of opening.meter f ≡ None
+    → Stays f facts opening
+
+-- A held reading changes nothing of any meter.
+abbrev pub HoldsChangeNothing : Type 0
+HoldsChangeNothing = (held : HeldReading) (facts : List Fact) (opening : Opening) → Stays (fact.Hold held) facts opening
+
+-- A new installation is found by its name and at its register. Its counter stands where it was opened, without energy or
+-- rows.
+pub record Begins (facts : List Fact) (opening : Opening) : Type 0 where
+  pub by_name : opening_of (fact.Opening opening ∷ facts) opening.meter ≡ Some opening
+  pub at_register : installed_at (fact.Opening opening ∷ facts) opening.register ≡ Some opening
+  pub installation : installation_of (fact.Opening opening ∷ facts) opening
+      ≡ record { opening = opening; last = opened opening; total = 0; ended = false }
+  pub rows : rows_of (fact.Opening opening ∷ facts) opening ≡ []
+  pub intervals : rows_of_opening (fact.Opening opening ∷ facts) opening ≡ []
+
+abbrev pub OpeningsBegin : Type 0
+OpeningsBegin = (opening : Opening) (facts : List Fact) → AreLawful (fact.Opening opening ∷ facts)
+    → Begins facts opening
+
+-- an installation after one more entry of its meter
+abbrev pub moved_by : EntryKind → Entry → Installation → Installation
+moved_by k e row = record {
+  opening = row.opening;
+  last = after row.last e;
+  total = row.total + energy_of row.opening.range row.last e;
+  ended = if is_closing k then true else row.ended;
+}
+
+-- the step from where the counter of an installation stands to one more entry
+abbrev pub step_from : Installation → Entry → Step
+step_from row e = step_to row.opening.range row.last e
+
+-- One more entry is booked where the counter of the meter, which is still open, stands. The installation moves on to it, a
+-- row stands behind the others, and the interval rows grow by the shares of the step: these are joined to the last row, or
+-- added each to the row of its interval.
+pub record MovesOn (booked : BookedEntry) (facts : List Fact) (opening : Opening) : Type 0 where
+  pub unended : (installation_of facts opening).ended ≡ false
+  pub goes_on : journals.GoesOn (installed opening) (journal_of facts opening.meter) booked.kind booked.entry
+  pub installation : installation_of (fact.Entry booked ∷ facts) opening
+      ≡ moved_by booked.kind booked.entry (installation_of facts opening)
+  pub rows : let before = rows_of facts opening in
+      rows_of (fact.Entry booked ∷ facts) opening ≡ new_row before booked.kind booked.entry ∷ before
+  pub joined : let shares = shares_of (step_from (installation_of facts opening) booked.entry) in
+      rows_of_opening (fact.Entry booked ∷ facts) opening ≡ with_shares (rows_of_opening facts opening) shares
+  pub added : let shares = shares_of (step_from (installation_of facts opening) booked.entry) in
+      rows_of_opening (fact.Entry booked ∷ facts) opening ≡ with_each shares (rows_of_opening facts opening)
+
+abbrev pub EntriesMoveOn : Type 0
+EntriesMoveOn = (booked : BookedEntry) (facts : List Fact) (opening : Opening) → AreLawful (fact.Entry booked ∷ facts)
+    → opening_of facts booked.meter ≡ Some opening → MovesOn booked facts opening
