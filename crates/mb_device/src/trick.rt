@@ -7,8 +7,8 @@ pub enum Trick {
     Drop,
     /// The answer is sent twice.
     Twice,
-    /// The answer is held, and sent once the next frame that is not held itself has been dealt with, or
-    /// with the next that is.
+    /// The answer is held. It is sent once the next frame has been dealt with: behind what is sent for
+    /// that frame, or in its place where that answer is held too.
     Later,
     /// The transaction identifier is one more, modulo 65536.
     Id,
