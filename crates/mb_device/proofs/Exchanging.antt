@@ -1,62 +1,84 @@
 -- Exchanges of bytes, one after another.
-use Rattle.std.proofs.Common.{◌≡◌, ℕ, List, [], ◌∷◌, ◌++◌, Ok, refl, sym, ap, ◌∙◌, subst}
+use Rattle.std.proofs.Common.{◌≡◌, ℕ, false, List, [], ◌∷◌, ◌++◌, Ok, refl, sym, ap, ◌∙◌, subst}
 use Rattle.mb_wire.specs.Frames.{IsOpen, rest}
 use Rattle.mb_device.specs.Exchanges.{Exchange, Exchanges, ExchangesOver, InOrder, in_all, joined}
 use Rattle.mb_device.specs.Maps.{Maps}
-use Rattle.mb_device.specs.Serving.{Around, Faulted, Holds, Serves, Standing, Turns, answers, maps_after_all, own_frames}
+use Rattle.mb_device.specs.Tricks.{Course, Playing, CutOff, carried_out, is_cut}
+use Rattle.mb_device.specs.Serving.{Around, Faulted, Holds, Over, Serves, Standing, Turns, course_behind, maps_after_all, own_frames, sent_to, standing_on}
 use Rattle.mb_device.specs.declared.serving.Turned.{Turned}
-use Rattle.mb_device.proofs.Streams.{answers-append, maps_after_all-append, nothing_taken, taken_more}
+use Rattle.mb_device.proofs.Framing.{nothing_taken, taken_more}
+use Rattle.mb_device.proofs.Putting.{carried_out-none}
+use Rattle.mb_device.proofs.Streams.{carried_then, course_then, dealt_by, maps_after_all-append, sent_then}
 
-pub turn_exchanges : (held : List ℕ) (turned : Turned) (old new : Around) (standing : Standing) → Turns held (Ok turned) old new standing → ExchangesOver held old new standing
-turn_exchanges held turned old new standing turn =
+pub turn_exchanges : (held : List ℕ) (course : Course) (turned : Turned) (old new : Around) (standing : Standing) → Turns held course (Ok turned) old new standing → ExchangesOver held course old new standing
+turn_exchanges held course turned old new standing turn =
     record {
-      exchange = record { taken = turn.taken; given = answers old.maps (own_frames (held ++ turn.taken)) };
+      exchange = record { taken = turn.taken; given = sent_to course old.maps (own_frames (held ++ turn.taken)) };
       consumed = turn.consumed;
       given = turn.answered.given;
-      exchanges = record { given = refl; maps = turn.answered.maps; stands = turn.stands; is_open = turn.tells.1 };
+      exchanges = record { given = refl; maps = turn.answered.maps; stands = turn.stands; is_open = turn.tells.0.is_open };
     }
 
-pub serving_exchanges : (held : List ℕ) (count : ℕ) (old new : Around) (standing : Standing) → Serves held (Ok count) old new standing → ExchangesOver held old new standing
-serving_exchanges held count old new standing serves =
+pub serving_exchanges : (held : List ℕ) (course : Course) (count : ℕ) (old new : Around) (standing : Standing) → Serves held course (Ok count) old new standing → ExchangesOver held course old new standing
+serving_exchanges held course count old new standing serves =
     record {
-      exchange = record { taken = serves.taken; given = answers old.maps (own_frames (held ++ serves.taken)) };
+      exchange = record { taken = serves.taken; given = sent_to course old.maps (own_frames (held ++ serves.taken)) };
       consumed = serves.consumed;
       given = serves.answered.given;
-      exchanges = record { given = refl; maps = serves.answered.maps; stands = serves.stands; is_open = serves.tells.1 };
+      exchanges = record { given = refl; maps = serves.answered.maps; stands = serves.stands; is_open = serves.tells.0.is_open };
     }
 
--- the bytes that a standing holds
+-- the bytes and the connection of a server that goes on
 abbrev bytes_in : Standing → List ℕ
-bytes_in (Holds held) = held
+bytes_in (Holds held course) = held
+bytes_in Over = []
 bytes_in Faulted = []
 
-pub two_exchange : (held left : List ℕ) (first next : Exchange) (old mid new : Maps) (standing : Standing) → Exchanges held first old mid (Holds left) → Exchanges left next mid new standing → Exchanges held (joined first next) old new standing
-two_exchange held left first next old mid new standing one other =
+abbrev course_of : Standing → Course
+course_of (Holds held course) = course
+course_of Over = CutOff
+course_of Faulted = CutOff
+
+goes_on_so : (bytes left : List ℕ) (course mid : Course) → Holds left mid ≡ standing_on bytes course → (left ≡ bytes) × (mid ≡ course) × (is_cut mid ≡ false)
+goes_on_so bytes left (Playing tricks number later) mid is = (ap bytes_in is, ap course_of is, ap (λ s. is_cut (course_of s)) is)
+goes_on_so bytes left CutOff mid is = absurd cc
+
+pub two_exchange : (held left : List ℕ) (course mid_course : Course) (first next : Exchange) (old mid new : Maps) (standing : Standing) → Exchanges held course first old mid (Holds left mid_course) → Exchanges left mid_course next mid new standing → Exchanges held course (joined first next) old new standing
+two_exchange held left course mid_course first next old mid new standing one other =
     let xs = own_frames (held ++ first.taken) in
     let ys = own_frames (left ++ next.taken) in
-    let stays : left ≡ rest (held ++ first.taken) = ap bytes_in one.stands in
+    let so = goes_on_so _ left _ mid_course one.stands in
+    let dealt = dealt_by course mid_course xs old mid one.maps so.1 so.2 in
     let more = taken_more held first.taken next.taken in
-    let frames : own_frames (held ++ (first.taken ++ next.taken)) ≡ xs ++ ys = more.0 ∙ ap (λ l. xs ++ own_frames (l ++ next.taken)) (sym stays) in
-    let left_over : rest (held ++ (first.taken ++ next.taken)) ≡ rest (left ++ next.taken) = more.1 ∙ ap (λ l. rest (l ++ next.taken)) (sym stays) in
+    let frames : own_frames (held ++ (first.taken ++ next.taken)) ≡ xs ++ ys = more.0 ∙ ap (λ l. xs ++ own_frames (l ++ next.taken)) (sym so.0) in
+    let left_over : rest (held ++ (first.taken ++ next.taken)) ≡ rest (left ++ next.taken) = more.1 ∙ ap (λ l. rest (l ++ next.taken)) (sym so.0) in
+    let same : course_behind course old (own_frames (held ++ (first.taken ++ next.taken))) ≡ course_behind mid_course mid ys =
+    ap (course_behind course old) frames ∙ course_then course mid_course old mid xs ys dealt in
     record {
       given =
           ap (λ g. g ++ next.given) one.given
-          ∙ ap (λ g. answers old xs ++ g) (other.given ∙ ap (λ m. answers m ys) one.maps)
-          ∙ sym (answers-append old xs ys)
-          ∙ ap (answers old) (sym frames);
-      maps = other.maps ∙ ap (λ m. maps_after_all m ys) one.maps ∙ sym (maps_after_all-append old xs ys) ∙ ap (maps_after_all old) (sym frames);
-      stands = other.stands ∙ ap Holds (sym left_over);
-      is_open = subst IsOpen (sym left_over) other.is_open;
+          ∙ ap (λ g. sent_to course old xs ++ g) other.given
+          ∙ sym (sent_then course mid_course old mid xs ys dealt)
+          ∙ ap (sent_to course old) (sym frames);
+      maps =
+          other.maps ∙ ap (λ m. maps_after_all m (carried_out mid_course ys)) dealt.device
+          ∙ sym (maps_after_all-append old xs (carried_out mid_course ys))
+          ∙ ap (maps_after_all old) (sym (carried_then course mid_course old mid xs ys dealt))
+          ∙ ap (λ fs. maps_after_all old (carried_out course fs)) (sym frames);
+      stands = other.stands ∙ ap (λ r. standing_on r (course_behind mid_course mid ys)) (sym left_over) ∙ ap (standing_on (rest (held ++ (first.taken ++ next.taken)))) (sym same);
+      is_open = λ going. subst IsOpen (sym left_over) (other.is_open (ap is_cut (sym same) ∙ going));
     }
 
-pub all_exchange : (held : List ℕ) (exchanges : List Exchange) (old new : Maps) (standing : Standing) → InOrder held exchanges old new standing → Exchanges held (in_all exchanges) old new standing
-all_exchange held [] old new standing h =
+pub all_exchange : (held : List ℕ) (course : Course) (exchanges : List Exchange) (old new : Maps) (standing : Standing) → InOrder held course exchanges old new standing → Exchanges held course (in_all exchanges) old new standing
+all_exchange held course [] old new standing h =
     let none = nothing_taken held h.2 in
+    let nothing : carried_out course (own_frames (held ++ [])) ≡ [] = ap (carried_out course) none.0 ∙ carried_out-none course in
+    let stays : course_behind course old (own_frames (held ++ [])) ≡ course = ap (course_behind course old) none.0 in
     record {
-      given = sym (ap (answers old) none.0);
-      maps = h.0 ∙ sym (ap (maps_after_all old) none.0);
-      stands = h.1 ∙ ap Holds (sym none.1);
-      is_open = subst IsOpen (sym none.1) h.2;
+      given = sym (ap (sent_to course old) none.0);
+      maps = h.0 ∙ sym (ap (maps_after_all old) nothing);
+      stands = h.1 ∙ ap (λ b. standing_on b course) (sym none.1) ∙ ap (standing_on (rest (held ++ []))) (sym stays);
+      is_open = λ _. subst IsOpen (sym none.1) h.2;
     }
-all_exchange held (first ∷ later) old new standing h =
-    two_exchange held h.1 first (in_all later) old h.0 new standing h.2 (all_exchange h.1 later h.0 new standing h.3)
+all_exchange held course (first ∷ later) old new standing h =
+    two_exchange held h.1 course h.2 first (in_all later) old h.0 new standing h.3 (all_exchange h.1 h.2 later h.0 new standing h.4)

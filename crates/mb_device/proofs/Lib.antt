@@ -1,4 +1,8 @@
 pub mod Gathering
+pub mod Giving
+pub mod Putting
+pub mod Framing
 pub mod Streams
-pub mod Examples
+pub mod Servings
 pub mod Exchanging
+pub mod Examples

@@ -1,10 +1,11 @@
 -- What a server takes and gives over many turns.
-use Rattle.std.specs.Prelude.{◌≡◌, ℕ, List, [], ◌∷◌, ◌++◌}
+use Rattle.std.specs.Prelude.{◌≡◌, ℕ, false, List, [], ◌∷◌, ◌++◌}
 use Rattle.std.specs.List.{flat_map}
 use Rattle.std.specs.Io.KnownBytes.{Appends, Consumes}
 use Rattle.mb_wire.specs.Frames.{IsOpen, rest}
 use Rattle.mb_device.specs.Maps.{Maps}
-use Rattle.mb_device.specs.Serving.{Around, Holds, Standing, answers, maps_after_all, own_frames}
+use Rattle.mb_device.specs.Tricks.{Course, carried_out, is_cut}
+use Rattle.mb_device.specs.Serving.{Around, Holds, Standing, course_behind, maps_after_all, own_frames, sent_to, standing_on}
 
 -- bytes that were taken, and bytes that were given
 pub record Exchange : Type 0 where
@@ -20,24 +21,24 @@ abbrev pub in_all : List Exchange → Exchange
 in_all exchanges =
     record { taken = flat_map (λ exchange. exchange.taken) exchanges; given = flat_map (λ exchange. exchange.given) exchanges }
 
--- Given are the answers, in order, to the frames of this protocol that end in what was taken behind the
+-- Given is what the server sends for the frames of this protocol that end in what was taken behind the
 -- bytes held; and so the device and the server stand.
-pub record Exchanges (held : List ℕ) (exchange : Exchange) (old new : Maps) (standing : Standing) : Type 0 where
-  pub given : exchange.given ≡ answers old (own_frames (held ++ exchange.taken))
-  pub maps : new ≡ maps_after_all old (own_frames (held ++ exchange.taken))
-  pub stands : standing ≡ Holds (rest (held ++ exchange.taken))
-  pub is_open : IsOpen (rest (held ++ exchange.taken))
+pub record Exchanges (held : List ℕ) (course : Course) (exchange : Exchange) (old new : Maps) (standing : Standing) : Type 0 where
+  pub given : exchange.given ≡ sent_to course old (own_frames (held ++ exchange.taken))
+  pub maps : new ≡ maps_after_all old (carried_out course (own_frames (held ++ exchange.taken)))
+  pub stands : standing ≡ standing_on (rest (held ++ exchange.taken)) (course_behind course old (own_frames (held ++ exchange.taken)))
+  pub is_open : is_cut (course_behind course old (own_frames (held ++ exchange.taken))) ≡ false → IsOpen (rest (held ++ exchange.taken))
 
 -- an exchange over a link
-pub record ExchangesOver (held : List ℕ) (old new : Around) (standing : Standing) : Type 0 where
+pub record ExchangesOver (held : List ℕ) (course : Course) (old new : Around) (standing : Standing) : Type 0 where
   pub exchange : Exchange
   pub consumed : Consumes old.remaining new.remaining exchange.taken
   pub given : Appends old.given new.given exchange.given
-  pub exchanges : Exchanges held exchange old.maps new.maps standing
+  pub exchanges : Exchanges held course exchange old.maps new.maps standing
 
 -- Exchanges one after another: at each the device and the server stand as the one before left them. What
 -- lies on the link may change between them.
-abbrev pub InOrder : List ℕ → List Exchange → Maps → Maps → Standing → Type 0
-InOrder held [] old new standing = (new ≡ old) × (standing ≡ Holds held) × IsOpen held
-InOrder held (first ∷ later) old new standing =
-    (mid : Maps) × (left : List ℕ) × Exchanges held first old mid (Holds left) × InOrder left later mid new standing
+abbrev pub InOrder : List ℕ → Course → List Exchange → Maps → Maps → Standing → Type 0
+InOrder held course [] old new standing = (new ≡ old) × (standing ≡ standing_on held course) × IsOpen held
+InOrder held course (first ∷ later) old new standing =
+    (mid : Maps) × (left : List ℕ) × (next : Course) × Exchanges held course first old mid (Holds left next) × InOrder left next later mid new standing

@@ -7,9 +7,12 @@ mod bank;
 mod kinds;
 mod laws;
 mod packing;
+mod sending;
 mod serving;
+mod trick;
 
 pub use bank::Bank;
 pub use kinds::{Area, BankFault, Kind};
-pub use laws::turns_compose;
+pub use laws::{no_trick_is_true, turns_compose};
 pub use serving::{ServeFault, Server, Turned};
+pub use trick::Trick;

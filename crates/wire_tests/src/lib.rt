@@ -17,3 +17,5 @@ mod requests;
 mod serving;
 #[cfg(test)]
 mod spans;
+#[cfg(test)]
+mod tricks;

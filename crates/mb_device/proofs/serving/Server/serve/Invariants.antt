@@ -1,10 +1,11 @@
 use Rattle.std.proofs.Common.{◌≡◌, ℕ, ◌+◌, ◌*◌, ◌^◌, ◌<◌, ◌≤◌, List, true, false}
+use Rattle.mb_device.specs.Tricks.{Course}
 use Rattle.mb_device.specs.Serving.{Holds, Served, TellsTake, around, is_serving}
 use Rattle.mb_device.proofs.serving.Server.serve.Given as goal
 
 abbrev pub invariant-loop-turn : goal.invariant-loop-turn
 invariant-loop-turn g l = record {
-  served : (held : List ℕ) → l.fn.self ≡ Holds held → Served held l.answered
+  served : (held : List ℕ) (course : Course) → l.fn.self ≡ Holds held course → Served held course l.answered
       (around (g.L.Link.remaining l.fn.link) (g.L.Link.given l.fn.link) l.fn.bank)
       (around (g.L.Link.remaining l.link) (g.L.Link.given l.link) l.bank)
       l.self;

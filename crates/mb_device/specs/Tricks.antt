@@ -1,0 +1,123 @@
+-- What a server sends in place of its true answers: the answers of a connection, put through tricks.
+use Rattle.std.specs.Prelude.{ℕ, ◌+◌, ◌-◌, ◌^◌, ◌%◌, ◌==◌, nat_lt, Bool, true, false, if◌then◌else◌, List, [], ◌∷◌, ◌++◌, take, find, Some, None}
+use Rattle.std.specs.Option.{option_map}
+use Rattle.std.specs.declared.option.Option.{Option}
+use Rattle.mb_wire.specs.Bytes.{word}
+use Rattle.mb_wire.specs.Links.{risen}
+use Rattle.mb_wire.specs.Reader.{Fields, spelling}
+use Rattle.mb_device.specs.declared.trick.Trick.{Trick}
+use Rattle.mb_device.specs.declared.trick.Trick.TheVariants as play
+
+abbrev pub answer_of : ℕ → ℕ → List ℕ → Fields
+answer_of tid unit pdu = record { tid = tid; unit = unit; pdu = pdu }
+
+-- the true frame of an answer
+abbrev pub frame_of : Fields → List ℕ
+frame_of answer = spelling answer.tid answer.unit answer.pdu
+
+-- the first trick with the number
+abbrev pub first_trick : List (ℕ × Trick) → ℕ → Option Trick
+first_trick tricks number = option_map (λ (t : ℕ × Trick). t.1) (find (λ (t : ℕ × Trick). t.0 == number) tricks)
+
+-- the trick on the frame with this number; from 2^64 - 1 on there is none
+unfoldable pub trick_at : List (ℕ × Trick) → ℕ → Option Trick
+trick_at tricks number = if nat_lt number (2 ^ 64 - 1) then first_trick tricks number else None
+
+-- the frame of an answer as a trick has it: three of them change its header
+abbrev pub spelled_by : Option Trick → Fields → List ℕ
+spelled_by None answer = frame_of answer
+spelled_by (Some play.Drop) answer = frame_of answer
+spelled_by (Some play.Twice) answer = frame_of answer
+spelled_by (Some play.Later) answer = frame_of answer
+spelled_by (Some play.Id) answer = spelling ((answer.tid + 1) % 65536) answer.unit answer.pdu
+spelled_by (Some play.Unit) answer = spelling answer.tid ((answer.unit + 1) % 256) answer.pdu
+spelled_by (Some play.Garble) answer = word answer.tid ++ word 0 ++ word 0 ++ answer.unit ∷ answer.pdu
+spelled_by (Some (play.Cut count)) answer = frame_of answer
+
+-- What is sent once a frame has been dealt with: of that frame, and then the one that was held before it.
+abbrev pub sent_of : Option Trick → List ℕ → List ℕ → List ℕ
+sent_of None frame later = frame ++ later
+sent_of (Some play.Drop) frame later = later
+sent_of (Some play.Twice) frame later = frame ++ (frame ++ later)
+sent_of (Some play.Later) frame later = later
+sent_of (Some play.Id) frame later = frame ++ later
+sent_of (Some play.Unit) frame later = frame ++ later
+sent_of (Some play.Garble) frame later = frame ++ later
+sent_of (Some (play.Cut count)) frame later = take count frame
+
+-- A connection: its tricks, the number of its next frame (2^64 - 1 for all from there on), and the frame
+-- that is held, empty where none is; or it was cut.
+pub data Course : Type 0 where
+  Playing : List (ℕ × Trick) → ℕ → List ℕ → Course
+  CutOff : Course
+
+-- a connection before its first frame
+abbrev pub begun : List (ℕ × Trick) → Course
+begun tricks = Playing tricks 1 []
+
+abbrev pub course_in : Bool → List (ℕ × Trick) → ℕ → List ℕ → Course
+course_in true tricks number later = CutOff
+course_in false tricks number later = Playing tricks number later
+
+abbrev pub is_cut : Course → Bool
+is_cut (Playing tricks number later) = false
+is_cut CutOff = true
+
+-- the trick cuts the connection
+abbrev pub cuts : Option Trick → Bool
+cuts None = false
+cuts (Some play.Drop) = false
+cuts (Some play.Twice) = false
+cuts (Some play.Later) = false
+cuts (Some play.Id) = false
+cuts (Some play.Unit) = false
+cuts (Some play.Garble) = false
+cuts (Some (play.Cut count)) = true
+
+-- the frame that is held behind a frame with this trick
+abbrev pub later_of : Option Trick → List ℕ → List ℕ
+later_of None frame = []
+later_of (Some play.Drop) frame = []
+later_of (Some play.Twice) frame = []
+later_of (Some play.Later) frame = frame
+later_of (Some play.Id) frame = []
+later_of (Some play.Unit) frame = []
+later_of (Some play.Garble) frame = []
+later_of (Some (play.Cut count)) frame = []
+
+-- a connection behind a frame with this trick
+abbrev pub behind : Option Trick → List ℕ → Course → Course
+behind trick frame (Playing tricks number later) =
+    if cuts trick then CutOff else Playing tricks (risen true number) (later_of trick frame)
+behind trick frame CutOff = CutOff
+
+-- The next answer of a connection: what is sent, and how it goes on.
+unfoldable pub sent_next : Course → Fields → List ℕ
+sent_next (Playing tricks number later) answer =
+    sent_of (trick_at tricks number) (spelled_by (trick_at tricks number) answer) later
+sent_next CutOff answer = []
+
+unfoldable pub course_next : Course → Fields → Course
+course_next (Playing tricks number later) answer =
+    behind (trick_at tricks number) (spelled_by (trick_at tricks number) answer) (Playing tricks number later)
+course_next CutOff answer = CutOff
+
+-- true answers, put through the tricks of a connection: what is sent
+abbrev pub sent : Course → List Fields → List ℕ
+sent course [] = []
+sent course (answer ∷ answers) = sent_next course answer ++ sent (course_next course answer) answers
+
+-- a connection behind answers
+abbrev pub course_after : Course → List Fields → Course
+course_after course [] = course
+course_after course (answer ∷ answers) = course_after (course_next course answer) answers
+
+-- the frames that are dealt with, of those from this number on: all up to one that is cut
+abbrev pub up_to_cut : List (ℕ × Trick) → ℕ → List (List ℕ) → List (List ℕ)
+up_to_cut tricks number [] = []
+up_to_cut tricks number (frame ∷ frames) =
+    frame ∷ (if cuts (trick_at tricks number) then [] else up_to_cut tricks (risen true number) frames)
+
+abbrev pub carried_out : Course → List (List ℕ) → List (List ℕ)
+carried_out (Playing tricks number later) frames = up_to_cut tricks number frames
+carried_out CutOff frames = []
