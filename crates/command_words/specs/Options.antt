@@ -1,0 +1,33 @@
+-- The values that `clap` found of a command's options, and what reading them answers.
+use Rattle.std.specs.Prelude.{◌≡◌, ℕ, Bool, List, Option, Some, None, false, Result, MatchResult, ⊤, codes, unwrap_or, option_and_then}
+use Rattle.std.specs.Str.{bytes_eq}
+use Rattle.std.specs.Option.{option_map_or}
+use Rattle.clap.specs.Words.{Row, Text, first_of}
+use Rattle.command_words.specs.Given.{given}
+use Rattle.command_words.specs.Numbers.{number_up_to}
+use Rattle.command_words.specs.declared.faults.ValueFault.{ValueFault}
+use Rattle.command_words.specs.declared.faults.ValueFault.TheVariants as fault
+
+-- the value of an option: a text, a number, one that may lack, a flag
+abbrev pub text_at : Text → List Row → Option Text
+text_at id rows = first_of id rows
+
+abbrev pub number_at : ℕ → Text → List Row → Option ℕ
+number_at most id rows = given (text_at id rows) (number_up_to most)
+
+abbrev pub text_or : Text → Text → List Row → Text
+text_or otherwise id rows = unwrap_or (text_at id rows) otherwise
+
+abbrev pub is_set : Text → List Row → Bool
+is_set id rows = option_map_or (λ text. bytes_eq text (codes "true")) (text_at id rows) false
+
+-- a fault is told only where there is no such value, but for want of memory
+abbrev pub IsDue : {A : Type 0} → ValueFault → Option A → Type 0
+IsDue fault.Memory due = ⊤
+IsDue (fault.Missing option) due = None ≡ due
+IsDue (fault.Number option word most) due = None ≡ due
+IsDue (fault.Device part fault) due = None ≡ due
+
+-- what reading answers of the value that is due, which `seen` compares
+abbrev pub Reads : {T A : Type 0} → (T → A) → Option A → Result T ValueFault → Type 0
+Reads seen due result = MatchResult result (λ value. Some (seen value) ≡ due) (λ fault. IsDue fault due)

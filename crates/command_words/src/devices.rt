@@ -1,0 +1,132 @@
+// The list of devices that one option names.
+ghost use Rattle.std.specs.Prelude.{◌≡◌, ◌<◌, ◌≤◌, IfOk, IsTrue, MatchOption, MatchResult, [], false, length, map, nat_le, option_map, true};
+ghost use Rattle.std.specs.List.{after_first, after_last, before_first, before_last, list_any, slice_split};
+ghost use Rattle.std.specs.Str.{bytes_eq};
+
+use crate::faults::{DeviceFault, ValueFault};
+use crate::numbers::number_up_to;
+use std::alloc::{AllocError, Global};
+
+/// The most devices of a list.
+pub const MOST_DEVICES: usize = 64;
+
+/// The highest port.
+pub const MOST_PORT: u32 = 65_535;
+
+/// A device of the list `NAME=HOST:PORT`, its texts as they stand there.
+#[derive(Clone, Copy, Debug, PartialEq, Eq, Drop)]
+pub struct Device<'a> {
+    pub name: &'a str,
+    pub host: &'a str,
+    pub port: u16,
+}
+
+ghost use Rattle.command_words.specs.Devices.{are_distinct, device_in, devices_in, is_colon, is_comma, is_equals, name_in, names_in, place_of};
+ghost use Rattle.command_words.specs.Given.{each_of};
+ghost use Rattle.command_words.specs.Options.{Reads};
+
+// What stands round the first `=`.
+fn around_equals<'a>(part: &'a str) -> Option<(&'a str, &'a str)>
+    ensures { MatchOption result ((before_first is_equals part.now ≡ part.now) × (after_first is_equals part.now ≡ [])) (λ around. (around.0.now ≡ before_first is_equals part.now) × (around.1.now ≡ after_first is_equals part.now)) }
+{
+    part.split_once('=')
+}
+
+// What stands round the last `:`.
+fn around_colon<'a>(address: &'a str) -> Option<(&'a str, &'a str)>
+    ensures { MatchOption result (before_last is_colon address.now ≡ []) (λ around. (around.0.now ≡ before_last is_colon address.now) × (around.1.now ≡ after_last is_colon address.now)) }
+{
+    address.rsplit_once(':')
+}
+
+// The device that a part names.
+fn device_in<'a>(part: &'a str) -> Option<Device<'a>>
+    ensures { option_map place_of result ≡ device_in part.now }
+{
+    let (name, address) = around_equals(part)?;
+    let (host, port) = around_colon(address)?;
+    if name.is_empty() || host.is_empty() {
+        return None;
+    }
+    let port = number_up_to(MOST_PORT, port)?;
+    Some(Device {
+        name,
+        host,
+        port: port as u16,
+    })
+}
+
+// The parts between the commas.
+fn parts_of<'a>(alloc: Global, text: &'a str) -> Result<Vec<&'a str>, AllocError>
+    ensures { IfOk result (λ parts. map (λ part. part.now) parts.items ≡ slice_split is_comma text.now) }
+{
+    text.split(',').collect(alloc)
+}
+
+// The name of the device that a part names, also where it names none.
+fn name_of<'a>(part: &'a str) -> &'a str
+    ensures { result.now ≡ name_in part.now }
+{
+    match around_equals(part) {
+        Some((name, _)) => name,
+        None => part,
+    }
+}
+
+// Whether one of the parts has the name.
+fn has_name(parts: &[&str], name: &str) -> bool
+    ensures { result ≡ list_any (λ part. bytes_eq name.now (name_in part.now)) parts.now }
+{
+    parts.iter().any(|part| name == name_of(part))
+}
+
+// Each name stands once, or one of the parts whose name stands twice.
+fn distinct<'a>(parts: &[&'a str]) -> Result<(), ValueFault<'a>>
+    ensures { MatchResult result (λ _. are_distinct (names_in (map (λ part. part.now) parts.now)) ≡ true) (λ _. are_distinct (names_in (map (λ part. part.now) parts.now)) ≡ false) }
+{
+    for (index, part) in parts.iter().enumerate() {
+        if has_name(&parts[index + 1..], name_of(part)) {
+            let fault = DeviceFault::Repeated;
+            return Err(ValueFault::Device { part, fault });
+        }
+    }
+    Ok(())
+}
+
+// The devices that the parts name, each its own.
+fn each_device<'a>(alloc: Global, parts: &[&'a str]) -> Result<Vec<Device<'a>>, ValueFault<'a>>
+    ensures { Reads (λ devices. map place_of devices.items) (each_of device_in (map (λ part. part.now) parts.now)) result }
+{
+    let mut devices = Vec::new(alloc);
+    for part in parts {
+        let Some(device) = device_in(part) else {
+            let fault = DeviceFault::Malformed;
+            return Err(ValueFault::Device { part, fault });
+        };
+        devices.push(device)?;
+    }
+    Ok(devices)
+}
+
+// There are no more parts than a list has, or the first part that is one too many.
+fn few<'a>(parts: &[&'a str]) -> Result<(), ValueFault<'a>>
+    ensures { MatchResult result (λ _. length parts.now ≤ 64) (λ _. 64 < length parts.now) }
+{
+    match parts.get(MOST_DEVICES) {
+        None => Ok(()),
+        Some(part) => {
+            let fault = DeviceFault::TooMany;
+            Err(ValueFault::Device { part, fault })
+        }
+    }
+}
+
+/// The devices of a list `NAME=HOST:PORT` joined by commas: 1 to 64, each name once.
+pub fn devices_in<'a>(alloc: Global, text: &'a str) -> Result<Vec<Device<'a>>, ValueFault<'a>>
+    ensures { Reads (λ devices. map place_of devices.items) (devices_in text.now) result }
+{
+    let parts = parts_of(alloc, text)?;
+    few(&parts)?;
+    distinct(&parts)?;
+    each_device(alloc, &parts)
+}

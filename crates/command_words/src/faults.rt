@@ -1,0 +1,44 @@
+// Why words are no command line.
+use std::alloc::{AllocError, AllocFailed};
+
+/// Why a part of a list of devices is none of its devices.
+#[derive(Clone, Copy, Debug, PartialEq, Eq, Drop)]
+pub enum DeviceFault {
+    Malformed,
+    Repeated,
+    TooMany,
+}
+
+/// Why the value of an option is none that it takes.
+#[derive(Clone, Copy, Debug, PartialEq, Eq, Drop)]
+pub enum ValueFault<'a> {
+    /// There is no value.
+    Missing { option: &'a str },
+    /// The word is no number from 1 to the most.
+    Number { option: &'a str, word: &'a str, most: u32 },
+    /// A part of the list is no device of it.
+    Device { part: &'a str, fault: DeviceFault },
+    Memory,
+}
+
+impl<'a> From<AllocError> for ValueFault<'a> {
+    ghost use Rattle.std.specs.Prelude.{◌≡◌};
+    ghost use Rattle.command_words.specs.declared.faults.ValueFault.TheVariants.{Memory};
+
+    ghost from_gives = { λ _ fault. fault ≡ Memory };
+
+    fn from(_: AllocError) -> ValueFault<'a> {
+        ValueFault::Memory
+    }
+}
+
+impl<'a, T: Drop> From<AllocFailed<T>> for ValueFault<'a> {
+    ghost use Rattle.std.specs.Prelude.{◌≡◌};
+    ghost use Rattle.command_words.specs.declared.faults.ValueFault.TheVariants.{Memory};
+
+    ghost from_gives = { λ _ fault. fault ≡ Memory };
+
+    fn from(_: AllocFailed<T>) -> ValueFault<'a> {
+        ValueFault::Memory
+    }
+}
