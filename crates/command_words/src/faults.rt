@@ -1,4 +1,5 @@
 // Why words are no command line.
+use crate::table::NumberOption;
 use std::alloc::{AllocError, AllocFailed};
 
 /// Why a part of a list of devices is none of its devices.
@@ -15,7 +16,12 @@ pub enum ValueFault<'a> {
     /// There is no value.
     Missing { option: &'a str },
     /// The word is no number from 1 to the most.
-    Number { option: &'a str, word: &'a str, most: u32 },
+    Number {
+        option: NumberOption<'a>,
+        word: &'a str,
+    },
+    /// No command has the name.
+    Command { name: &'a str },
     /// A part of the list is no device of it.
     Device { part: &'a str, fault: DeviceFault },
     Memory,
@@ -41,4 +47,14 @@ impl<'a, T: Drop> From<AllocFailed<T>> for ValueFault<'a> {
     fn from(_: AllocFailed<T>) -> ValueFault<'a> {
         ValueFault::Memory
     }
+}
+
+/// Why words are no command line.
+#[derive(Debug, PartialEq, Eq, Drop)]
+pub enum WordsFault {
+    /// The words are wrong; the text for standard error says how.
+    Wrong(String),
+    /// Help was asked for; the text is for standard output.
+    Help(String),
+    Memory,
 }

@@ -3,5 +3,8 @@
 
 mod devices;
 mod faults;
+mod line;
+mod lines;
 mod numbers;
 mod options;
+mod table;

@@ -1,10 +1,12 @@
 // The values of a command's options.
 ghost use Rattle.std.specs.Prelude.{◌≡◌, ◌≤◌, IfOk, option_map};
 ghost use Rattle.clap.specs.Words.{found_of, rows_of};
-ghost use Rattle.command_words.specs.Options.{Reads, is_set, number_at, text_at, text_or};
+ghost use Rattle.command_words.specs.Numbers.{number_up_to};
+ghost use Rattle.command_words.specs.Options.{Reads, is_set, number_at, number_if, text_at, text_or};
 
 use crate::faults::ValueFault;
 use crate::numbers::number_up_to;
+use crate::table::NumberOption;
 use clap::ArgMatches;
 
 // The value of an option, where it has one.
@@ -24,19 +26,39 @@ pub fn text<'a>(found: &ArgMatches<'a>, option: &'static str) -> Result<&'a str,
     }
 }
 
-// The number of an option that must stand, from 1 to the most.
+// The number of an option that must stand.
 pub fn number<'a>(
     found: &ArgMatches<'a>,
-    option: &'static str,
-    most: u32,
+    option: NumberOption<'static>,
 ) -> Result<u32, ValueFault<'a>>
-    ensures value { Reads (λ number. number) (number_at most option.now (rows_of (found_of found.now))) result }
-    ensures within { IfOk result (λ number. number ≤ most) }
+    ensures value { Reads (λ number. number) (number_at option.entry.most option.entry.name.now (rows_of (found_of found.now))) result }
+    ensures within { IfOk result (λ number. number ≤ option.entry.most) }
 {
-    let word = text(found, option)?;
-    match number_up_to(most, word) {
+    let word = text(found, option.name)?;
+    number_in(option, word)
+}
+
+// The number of an option that may lack.
+pub fn number_if<'a>(
+    found: &ArgMatches<'a>,
+    option: NumberOption<'static>,
+) -> Result<Option<u32>, ValueFault<'a>>
+    ensures { Reads (λ number. number) (number_if option.entry.most option.entry.name.now (rows_of (found_of found.now))) result }
+{
+    match value(found, option.name) {
+        Some(word) => Ok(Some(number_in(option, word)?)),
+        None => Ok(None),
+    }
+}
+
+// The number that a word spells, in the range of its option.
+fn number_in<'a>(option: NumberOption<'static>, word: &'a str) -> Result<u32, ValueFault<'a>>
+    ensures value { Reads (λ number. number) (number_up_to option.entry.most word.now) result }
+    ensures within { IfOk result (λ number. number ≤ option.entry.most) }
+{
+    match number_up_to(option.most, word) {
         Some(number) => Ok(number),
-        None => Err(ValueFault::Number { option, word, most }),
+        None => Err(ValueFault::Number { option, word }),
     }
 }
 
