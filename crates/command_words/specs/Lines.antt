@@ -80,13 +80,16 @@ stand_in_in rows =
     given (port_in rows) (λ port.
     given (connections_in rows) (λ connections. Some (StandIn (host_in rows) port connections)))
 
+abbrev pub devices_at : List Row → Option (List Place)
+devices_at rows = given (text_at (codes "devices") rows) devices_in
+
 abbrev pub run_in : List Row → Option Line
 run_in rows =
     given (db_in rows) (λ db.
     given (number_at 65535 (codes "listen") rows) (λ listen.
     given (number_at 86400 (codes "every") rows) (λ every.
-    given (given (text_at (codes "devices") rows) devices_in) (λ devices.
     given (number_if 4000000000 (codes "for") rows) (λ lasts.
+    given (devices_at rows) (λ devices.
     Some (Run db listen every devices lasts (is_set (codes "verbose") rows)))))))
 
 -- the command of a name, with what was found of its options

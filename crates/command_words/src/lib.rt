@@ -8,3 +8,4 @@ mod lines;
 mod numbers;
 mod options;
 mod table;
+mod words;

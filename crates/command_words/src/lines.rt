@@ -1,9 +1,9 @@
 // The command of what was found.
-ghost use Rattle.std.specs.Prelude.{◌≡◌};
+ghost use Rattle.std.specs.Prelude.{◌≡◌, map};
 ghost use Rattle.clap.specs.Words.{found_of, rows_of, subcommand_rows_of};
 ghost use Rattle.command_words.specs.Devices.{devices_in, place_of};
 ghost use Rattle.command_words.specs.Given.{given};
-ghost use Rattle.command_words.specs.Lines.{command_in, create_in, line_in, report_in, round_in, run_in, seen, serve_in, stand_in_in};
+ghost use Rattle.command_words.specs.Lines.{command_in, create_in, devices_at, line_in, report_in, round_in, run_in, seen, serve_in, stand_in_in};
 ghost use Rattle.command_words.specs.Options.{Reads};
 
 use crate::devices::{Device, devices_in};
@@ -67,4 +67,70 @@ fn stand_in_line<'a>(found: &ArgMatches<'a>) -> Result<CommandLine<'a>, ValueFau
         port: port as u16,
         connections,
     })
+}
+
+// The devices that the option names.
+fn devices<'a>(alloc: Global, found: &ArgMatches<'a>) -> Result<Vec<Device<'a>>, ValueFault<'a>>
+    ensures { Reads (λ devices. map place_of devices.items) (devices_at (rows_of (found_of found.now))) result }
+{
+    let list = text(found, "devices")?;
+    devices_in(alloc, list)
+}
+
+fn run_line<'a>(alloc: Global, found: &ArgMatches<'a>) -> Result<CommandLine<'a>, ValueFault<'a>>
+    ensures { Reads seen (run_in (rows_of (found_of found.now))) result }
+{
+    let db = text(found, "db")?;
+    let listen = number(found, LISTEN)?;
+    let every = number(found, EVERY)?;
+    let lasts = number_if(found, LASTS)?;
+    let devices = devices(alloc, found)?;
+    Ok(CommandLine::Run {
+        db,
+        listen: listen as u16,
+        every,
+        devices,
+        lasts,
+        verbose: is_set(found, "verbose"),
+    })
+}
+
+// The command of a name, with what was found of its options.
+fn command_line<'a>(
+    alloc: Global,
+    name: &'a str,
+    found: &ArgMatches<'a>,
+) -> Result<CommandLine<'a>, ValueFault<'a>>
+    ensures { Reads seen (command_in name.entry.now (rows_of (found_of found.now))) result }
+{
+    match name {
+        "replay" => Ok(CommandLine::Replay {
+            zone: text_or(found, "zone", ZONE),
+        }),
+        "plan" => Ok(CommandLine::Plan),
+        "chain" => Ok(CommandLine::Chain),
+        "create" => create_line(found),
+        "serve" => serve_line(found),
+        "round" => round_line(found),
+        "report" => report_line(found),
+        "stand-in" => stand_in_line(found),
+        "loop" => Ok(CommandLine::Loop {
+            zone: text_or(found, "zone", ZONE),
+        }),
+        "run" => run_line(alloc, found),
+        _ => Err(ValueFault::Command { name }),
+    }
+}
+
+/// The command that was found; without one, `replay`.
+pub fn line_in<'a>(
+    alloc: Global,
+    found: &ArgMatches<'a>,
+) -> Result<CommandLine<'a>, ValueFault<'a>>
+    ensures { Reads seen (line_in (subcommand_rows_of found.now)) result }
+{
+    match found.subcommand() {
+        None => Ok(CommandLine::Replay { zone: ZONE }),
+        Some((name, inner)) => command_line(alloc, name, inner),
+    }
 }
