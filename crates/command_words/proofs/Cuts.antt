@@ -57,7 +57,7 @@ last_found c bs front back low cut =
     let ends : cut.1 ≡ cut.0 + 1 = cut.2.1.ends ∙ ap (λ n. cut.0 + n) (len_utf8_ascii c low) in
     let within : cut.1 ≤ length bs = omega (arith, cut.7) in
     let at : (get_or bs (cut.1 - 1) 0 == c) ≡ true =
-      agrees _ _ (ap (λ n. get_or bs n 0) (sym (before_it cut.0 cut.1 ends)) ∙ cut.2.1.byte low) in
+    agrees _ _ (ap (λ n. get_or bs n 0) (sym (before_it cut.0 cut.1 ends)) ∙ cut.2.1.byte low) in
     let size = last_at (λ b. b == c) bs cut.1 within (λ k from to. none_after c bs cut.1 k low cut.2.0 from to) (λ _. at) in
     let place = places (length bs) _ cut.0 cut.1 size within ends in
     (cut.3 ∙ ap (λ n. take n bs) place.0, cut.4 ∙ ap (λ n. drop n bs) place.1)

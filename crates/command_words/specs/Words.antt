@@ -31,9 +31,9 @@ Spells words line = (errors_of (texts words) ≡ []) × (Some (seen line) ≡ li
 
 -- Wrong is due where `clap` has an error that is no request for help, or finds no values in their ranges;
 -- Help where help was asked for
-abbrev pub IsDue : List (Bor Text) → WordsFault → Type 0
-IsDue words (Wrong text) =
+abbrev pub IsFaultOf : List (Bor Text) → WordsFault → Type 0
+IsFaultOf words (Wrong text) =
     HasFault (errors_of (texts words))
     ⊎ ((errors_of (texts words) ≡ []) × (None ≡ line_of (texts words)))
-IsDue words (Help text) = IsAmong DisplayHelp (errors_of (texts words))
-IsDue words Memory = ⊤
+IsFaultOf words (Help text) = IsAmong DisplayHelp (errors_of (texts words))
+IsFaultOf words Memory = ⊤

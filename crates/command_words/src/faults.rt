@@ -1,6 +1,9 @@
 // Why words are no command line.
+use crate::devices::{MOST_DEVICES, MOST_PORT};
 use crate::table::NumberOption;
 use std::alloc::{AllocError, AllocFailed};
+use std::fmt;
+use std::fmt::{Display, Formatter};
 
 /// Why a part of a list of devices is none of its devices.
 #[derive(Clone, Copy, Debug, PartialEq, Eq, Drop)]
@@ -14,16 +17,23 @@ pub enum DeviceFault {
 #[derive(Clone, Copy, Debug, PartialEq, Eq, Drop)]
 pub enum ValueFault<'a> {
     /// There is no value.
-    Missing { option: &'a str },
+    Missing {
+        option: &'a str,
+    },
     /// The word is no number from 1 to the most.
     Number {
         option: NumberOption<'a>,
         word: &'a str,
     },
     /// No command has the name.
-    Command { name: &'a str },
+    Command {
+        name: &'a str,
+    },
     /// A part of the list is no device of it.
-    Device { part: &'a str, fault: DeviceFault },
+    Device {
+        part: &'a str,
+        fault: DeviceFault,
+    },
     Memory,
 }
 
@@ -57,4 +67,43 @@ pub enum WordsFault {
     /// Help was asked for; the text is for standard output.
     Help(String),
     Memory,
+}
+
+impl Display for DeviceFault {
+    fn fmt<W: fmt::Write>(&self, f: &mut Formatter<W>) -> fmt::Result {
+        match self {
+            DeviceFault::Malformed => write!(
+                f,
+                "not NAME=HOST:PORT with a PORT from 1 to {MOST_PORT}"
+            ),
+            DeviceFault::Repeated => write!(f, "its NAME stands twice"),
+            DeviceFault::TooMany => write!(f, "one more than {MOST_DEVICES} devices"),
+        }
+    }
+}
+
+// The text in the form of those that `clap` writes.
+impl<'a> Display for ValueFault<'a> {
+    fn fmt<W: fmt::Write>(&self, f: &mut Formatter<W>) -> fmt::Result {
+        match self {
+            ValueFault::Missing { option } => write!(
+                f,
+                "error: the option '--{option}' is missing"
+            )?,
+            ValueFault::Number { option, word } => write!(
+                f,
+                "error: invalid value '{word}' for '--{} <{}>': not a number from 1 to {}",
+                option.name, option.value, option.most
+            )?,
+            ValueFault::Command { name } => write!(f, "error: unrecognized subcommand '{name}'")?,
+            ValueFault::Device { part, fault } => {
+                write!(
+                    f,
+                    "error: invalid value '{part}' for '--devices <LIST>': {fault}"
+                )?
+            }
+            ValueFault::Memory => write!(f, "error: no memory is left")?,
+        }
+        write!(f, "\n\nFor more information, try '--help'.\n")
+    }
 }

@@ -9,3 +9,8 @@ mod numbers;
 mod options;
 mod table;
 mod words;
+
+pub use devices::Device;
+pub use faults::WordsFault;
+pub use line::CommandLine;
+pub use words::command_of;

@@ -6,13 +6,18 @@ use crate::devices::Device;
 #[derive(Debug, PartialEq, Eq, Drop)]
 pub enum CommandLine<'a> {
     /// A script from standard input, over books in memory.
-    Replay { zone: &'a str },
+    Replay {
+        zone: &'a str,
+    },
     /// The reads of a point list from standard input.
     Plan,
     /// The SunSpec models of an image from standard input.
     Chain,
     /// New tables in a file.
-    Create { db: &'a str, zone: &'a str },
+    Create {
+        db: &'a str,
+        zone: &'a str,
+    },
     /// HTTP, for a number of connections.
     Serve {
         db: &'a str,
@@ -27,7 +32,10 @@ pub enum CommandLine<'a> {
         port: u16,
     },
     /// The energy of a register by days.
-    Report { db: &'a str, register: &'a str },
+    Report {
+        db: &'a str,
+        register: &'a str,
+    },
     /// A Modbus device with a bank from standard input, for a number of connections.
     StandIn {
         host: &'a str,
@@ -35,7 +43,9 @@ pub enum CommandLine<'a> {
         connections: u32,
     },
     /// A script whose devices are a stand-in.
-    Loop { zone: &'a str },
+    Loop {
+        zone: &'a str,
+    },
     /// Rounds of devices every so many seconds, and HTTP, until it is ended or the seconds of `lasts` are over.
     Run {
         db: &'a str,

@@ -123,10 +123,7 @@ fn command_line<'a>(
 }
 
 /// The command that was found; without one, `replay`.
-pub fn line_in<'a>(
-    alloc: Global,
-    found: &ArgMatches<'a>,
-) -> Result<CommandLine<'a>, ValueFault<'a>>
+pub fn line_in<'a>(alloc: Global, found: &ArgMatches<'a>) -> Result<CommandLine<'a>, ValueFault<'a>>
     ensures { Reads seen (line_in (subcommand_rows_of found.now)) result }
 {
     match found.subcommand() {
