@@ -1,7 +1,10 @@
 -- What `clap` takes a program to be that is described by tables.
-use Rattle.std.specs.Prelude.{Some, List, true, fold}
-use Rattle.clap.specs.Words.{App, Rule, Text, new_app, new_rule, with_rule, with_subcommand}
+use Rattle.std.specs.Prelude.{◌≡◌, Some, List, Result, true, fold, map}
+use Rattle.std.specs.Borrow.{Bor}
+use Rattle.clap.specs.Words.{App, FailsBy, Rule, Text, fault_of, new_app, new_rule, subcommand_of, subcommand_rows_of, with_rule, with_subcommand}
 use Rattle.clap.specs.declared.builder.action.ArgAction.TheVariants.{SetTrue}
+use Rattle.clap.specs.declared.error.Error.{Error}
+use Rattle.clap.specs.declared.parser.matches.ArgMatches.{ArgMatches}
 use Rattle.command_table.specs.declared.tables.CommandText.{CommandText}
 use Rattle.command_table.specs.declared.tables.OptionText.{OptionText}
 use Rattle.command_table.specs.declared.tables.ProgramText.{ProgramText}
@@ -45,14 +48,33 @@ rule_by name value.Absent = flag name
 abbrev pub option_rule : OptionText → Rule
 option_rule o = rule_by o.name.now o.value
 
+-- an app with an option, with several, and with a command, of the tables
 abbrev pub with_option : App → OptionText → App
 with_option a o = with_rule a (option_rule o)
 
+abbrev pub with_options : App → List OptionText → App
+with_options a options = fold with_option a options
+
 abbrev pub command_app : CommandText → App
-command_app c = fold with_option (new_app c.name.now) c.options.now
+command_app c = with_options (new_app c.name.now) c.options.now
 
 abbrev pub with_command : App → CommandText → App
 with_command a c = with_subcommand a (command_app c).top
 
+abbrev pub with_commands : App → List CommandText → App
+with_commands a commands = fold with_command a commands
+
 abbrev pub program_app : ProgramText → App
-program_app p = without_name (fold with_command (new_app p.name.now) p.commands.now)
+program_app p = without_name (with_commands (new_app p.name.now) p.commands.now)
+
+-- ---- what `clap` finds
+
+abbrev pub texts : List (Bor Text) → List Text
+texts words = map (λ word. word.now) words
+
+abbrev pub IsFound : ProgramText → List (Bor Text) → ArgMatches → Type 0
+IsFound program words found =
+    subcommand_rows_of found ≡ subcommand_of (program_app program) (texts words)
+
+abbrev pub Fails : {T : Type 0} → ProgramText → List (Bor Text) → Result T Error → Type 0
+Fails program words result = FailsBy (fault_of (program_app program) (texts words)) result

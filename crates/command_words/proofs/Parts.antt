@@ -7,12 +7,9 @@ use Rattle.std.proofs.Math.Seq.{drop-cons}
 use Rattle.std.proofs.lemmas.List.{take_all, map-append, map_more, get_or-map, length-map}
 use Rattle.clap.proofs.WalkLemmas.{list_any-map}
 use Rattle.clap.specs.Words.{Text}
-use Rattle.command_words.specs.Devices.{are_distinct, device_in, name_in, names_in, place_of}
+use Rattle.command_words.specs.Devices.{are_distinct, device_in, name_in, names_in, place_of, texts}
 use Rattle.command_words.specs.Given.{each_of, given}
 use Rattle.command_words.specs.declared.devices.Device.{Device}
-
-abbrev pub texts : List (Bor Text) → List Text
-texts parts = map (λ part. part.now) parts
 
 -- ---- what each item gives, with one more item
 

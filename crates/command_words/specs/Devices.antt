@@ -1,7 +1,8 @@
 -- The devices that a list names: NAME=HOST:PORT, joined by commas.
-use Rattle.std.specs.Prelude.{ℕ, ◌==◌, ◌&&◌, ◌||◌, Bool, true, not, List, [], ◌∷◌, Option, Some, None, map, length, nat_le, if◌then◌else◌}
+use Rattle.std.specs.Prelude.{◌≡◌, MatchOption, ℕ, ◌==◌, ◌&&◌, ◌||◌, Bool, true, not, List, [], ◌∷◌, Option, Some, None, map, length, nat_le, if◌then◌else◌}
 use Rattle.std.specs.List.{after_first, after_last, before_first, before_last, list_any, slice_split}
 use Rattle.std.specs.Str.{bytes_eq}
+use Rattle.std.specs.Borrow.{Bor}
 use Rattle.clap.specs.Words.{Text}
 use Rattle.command_words.specs.Given.{each_of, given}
 use Rattle.command_words.specs.Numbers.{number_up_to}
@@ -15,6 +16,9 @@ pub record Place : Type 0 where
 
 abbrev pub place_of : Device → Place
 place_of d = record { name = d.name.now; host = d.host.now; port = d.port }
+
+abbrev pub places_of : List Device → List Place
+places_of devices = map place_of devices
 
 abbrev pub is_comma : ℕ → Bool
 is_comma byte = byte == 44
@@ -49,6 +53,17 @@ device_in part =
     if is_empty (name_in part) || is_empty (host_in address) then None
     else given (port_in address) (λ port. Some (record { name = name_in part; host = host_in address; port = port }))
 
+-- what stands round the first `=`, and round the last `:`
+abbrev pub CutsAtEquals : Text → Option (Bor Text × Bor Text) → Type 0
+CutsAtEquals part result =
+    MatchOption result ((name_in part ≡ part) × (address_in part ≡ []))
+    (λ around. (around.0.now ≡ name_in part) × (around.1.now ≡ address_in part))
+
+abbrev pub CutsAtLastColon : Text → Option (Bor Text × Bor Text) → Type 0
+CutsAtLastColon address result =
+    MatchOption result (host_in address ≡ [])
+    (λ around. (around.0.now ≡ host_in address) × (around.1.now ≡ after_last is_colon address))
+
 -- no text stands twice
 abbrev pub are_distinct : List Text → Bool
 are_distinct [] = true
@@ -56,6 +71,15 @@ are_distinct (text ∷ texts) = not (list_any (bytes_eq text) texts) && are_dist
 
 abbrev pub names_in : List Text → List Text
 names_in parts = map name_in parts
+
+abbrev pub texts : List (Bor Text) → List Text
+texts parts = map (λ part. part.now) parts
+
+abbrev pub has_name : List (Bor Text) → Text → Bool
+has_name parts name = list_any (λ part. bytes_eq name (name_in part.now)) parts
+
+abbrev pub have_distinct_names : List (Bor Text) → Bool
+have_distinct_names parts = are_distinct (names_in (texts parts))
 
 -- 1 to 64 devices, each with a name of its own
 abbrev pub devices_of : List Text → Option (List Place)

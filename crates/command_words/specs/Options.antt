@@ -2,11 +2,16 @@
 use Rattle.std.specs.Prelude.{◌≡◌, ℕ, Bool, List, Option, Some, None, false, Result, MatchResult, ⊤, codes, unwrap_or, option_map}
 use Rattle.std.specs.Str.{bytes_eq}
 use Rattle.std.specs.Option.{option_map_or}
-use Rattle.clap.specs.Words.{Row, Text, first_of}
+use Rattle.clap.specs.Words.{Row, Text, first_of, found_of, rows_of}
+use Rattle.clap.specs.declared.parser.matches.ArgMatches.{ArgMatches}
 use Rattle.command_words.specs.Given.{given}
 use Rattle.command_words.specs.Numbers.{number_up_to}
 use Rattle.command_words.specs.declared.faults.ValueFault.{ValueFault}
 use Rattle.command_words.specs.declared.faults.ValueFault.TheVariants as fault
+
+-- what was found of a command's options
+abbrev pub rows_in : ArgMatches → List Row
+rows_in found = rows_of (found_of found)
 
 -- the value of an option: a text, a number, one that may lack, a flag
 abbrev pub text_at : Text → List Row → Option Text

@@ -1,16 +1,19 @@
 -- What is due where the program is given words.
-use Rattle.std.specs.Prelude.{◌≡◌, ◌≢◌, ◌⊎◌, ⊤, List, [], ◌∷◌, Option, None, Some, map}
+use Rattle.std.specs.Prelude.{◌≡◌, ◌≢◌, ◌⊎◌, ⊤, List, [], ◌∷◌, Option, None, Some}
 use Rattle.std.specs.Borrow.{Bor}
-use Rattle.clap.specs.Words.{IsAmong, Kinds, Text, fault_of, subcommand_of}
+use Rattle.clap.specs.Words.{IsAmong, Kinds, Text, fault_of, subcommand_of, subcommand_rows_of}
+use Rattle.clap.specs.declared.parser.matches.ArgMatches.{ArgMatches}
 use Rattle.clap.specs.declared.error.kind.ErrorKind.TheVariants.{DisplayHelp}
+use Rattle.command_table.specs.Table.{texts}
 use Rattle.command_words.specs.Lines.{Line, line_in, seen}
 use Rattle.command_words.specs.Program.{program}
 use Rattle.command_words.specs.declared.line.CommandLine.{CommandLine}
 use Rattle.command_words.specs.declared.faults.WordsFault.{WordsFault}
 use Rattle.command_words.specs.declared.faults.WordsFault.TheVariants.{Wrong, Help, Memory}
 
-abbrev pub texts : List (Bor Text) → List Text
-texts words = map (λ word. word.now) words
+-- `clap` finds the command that stands in the words
+abbrev pub IsFound : List (Bor Text) → ArgMatches → Type 0
+IsFound words found = subcommand_rows_of found ≡ subcommand_of program (texts words)
 
 -- the command that the words spell, by what `clap` finds in them
 abbrev pub line_of : List Text → Option Line

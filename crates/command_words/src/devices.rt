@@ -1,7 +1,11 @@
 // The list of devices that one option names.
-ghost use Rattle.std.specs.Prelude.{◌≡◌, ◌<◌, ◌≤◌, IfOk, IsTrue, MatchOption, MatchResult, [], false, length, map, nat_le, option_map, true};
-ghost use Rattle.std.specs.List.{after_first, after_last, before_first, before_last, list_any, slice_split};
-ghost use Rattle.std.specs.Str.{bytes_eq};
+ghost use Rattle.std.specs.Prelude.{◌≡◌, ◌<◌, ◌≤◌, IfOk, MatchResult, is_ok, length, option_map};
+ghost use Rattle.std.specs.List.{slice_split};
+ghost use Rattle.command_words.specs.Devices.{CutsAtEquals, CutsAtLastColon, device_in, devices_in};
+ghost use Rattle.command_words.specs.Devices.{has_name, have_distinct_names, is_comma, name_in};
+ghost use Rattle.command_words.specs.Devices.{place_of, places_of, texts};
+ghost use Rattle.command_words.specs.Given.{each_of};
+ghost use Rattle.command_words.specs.Options.{Reads};
 
 use crate::faults::{DeviceFault, ValueFault};
 use crate::numbers::number_up_to;
@@ -21,20 +25,16 @@ pub struct Device<'a> {
     pub port: u16,
 }
 
-ghost use Rattle.command_words.specs.Devices.{are_distinct, device_in, devices_in, is_colon, is_comma, is_equals, name_in, names_in, place_of};
-ghost use Rattle.command_words.specs.Given.{each_of};
-ghost use Rattle.command_words.specs.Options.{Reads};
-
 // What stands round the first `=`.
 fn around_equals<'a>(part: &'a str) -> Option<(&'a str, &'a str)>
-    ensures { MatchOption result ((before_first is_equals part.now ≡ part.now) × (after_first is_equals part.now ≡ [])) (λ around. (around.0.now ≡ before_first is_equals part.now) × (around.1.now ≡ after_first is_equals part.now)) }
+    ensures { CutsAtEquals part.now result }
 {
     part.split_once('=')
 }
 
 // What stands round the last `:`.
 fn around_colon<'a>(address: &'a str) -> Option<(&'a str, &'a str)>
-    ensures { MatchOption result (before_last is_colon address.now ≡ []) (λ around. (around.0.now ≡ before_last is_colon address.now) × (around.1.now ≡ after_last is_colon address.now)) }
+    ensures { CutsAtLastColon address.now result }
 {
     address.rsplit_once(':')
 }
@@ -58,7 +58,7 @@ fn device_in<'a>(part: &'a str) -> Option<Device<'a>>
 
 // The parts between the commas.
 fn parts_of<'a>(alloc: Global, text: &'a str) -> Result<Vec<&'a str>, AllocError>
-    ensures { IfOk result (λ parts. map (λ part. part.now) parts.items ≡ slice_split is_comma text.now) }
+    ensures { IfOk result (λ parts. texts parts.items ≡ slice_split is_comma text.now) }
 {
     text.split(',').collect(alloc)
 }
@@ -75,14 +75,14 @@ fn name_of<'a>(part: &'a str) -> &'a str
 
 // Whether one of the parts has the name.
 fn has_name(parts: &[&str], name: &str) -> bool
-    ensures { result ≡ list_any (λ part. bytes_eq name.now (name_in part.now)) parts.now }
+    ensures { result ≡ has_name parts.now name.now }
 {
     parts.iter().any(|part| name == name_of(part))
 }
 
 // Each name stands once, or one of the parts whose name stands twice.
 fn distinct<'a>(parts: &[&'a str]) -> Result<(), ValueFault<'a>>
-    ensures { MatchResult result (λ _. are_distinct (names_in (map (λ part. part.now) parts.now)) ≡ true) (λ _. are_distinct (names_in (map (λ part. part.now) parts.now)) ≡ false) }
+    ensures { is_ok result ≡ have_distinct_names parts.now }
 {
     for (index, part) in parts.iter().enumerate() {
         if has_name(&parts[index + 1..], name_of(part)) {
@@ -95,7 +95,7 @@ fn distinct<'a>(parts: &[&'a str]) -> Result<(), ValueFault<'a>>
 
 // The devices that the parts name, each its own.
 fn each_device<'a>(alloc: Global, parts: &[&'a str]) -> Result<Vec<Device<'a>>, ValueFault<'a>>
-    ensures { Reads (λ devices. map place_of devices.items) (each_of device_in (map (λ part. part.now) parts.now)) result }
+    ensures { Reads (λ devices. places_of devices.items) (each_of device_in (texts parts.now)) result }
 {
     let mut devices = Vec::new(alloc);
     for part in parts {
@@ -123,7 +123,7 @@ fn few<'a>(parts: &[&'a str]) -> Result<(), ValueFault<'a>>
 
 /// The devices of a list `NAME=HOST:PORT` joined by commas: 1 to 64, each name once.
 pub fn devices_in<'a>(alloc: Global, text: &'a str) -> Result<Vec<Device<'a>>, ValueFault<'a>>
-    ensures { Reads (λ devices. map place_of devices.items) (devices_in text.now) result }
+    ensures { Reads (λ devices. places_of devices.items) (devices_in text.now) result }
 {
     let parts = parts_of(alloc, text)?;
     few(&parts)?;

@@ -6,7 +6,7 @@ use std::fmt;
 use std::fmt::{Display, Formatter};
 
 /// Why a part of a list of devices is none of its devices.
-#[derive(Clone, Copy, Debug, PartialEq, Eq, Drop)]
+#[derive(Clone, Copy, Drop)]
 pub enum DeviceFault {
     Malformed,
     Repeated,
@@ -14,7 +14,7 @@ pub enum DeviceFault {
 }
 
 /// Why the value of an option is none that it takes.
-#[derive(Clone, Copy, Debug, PartialEq, Eq, Drop)]
+#[derive(Clone, Copy, Drop)]
 pub enum ValueFault<'a> {
     /// There is no value.
     Missing {

@@ -1,10 +1,10 @@
 // The command of what was found.
-ghost use Rattle.std.specs.Prelude.{◌≡◌, map};
-ghost use Rattle.clap.specs.Words.{found_of, rows_of, subcommand_rows_of};
-ghost use Rattle.command_words.specs.Devices.{devices_in, place_of};
+ghost use Rattle.std.specs.Prelude.{◌≡◌};
+ghost use Rattle.clap.specs.Words.{subcommand_rows_of};
+ghost use Rattle.command_words.specs.Devices.{places_of};
 ghost use Rattle.command_words.specs.Given.{given};
 ghost use Rattle.command_words.specs.Lines.{command_in, create_in, devices_at, line_in, report_in, round_in, run_in, seen, serve_in, stand_in_in};
-ghost use Rattle.command_words.specs.Options.{Reads};
+ghost use Rattle.command_words.specs.Options.{Reads, rows_in};
 
 use crate::devices::{Device, devices_in};
 use crate::faults::ValueFault;
@@ -15,7 +15,7 @@ use clap::ArgMatches;
 use std::alloc::Global;
 
 fn create_line<'a>(found: &ArgMatches<'a>) -> Result<CommandLine<'a>, ValueFault<'a>>
-    ensures { Reads seen (create_in (rows_of (found_of found.now))) result }
+    ensures { Reads seen (create_in (rows_in found.now)) result }
 {
     let db = text(found, "db")?;
     let zone = text(found, "zone")?;
@@ -23,7 +23,7 @@ fn create_line<'a>(found: &ArgMatches<'a>) -> Result<CommandLine<'a>, ValueFault
 }
 
 fn serve_line<'a>(found: &ArgMatches<'a>) -> Result<CommandLine<'a>, ValueFault<'a>>
-    ensures { Reads seen (serve_in (rows_of (found_of found.now))) result }
+    ensures { Reads seen (serve_in (rows_in found.now)) result }
 {
     let db = text(found, "db")?;
     let port = number(found, PORT)?;
@@ -36,7 +36,7 @@ fn serve_line<'a>(found: &ArgMatches<'a>) -> Result<CommandLine<'a>, ValueFault<
 }
 
 fn round_line<'a>(found: &ArgMatches<'a>) -> Result<CommandLine<'a>, ValueFault<'a>>
-    ensures { Reads seen (round_in (rows_of (found_of found.now))) result }
+    ensures { Reads seen (round_in (rows_in found.now)) result }
 {
     let db = text(found, "db")?;
     let device = text(found, "device")?;
@@ -50,7 +50,7 @@ fn round_line<'a>(found: &ArgMatches<'a>) -> Result<CommandLine<'a>, ValueFault<
 }
 
 fn report_line<'a>(found: &ArgMatches<'a>) -> Result<CommandLine<'a>, ValueFault<'a>>
-    ensures { Reads seen (report_in (rows_of (found_of found.now))) result }
+    ensures { Reads seen (report_in (rows_in found.now)) result }
 {
     let db = text(found, "db")?;
     let register = text(found, "register")?;
@@ -58,7 +58,7 @@ fn report_line<'a>(found: &ArgMatches<'a>) -> Result<CommandLine<'a>, ValueFault
 }
 
 fn stand_in_line<'a>(found: &ArgMatches<'a>) -> Result<CommandLine<'a>, ValueFault<'a>>
-    ensures { Reads seen (stand_in_in (rows_of (found_of found.now))) result }
+    ensures { Reads seen (stand_in_in (rows_in found.now)) result }
 {
     let port = number(found, PORT)?;
     let connections = number(found, CONNECTIONS)?;
@@ -71,14 +71,14 @@ fn stand_in_line<'a>(found: &ArgMatches<'a>) -> Result<CommandLine<'a>, ValueFau
 
 // The devices that the option names.
 fn devices<'a>(alloc: Global, found: &ArgMatches<'a>) -> Result<Vec<Device<'a>>, ValueFault<'a>>
-    ensures { Reads (λ devices. map place_of devices.items) (devices_at (rows_of (found_of found.now))) result }
+    ensures { Reads (λ devices. places_of devices.items) (devices_at (rows_in found.now)) result }
 {
     let list = text(found, "devices")?;
     devices_in(alloc, list)
 }
 
 fn run_line<'a>(alloc: Global, found: &ArgMatches<'a>) -> Result<CommandLine<'a>, ValueFault<'a>>
-    ensures { Reads seen (run_in (rows_of (found_of found.now))) result }
+    ensures { Reads seen (run_in (rows_in found.now)) result }
 {
     let db = text(found, "db")?;
     let listen = number(found, LISTEN)?;
@@ -101,7 +101,7 @@ fn command_line<'a>(
     name: &'a str,
     found: &ArgMatches<'a>,
 ) -> Result<CommandLine<'a>, ValueFault<'a>>
-    ensures { Reads seen (command_in name.entry.now (rows_of (found_of found.now))) result }
+    ensures { Reads seen (command_in name.entry.now (rows_in found.now)) result }
 {
     match name {
         "replay" => Ok(CommandLine::Replay {

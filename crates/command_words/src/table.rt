@@ -2,7 +2,7 @@
 use command_table::{CommandText, OptionText, ProgramText, Value};
 
 /// An option whose value is a number from 1 to the most; the help shows `value` for it.
-#[derive(Clone, Copy, Debug, PartialEq, Eq, Drop)]
+#[derive(Clone, Copy, Drop)]
 pub struct NumberOption<'a> {
     pub name: &'a str,
     pub value: &'a str,

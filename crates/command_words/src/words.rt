@@ -1,9 +1,9 @@
 // The command that the words spell.
 ghost use Rattle.std.specs.Prelude.{◌≡◌, IfErr, IfOk};
-ghost use Rattle.clap.specs.Words.{FailsBy, kind_of, subcommand_of, subcommand_rows_of};
+ghost use Rattle.clap.specs.Words.{FailsBy, kind_of};
+ghost use Rattle.command_table.specs.Table.{texts};
 ghost use Rattle.command_words.specs.Faults.{IsMisreading, IsRefusal};
-ghost use Rattle.command_words.specs.Program.{program};
-ghost use Rattle.command_words.specs.Words.{IsFaultOf, Spells, errors_of, texts};
+ghost use Rattle.command_words.specs.Words.{IsFaultOf, IsFound, Spells, errors_of};
 
 use crate::faults::{ValueFault, WordsFault};
 use crate::line::CommandLine;
@@ -16,7 +16,7 @@ use std::alloc::Global;
 
 // What `clap` finds in the words.
 fn found_in<'a>(alloc: Global, words: &'a [&'a str]) -> Result<ArgMatches<'a>, Error>
-    ensures found { IfOk result (λ found. subcommand_rows_of found ≡ subcommand_of program (texts words.entry.now)) }
+    ensures found { IfOk result (IsFound words.entry.now) }
     ensures fails { FailsBy (errors_of (texts words.entry.now)) result }
 {
     matches_of(alloc, PROGRAM, words)
@@ -43,7 +43,7 @@ fn refusal(alloc: Global, error: &Error) -> WordsFault
 fn wrong_value(alloc: Global, fault: &ValueFault) -> WordsFault
     ensures { IsMisreading fault.now result }
 {
-    if *fault == ValueFault::Memory {
+    if let ValueFault::Memory = fault {
         return WordsFault::Memory;
     }
     match format!(in alloc; "{fault}") {
