@@ -1,17 +1,8 @@
 // Why words are no command line.
-use crate::devices::{MOST_DEVICES, MOST_PORT};
 use crate::table::NumberOption;
-use std::alloc::{AllocError, AllocFailed};
 use std::fmt;
 use std::fmt::{Display, Formatter};
-
-/// Why a part of a list of devices is none of its devices.
-#[derive(Clone, Copy, Drop)]
-pub enum DeviceFault {
-    Malformed,
-    Repeated,
-    TooMany,
-}
+use word_values::DeviceFault;
 
 /// Why the value of an option is none that it takes.
 #[derive(Clone, Copy, Drop)]
@@ -37,28 +28,6 @@ pub enum ValueFault<'a> {
     Memory,
 }
 
-impl<'a> From<AllocError> for ValueFault<'a> {
-    ghost use Rattle.std.specs.Prelude.{◌≡◌};
-    ghost use Rattle.command_words.specs.declared.faults.ValueFault.TheVariants.{Memory};
-
-    ghost from_gives = { λ _ fault. fault ≡ Memory };
-
-    fn from(_: AllocError) -> ValueFault<'a> {
-        ValueFault::Memory
-    }
-}
-
-impl<'a, T: Drop> From<AllocFailed<T>> for ValueFault<'a> {
-    ghost use Rattle.std.specs.Prelude.{◌≡◌};
-    ghost use Rattle.command_words.specs.declared.faults.ValueFault.TheVariants.{Memory};
-
-    ghost from_gives = { λ _ fault. fault ≡ Memory };
-
-    fn from(_: AllocFailed<T>) -> ValueFault<'a> {
-        ValueFault::Memory
-    }
-}
-
 /// Why words are no command line.
 #[derive(Debug, PartialEq, Eq, Drop)]
 pub enum WordsFault {
@@ -67,19 +36,6 @@ pub enum WordsFault {
     /// Help was asked for; the text is for standard output.
     Help(String),
     Memory,
-}
-
-impl Display for DeviceFault {
-    fn fmt<W: fmt::Write>(&self, f: &mut Formatter<W>) -> fmt::Result {
-        match self {
-            DeviceFault::Malformed => write!(
-                f,
-                "not NAME=HOST:PORT with a PORT from 1 to {MOST_PORT}"
-            ),
-            DeviceFault::Repeated => write!(f, "its NAME stands twice"),
-            DeviceFault::TooMany => write!(f, "one more than {MOST_DEVICES} devices"),
-        }
-    }
 }
 
 // The text in the form of those that `clap` writes.

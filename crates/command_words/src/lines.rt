@@ -1,18 +1,18 @@
 // The command of what was found.
 ghost use Rattle.std.specs.Prelude.{◌≡◌};
 ghost use Rattle.clap.specs.Words.{subcommand_rows_of};
-ghost use Rattle.command_words.specs.Devices.{places_of};
-ghost use Rattle.command_words.specs.Given.{given};
+ghost use Rattle.word_values.specs.Devices.{places_of};
+ghost use Rattle.word_values.specs.Given.{given};
 ghost use Rattle.command_words.specs.Lines.{command_in, create_in, devices_at, line_in, report_in, round_in, run_in, seen, serve_in, stand_in_in};
 ghost use Rattle.command_words.specs.Options.{Reads, rows_in};
 
-use crate::devices::{Device, devices_in};
 use crate::faults::ValueFault;
 use crate::line::CommandLine;
 use crate::options::{is_set, number, number_if, text, text_or};
 use crate::table::{CONNECTIONS, EVERY, HOST, LASTS, LISTEN, PORT, ZONE};
 use clap::ArgMatches;
 use std::alloc::Global;
+use word_values::{Device, ListFault, devices_in};
 
 fn create_line<'a>(found: &ArgMatches<'a>) -> Result<CommandLine<'a>, ValueFault<'a>>
     ensures { Reads seen (create_in (rows_in found.now)) result }
@@ -74,7 +74,11 @@ fn devices<'a>(alloc: Global, found: &ArgMatches<'a>) -> Result<Vec<Device<'a>>,
     ensures { Reads (λ devices. places_of devices.items) (devices_at (rows_in found.now)) result }
 {
     let list = text(found, "devices")?;
-    devices_in(alloc, list)
+    match devices_in(alloc, list) {
+        Ok(devices) => Ok(devices),
+        Err(ListFault::Part { part, fault }) => Err(ValueFault::Device { part, fault }),
+        Err(ListFault::Memory) => Err(ValueFault::Memory),
+    }
 }
 
 fn run_line<'a>(alloc: Global, found: &ArgMatches<'a>) -> Result<CommandLine<'a>, ValueFault<'a>>

@@ -1,5 +1,5 @@
-use Rattle.command_words.proofs.Parts.{devices_more, devices_none}
-use Rattle.command_words.proofs.devices.each_device.Goals as goal
+use Rattle.word_values.proofs.Parts.{devices_more, devices_none}
+use Rattle.word_values.proofs.devices.each_device.Goals as goal
 
 pub returns-in_default : goal.returns-in_default
 returns-in_default c = devices_none c.args.parts.now c.loop-part.part-index _ c.loop-part-test.true c.in_default.ensures

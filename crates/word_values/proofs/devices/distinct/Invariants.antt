@@ -1,6 +1,6 @@
 use Rattle.std.proofs.Common.{◌≡◌, drop, map}
-use Rattle.command_words.specs.Devices.{are_distinct, names_in}
-use Rattle.command_words.proofs.devices.distinct.Given as goal
+use Rattle.word_values.specs.Devices.{are_distinct, names_in}
+use Rattle.word_values.proofs.devices.distinct.Given as goal
 
 abbrev pub invariant-loop-index : goal.invariant-loop-index
 invariant-loop-index l =

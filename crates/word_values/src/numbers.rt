@@ -2,7 +2,7 @@
 ghost use Rattle.std.specs.Prelude.{◌≡◌, ◌≤◌, IfSome, IsTrue, length};
 ghost use Rattle.std.specs.Char.{is_ascii_digit};
 ghost use Rattle.std.specs.List.{list_all};
-ghost use Rattle.command_words.specs.Numbers.{digits_in, digits_value, number_up_to};
+ghost use Rattle.word_values.specs.Numbers.{digits_in, digits_value, number_up_to};
 
 /// The most digits that a number has.
 pub const MOST_DIGITS: usize = 10;

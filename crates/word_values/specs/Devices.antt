@@ -1,12 +1,16 @@
 -- The devices that a list names: NAME=HOST:PORT, joined by commas.
-use Rattle.std.specs.Prelude.{◌≡◌, MatchOption, ℕ, ◌==◌, ◌&&◌, ◌||◌, Bool, true, not, List, [], ◌∷◌, Option, Some, None, map, length, nat_le, if◌then◌else◌}
+use Rattle.std.specs.Prelude.{◌≡◌, ⊤, MatchOption, MatchResult, Result, Vec, ℕ, ◌==◌, ◌&&◌, ◌||◌, Bool, true, not, List, [], ◌∷◌, Option, Some, None, map, length, nat_le, if◌then◌else◌}
 use Rattle.std.specs.List.{after_first, after_last, before_first, before_last, list_any, slice_split}
 use Rattle.std.specs.Str.{bytes_eq}
 use Rattle.std.specs.Borrow.{Bor}
-use Rattle.clap.specs.Words.{Text}
-use Rattle.command_words.specs.Given.{each_of, given}
-use Rattle.command_words.specs.Numbers.{number_up_to}
-use Rattle.command_words.specs.declared.devices.Device.{Device}
+use Rattle.word_values.specs.Given.{each_of, given}
+use Rattle.word_values.specs.Numbers.{number_up_to}
+use Rattle.word_values.specs.declared.devices.Device.{Device}
+use Rattle.word_values.specs.declared.list_fault.ListFault.{ListFault}
+use Rattle.word_values.specs.declared.list_fault.ListFault.TheVariants as fault
+
+abbrev pub Text : Type 0
+Text = List ℕ
 
 -- a device by its name, and where it listens
 pub record Place : Type 0 where
@@ -88,3 +92,12 @@ devices_of parts =
 
 abbrev pub devices_in : Text → Option (List Place)
 devices_in text = devices_of (slice_split is_comma text)
+
+-- an answer with the devices that are due, or with a fault where none are; want of memory may come at any time
+abbrev pub IsFault : ListFault → Option (List Place) → Type 0
+IsFault fault.Memory due = ⊤
+IsFault (fault.Part part why) due = None ≡ due
+
+abbrev pub Reads : {Z : Type 0} → Option (List Place) → Result (Vec Device Z) ListFault → Type 0
+Reads due result =
+    MatchResult result (λ devices. Some (places_of devices.items) ≡ due) (λ fault. IsFault fault due)

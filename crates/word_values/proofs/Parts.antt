@@ -1,15 +1,13 @@
 -- The parts of a list of devices, one after the other.
-use Rattle.std.proofs.Common.{◌≡◌, ◌∙◌, ◌&&◌, ◌++◌, ◌+◌, ◌-◌, ◌<◌, ◌∷◌, [], ap, refl, sym, ℕ, Bool, List, Option, Some, None, zero, suc, length, map, take, drop, get_or, not, true, false, arith, add-one, length-drop}
+use Rattle.std.proofs.Common.{◌≡◌, ◌∙◌, ◌&&◌, ◌||◌, ◌++◌, ◌+◌, ◌-◌, ◌<◌, ◌∷◌, [], ap, refl, sym, ℕ, Bool, List, Option, Some, None, zero, suc, length, map, take, drop, get_or, not, true, false, arith, add-one, length-drop}
 use Rattle.std.specs.Borrow.{Bor}
 use Rattle.std.specs.List.{list_any}
 use Rattle.std.specs.Str.{bytes_eq}
 use Rattle.std.proofs.Math.Seq.{drop-cons}
 use Rattle.std.proofs.lemmas.List.{take_all, map-append, map_more, get_or-map, length-map}
-use Rattle.clap.proofs.WalkLemmas.{list_any-map}
-use Rattle.clap.specs.Words.{Text}
-use Rattle.command_words.specs.Devices.{are_distinct, device_in, name_in, names_in, place_of, texts}
-use Rattle.command_words.specs.Given.{each_of, given}
-use Rattle.command_words.specs.declared.devices.Device.{Device}
+use Rattle.word_values.specs.Devices.{are_distinct, device_in, name_in, names_in, place_of, texts, Text}
+use Rattle.word_values.specs.Given.{each_of, given}
+use Rattle.word_values.specs.declared.devices.Device.{Device}
 
 -- ---- what each item gives, with one more item
 
@@ -59,6 +57,10 @@ devices_none parts i d within none =
     each_none device_in (texts parts) i d.now inside (none ∙ ap device_in (sym (get_or-map (λ part. part.now) parts i d d.now within)))
 
 -- ---- the names of the parts from one on
+
+list_any-map : {X Y : Type 0} (p : Y → Bool) (f : X → Y) (xs : List X) → list_any (λ x. p (f x)) xs ≡ list_any p (map f xs)
+list_any-map p f [] = refl
+list_any-map p f (x ∷ xs) = ap (λ b. p (f x) || b) (list_any-map p f xs)
 
 any_name : (name : Text) (parts : List (Bor Text)) → list_any (λ part. bytes_eq name (name_in part.now)) parts ≡ list_any (bytes_eq name) (names_in (texts parts))
 any_name name parts = list_any-map (λ text. bytes_eq name (name_in text)) (λ part. part.now) parts ∙ list_any-map (bytes_eq name) name_in (texts parts)

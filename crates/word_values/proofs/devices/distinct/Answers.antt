@@ -1,6 +1,6 @@
 use Rattle.std.proofs.Common.{◌∙◌, sym}
-use Rattle.command_words.proofs.Parts.{distinct_more, distinct_no, name_later}
-use Rattle.command_words.proofs.devices.distinct.Goals as goal
+use Rattle.word_values.proofs.Parts.{distinct_more, distinct_no, name_later}
+use Rattle.word_values.proofs.devices.distinct.Goals as goal
 
 pub returns-then-has_name : goal.returns-then-has_name
 returns-then-has_name c =

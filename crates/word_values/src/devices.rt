@@ -1,13 +1,12 @@
 // The list of devices that one option names.
 ghost use Rattle.std.specs.Prelude.{◌≡◌, ◌<◌, ◌≤◌, IfOk, MatchResult, is_ok, length, option_map};
 ghost use Rattle.std.specs.List.{slice_split};
-ghost use Rattle.command_words.specs.Devices.{CutsAtEquals, CutsAtLastColon, device_in, devices_in};
-ghost use Rattle.command_words.specs.Devices.{has_name, have_distinct_names, is_comma, name_in};
-ghost use Rattle.command_words.specs.Devices.{place_of, places_of, texts};
-ghost use Rattle.command_words.specs.Given.{each_of};
-ghost use Rattle.command_words.specs.Options.{Reads};
+ghost use Rattle.word_values.specs.Devices.{CutsAtEquals, CutsAtLastColon, device_in, devices_in};
+ghost use Rattle.word_values.specs.Devices.{has_name, have_distinct_names, is_comma, name_in};
+ghost use Rattle.word_values.specs.Devices.{Reads, place_of, texts};
+ghost use Rattle.word_values.specs.Given.{each_of};
 
-use crate::faults::{DeviceFault, ValueFault};
+use crate::list_fault::{DeviceFault, ListFault};
 use crate::numbers::number_up_to;
 use std::alloc::{AllocError, Global};
 
@@ -81,27 +80,27 @@ fn has_name(parts: &[&str], name: &str) -> bool
 }
 
 // Each name stands once, or one of the parts whose name stands twice.
-fn distinct<'a>(parts: &[&'a str]) -> Result<(), ValueFault<'a>>
+fn distinct<'a>(parts: &[&'a str]) -> Result<(), ListFault<'a>>
     ensures { is_ok result ≡ have_distinct_names parts.now }
 {
     for (index, part) in parts.iter().enumerate() {
         if has_name(&parts[index + 1..], name_of(part)) {
             let fault = DeviceFault::Repeated;
-            return Err(ValueFault::Device { part, fault });
+            return Err(ListFault::Part { part, fault });
         }
     }
     Ok(())
 }
 
 // The devices that the parts name, each its own.
-fn each_device<'a>(alloc: Global, parts: &[&'a str]) -> Result<Vec<Device<'a>>, ValueFault<'a>>
-    ensures { Reads (λ devices. places_of devices.items) (each_of device_in (texts parts.now)) result }
+fn each_device<'a>(alloc: Global, parts: &[&'a str]) -> Result<Vec<Device<'a>>, ListFault<'a>>
+    ensures { Reads (each_of device_in (texts parts.now)) result }
 {
     let mut devices = Vec::new(alloc);
     for part in parts {
         let Some(device) = device_in(part) else {
             let fault = DeviceFault::Malformed;
-            return Err(ValueFault::Device { part, fault });
+            return Err(ListFault::Part { part, fault });
         };
         devices.push(device)?;
     }
@@ -109,21 +108,21 @@ fn each_device<'a>(alloc: Global, parts: &[&'a str]) -> Result<Vec<Device<'a>>, 
 }
 
 // There are no more parts than a list has, or the first part that is one too many.
-fn few<'a>(parts: &[&'a str]) -> Result<(), ValueFault<'a>>
+fn few<'a>(parts: &[&'a str]) -> Result<(), ListFault<'a>>
     ensures { MatchResult result (λ _. length parts.now ≤ 64) (λ _. 64 < length parts.now) }
 {
     match parts.get(MOST_DEVICES) {
         None => Ok(()),
         Some(part) => {
             let fault = DeviceFault::TooMany;
-            Err(ValueFault::Device { part, fault })
+            Err(ListFault::Part { part, fault })
         }
     }
 }
 
 /// The devices of a list `NAME=HOST:PORT` joined by commas: 1 to 64, each name once.
-pub fn devices_in<'a>(alloc: Global, text: &'a str) -> Result<Vec<Device<'a>>, ValueFault<'a>>
-    ensures { Reads (λ devices. places_of devices.items) (devices_in text.now) result }
+pub fn devices_in<'a>(alloc: Global, text: &'a str) -> Result<Vec<Device<'a>>, ListFault<'a>>
+    ensures { Reads (devices_in text.now) result }
 {
     let parts = parts_of(alloc, text)?;
     few(&parts)?;

@@ -1,7 +1,7 @@
 use Rattle.std.proofs.Common.{◌≡◌, Some, map, take}
-use Rattle.command_words.specs.Devices.{device_in, place_of}
-use Rattle.command_words.specs.Given.{each_of}
-use Rattle.command_words.proofs.devices.each_device.Given as goal
+use Rattle.word_values.specs.Devices.{device_in, place_of}
+use Rattle.word_values.specs.Given.{each_of}
+use Rattle.word_values.proofs.devices.each_device.Given as goal
 
 abbrev pub invariant-loop-part : goal.invariant-loop-part
 invariant-loop-part l =
