@@ -1,11 +1,10 @@
 -- A text cut at its first, and at its last, byte of a kind.
-use Rattle.std.proofs.Common.{◌≡◌, ◌≢◌, ◌∙◌, ◌+◌, ◌-◌, ◌<◌, ◌≤◌, [], ap, sym, subst, ℕ, Bool, List, Option, Some, None, length, take, drop, get_or, not, true, false, arith, refl, eqb, length-drop}
+use Rattle.std.proofs.Common.{◌≡◌, ◌≢◌, ◌∙◌, ◌+◌, ◌-◌, ◌<◌, ◌≤◌, [], ap, sym, ℕ, Bool, List, Option, Some, None, length, take, drop, get_or, not, true, false, arith, length-drop}
 use Rattle.std.specs.Borrow.{Bor}
 use Rattle.std.specs.Prelude.{MatchOption, ◌==◌}
-use Rattle.std.specs.Char.{len_utf8}
 use Rattle.std.specs.List.{after_first, after_last, before_first, before_last, position_or_len, suffix_len}
 use Rattle.std.specs.Str.{NoCharPasses}
-use Rattle.std.specs.Str.Pattern.{RFindsChar, HasCharAt, SplitsAroundMatch}
+use Rattle.std.specs.Str.Pattern.{RFindsChar, SplitsAroundMatch}
 use Rattle.std.proofs.Math.ListN.{drop_of_length-le}
 use Rattle.std.proofs.Math.Seq.{take-length}
 use Rattle.std.proofs.lemmas.List.{get_or-drop}

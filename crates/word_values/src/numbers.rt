@@ -7,7 +7,7 @@ ghost use Rattle.word_values.specs.Numbers.{digits_in, digits_value, number_up_t
 /// The most digits that a number has.
 pub const MOST_DIGITS: usize = 10;
 
-// The number from 1 to the most that the word spells.
+/// The number from 1 to the most that one to ten digits spell.
 pub fn number_up_to(most: u32, word: &str) -> Option<u32>
     ensures value { result ≡ number_up_to most word.now }
     ensures within { IfSome result (λ number. number ≤ most) }
