@@ -1,0 +1,113 @@
+-- The command that the words spell.
+use Rattle.std.specs.Prelude.{ℕ, Bool, List, Option, Some, None, codes, map, option_map, if◌then◌else◌}
+use Rattle.std.specs.Str.{bytes_eq}
+use Rattle.clap.specs.Words.{Row, Text}
+use Rattle.word_values.specs.Devices.{Place, devices_in, place_of}
+use Rattle.word_values.specs.Given.{given}
+use Rattle.command_words.specs.Options.{is_set, number_at, number_if, text_at, text_or}
+use Rattle.command_words.specs.declared.line.CommandLine.{CommandLine}
+use Rattle.command_words.specs.declared.line.CommandLine.TheVariants as line
+
+-- a command with the values of its options
+pub data Line : Type 0 where
+  Replay : (zone : Text) → Line
+  Plan : Line
+  Chain : Line
+  Create : (db zone : Text) → Line
+  Serve : (db : Text) (port connections : ℕ) → Line
+  Round : (db device host : Text) (port : ℕ) → Line
+  Report : (db register : Text) → Line
+  StandIn : (host : Text) (port connections : ℕ) → Line
+  Loop : (zone : Text) → Line
+  Run : (db : Text) (listen every : ℕ) (devices : List Place) (lasts : Option ℕ) (verbose : Bool) → Line
+
+abbrev pub seen : CommandLine → Line
+seen (line.Replay zone) = Replay zone.now
+seen line.Plan = Plan
+seen line.Chain = Chain
+seen (line.Create db zone) = Create db.now zone.now
+seen (line.Serve db port connections) = Serve db.now port connections
+seen (line.Round db device host port) = Round db.now device.now host.now port
+seen (line.Report db register) = Report db.now register.now
+seen (line.StandIn host port connections) = StandIn host.now port connections
+seen (line.Loop zone) = Loop zone.now
+seen (line.Run db listen every devices lasts verbose) =
+    Run db.now listen every (map place_of devices.items) lasts verbose
+
+-- ---- the options that several commands have
+
+abbrev pub zone_in : List Row → Text
+zone_in rows = text_or (codes "UTC0") (codes "zone") rows
+
+abbrev pub host_in : List Row → Text
+host_in rows = text_or (codes "127.0.0.1") (codes "host") rows
+
+abbrev pub db_in : List Row → Option Text
+db_in rows = text_at (codes "db") rows
+
+abbrev pub port_in : List Row → Option ℕ
+port_in rows = number_at 65535 (codes "port") rows
+
+abbrev pub connections_in : List Row → Option ℕ
+connections_in rows = number_at 1000000 (codes "connections") rows
+
+-- ---- the commands
+
+abbrev pub create_in : List Row → Option Line
+create_in rows =
+    given (db_in rows) (λ db.
+    given (text_at (codes "zone") rows) (λ zone. Some (Create db zone)))
+
+abbrev pub serve_in : List Row → Option Line
+serve_in rows =
+    given (db_in rows) (λ db.
+    given (port_in rows) (λ port.
+    given (connections_in rows) (λ connections. Some (Serve db port connections))))
+
+abbrev pub round_in : List Row → Option Line
+round_in rows =
+    given (db_in rows) (λ db.
+    given (text_at (codes "device") rows) (λ device.
+    given (port_in rows) (λ port. Some (Round db device (host_in rows) port))))
+
+abbrev pub report_in : List Row → Option Line
+report_in rows =
+    given (db_in rows) (λ db.
+    given (text_at (codes "register") rows) (λ register. Some (Report db register)))
+
+abbrev pub stand_in_in : List Row → Option Line
+stand_in_in rows =
+    given (port_in rows) (λ port.
+    given (connections_in rows) (λ connections. Some (StandIn (host_in rows) port connections)))
+
+abbrev pub devices_at : List Row → Option (List Place)
+devices_at rows = given (text_at (codes "devices") rows) devices_in
+
+abbrev pub run_in : List Row → Option Line
+run_in rows =
+    given (db_in rows) (λ db.
+    given (number_at 65535 (codes "listen") rows) (λ listen.
+    given (number_at 86400 (codes "every") rows) (λ every.
+    given (number_if 4000000000 (codes "for") rows) (λ lasts.
+    given (devices_at rows) (λ devices.
+    Some (Run db listen every devices lasts (is_set (codes "verbose") rows)))))))
+
+-- the command of a name, with what was found of its options
+abbrev pub command_in : Text → List Row → Option Line
+command_in name rows =
+    if bytes_eq name (codes "replay") then Some (Replay (zone_in rows))
+    else (if bytes_eq name (codes "plan") then Some Plan
+    else (if bytes_eq name (codes "chain") then Some Chain
+    else (if bytes_eq name (codes "create") then create_in rows
+    else (if bytes_eq name (codes "serve") then serve_in rows
+    else (if bytes_eq name (codes "round") then round_in rows
+    else (if bytes_eq name (codes "report") then report_in rows
+    else (if bytes_eq name (codes "stand-in") then stand_in_in rows
+    else (if bytes_eq name (codes "loop") then Some (Loop (zone_in rows))
+    else (if bytes_eq name (codes "run") then run_in rows
+    else None)))))))))
+
+-- no command is `replay` without options
+abbrev pub line_in : Option (Text × List Row) → Option Line
+line_in None = Some (Replay (codes "UTC0"))
+line_in (Some p) = command_in p.0 p.1

@@ -1,0 +1,31 @@
+-- The program's commands and options.
+use Rattle.std.specs.Prelude.{List, [], ◌∷◌, codes}
+use Rattle.clap.specs.Words.{App}
+use Rattle.command_table.specs.Table.{command_with, flag, optional_option, program_with, required_option}
+
+abbrev pub commands : List App
+commands =
+    command_with (codes "replay") (optional_option (codes "zone") ∷ [])
+    ∷ command_with (codes "plan") []
+    ∷ command_with (codes "chain") []
+    ∷ command_with (codes "create") (required_option (codes "db") ∷ required_option (codes "zone") ∷ [])
+    ∷ command_with (codes "serve")
+    (required_option (codes "db") ∷ required_option (codes "port")
+    ∷ required_option (codes "connections") ∷ [])
+    ∷ command_with (codes "round")
+    (required_option (codes "db") ∷ required_option (codes "device")
+    ∷ optional_option (codes "host") ∷ required_option (codes "port") ∷ [])
+    ∷ command_with (codes "report")
+    (required_option (codes "db") ∷ required_option (codes "register") ∷ [])
+    ∷ command_with (codes "stand-in")
+    (optional_option (codes "host") ∷ required_option (codes "port")
+    ∷ required_option (codes "connections") ∷ [])
+    ∷ command_with (codes "loop") (optional_option (codes "zone") ∷ [])
+    ∷ command_with (codes "run")
+    (required_option (codes "db") ∷ required_option (codes "listen")
+    ∷ required_option (codes "every") ∷ required_option (codes "devices")
+    ∷ optional_option (codes "for") ∷ flag (codes "verbose") ∷ [])
+    ∷ []
+
+abbrev pub program : App
+program = program_with (codes "sunreg") commands

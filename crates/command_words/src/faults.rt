@@ -1,0 +1,65 @@
+// Why words are no command line.
+use crate::table::NumberOption;
+use std::fmt;
+use std::fmt::{Display, Formatter};
+use word_values::DeviceFault;
+
+/// Why the value of an option is none that it takes.
+#[derive(Clone, Copy, Drop)]
+pub enum ValueFault<'a> {
+    /// There is no value.
+    Missing {
+        option: &'a str,
+    },
+    /// The word is no number from 1 to the most.
+    Number {
+        option: NumberOption<'a>,
+        word: &'a str,
+    },
+    /// No command has the name.
+    Command {
+        name: &'a str,
+    },
+    /// A part of the list is no device of it.
+    Device {
+        part: &'a str,
+        fault: DeviceFault,
+    },
+    Memory,
+}
+
+/// Why words are no command line.
+#[derive(Debug, PartialEq, Eq, Drop)]
+pub enum WordsFault {
+    /// The words are wrong; the text for standard error says how.
+    Wrong(String),
+    /// Help was asked for; the text is for standard output.
+    Help(String),
+    Memory,
+}
+
+// The text in the form of those that `clap` writes.
+impl<'a> Display for ValueFault<'a> {
+    fn fmt<W: fmt::Write>(&self, f: &mut Formatter<W>) -> fmt::Result {
+        match self {
+            ValueFault::Missing { option } => write!(
+                f,
+                "error: the option '--{option}' is missing"
+            )?,
+            ValueFault::Number { option, word } => write!(
+                f,
+                "error: invalid value '{word}' for '--{} <{}>': not a number from 1 to {}",
+                option.name, option.value, option.most
+            )?,
+            ValueFault::Command { name } => write!(f, "error: unrecognized subcommand '{name}'")?,
+            ValueFault::Device { part, fault } => {
+                write!(
+                    f,
+                    "error: invalid value '{part}' for '--devices <LIST>': {fault}"
+                )?
+            }
+            ValueFault::Memory => write!(f, "error: no memory is left")?,
+        }
+        write!(f, "\n\nFor more information, try '--help'.\n")
+    }
+}

@@ -1,0 +1,58 @@
+// What the program is asked to do.
+use word_values::Device;
+
+/// A command with the values of its options, which are texts as they stand in the words, numbers in their ranges, and
+/// seconds.
+#[derive(Debug, PartialEq, Eq, Drop)]
+pub enum CommandLine<'a> {
+    /// A script from standard input, over books in memory.
+    Replay {
+        zone: &'a str,
+    },
+    /// The reads of a point list from standard input.
+    Plan,
+    /// The SunSpec models of an image from standard input.
+    Chain,
+    /// New tables in a file.
+    Create {
+        db: &'a str,
+        zone: &'a str,
+    },
+    /// HTTP, for a number of connections.
+    Serve {
+        db: &'a str,
+        port: u16,
+        connections: u32,
+    },
+    /// One round of a device.
+    Round {
+        db: &'a str,
+        device: &'a str,
+        host: &'a str,
+        port: u16,
+    },
+    /// The energy of a register by days.
+    Report {
+        db: &'a str,
+        register: &'a str,
+    },
+    /// A Modbus device with a bank from standard input, for a number of connections.
+    StandIn {
+        host: &'a str,
+        port: u16,
+        connections: u32,
+    },
+    /// A script whose devices are a stand-in.
+    Loop {
+        zone: &'a str,
+    },
+    /// Rounds of devices every so many seconds, and HTTP, until it is ended or the seconds of `lasts` are over.
+    Run {
+        db: &'a str,
+        listen: u16,
+        every: u32,
+        devices: Vec<Device<'a>>,
+        lasts: Option<u32>,
+        verbose: bool,
+    },
+}

@@ -1,0 +1,137 @@
+// The command of what was found.
+ghost use Rattle.std.specs.Prelude.{◌≡◌};
+ghost use Rattle.clap.specs.Words.{subcommand_rows_of};
+ghost use Rattle.word_values.specs.Devices.{places_of};
+ghost use Rattle.word_values.specs.Given.{given};
+ghost use Rattle.command_words.specs.Lines.{command_in, create_in, devices_at, line_in, report_in, round_in, run_in, seen, serve_in, stand_in_in};
+ghost use Rattle.command_words.specs.Options.{Reads, rows_in};
+
+use crate::faults::ValueFault;
+use crate::line::CommandLine;
+use crate::options::{is_set, number, number_if, text, text_or};
+use crate::table::{CONNECTIONS, EVERY, HOST, LASTS, LISTEN, PORT, ZONE};
+use clap::ArgMatches;
+use std::alloc::Global;
+use word_values::{Device, ListFault, devices_in};
+
+fn create_line<'a>(found: &ArgMatches<'a>) -> Result<CommandLine<'a>, ValueFault<'a>>
+    ensures { Reads seen (create_in (rows_in found.now)) result }
+{
+    let db = text(found, "db")?;
+    let zone = text(found, "zone")?;
+    Ok(CommandLine::Create { db, zone })
+}
+
+fn serve_line<'a>(found: &ArgMatches<'a>) -> Result<CommandLine<'a>, ValueFault<'a>>
+    ensures { Reads seen (serve_in (rows_in found.now)) result }
+{
+    let db = text(found, "db")?;
+    let port = number(found, PORT)?;
+    let connections = number(found, CONNECTIONS)?;
+    Ok(CommandLine::Serve {
+        db,
+        port: port as u16,
+        connections,
+    })
+}
+
+fn round_line<'a>(found: &ArgMatches<'a>) -> Result<CommandLine<'a>, ValueFault<'a>>
+    ensures { Reads seen (round_in (rows_in found.now)) result }
+{
+    let db = text(found, "db")?;
+    let device = text(found, "device")?;
+    let port = number(found, PORT)?;
+    Ok(CommandLine::Round {
+        db,
+        device,
+        host: text_or(found, "host", HOST),
+        port: port as u16,
+    })
+}
+
+fn report_line<'a>(found: &ArgMatches<'a>) -> Result<CommandLine<'a>, ValueFault<'a>>
+    ensures { Reads seen (report_in (rows_in found.now)) result }
+{
+    let db = text(found, "db")?;
+    let register = text(found, "register")?;
+    Ok(CommandLine::Report { db, register })
+}
+
+fn stand_in_line<'a>(found: &ArgMatches<'a>) -> Result<CommandLine<'a>, ValueFault<'a>>
+    ensures { Reads seen (stand_in_in (rows_in found.now)) result }
+{
+    let port = number(found, PORT)?;
+    let connections = number(found, CONNECTIONS)?;
+    Ok(CommandLine::StandIn {
+        host: text_or(found, "host", HOST),
+        port: port as u16,
+        connections,
+    })
+}
+
+// The devices that the option names.
+fn devices<'a>(alloc: Global, found: &ArgMatches<'a>) -> Result<Vec<Device<'a>>, ValueFault<'a>>
+    ensures { Reads (λ devices. places_of devices.items) (devices_at (rows_in found.now)) result }
+{
+    let list = text(found, "devices")?;
+    match devices_in(alloc, list) {
+        Ok(devices) => Ok(devices),
+        Err(ListFault::Part { part, fault }) => Err(ValueFault::Device { part, fault }),
+        Err(ListFault::Memory) => Err(ValueFault::Memory),
+    }
+}
+
+fn run_line<'a>(alloc: Global, found: &ArgMatches<'a>) -> Result<CommandLine<'a>, ValueFault<'a>>
+    ensures { Reads seen (run_in (rows_in found.now)) result }
+{
+    let db = text(found, "db")?;
+    let listen = number(found, LISTEN)?;
+    let every = number(found, EVERY)?;
+    let lasts = number_if(found, LASTS)?;
+    let devices = devices(alloc, found)?;
+    Ok(CommandLine::Run {
+        db,
+        listen: listen as u16,
+        every,
+        devices,
+        lasts,
+        verbose: is_set(found, "verbose"),
+    })
+}
+
+// The command of a name, with what was found of its options.
+fn command_line<'a>(
+    alloc: Global,
+    name: &'a str,
+    found: &ArgMatches<'a>,
+) -> Result<CommandLine<'a>, ValueFault<'a>>
+    ensures { Reads seen (command_in name.entry.now (rows_in found.now)) result }
+{
+    match name {
+        "replay" => Ok(CommandLine::Replay {
+            zone: text_or(found, "zone", ZONE),
+        }),
+        "plan" => Ok(CommandLine::Plan),
+        "chain" => Ok(CommandLine::Chain),
+        "create" => create_line(found),
+        "serve" => serve_line(found),
+        "round" => round_line(found),
+        "report" => report_line(found),
+        "stand-in" => stand_in_line(found),
+        "loop" => Ok(CommandLine::Loop {
+            zone: text_or(found, "zone", ZONE),
+        }),
+        "run" => run_line(alloc, found),
+        _ => Err(ValueFault::Command { name }),
+    }
+}
+
+/// The command that was found; without one, `replay`.
+pub fn line_in<'a>(alloc: Global, found: &ArgMatches<'a>) -> Result<CommandLine<'a>, ValueFault<'a>>
+    ensures { Reads seen (line_in (subcommand_rows_of found.now)) result }
+{
+    match found.subcommand() {
+        None => Ok(CommandLine::Replay { zone: ZONE }),
+        Some((name, inner)) => command_line(alloc, name, inner),
+    }
+}

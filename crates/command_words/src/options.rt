@@ -1,0 +1,82 @@
+// The values of a command's options.
+ghost use Rattle.std.specs.Prelude.{◌≡◌, ◌≤◌, IfOk, option_map};
+ghost use Rattle.word_values.specs.Numbers.{number_up_to};
+ghost use Rattle.command_words.specs.Options.{Reads, is_set, number_at, number_if, rows_in, text_at, text_or};
+
+use crate::faults::ValueFault;
+use crate::table::NumberOption;
+use clap::ArgMatches;
+use word_values::number_up_to;
+
+// The value of an option, where it has one.
+fn value<'a>(found: &ArgMatches<'a>, option: &str) -> Option<&'a str>
+    ensures { option_map (λ text. text.now) result ≡ text_at option.now (rows_in found.now) }
+{
+    found.get_str(option)
+}
+
+// The text of an option that must stand.
+pub fn text<'a>(found: &ArgMatches<'a>, option: &'static str) -> Result<&'a str, ValueFault<'a>>
+    ensures { Reads (λ text. text.now) (text_at option.now (rows_in found.now)) result }
+{
+    match value(found, option) {
+        Some(text) => Ok(text),
+        None => Err(ValueFault::Missing { option }),
+    }
+}
+
+// The number of an option that must stand.
+pub fn number<'a>(
+    found: &ArgMatches<'a>,
+    option: NumberOption<'static>,
+) -> Result<u32, ValueFault<'a>>
+    ensures value { Reads (λ number. number) (number_at option.entry.most option.entry.name.now (rows_in found.now)) result }
+    ensures within { IfOk result (λ number. number ≤ option.entry.most) }
+{
+    let word = text(found, option.name)?;
+    number_in(option, word)
+}
+
+// The number of an option that may lack.
+pub fn number_if<'a>(
+    found: &ArgMatches<'a>,
+    option: NumberOption<'static>,
+) -> Result<Option<u32>, ValueFault<'a>>
+    ensures { Reads (λ number. number) (number_if option.entry.most option.entry.name.now (rows_in found.now)) result }
+{
+    match value(found, option.name) {
+        Some(word) => Ok(Some(number_in(option, word)?)),
+        None => Ok(None),
+    }
+}
+
+// The number that a word spells, in the range of its option.
+fn number_in<'a>(option: NumberOption<'static>, word: &'a str) -> Result<u32, ValueFault<'a>>
+    ensures value { Reads (λ number. number) (number_up_to option.entry.most word.now) result }
+    ensures within { IfOk result (λ number. number ≤ option.entry.most) }
+{
+    match number_up_to(option.most, word) {
+        Some(number) => Ok(number),
+        None => Err(ValueFault::Number { option, word }),
+    }
+}
+
+// The text of an option that may lack.
+pub fn text_or<'a>(found: &ArgMatches<'a>, option: &'static str, otherwise: &'a str) -> &'a str
+    ensures { result.now ≡ text_or otherwise.entry.now option.now (rows_in found.now) }
+{
+    match value(found, option) {
+        Some(text) => text,
+        None => otherwise,
+    }
+}
+
+// Whether a flag stands.
+pub fn is_set(found: &ArgMatches, option: &'static str) -> bool
+    ensures { result ≡ is_set option.now (rows_in found.now) }
+{
+    match value(found, option) {
+        Some(text) => text == "true",
+        None => false,
+    }
+}

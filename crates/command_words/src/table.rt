@@ -1,0 +1,227 @@
+// The program's commands and options, with their help.
+use command_table::{CommandText, OptionText, ProgramText, Value};
+
+/// An option whose value is a number from 1 to the most; the help shows `value` for it.
+#[derive(Clone, Copy, Drop)]
+pub struct NumberOption<'a> {
+    pub name: &'a str,
+    pub value: &'a str,
+    pub most: u32,
+}
+
+/// The rule for days where no zone is given.
+pub const ZONE: &str = "UTC0";
+
+/// The host where none is given.
+pub const HOST: &str = "127.0.0.1";
+
+pub const PORT: NumberOption<'static> = NumberOption {
+    name: "port",
+    value: "N",
+    most: 65_535,
+};
+
+pub const CONNECTIONS: NumberOption<'static> = NumberOption {
+    name: "connections",
+    value: "N",
+    most: 1_000_000,
+};
+
+pub const LISTEN: NumberOption<'static> = NumberOption {
+    name: "listen",
+    value: "PORT",
+    most: 65_535,
+};
+
+pub const EVERY: NumberOption<'static> = NumberOption {
+    name: "every",
+    value: "SECONDS",
+    most: 86_400,
+};
+
+pub const LASTS: NumberOption<'static> = NumberOption {
+    name: "for",
+    value: "SECONDS",
+    most: 4_000_000_000,
+};
+
+const DB: OptionText<'static> = OptionText {
+    name: "db",
+    value: Value::Required("FILE"),
+    help: "The office's file",
+};
+
+const NEW_DB: OptionText<'static> = OptionText {
+    name: "db",
+    value: Value::Required("FILE"),
+    help: "File that gets the tables; it must have none yet",
+};
+
+const SCRIPT_ZONE: OptionText<'static> = OptionText {
+    name: "zone",
+    value: Value::Optional("TEXT"),
+    help: "POSIX time zone of the days; UTC0 where it is left out",
+};
+
+const NEW_ZONE: OptionText<'static> = OptionText {
+    name: "zone",
+    value: Value::Required("TEXT"),
+    help: "POSIX time zone of the days, as CET-1CEST,M3.5.0,M10.5.0/3",
+};
+
+const HTTP_PORT: OptionText<'static> = OptionText {
+    name: "port",
+    value: Value::Required("N"),
+    help: "Port on 127.0.0.1, 1 to 65535",
+};
+
+const DEVICE_PORT: OptionText<'static> = OptionText {
+    name: "port",
+    value: Value::Required("N"),
+    help: "Port of the device, 1 to 65535",
+};
+
+const DEVICE_HOST: OptionText<'static> = OptionText {
+    name: "host",
+    value: Value::Optional("HOST"),
+    help: "Name or address of the device; 127.0.0.1 where it is left out",
+};
+
+const OWN_HOST: OptionText<'static> = OptionText {
+    name: "host",
+    value: Value::Optional("HOST"),
+    help: "Name or address to listen on; 127.0.0.1 where it is left out",
+};
+
+const OWN_PORT: OptionText<'static> = OptionText {
+    name: "port",
+    value: Value::Required("N"),
+    help: "Port to listen on, 1 to 65535",
+};
+
+const SERVED: OptionText<'static> = OptionText {
+    name: "connections",
+    value: Value::Required("N"),
+    help: "Ends after this many connections, 1 to 1000000",
+};
+
+const DEVICE: OptionText<'static> = OptionText {
+    name: "device",
+    value: Value::Required("NAME"),
+    help: "Device, as the office knows it",
+};
+
+const REGISTER: OptionText<'static> = OptionText {
+    name: "register",
+    value: Value::Required("NAME"),
+    help: "Register, as the office knows it",
+};
+
+const REPLAY: CommandText<'static> = CommandText {
+    name: "replay",
+    about: "Runs a script from standard input over books in memory",
+    after: "Example: sunreg replay --zone UTC0 < script.txt",
+    options: &[SCRIPT_ZONE],
+};
+
+const PLAN: CommandText<'static> = CommandText {
+    name: "plan",
+    about: "Prints the reads that a point list from standard input needs",
+    after: "Example: sunreg plan < points.csv",
+    options: &[],
+};
+
+const CHAIN: CommandText<'static> = CommandText {
+    name: "chain",
+    about: "Lists the SunSpec models of an image from standard input",
+    after: "Example: sunreg chain < image.txt",
+    options: &[],
+};
+
+const CREATE: CommandText<'static> = CommandText {
+    name: "create",
+    about: "Makes the tables of a new office in a file",
+    after: "Example: sunreg create --db office.db --zone UTC0",
+    options: &[NEW_DB, NEW_ZONE],
+};
+
+const SERVE: CommandText<'static> = CommandText {
+    name: "serve",
+    about: "Answers HTTP on 127.0.0.1, one connection after the other",
+    after: "Example: sunreg serve --db office.db --port 8080 --connections 100",
+    options: &[DB, HTTP_PORT, SERVED],
+};
+
+const ROUND: CommandText<'static> = CommandText {
+    name: "round",
+    about: "Polls the whole plan of one device once",
+    after: "Example: sunreg round --db office.db --device inv --host 192.0.2.7 --port 502",
+    options: &[DB, DEVICE, DEVICE_HOST, DEVICE_PORT],
+};
+
+const REPORT: CommandText<'static> = CommandText {
+    name: "report",
+    about: "Prints a register's energy by days",
+    after: "Example: sunreg report --db office.db --register main",
+    options: &[DB, REGISTER],
+};
+
+const STAND_IN: CommandText<'static> = CommandText {
+    name: "stand-in",
+    about: "Plays a Modbus device, with a bank from standard input",
+    after: "Example: sunreg stand-in --port 1502 --connections 10 < bank.txt",
+    options: &[OWN_HOST, OWN_PORT, SERVED],
+};
+
+const LOOP: CommandText<'static> = CommandText {
+    name: "loop",
+    about: "Runs a script whose devices are a stand-in in this process",
+    after: "Example: sunreg loop < script.txt",
+    options: &[SCRIPT_ZONE],
+};
+
+const RUN: CommandText<'static> = CommandText {
+    name: "run",
+    about: "Polls devices on a schedule and answers HTTP, until it is ended",
+    after: "Example:\n  sunreg run --db office.db --listen 8080 --every 60 --devices inv=192.0.2.7:502",
+    options: &[
+        DB,
+        OptionText {
+            name: "listen",
+            value: Value::Required("PORT"),
+            help: "Port of HTTP on 127.0.0.1, 1 to 65535",
+        },
+        OptionText {
+            name: "every",
+            value: Value::Required("SECONDS"),
+            help: "From one round of a device to its next, 1 to 86400",
+        },
+        OptionText {
+            name: "devices",
+            value: Value::Required("LIST"),
+            help: "1 to 64 of NAME=HOST:PORT, joined by commas",
+        },
+        OptionText {
+            name: "for",
+            value: Value::Optional("SECONDS"),
+            help: "Ends after this long, 1 to 4000000000",
+        },
+        OptionText {
+            name: "verbose",
+            value: Value::Absent,
+            help: "Prints more of what goes on",
+        },
+    ],
+};
+
+/// The program.
+pub const PROGRAM: ProgramText<'static> = ProgramText {
+    name: "sunreg",
+    about: "Polls SunSpec meters by Modbus TCP; keeps their energy by quarter hours and days",
+    after: "Without a command it is replay. Help on a command: sunreg help COMMAND\n\
+            Example: sunreg replay < script.txt\n\
+            Exit status: 0 fine, 1 refused, 2 wrong words, 3 a file, stream or socket failed",
+    commands: &[
+        REPLAY, PLAN, CHAIN, CREATE, SERVE, ROUND, REPORT, STAND_IN, LOOP, RUN,
+    ],
+};

@@ -1,0 +1,69 @@
+// The command that the words spell.
+ghost use Rattle.std.specs.Prelude.{◌≡◌, IfErr, IfOk};
+ghost use Rattle.clap.specs.Words.{FailsBy, kind_of};
+ghost use Rattle.command_table.specs.Table.{texts};
+ghost use Rattle.command_words.specs.Faults.{IsMisreading, IsRefusal};
+ghost use Rattle.command_words.specs.Words.{IsFaultOf, IsFound, Spells, errors_of};
+
+use crate::faults::{ValueFault, WordsFault};
+use crate::line::CommandLine;
+use crate::lines::line_in;
+use crate::table::PROGRAM;
+use clap::error::ErrorKind;
+use clap::{ArgMatches, Error};
+use command_table::matches_of;
+use std::alloc::Global;
+
+// What `clap` finds in the words.
+fn found_in<'a>(alloc: Global, words: &'a [&'a str]) -> Result<ArgMatches<'a>, Error>
+    ensures found { IfOk result (IsFound words.entry.now) }
+    ensures fails { FailsBy (errors_of (texts words.entry.now)) result }
+{
+    matches_of(alloc, PROGRAM, words)
+}
+
+// The fault of words that `clap` refuses, with its text.
+fn refusal(alloc: Global, error: &Error) -> WordsFault
+    ensures { IsRefusal (kind_of error.now) result }
+{
+    if error.kind() == ErrorKind::OutOfMemory {
+        return WordsFault::Memory;
+    }
+    let Ok(text) = format!(in alloc; "{error}") else {
+        return WordsFault::Memory;
+    };
+    if error.kind() == ErrorKind::DisplayHelp {
+        WordsFault::Help(text)
+    } else {
+        WordsFault::Wrong(text)
+    }
+}
+
+// The fault of a value that is none.
+fn wrong_value(alloc: Global, fault: &ValueFault) -> WordsFault
+    ensures { IsMisreading fault.now result }
+{
+    if let ValueFault::Memory = fault {
+        return WordsFault::Memory;
+    }
+    match format!(in alloc; "{fault}") {
+        Ok(text) => WordsFault::Wrong(text),
+        Err(_) => WordsFault::Memory,
+    }
+}
+
+/// The command that the words after the program's name spell. Texts are kept as they stand; no word at all is
+/// `replay`.
+pub fn command_of<'a>(alloc: Global, words: &'a [&'a str]) -> Result<CommandLine<'a>, WordsFault>
+    ensures line { IfOk result (Spells words.entry.now) }
+    ensures fault { IfErr result (IsFaultOf words.entry.now) }
+{
+    let found = match found_in(alloc, words) {
+        Ok(found) => found,
+        Err(error) => return Err(refusal(alloc, &error)),
+    };
+    match line_in(alloc, &found) {
+        Ok(line) => Ok(line),
+        Err(fault) => Err(wrong_value(alloc, &fault)),
+    }
+}

@@ -1,0 +1,83 @@
+// Words that spell no command.
+use command_words::{WordsFault, command_of};
+
+static WRONG: [&[&str]; 26] = [
+    &["bogus"],
+    &[""],
+    &["Plan"],
+    &["--version"],
+    &["-V"],
+    &["--zone", "UTC0"],
+    &["plan", "more"],
+    &["plan", "--zone", "UTC0"],
+    &["plan", "chain"],
+    &["help", "nothing"],
+    &["replay", "--zone"],
+    &["replay", "--zone", "UTC0", "--zone", "UTC0"],
+    &["replay", "-zone", "UTC0"],
+    &["create", "--db", "x"],
+    &["create", "--zone", "UTC0"],
+    &["serve", "--db", "x"],
+    &["serve", "--db", "x", "--port", "1"],
+    &["serve", "--db", "x", "--connections", "1"],
+    &["serve", "--port", "1", "--connections", "1"],
+    &[
+        "serve",
+        "--db",
+        "x",
+        "--port",
+        "1",
+        "--connections",
+        "1",
+        "--host",
+        "h",
+    ],
+    &["round", "--db", "x", "--port", "1"],
+    &["round", "--db", "x", "--device", "d"],
+    &["report", "--db", "x"],
+    &["stand-in", "--connections", "1"],
+    &["loop", "--db", "x"],
+    &["run", "--db", "x", "--listen", "1", "--every", "1"],
+];
+
+#[test]
+fn other_words_are_wrong(rt: HostRuntime) {
+    for words in &WRONG {
+        let fault = command_of(rt.alloc(), words);
+        assert!(rt; matches!(fault, Err(WordsFault::Wrong(_))), "{words:?}");
+    }
+}
+
+static LACKS: [&str; 3] = ["serve", "--db", "x"];
+
+static LACKS_TEXT: &str = "error: the following required arguments were not provided:
+  --port <N>
+  --connections <N>
+
+Usage: sunreg serve --db <FILE> --port <N> --connections <N>
+
+For more information, try '--help'.
+";
+
+#[test]
+fn the_options_that_lack_are_named(rt: HostRuntime) {
+    let Err(WordsFault::Wrong(text)) = command_of(rt.alloc(), &LACKS) else {
+        panic!(rt; "not wrong");
+    };
+    assert_eq!(rt; text.as_str(), LACKS_TEXT);
+}
+
+static BOGUS_TEXT: &str = "error: unrecognized subcommand 'bogus'
+
+Usage: sunreg [COMMAND]
+
+For more information, try '--help'.
+";
+
+#[test]
+fn an_unknown_command_is_named(rt: HostRuntime) {
+    let Err(WordsFault::Wrong(text)) = command_of(rt.alloc(), &["bogus"]) else {
+        panic!(rt; "not wrong");
+    };
+    assert_eq!(rt; text.as_str(), BOGUS_TEXT);
+}
