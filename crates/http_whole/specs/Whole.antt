@@ -39,6 +39,10 @@ pub record LacksBody (table : Table) (bytes : List ℕ) : Type 0 where
   pub head : IsHeadAt bytes at
   pub body : length bytes < at.len + body_size table (start_at bytes at)
 
+-- what was read goes on: it holds no whole request yet, and no bad head
+abbrev pub GoesOn : Table → List ℕ → Type 0
+GoesOn table bytes = IsOpenHead bytes ⊎ LacksBody table bytes
+
 -- a look at what was read finds a whole request, or a bad head
 abbrev pub Holds : Table → List ℕ → Look → Type 0
 Holds table bytes Open = ⊥
@@ -49,7 +53,7 @@ Holds table bytes (Whole at) = IsWhole table bytes at
 -- A whole request or a bad head was read; or taking failed, and neither was.
 abbrev pub ReadsRequest : Table → Result Look TakeFault → List ℕ → List ℕ → Option (List ℕ) → Option (List ℕ) → Type 0
 ReadsRequest table (Ok look) old new before after = Came old new before after × Holds table new look
-ReadsRequest table (Err fault) old new before after = Came old new before after × (IsOpenHead new ⊎ LacksBody table new) × EndsAt fault after
+ReadsRequest table (Err fault) old new before after = Came old new before after × GoesOn table new × EndsAt fault after
 
 -- What a whole request asks for, or the status that answers it: 431 for a head past the limits, 400 for what
 -- is no head, else that of the first test of the head that fails.
