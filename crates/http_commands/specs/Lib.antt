@@ -1,0 +1,4 @@
+pub mod Values
+pub mod Commands
+pub mod Given
+pub mod Seen
