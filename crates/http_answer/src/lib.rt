@@ -1,13 +1,20 @@
-// A library with one function.
+//! Replies to requests: what they tell of an office's answers, and when each is the reply.
 #![tactic(auto)]
 
-ghost use Rattle.std.specs.Prelude.{◌≡◌};
-ghost use Rattle.http_answer.specs.Echo.{echo_of};
+mod faults;
+mod kinds;
+mod laws;
+mod lines;
+mod putting;
+mod requests;
+mod rows;
+mod statuses;
 
-// The `ensures` clause is the contract: what `echo` returns is `echo_of` of its argument, a definition
-// in `specs/Echo.antt`, which a caller's clause can cite too.
-pub fn echo(x: usize) -> usize
-    ensures { result ≡ echo_of x }
-{
-    x
-}
+pub use faults::faults_body;
+pub use kinds::{done_body, kind_answered};
+pub use laws::{commands_are_replied_to, faults_are_replied_to, questions_are_replied_to};
+pub use lines::{put_day, put_end, put_share};
+pub use putting::{put_command_fault, put_done, put_fault, put_meter, put_poll, put_refusal};
+pub use requests::{asked, kept_request, name_asked, number_asked};
+pub use rows::{meter_body, poll_body};
+pub use statuses::status_of;

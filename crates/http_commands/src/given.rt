@@ -2,6 +2,7 @@
 ghost use Rattle.std.specs.Prelude.{◌≡◌};
 ghost use Rattle.serde_json.specs.View.{view};
 ghost use Rattle.http_commands.specs.Commands.{command_of};
+ghost use Rattle.http_commands.specs.Few.{HasFewRows};
 ghost use Rattle.http_commands.specs.Given.{Gives, IsBody, IsListBody};
 
 use crate::fault::CommandFault;
@@ -40,7 +41,8 @@ fn json_command(
     name: Option<Name>,
     bytes: &[u8],
 ) -> Result<Command, CommandFault>
-    ensures { IsBody route name bytes.now result }
+    ensures given { IsBody route name bytes.now result }
+    ensures few { HasFewRows result }
 {
     match body_of(alloc, bytes) {
         Ok(body) => match command_of(route, name, &body) {
@@ -57,7 +59,8 @@ fn put_list(
     device: Option<Name>,
     bytes: &[u8],
 ) -> Result<Command, CommandFault>
-    ensures { IsListBody device bytes.now result }
+    ensures given { IsListBody device bytes.now result }
+    ensures few { HasFewRows result }
 {
     match read_list(alloc, bytes) {
         Ok(points) => match PlannedList::new(alloc, points) {
@@ -78,7 +81,8 @@ pub fn command_in(
     name: Option<Name>,
     bytes: &[u8],
 ) -> Result<Command, CommandFault>
-    ensures { Gives route name bytes.now result }
+    ensures given { Gives route name bytes.now result }
+    ensures few { HasFewRows result }
 {
     match route {
         Route::List => put_list(alloc, name, bytes),
