@@ -66,14 +66,18 @@ question_reply office route.Intervals taken = lines_reply intervals_text (office
 question_reply office route.Days taken = lines_reply days_text (office.days (name_asked taken))
 question_reply office _ taken = fault NotThere
 
--- The reply to a command by what its body gives. A number that must not be negative is refused before the office is
--- asked, and so is a command for which memory is wanting.
+-- The reply to a body that gives no command. A number that must not be negative is refused before the office is asked,
+-- and so is a command for which memory is wanting.
+abbrev pub fault_said : CommandFault → Reply
+fault_said Malformed = fault BadRequest
+fault_said Negative = refused refusal.Limit
+fault_said (Faulty rows) = Json Unprocessable (faults_text rows)
+fault_said Memory = refused refusal.Memory
+
+-- the reply to a command by what its body gives
 abbrev pub command_reply : (Command → Result CommandKind Refusal) → Result Command CommandFault → Reply
 command_reply ask (Ok command) = row_reply done_text (ask command)
-command_reply ask (Err Malformed) = fault BadRequest
-command_reply ask (Err Negative) = refused refusal.Limit
-command_reply ask (Err (Faulty rows)) = Json Unprocessable (faults_text rows)
-command_reply ask (Err Memory) = refused refusal.Memory
+command_reply ask (Err why) = fault_said why
 
 -- the command as it is asked of the office
 abbrev pub number_or_zero : Option ℕ → ℕ

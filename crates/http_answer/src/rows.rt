@@ -1,9 +1,10 @@
 //! The bodies of replies to questions.
-ghost use Rattle.std.specs.Prelude.{◌≡◌, ◌≤◌, length};
+ghost use Rattle.std.specs.Prelude.{◌≡◌, ◌≤◌, ◌+◌, ◌++◌, length, codes};
+ghost use Rattle.std.specs.Fmt.{signed_decimal};
 ghost use Rattle.http_answer.specs.Rows.{bool_text, ending_of, meter_text, poll_text, poll_text_with};
 
 use http_reply::Text;
-use office_events::{EndedPoll, Installation, Name, PollRow};
+use office_events::{EndedPoll, Installation, PollRow};
 
 // The word of JSON.
 fn bool_bytes(value: bool) -> &'static [u8]
@@ -13,12 +14,13 @@ fn bool_bytes(value: bool) -> &'static [u8]
     if value { b"true" } else { b"false" }
 }
 
-// The bytes of a name, of which there are few.
-fn name_bytes(name: &Name) -> &[u8]
-    ensures bytes { result.now ≡ name.now }
-    ensures few { length result.now ≤ 16 }
+// Puts a scale at the end of a text.
+fn push_scale(text: &mut Text, sf: i16)
+    requires { length text.old ≤ 8000 }
+    ensures bytes { text.new ≡ text.old ++ codes "\",\"sf\":" ++ signed_decimal sf }
+    ensures size { length text.new ≤ length text.old + 30 }
 {
-    name.as_bytes()
+    text.push_signed(b"\",\"sf\":", i64::from(sf));
 }
 
 /// The body for a meter: where it stands, its range, and its whole energy in mWh, as a string of digits.
@@ -31,11 +33,11 @@ pub fn meter_body(row: &Installation) -> Text
     text.push(bool_bytes(row.ended));
     text.push_number(b",\"last\":", row.last.raw);
     text.push(b",\"meter\":\"");
-    text.push(name_bytes(&row.opening.meter));
+    text.push(row.opening.meter.as_bytes());
     text.push_number(b"\",\"range\":", row.opening.range);
     text.push(b",\"register\":\"");
-    text.push(name_bytes(&row.opening.register));
-    text.push_signed(b"\",\"sf\":", i64::from(row.last.sf));
+    text.push(row.opening.register.as_bytes());
+    push_scale(&mut text, row.last.sf);
     text.push_number(b",\"total\":\"", row.total);
     text.push(b"\"}");
     text
@@ -76,7 +78,7 @@ pub fn poll_body(row: &PollRow) -> Text
     let mut text = Text::new();
     text.push_number(b"{\"code\":", ending.code);
     text.push(b",\"device\":\"");
-    text.push(name_bytes(&row.poll.device));
+    text.push(row.poll.device.as_bytes());
     text.push_number(b"\",\"moment\":", ending.moment);
     text.push_number(b",\"outcome\":", ending.outcome);
     text.push_number(b",\"poll\":", row.poll.number);
