@@ -84,16 +84,19 @@ abbrev pub number_or_zero : Option ℕ → ℕ
 number_or_zero None = 0
 number_or_zero (Some number) = number
 
-abbrev pub asked_of : Start → PostHeaders → (body : List ℕ) → Command → Asked
-asked_of start headers body command = record {
+abbrev pub asked_with : PostHeaders → (request : List ℕ) → Command → Asked
+asked_with headers request command = record {
   caller = caller_in headers;
   number = number_or_zero (request_in headers);
-  request = kept_request start.method start.target body;
+  request = request;
   command = command;
 }
 
+abbrev pub asked_of : Start → (body : List ℕ) → Command → Asked
+asked_of start body command = asked_with (post_headers_of start.headers) (kept_request start.method start.target body) command
+
 abbrev pub ask : Office → Start → (body : List ℕ) → Command → Result CommandKind Refusal
-ask office start body command = office.asked (asked_of start (post_headers_of start.headers) body command)
+ask office start body command = office.asked (asked_of start body command)
 
 -- what the office replies to a request of this route, all tests of whose head pass
 abbrev pub route_reply : Office → Start → (body : List ℕ) → Result Command CommandFault → Route → Option (List ℕ) → Reply

@@ -1,33 +1,19 @@
 -- The reply to the bytes that were read, if these hold a whole request or a bad head; else nothing is.
-use Rattle.std.specs.Prelude.{◌≡◌, ◌≢◌, ◌≤◌, ◌+◌, ◌⊎◌, ℕ, Bool, false, List, length, take, drop, Option, Some, None, Result, Err}
-use Rattle.httparse.specs.Grammar.{RequestHead}
+use Rattle.std.specs.Prelude.{◌≡◌, ◌≢◌, ◌⊎◌, ℕ, false, List, Some, None, Result, Err}
 use Rattle.http_commands.specs.Given.{Gives}
 use Rattle.http_commands.specs.declared.fault.CommandFault.{CommandFault}
 use Rattle.http_commands.specs.declared.fault.CommandFault.TheVariants.{Memory}
-use Rattle.http_head.specs.Heads.{IsBadHead, IsHead}
-use Rattle.http_request.specs.HeadTests.{Start, head_fault, start_of}
+use Rattle.http_head.specs.Heads.{IsBadHead}
+use Rattle.http_request.specs.HeadTests.{Start, head_fault}
 use Rattle.http_route.specs.Routes.{Table}
 use Rattle.http_route.specs.Targets.{is_question, name_in, route_in}
 use Rattle.http_route.specs.declared.routes.Route.{Route}
 use Rattle.http_status.specs.declared.Status.TheVariants.{BadRequest, FieldsTooLarge}
-use Rattle.http_whole.specs.Whole.{body_size}
+use Rattle.http_whole.specs.Whole.{HoldsRequest}
 use Rattle.office_events.specs.declared.commands.Command.{Command}
 use Rattle.http_answer.specs.Offices.{Office}
 use Rattle.http_answer.specs.Replies.{fault, reply_bytes, reply_of}
 use Rattle.http_answer.specs.Requests.{name_asked}
-
--- the bytes begin with a whole request: its head within the limits, and its body
-pub record Request (table : Table) (bytes : List ℕ) : Type 0 where
-  pub head : RequestHead
-  pub len : ℕ
-  pub begins : IsHead bytes len head
-  pub whole : len + body_size table (start_of head) ≤ length bytes
-
-abbrev pub request_start : {table : Table} {bytes : List ℕ} → Request table bytes → Start
-request_start request = start_of request.head
-
-abbrev pub request_body : {table : Table} {bytes : List ℕ} → Request table bytes → List ℕ
-request_body {table = table} {bytes = bytes} request = take (body_size table (start_of request.head)) (drop request.len bytes)
 
 -- the request is a command's, of this route, all tests of whose head pass
 pub record IsCommand (table : Table) (start : Start) (route : Route) : Type 0 where
@@ -42,10 +28,12 @@ BodyGives table start body given =
 
 -- a whole request was read, and this is its reply
 pub record RepliesToRequest (office : Office) (table : Table) (bytes reply : List ℕ) : Type 0 where
-  pub request : Request table bytes
+  pub start : Start
+  pub body : List ℕ
+  pub holds : HoldsRequest table bytes start body
   pub given : Result Command CommandFault
-  pub gives : BodyGives table (request_start request) (request_body request) given
-  pub is : reply ≡ reply_bytes (reply_of office table (request_start request) (request_body request) given)
+  pub gives : BodyGives table start body given
+  pub is : reply ≡ reply_bytes (reply_of office table start body given)
 
 -- a bad head was read, to which there are two replies
 pub record RepliesToBadHead (bytes reply : List ℕ) : Type 0 where

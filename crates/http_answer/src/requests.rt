@@ -1,9 +1,11 @@
 //! What a request gives the office beside its command.
 ghost use Rattle.std.specs.Prelude.{◌≡◌, IfOk, option_map};
-ghost use Rattle.office_events.specs.Names.{named};
+ghost use Rattle.http_request.specs.Asking.{Says};
+ghost use Rattle.http_request.specs.Tests.{PostHeaders};
+ghost use Rattle.http_answer.specs.Replies.{asked_with};
 ghost use Rattle.http_answer.specs.Requests.{kept_request, name_asked, number_asked};
 
-use http_request::number;
+use http_request::{Posted, number};
 use office_events::{Asked, Command, Name, Piece};
 use std::alloc::{AllocError, Global};
 
@@ -44,16 +46,14 @@ pub fn number_asked(taken: Option<&str>) -> Option<u64>
     }
 }
 
-/// A command as it is asked of the office.
-pub fn asked(caller: &[u8], number: u64, request: Piece, command: Command) -> Asked
-    ensures caller { result.caller ≡ named caller.now }
-    ensures number { result.number ≡ number }
-    ensures request { result.request ≡ request }
-    ensures command { result.command ≡ command }
+/// A command as it is asked of the office, with the bytes that are kept of its request.
+pub fn asked(posted: &Posted<'_>, request: Piece, command: Command) -> Asked
+    ensures { (headers : PostHeaders) → Says headers posted.now
+        → result ≡ asked_with headers request command }
 {
     Asked {
-        caller: Name::new(caller),
-        number,
+        caller: Name::new(posted.caller),
+        number: posted.number,
         request,
         command,
     }

@@ -9,7 +9,7 @@ ghost use Rattle.http_head.specs.Heads.{IsHeadAt, IsPlaced};
 ghost use Rattle.http_request.specs.HeadTests.{start_at};
 ghost use Rattle.http_read.specs.Reading.{StopsAtOnce};
 ghost use Rattle.http_read.specs.Taking.{CountsTakes, EndedBy, bytes_in, is_read_fault, room_of};
-ghost use Rattle.http_whole.specs.Whole.{GoesOn, Holds, IsWhole, ReadsRequest, TestsRequest, body_of, body_size};
+ghost use Rattle.http_whole.specs.Whole.{GoesOn, Holds, HoldsRequest, IsWhole, ReadsRequest, RequestsAreOne, TestsRequest, body_of, body_size};
 
 use http_head::{Head, Look, MOST_BYTES};
 use http_read::{Inbox, TakeFault, read_body, read_head};
@@ -93,4 +93,16 @@ pub fn one_head(bytes: &[u8], one: &Head, other: &Head)
 pub fn no_request(router: &Router<Route>, bytes: &[u8], head: &Head)
     requires { GoesOn router.now bytes.now }
     ensures { IsWhole router.now bytes.now head.now → ⊥ }
+{}
+
+/// A law: a look at a whole request finds the request that the bytes hold.
+pub fn a_look_finds_the_request(router: &Router<Route>, bytes: &[u8], head: &Head)
+    requires { IsWhole router.now bytes.now head.now }
+    ensures { HoldsRequest router.now bytes.now (start_at bytes.now head.now)
+        (body_of router.now bytes.now head.now) }
+{}
+
+/// A law: bytes hold one request at most.
+pub fn requests_are_one()
+    ensures { RequestsAreOne }
 {}
