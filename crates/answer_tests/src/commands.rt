@@ -16,7 +16,8 @@ fn command(alloc: Global, route: Route, body: &[u8]) -> Result<Command, CommandF
 #[test]
 fn a_device(rt: HostRuntime) -> Result<(), Fail> {
     let body = b"{\"name\":\"inv\",\"unit\":300,\"timeout\":5,\"window\":2}";
-    let Ok(Command::AddDevice(device)) = command(rt.alloc(), Route::Devices, body) else {
+    let device_made = command(rt.alloc(), Route::Devices, body);
+    let Ok(Command::AddDevice(device)) = &device_made else {
         return Err(Fail::from("no device"));
     };
     let want = AddDevice {
@@ -25,7 +26,7 @@ fn a_device(rt: HostRuntime) -> Result<(), Fail> {
         timeout: 5,
         window: 2,
     };
-    assert_eq!(rt; device, want);
+    assert_eq!(rt; *device, want);
     Ok(())
 }
 
@@ -33,7 +34,8 @@ fn a_device(rt: HostRuntime) -> Result<(), Fail> {
 fn a_register(rt: HostRuntime) -> Result<(), Fail> {
     let body =
         b"{\"name\":\"9\",\"device\":\"inv\",\"function\":3,\"address\":40094,\"scale_at\":40096}";
-    let Ok(Command::AddRegister(register)) = command(rt.alloc(), Route::Registers, body) else {
+    let register_made = command(rt.alloc(), Route::Registers, body);
+    let Ok(Command::AddRegister(register)) = &register_made else {
         return Err(Fail::from("no register"));
     };
     let want = AddRegister {
@@ -43,14 +45,15 @@ fn a_register(rt: HostRuntime) -> Result<(), Fail> {
         address: 40_094,
         scale: GivenScale::Register(40_096),
     };
-    assert_eq!(rt; register, want);
+    assert_eq!(rt; *register, want);
     Ok(())
 }
 
 #[test]
 fn a_meter_has_the_full_range(rt: HostRuntime) -> Result<(), Fail> {
     let body = b"{\"meter\":\"m1\",\"raw\":5000,\"sf\":-1,\"ceiling\":100000}";
-    let Ok(Command::Install(install)) = command(rt.alloc(), Route::Install, body) else {
+    let install_made = command(rt.alloc(), Route::Install, body);
+    let Ok(Command::Install(install)) = &install_made else {
         return Err(Fail::from("no meter"));
     };
     let want = Install {
@@ -61,7 +64,7 @@ fn a_meter_has_the_full_range(rt: HostRuntime) -> Result<(), Fail> {
         ceiling: 100_000,
         range: 4_294_967_296,
     };
-    assert_eq!(rt; install, want);
+    assert_eq!(rt; *install, want);
     Ok(())
 }
 
@@ -69,7 +72,8 @@ fn a_meter_has_the_full_range(rt: HostRuntime) -> Result<(), Fail> {
 fn an_exchange_with_a_range(rt: HostRuntime) -> Result<(), Fail> {
     let body =
         b"{\"ceiling\":100000,\"last\":5300,\"meter\":\"m2\",\"raw\":4,\"rolls\":1,\"sf\":0,\"range\":1000000}";
-    let Ok(Command::Exchange(exchange)) = command(rt.alloc(), Route::Exchange, body) else {
+    let exchange_made = command(rt.alloc(), Route::Exchange, body);
+    let Ok(Command::Exchange(exchange)) = &exchange_made else {
         return Err(Fail::from("no exchange"));
     };
     let want = Exchange {
@@ -82,79 +86,83 @@ fn an_exchange_with_a_range(rt: HostRuntime) -> Result<(), Fail> {
         ceiling: 100_000,
         range: 1_000_000,
     };
-    assert_eq!(rt; exchange, want);
+    assert_eq!(rt; *exchange, want);
     Ok(())
 }
 
 #[test]
 fn a_counter_is_set(rt: HostRuntime) -> Result<(), Fail> {
-    let body = b"{\"before\":5250,\"after\":3,\"sf\":-2}";
-    let register = Name::new(b"main");
-    let Ok(Command::Reset(reset)) = command(rt.alloc(), Route::Reset, body) else {
+    let body = b"{\"before\":5250,\"after\":3}";
+    let reset_made = command(rt.alloc(), Route::Reset, body);
+    let Ok(Command::Reset(reset)) = &reset_made else {
         return Err(Fail::from("no reset"));
     };
-    let Ok(Command::Rescale(rescale)) = command(rt.alloc(), Route::Rescale, body) else {
+    let want = Reset {
+        register: Name::new(b"main"),
+        before: 5250,
+        after: 3,
+    };
+    assert_eq!(rt; *reset, want);
+    Ok(())
+}
+
+#[test]
+fn a_counter_is_set_at_another_scale(rt: HostRuntime) -> Result<(), Fail> {
+    let body = b"{\"before\":5250,\"after\":3,\"sf\":-2}";
+    let rescale_made = command(rt.alloc(), Route::Rescale, body);
+    let Ok(Command::Rescale(rescale)) = &rescale_made else {
         return Err(Fail::from("no rescaling"));
     };
-    let (before, after) = (5250, 3);
-    assert_eq!(rt;
-        reset,
-        Reset {
-            register,
-            before,
-            after
-        }
-    );
-    assert_eq!(rt;
-        rescale,
-        Rescale {
-            register,
-            before,
-            after,
-            sf: -2
-        }
-    );
+    let want = Rescale {
+        register: Name::new(b"main"),
+        before: 5250,
+        after: 3,
+        sf: -2,
+    };
+    assert_eq!(rt; *rescale, want);
     Ok(())
 }
 
 #[test]
 fn a_reading_by_hand(rt: HostRuntime) -> Result<(), Fail> {
     let body = b"{\"raw\":5300,\"rolls\":1,\"at\":1900}";
-    let register = Name::new(b"main");
-    let Ok(Command::Manual(manual)) = command(rt.alloc(), Route::Manual, body) else {
+    let manual_made = command(rt.alloc(), Route::Manual, body);
+    let Ok(Command::Manual(manual)) = &manual_made else {
         return Err(Fail::from("no reading"));
     };
-    let Ok(Command::Close(close)) = command(rt.alloc(), Route::Close, body) else {
+    let want = Manual {
+        register: Name::new(b"main"),
+        raw: 5300,
+        rolls: 1,
+        at: Some(1900),
+    };
+    assert_eq!(rt; *manual, want);
+    Ok(())
+}
+
+#[test]
+fn a_closing(rt: HostRuntime) -> Result<(), Fail> {
+    let close_made = command(rt.alloc(), Route::Close, b"{\"raw\":5300,\"rolls\":1}");
+    let Ok(Command::Close(close)) = &close_made else {
         return Err(Fail::from("no closing"));
     };
-    let (raw, rolls, at) = (5300, 1, Some(1900));
-    assert_eq!(rt;
-        manual,
-        Manual {
-            register,
-            raw,
-            rolls,
-            at
-        }
-    );
-    assert_eq!(rt;
-        close,
-        Close {
-            register,
-            raw,
-            rolls
-        }
-    );
+    let want = Close {
+        register: Name::new(b"main"),
+        raw: 5300,
+        rolls: 1,
+    };
+    assert_eq!(rt; *close, want);
     Ok(())
 }
 
 #[test]
 fn a_void(rt: HostRuntime) -> Result<(), Fail> {
-    let Ok(Command::Void(void)) = command(rt.alloc(), Route::Void, b"{\"place\":2}") else {
+    let void_made = command(rt.alloc(), Route::Void, b"{\"place\":2}");
+    let Ok(Command::Void(void)) = &void_made else {
         return Err(Fail::from("no void"));
     };
     let meter = Name::new(b"main");
-    assert_eq!(rt; void, VoidEntry { meter, place: 2 });
+    assert_eq!(rt; *void, VoidEntry { meter, place: 2 });
     Ok(())
 }
 
