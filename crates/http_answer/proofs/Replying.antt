@@ -119,7 +119,7 @@ to_command office table bytes at found posted given holds tests gives memory =
     let by_name : Gives found.route (name_asked (name_in table start.target)) body given = subst (λ n. Gives found.route (name_asked n) body given) tests.1.0.name gives in
     let all : BodyGives table start body given = λ r c. (
       let same : found.route ≡ r = cc (tests.1.0.route, c.leads) in
-      subst (λ x. Gives x (name_asked (name_in table start.target)) body given) same by_name,
+          subst (λ x. Gives x (name_asked (name_in table start.target)) body given) same by_name,
       memory,
     ) in
     inr record {

@@ -28,7 +28,12 @@ pub fn faults_are_replied_to(router: &Router<Route>, bytes: &[u8], look: &Look, 
 {}
 
 /// A law: what an office answers to a question is the reply to it.
-pub fn questions_are_replied_to(router: &Router<Route>, bytes: &[u8], look: &Look, found: &Found<'_>)
+pub fn questions_are_replied_to(
+    router: &Router<Route>,
+    bytes: &[u8],
+    look: &Look,
+    found: &Found<'_>,
+)
     requires holds { Holds router.now bytes.now look.now }
     requires asks { TestsRequest router.now bytes.now look.now (Ok (Question found.now)) }
     ensures { (office : Office) → IsReply office router.now bytes.now

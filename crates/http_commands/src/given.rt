@@ -54,11 +54,7 @@ fn json_command(
 }
 
 // The list that is put, with its plan.
-fn put_list(
-    alloc: Global,
-    device: Option<Name>,
-    bytes: &[u8],
-) -> Result<Command, CommandFault>
+fn put_list(alloc: Global, device: Option<Name>, bytes: &[u8]) -> Result<Command, CommandFault>
     ensures given { IsListBody device bytes.now result }
     ensures few { HasFewRows result }
 {

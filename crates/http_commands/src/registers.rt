@@ -8,9 +8,7 @@ use crate::values::{name, or_full_range};
 use http_json::{
     Body, BodyFault, close_in, exchange_in, install_in, manual_in, rescale_in, reset_in, void_in,
 };
-use office_events::{
-    Close, Command, Exchange, Install, Manual, Name, Rescale, Reset, VoidEntry,
-};
+use office_events::{Close, Command, Exchange, Install, Manual, Name, Rescale, Reset, VoidEntry};
 
 // A meter is installed.
 pub(crate) fn install(register: Option<Name>, body: &Body) -> Result<Command, BodyFault>
