@@ -17,7 +17,8 @@ pub fn read_head<L: Link>(inbox: &mut Inbox<'_>, link: &mut L) -> Result<Look, T
         (L.remaining link.old) (L.remaining link.new) }
     ensures takes { CountsTakes result inbox.old inbox.new (L.taken link.old) (L.taken link.new) }
     ensures last { EndedBy result (L.last link.new) }
-    ensures stops { OnOk result (StopsAtOnce IsOpenHead inbox.old inbox.new (L.last link.new)) }
+    ensures stops { OnOk result
+        (StopsAtOnce IsOpenHead inbox.old inbox.new (L.last link.old) (L.last link.new)) }
     ensures given { Keeps (L.given link.old) (L.given link.new) }
     ensures failures { L.failed link.new ≡ risen (is_read_fault result) (L.failed link.old) }
 {
@@ -41,8 +42,8 @@ pub fn read_body<L: Link>(
         (L.remaining link.old) (L.remaining link.new) }
     ensures takes { CountsTakes result inbox.old inbox.new (L.taken link.old) (L.taken link.new) }
     ensures last { EndedBy result (L.last link.new) }
-    ensures stops { OnOk result
-        (StopsAtOnce (λ bytes. length bytes < count) inbox.old inbox.new (L.last link.new)) }
+    ensures stops { OnOk result (StopsAtOnce (λ bytes. length bytes < count)
+        inbox.old inbox.new (L.last link.old) (L.last link.new)) }
     ensures given { Keeps (L.given link.old) (L.given link.new) }
     ensures failures { L.failed link.new ≡ risen (is_read_fault result) (L.failed link.old) }
 {

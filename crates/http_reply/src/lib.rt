@@ -7,10 +7,7 @@ mod outlet;
 mod reply;
 mod text;
 
-pub use bodies::{
-    Kind, MeterReply, PollReply, RowFault, done_body, fault_body, faults_body, meter_body,
-    poll_body, refused_body,
-};
+pub use bodies::{fault_body, refused_body};
 pub use outlet::Outlet;
 pub use reply::{put_json, put_text_head};
 pub use text::Text;

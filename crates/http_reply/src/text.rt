@@ -38,8 +38,8 @@ impl Text {
         &self.room[..self.filled]
     }
 
-    // Puts bytes at its end.
-    pub(crate) fn push(&mut self, bytes: &[u8])
+    /// Puts bytes at its end.
+    pub fn push(&mut self, bytes: &[u8])
         requires { length self.old + length bytes.now ≤ 8192 }
         ensures bytes { self.new ≡ self.old ++ bytes.now }
         ensures size { length self.new ≡ length self.old + length bytes.now }
@@ -49,8 +49,8 @@ impl Text {
         self.filled = end;
     }
 
-    // Puts a number at its end, behind what introduces it.
-    pub(crate) fn push_number<I: Integer>(&mut self, key: &[u8], number: I)
+    /// Puts the digits of a number at its end, behind what introduces it.
+    pub fn push_number<I: Integer>(&mut self, key: &[u8], number: I)
         requires { length self.old + length key.now + 40 ≤ 8192 }
         ensures bytes { self.new ≡ self.old ++ key.now ++ I.text number }
         ensures size { length self.new ≤ length self.old + length key.now + I.MAX_STR_LEN }
@@ -60,8 +60,8 @@ impl Text {
         self.push(buffer.format(number).as_bytes());
     }
 
-    // Puts a signed number at its end, behind what introduces it.
-    pub(crate) fn push_signed(&mut self, key: &[u8], number: i64)
+    /// Puts a signed number at its end, behind what introduces it.
+    pub fn push_signed(&mut self, key: &[u8], number: i64)
         requires { length self.old + length key.now + 40 ≤ 8192 }
         ensures bytes { self.new ≡ self.old ++ key.now ++ signed_decimal number }
         ensures size { length self.new ≤ length self.old + length key.now + 20 }

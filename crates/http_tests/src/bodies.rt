@@ -3,10 +3,7 @@ use http_json::{
     BodyFault, Scale, body_of, close_in, device_in, exchange_in, install_in, manual_in,
     register_in, rescale_in, reset_in, void_in,
 };
-use http_reply::{
-    Kind, MeterReply, PollReply, RowFault, done_body, fault_body, faults_body, meter_body,
-    poll_body, refused_body,
-};
+use http_reply::{fault_body, refused_body};
 use http_status::Status;
 use std::alloc::Global;
 use std::test::Fail;
@@ -133,58 +130,11 @@ fn what_may_lack_may_stand(rt: HostRuntime) -> Result<(), Fail> {
     Ok(())
 }
 
-static METER: &[u8] =
-    b"{\"at\":1900,\"ended\":false,\"last\":5200,\"meter\":\"m1\",\"range\":4294967296,\"register\":\"main\",\"sf\":0,\"total\":\"200000\"}";
-
-static POLL: &[u8] =
-    b"{\"code\":0,\"device\":\"inv\",\"moment\":1900,\"outcome\":1,\"poll\":1,\"started\":1898}";
-
 #[test]
-fn a_meter_and_a_poll_are_told(rt: HostRuntime) {
-    let meter = MeterReply {
-        at: 1900,
-        ended: false,
-        last: 5200,
-        meter: b"m1",
-        range: 4_294_967_296,
-        register: b"main",
-        sf: 0,
-        total: 200_000,
-    };
-    assert_eq!(rt; meter_body(&meter).bytes(), METER);
-    let poll = PollReply {
-        code: 0,
-        device: b"inv",
-        moment: 1900,
-        outcome: 1,
-        poll: 1,
-        started: 1898,
-    };
-    assert_eq!(rt; poll_body(&poll).bytes(), POLL);
-}
-
-static FAULTS: [RowFault; 2] = [
-    RowFault { row: 1, number: 2 },
-    RowFault {
-        row: 513,
-        number: 11,
-    },
-];
-
-#[test]
-fn outcomes_are_told(rt: HostRuntime) {
-    assert_eq!(rt; done_body(Kind::Void), b"{\"done\":\"void\"}".as_slice());
+fn numbers_are_told(rt: HostRuntime) {
     assert_eq!(rt; refused_body(14).bytes(), b"{\"refused\":14}".as_slice());
     assert_eq!(rt;
         fault_body(Status::Conflict).bytes(),
         b"{\"fault\":409}".as_slice()
-    );
-    assert_eq!(rt;
-        faults_body(&FAULTS).bytes(),
-        b"{\"faults\":[[1,2],[513,11]]}".as_slice()
-    );
-    assert_eq!(rt;
-        faults_body(&FAULTS[..0]).bytes(),
-        b"{\"faults\":[]}".as_slice()
     );
 }

@@ -1,5 +1,5 @@
 -- A head stays where more bytes come behind it.
-use Rattle.std.proofs.Common.{◌≡◌, ◌∙◌, ℕ, ◌+◌, ◌-◌, ◌<◌, ◌≤◌, List, [], ◌∷◌, ◌++◌, length, take, drop, map, Option, refl, sym, ap, subst, arith, length-drop, length-append}
+use Rattle.std.proofs.Common.{◌≡◌, ◌∙◌, ℕ, ◌+◌, ◌-◌, ◌<◌, ◌≤◌, List, [], ◌∷◌, ◌++◌, length, take, drop, map, Option, inl, inr, ◌⊎◌, refl, sym, ap, subst, arith, append_assoc, length-drop, length-append}
 use Rattle.std.specs.Prelude.{All}
 use Rattle.std.proofs.lemmas.List.{drop-append-le, take-append-le}
 use Rattle.std.proofs.lemmas.List.Elements.{All-head, All-tail}
@@ -8,13 +8,16 @@ use Rattle.httparse.specs.Spans.{IsHeaderWithin, IsWithin, header_bytes, span_by
 use Rattle.httparse.specs.declared.spans.HeaderSpan.{HeaderSpan}
 use Rattle.httparse.specs.declared.spans.Span.{Span}
 use Rattle.httparse.proofs.GrammarLemmas.{ReadsRequest-append}
-use Rattle.http_head.specs.Heads.{IsHeadAt}
+use Rattle.http_head.specs.Heads.{IsHeadAt, IsOpenHead}
 use Rattle.http_head.specs.declared.head.Head.{Head}
 use Rattle.http_read.proofs.Coming.{Came-then}
-use Rattle.http_read.specs.Taking.{Came}
+use Rattle.http_read.specs.Reading.{StopsAtOnce}
+use Rattle.http_read.specs.Taking.{Came, brought, bytes_in}
+use Rattle.http_read.specs.declared.inbox.Inbox.{Inbox}
+use Rattle.mb_wire.specs.declared.link.LastTake.{LastTake}
 use Rattle.http_request.specs.HeadTests.{start_at}
 use Rattle.http_route.specs.Routes.{Table}
-use Rattle.http_whole.specs.Whole.{IsWhole, LacksBody, body_size}
+use Rattle.http_whole.specs.Whole.{GoesOn, IsWhole, LacksBody, body_size}
 
 span_stays : (a b : List ℕ) (s : Span) → IsWithin (length a) s → span_bytes (a ++ b) s ≡ span_bytes a s
 span_stays a b s h =
@@ -93,3 +96,47 @@ lacks table old mid new seen r s t at size first head same is came few = record 
   head = subst (λ b. IsHeadAt b at) (sym came.bytes) (head_stays mid came.chunk at head);
   body = subst (λ n. length new < at.len + n) (size_stays table mid new seen s t at size same is head came) few;
 }
+
+-- a head that has come stays one that lacks a part of its body, until the body has come
+lacks_still : (table : Table) (mid earlier seen : List ℕ) (at : Head) (size : ℕ) → seen ≡ mid → size ≡ body_size table (start_at seen at) → IsHeadAt mid at
+    → length (mid ++ earlier) < at.len + size → LacksBody table (mid ++ earlier)
+lacks_still table mid earlier seen at size same is head few =
+    let start : body_size table (start_at (mid ++ earlier) at) ≡ size = ap (body_size table) (start_stays mid earlier at head) ∙ ap (λ b. body_size table (start_at b at)) (sym same) ∙ sym is in
+    record { at = at; head = head_stays mid earlier at head; body = omega (arith, few, start) }
+
+-- reading a head stops at once, and no body belongs to it
+pub stops_at_head : (table : Table) (old new : Inbox) (was now : Option LastTake) → StopsAtOnce IsOpenHead old new was now → StopsAtOnce (GoesOn table) old new was now
+stops_at_head table old new was now (inl none) = inl none
+stops_at_head table old new was now (inr some) = inr record {
+  earlier = some.earlier;
+  chunk = some.chunk;
+  goes_on = inl some.goes_on;
+  bytes = some.bytes;
+  size = some.size;
+}
+
+-- reading a head stops at once, and so does reading its body
+pub stops_at_body : (table : Table) (old mid new : Inbox) (seen chunk : List ℕ) (was then now : Option LastTake) (at : Head) (size : ℕ) → bytes_in mid ≡ bytes_in old ++ chunk → IsHeadAt (bytes_in mid) at
+    → seen ≡ bytes_in mid → size ≡ body_size table (start_at seen at) → StopsAtOnce IsOpenHead old mid was then → StopsAtOnce (λ bytes. length bytes < at.len + size) mid new then now
+    → StopsAtOnce (GoesOn table) old new was now
+stops_at_body table old mid new seen chunk was then now at size came head same is (inl none) (inl also) = inl record {
+  takes = also.takes ∙ none.takes;
+  bytes = also.bytes ∙ none.bytes;
+  last = also.last ∙ none.last;
+}
+stops_at_body table old mid new seen chunk was then now at size came head same is (inr some) (inl also) = inr record {
+  earlier = some.earlier;
+  chunk = some.chunk;
+  goes_on = inl some.goes_on;
+  bytes = also.bytes ∙ some.bytes;
+  size = some.size ∙ ap brought (sym also.last);
+}
+stops_at_body table old mid new seen chunk was then now at size came head same is first (inr last) =
+    let order : bytes_in mid ++ last.earlier ≡ bytes_in old ++ (chunk ++ last.earlier) = ap (λ t. t ++ last.earlier) came ∙ append_assoc (bytes_in old) chunk last.earlier in
+    inr record {
+      earlier = chunk ++ last.earlier;
+      chunk = last.chunk;
+      goes_on = subst (GoesOn table) order (inr (lacks_still table (bytes_in mid) last.earlier seen at size same is head last.goes_on));
+      bytes = last.bytes ∙ ap (λ t. t ++ last.chunk) order;
+      size = last.size;
+    }

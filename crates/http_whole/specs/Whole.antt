@@ -1,13 +1,14 @@
 -- A whole request.
 use Rattle.std.specs.Prelude.{◌≡◌, ◌+◌, ◌<◌, ◌≤◌, ◌⊎◌, ℕ, Bool, true, false, List, length, take, drop, Option, Some, None, Result, Ok, Err}
-use Rattle.http_head.specs.Heads.{IsHeadAt, IsOpenHead, Looks}
+use Rattle.httparse.specs.Grammar.{RequestHead}
+use Rattle.http_head.specs.Heads.{IsHead, IsHeadAt, IsOpenHead, Looks}
 use Rattle.http_head.specs.declared.head.Head.{Head}
 use Rattle.http_head.specs.declared.head.Look.{Look}
 use Rattle.http_head.specs.declared.head.Look.TheVariants.{Open, TooLarge, NoHead, Whole}
 use Rattle.http_read.specs.Reading.{EndsAt}
 use Rattle.http_read.specs.Taking.{Came}
 use Rattle.http_read.specs.declared.inbox.TakeFault.{TakeFault}
-use Rattle.http_request.specs.HeadTests.{Start, asks, head_fault, start_at}
+use Rattle.http_request.specs.HeadTests.{Start, asks, head_fault, start_at, start_of}
 use Rattle.http_request.specs.Tests.{post_headers_of, size_in}
 use Rattle.http_route.specs.Routes.{Table}
 use Rattle.http_route.specs.Targets.{route_in}
@@ -39,6 +40,10 @@ pub record LacksBody (table : Table) (bytes : List ℕ) : Type 0 where
   pub head : IsHeadAt bytes at
   pub body : length bytes < at.len + body_size table (start_at bytes at)
 
+-- what was read goes on: it holds no whole request yet, and no bad head
+abbrev pub GoesOn : Table → List ℕ → Type 0
+GoesOn table bytes = IsOpenHead bytes ⊎ LacksBody table bytes
+
 -- a look at what was read finds a whole request, or a bad head
 abbrev pub Holds : Table → List ℕ → Look → Type 0
 Holds table bytes Open = ⊥
@@ -49,7 +54,7 @@ Holds table bytes (Whole at) = IsWhole table bytes at
 -- A whole request or a bad head was read; or taking failed, and neither was.
 abbrev pub ReadsRequest : Table → Result Look TakeFault → List ℕ → List ℕ → Option (List ℕ) → Option (List ℕ) → Type 0
 ReadsRequest table (Ok look) old new before after = Came old new before after × Holds table new look
-ReadsRequest table (Err fault) old new before after = Came old new before after × (IsOpenHead new ⊎ LacksBody table new) × EndsAt fault after
+ReadsRequest table (Err fault) old new before after = Came old new before after × GoesOn table new × EndsAt fault after
 
 -- What a whole request asks for, or the status that answers it: 431 for a head past the limits, 400 for what
 -- is no head, else that of the first test of the head that fails.
@@ -62,3 +67,21 @@ TestsRequest table bytes (Whole at) result = TestsHead table (start_at bytes at)
 -- the body of a request
 abbrev pub body_of : Table → List ℕ → Head → List ℕ
 body_of table bytes at = take (body_size table (start_at bytes at)) (drop at.len bytes)
+
+-- The bytes begin with a whole request: a head within the limits, which begins so, and this body.
+pub record HoldsRequest (table : Table) (bytes : List ℕ) (start : Start) (body : List ℕ) : Type 0 where
+  pub head : RequestHead
+  pub len : ℕ
+  pub begins : IsHead bytes len head
+  pub is : start ≡ start_of head
+  pub whole : len + body_size table start ≤ length bytes
+  pub body_is : body ≡ take (body_size table start) (drop len bytes)
+
+-- Bytes begin with one request at most.
+pub record IsOneRequest (start other_start : Start) (body other_body : List ℕ) : Type 0 where
+  pub one_start : start ≡ other_start
+  pub one_body : body ≡ other_body
+
+abbrev pub RequestsAreOne : Type 0
+RequestsAreOne = (table : Table) (bytes : List ℕ) (start other_start : Start) (body other_body : List ℕ)
+    → HoldsRequest table bytes start body → HoldsRequest table bytes other_start other_body → IsOneRequest start other_start body other_body

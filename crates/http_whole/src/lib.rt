@@ -1,14 +1,15 @@
 //! A whole request, read from a link: its head, and the body that belongs to it.
 #![tactic(auto)]
 
-ghost use Rattle.std.specs.Prelude.{◌≡◌, ◌≤◌, ◌⊎◌, IsUtf8};
+ghost use Rattle.std.specs.Prelude.{◌≡◌, ◌≤◌, IsUtf8, OnOk};
 ghost use Rattle.std.specs.Io.KnownBytes.{Keeps};
 ghost use Rattle.httparse.specs.Spans.{span_bytes};
 ghost use Rattle.mb_wire.specs.Links.{risen};
-ghost use Rattle.http_head.specs.Heads.{IsHeadAt, IsOpenHead, IsPlaced};
+ghost use Rattle.http_head.specs.Heads.{IsHeadAt, IsPlaced};
 ghost use Rattle.http_request.specs.HeadTests.{start_at};
+ghost use Rattle.http_read.specs.Reading.{StopsAtOnce};
 ghost use Rattle.http_read.specs.Taking.{CountsTakes, EndedBy, bytes_in, is_read_fault, room_of};
-ghost use Rattle.http_whole.specs.Whole.{Holds, IsWhole, LacksBody, ReadsRequest, TestsRequest, body_of, body_size};
+ghost use Rattle.http_whole.specs.Whole.{GoesOn, Holds, HoldsRequest, IsWhole, ReadsRequest, RequestsAreOne, TestsRequest, body_of, body_size};
 
 use http_head::{Head, Look, MOST_BYTES};
 use http_read::{Inbox, TakeFault, read_body, read_head};
@@ -45,6 +46,8 @@ pub fn read_request<L: Link>(
         (L.remaining link.old) (L.remaining link.new) }
     ensures takes { CountsTakes result inbox.old inbox.new (L.taken link.old) (L.taken link.new) }
     ensures last { EndedBy result (L.last link.new) }
+    ensures stops { OnOk result (StopsAtOnce (GoesOn router.now)
+        inbox.old inbox.new (L.last link.old) (L.last link.new)) }
     ensures given { Keeps (L.given link.old) (L.given link.new) }
     ensures failures { L.failed link.new ≡ risen (is_read_fault result) (L.failed link.old) }
 {
@@ -88,6 +91,18 @@ pub fn one_head(bytes: &[u8], one: &Head, other: &Head)
 
 /// A law: bytes that go on, or lack a part of the body, hold no whole request.
 pub fn no_request(router: &Router<Route>, bytes: &[u8], head: &Head)
-    requires { IsOpenHead bytes.now ⊎ LacksBody router.now bytes.now }
+    requires { GoesOn router.now bytes.now }
     ensures { IsWhole router.now bytes.now head.now → ⊥ }
+{}
+
+/// A law: a look at a whole request finds the request that the bytes hold.
+pub fn a_look_finds_the_request(router: &Router<Route>, bytes: &[u8], head: &Head)
+    requires { IsWhole router.now bytes.now head.now }
+    ensures { HoldsRequest router.now bytes.now (start_at bytes.now head.now)
+        (body_of router.now bytes.now head.now) }
+{}
+
+/// A law: bytes hold one request at most.
+pub fn requests_are_one()
+    ensures { RequestsAreOne }
 {}

@@ -3,7 +3,7 @@ use Rattle.http_head.specs.Heads.{Looks}
 use Rattle.http_read.specs.Taking.{bytes_in}
 use Rattle.http_whole.specs.Whole.{Holds, ReadsRequest}
 use Rattle.http_read.proofs.Coming.{Came-then}
-use Rattle.http_whole.proofs.Stable.{lacks, whole}
+use Rattle.http_whole.proofs.Stable.{lacks, stops_at_body, stops_at_head, whole}
 use Rattle.http_whole.proofs.read_request.Goals as goal
 
 pub returns-in_err-read_body-clause-reads : goal.returns-in_err-read_body-clause-reads
@@ -28,3 +28,15 @@ returns-in_ok-read_body-clause-reads g c =
     let came = c.in_ok-read_body.ensures.reads in
     let both = whole c.args.router.now _ mid _ c.bytes.result.now _ _ _ c.in-Whole.head c.body_size-size.result read.0 head c.bytes.ensures c.body_size-size.ensures.size came.0 came.1 in
     (both.0, subst (Holds c.args.router.now (bytes_in c.read_body.new.inbox)) (sym c.in-Whole.is) both.1)
+
+pub returns-in_ok-read_body-clause-stops : goal.returns-in_ok-read_body-clause-stops
+returns-in_ok-read_body-clause-stops g c =
+    let mid = bytes_in c.read_head.new.inbox in
+    let read = c.in_ok-look.ensures.reads in
+    let head = subst (Looks mid) c.in-Whole.is read.1 in
+    stops_at_body c.args.router.now c.args.inbox.now c.read_head.new.inbox c.read_body.new.inbox c.bytes.result.now read.0.chunk _ _ _ c.in-Whole.head c.body_size-size.result
+    read.0.bytes head c.bytes.ensures c.body_size-size.ensures.size c.in_ok-look.ensures.stops c.in_ok-read_body.ensures.stops
+
+pub returns-in_default-clause-stops : goal.returns-in_default-clause-stops
+returns-in_default-clause-stops g c =
+    stops_at_head c.args.router.now c.args.inbox.now c.read_head.new.inbox _ _ c.in_ok-look.ensures.stops

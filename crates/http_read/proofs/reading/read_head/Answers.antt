@@ -1,8 +1,20 @@
-use Rattle.std.proofs.Common.{rules, ◌≡◌, ◌∙◌, true, inr, ap, subst, length, arith, length-append}
+use Rattle.std.proofs.Common.{rules, ◌≡◌, ◌∙◌, true, inr, Err, sym, subst}
+use Rattle.http_read.specs.Reading.{ReadsHead}
 use Rattle.http_head.specs.Heads.{IsOpenHead, is_open}
 use Rattle.http_read.specs.Taking.{bytes_in}
-use Rattle.http_read.proofs.Coming.{Came-then, look-open}
+use Rattle.http_read.proofs.Coming.{Came-then, fails_behind, look-open, stops_behind}
 use Rattle.http_read.proofs.reading.read_head.Goals as goal
+
+pub returns-in_err-take_more-clause-reads : goal.returns-in_err-take_more-clause-reads
+returns-in_err-take_more-clause-reads g c =
+    let before = c.takes.invariant in
+    let fault = c.in_err-take_more.field-0.0 in
+    let on = c.in_err-take_more.ensures.takes_on in
+    let goes_on : is_open c.look_at-look.result ≡ true = search rules in
+    let held : IsOpenHead (bytes_in c.takes.inbox) = subst IsOpenHead c.bytes.ensures (look-open _ _ c.look_at-look.ensures goes_on) in
+    let is : c.from_residual.result ≡ Err fault = search rules in
+    subst (λ x. ReadsHead x (bytes_in c.args.inbox.now) (bytes_in c.take_more.new.self) (g.L.Link.remaining c.args.link.now) (g.L.Link.remaining c.take_more.new.link)) (sym is)
+    (fails_behind fault _ (bytes_in c.takes.inbox) _ _ _ _ before.came on held)
 
 pub takes-preserved : goal.takes-preserved
 takes-preserved g c =
@@ -15,12 +27,6 @@ takes-preserved g c =
       given = search rules;
       room = took.takes.room ∙ before.room;
       failures = took.failures ∙ before.failures;
-      stops = inr (
-        bytes_in c.takes.inbox,
-        took.takes_on.chunk,
-        held,
-        took.takes_on.bytes,
-        omega (arith, took.brought, ap length took.takes_on.bytes, length-append (bytes_in c.takes.inbox) took.takes_on.chunk),
-      );
+      stops = inr (stops_behind IsOpenHead _ _ _ _ before.came.chunk took.takes_on.chunk before.came.bytes held took.takes_on.bytes took.brought);
       counts = λ base h. took.takes.counts base (before.counts base h);
     }

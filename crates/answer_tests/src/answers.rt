@@ -1,0 +1,162 @@
+// Replies that tell what an office answers.
+use energy_core::{Cause, Last};
+use http_answer::{done_body, faults_body, kind_answered, meter_body, poll_body, status_of};
+use mb_wire::ReadSpan;
+use office_events::{
+    Answer, CommandKind, EndedPoll, Installation, Name, Opening, Poll, PollRow, Refusal, StoreCause,
+};
+use point_list::{FaultyRow, RowFault};
+use poll_core::Outcome;
+use std::test::Fail;
+
+static STATUSES: [(Refusal, u16); 19] = [
+    (Refusal::NotFound, 404),
+    (Refusal::Exists, 409),
+    (Refusal::ClockBack, 409),
+    (Refusal::BadScale, 422),
+    (Refusal::NegativeStep, 422),
+    (Refusal::NotLater, 422),
+    (Refusal::SpanTooLong, 422),
+    (Refusal::TotalFull, 422),
+    (Refusal::Ended, 409),
+    (Refusal::Busy, 409),
+    (Refusal::Reused, 409),
+    (Refusal::Limit, 422),
+    (Refusal::Store(StoreCause::Refused), 503),
+    (Refusal::Store(StoreCause::Damaged), 503),
+    (Refusal::Store(StoreCause::NoDay), 503),
+    (Refusal::Memory, 503),
+    (Refusal::Stopped, 503),
+    (Refusal::NotVoidable, 409),
+    (Refusal::NotPlausible(Cause::TooFast), 422),
+];
+
+#[test]
+fn each_refusal_has_a_status(rt: HostRuntime) {
+    for (refusal, status) in &STATUSES {
+        assert_eq!(rt; status_of(*refusal).number(), *status);
+    }
+}
+
+static KINDS: [(CommandKind, &[u8]); 11] = [
+    (CommandKind::Device, b"{\"done\":\"device\"}"),
+    (CommandKind::List, b"{\"done\":\"list\"}"),
+    (CommandKind::Register, b"{\"done\":\"register\"}"),
+    (CommandKind::Install, b"{\"done\":\"install\"}"),
+    (CommandKind::Exchange, b"{\"done\":\"exchange\"}"),
+    (CommandKind::Reset, b"{\"done\":\"reset\"}"),
+    (CommandKind::Rescale, b"{\"done\":\"rescale\"}"),
+    (CommandKind::Manual, b"{\"done\":\"manual\"}"),
+    (CommandKind::Close, b"{\"done\":\"close\"}"),
+    (CommandKind::Void, b"{\"done\":\"void\"}"),
+    (CommandKind::Start, b"{\"done\":\"start\"}"),
+];
+
+#[test]
+fn each_kind_of_command_is_told(rt: HostRuntime) {
+    for (kind, body) in &KINDS {
+        assert_eq!(rt; done_body(*kind), *body);
+        assert_eq!(rt; kind_answered(Answer::Done(*kind)), Some(*kind));
+        assert_eq!(rt; kind_answered(Answer::Again(*kind)), Some(*kind));
+    }
+    assert_eq!(rt; kind_answered(Answer::Noted), None);
+    let started = Answer::Started {
+        first: 1,
+        count: 1,
+        of: 1,
+    };
+    assert_eq!(rt; kind_answered(started), Some(CommandKind::Start));
+}
+
+fn name(text: &[u8]) -> Result<Name, Fail> {
+    Ok(Name::new(text).ok_or("no name")?)
+}
+
+static METER: &[u8] =
+    b"{\"at\":1900,\"ended\":false,\"last\":5200,\"meter\":\"m1\",\"range\":4294967296,\"register\":\"main\",\"sf\":-3,\"total\":\"200000\"}";
+
+// A meter that went on from 5000 to 5200.
+fn installation(sf: i16) -> Result<Installation, Fail> {
+    let opening = Opening {
+        meter: name(b"m1")?,
+        register: name(b"main")?,
+        ceiling: 100_000,
+        range: 4_294_967_296,
+        at: 1000,
+        raw: 5000,
+        sf,
+    };
+    let last = Last {
+        at: 1900,
+        raw: 5200,
+        sf,
+    };
+    Ok(Installation {
+        opening,
+        last,
+        total: 200_000,
+        ended: false,
+    })
+}
+
+#[test]
+fn a_meter_is_told(rt: HostRuntime) -> Result<(), Fail> {
+    let row = installation(-3)?;
+    assert_eq!(rt; meter_body(&row).bytes(), METER);
+    Ok(())
+}
+
+static POLL: &[u8] =
+    b"{\"code\":2,\"device\":\"inv\",\"moment\":1900,\"outcome\":2,\"poll\":1,\"started\":1898}";
+
+static PENDING: &[u8] =
+    b"{\"code\":0,\"device\":\"inv\",\"moment\":0,\"outcome\":0,\"poll\":1,\"started\":1898}";
+
+// A poll that ended so.
+fn poll_row(outcome: Option<Outcome>) -> Result<PollRow, Fail> {
+    let poll = Poll {
+        number: 1,
+        device: name(b"inv")?,
+        unit: 1,
+        at: 1898,
+        id: 0,
+        span: ReadSpan::new(3, 40_094, 3).ok_or("no span")?,
+    };
+    let ended = match outcome {
+        Some(outcome) => Some(EndedPoll {
+            poll: 1,
+            at: 1900,
+            outcome,
+        }),
+        None => None,
+    };
+    Ok(PollRow { poll, ended })
+}
+
+#[test]
+fn a_poll_is_told(rt: HostRuntime) -> Result<(), Fail> {
+    let pending = poll_row(None)?;
+    assert_eq!(rt; poll_body(&pending).bytes(), PENDING);
+    let refused = poll_row(Some(Outcome::Exception(2)))?;
+    assert_eq!(rt; poll_body(&refused).bytes(), POLL);
+    Ok(())
+}
+
+static FAULTS: [FaultyRow; 2] = [
+    FaultyRow {
+        row: 1,
+        fault: RowFault::Header,
+    },
+    FaultyRow {
+        row: 514,
+        fault: RowFault::TooMany,
+    },
+];
+
+#[test]
+fn faulty_rows_are_told(rt: HostRuntime) {
+    let body = faults_body(&FAULTS);
+    assert_eq!(rt; body.bytes(), b"{\"faults\":[[1,2],[514,12]]}".as_slice());
+    let one = faults_body(&FAULTS[..1]);
+    assert_eq!(rt; one.bytes(), b"{\"faults\":[[1,2]]}".as_slice());
+}

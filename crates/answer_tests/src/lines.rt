@@ -1,0 +1,69 @@
+// The lines of reports.
+use http_answer::{put_day, put_end, put_share};
+use http_reply::Outlet;
+use interval_core::{DayTotal, Share};
+use jiff::civil::date;
+use mb_wire::MemoryLink;
+use report_lines::{write_end, write_share};
+use std::test::Fail;
+
+static ROWS: [Share; 2] = [
+    Share {
+        start: 900,
+        mwh: 177_777,
+    },
+    Share {
+        start: 1800,
+        mwh: 0,
+    },
+];
+
+static INTERVALS: &[u8] = b"900 177777\n1800 0\nend 2\n";
+
+#[test]
+fn intervals_are_told(rt: HostRuntime) {
+    let mut output = [0; 100];
+    let mut link = MemoryLink::new(b"", &mut output, 100, None);
+    let mut outlet = Outlet::new(&mut link);
+    for row in &ROWS {
+        put_share(row, &mut outlet);
+    }
+    put_end(2, &mut outlet);
+    assert!(rt; outlet.finish().is_ok());
+    assert_eq!(rt; link.given(), INTERVALS);
+}
+
+#[test]
+fn intervals_are_printed(rt: HostRuntime) -> Result<(), Fail> {
+    let mut printed = Vec::new(rt.alloc());
+    for row in &ROWS {
+        write_share(row, &mut printed)?;
+    }
+    write_end(2, &mut printed)?;
+    assert_eq!(rt; printed.as_slice(), INTERVALS);
+    Ok(())
+}
+
+static DAYS: &[u8] =
+    b"2024-03-31  92                   920000\n1969-12-31   4 79228162514264337593543950336\nend 10\n";
+
+#[test]
+fn days_are_told(rt: HostRuntime) {
+    let mut output = [0; 200];
+    let mut link = MemoryLink::new(b"", &mut output, 200, None);
+    let mut outlet = Outlet::new(&mut link);
+    let days = [
+        (date(2024, 3, 31), 92, 920_000),
+        (
+            date(1969, 12, 31),
+            4,
+            79_228_162_514_264_337_593_543_950_336,
+        ),
+    ];
+    for (day, count, mwh) in days {
+        put_day(&DayTotal { day, count, mwh }, &mut outlet);
+    }
+    put_end(10, &mut outlet);
+    assert!(rt; outlet.finish().is_ok());
+    assert_eq!(rt; link.given(), DAYS);
+}

@@ -1,0 +1,4 @@
+pub mod Callers
+pub mod FaultRows
+pub mod Replying
+pub mod Examples

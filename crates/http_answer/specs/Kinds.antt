@@ -1,0 +1,30 @@
+-- What a reply tells of a command that was carried out.
+use Rattle.std.specs.Prelude.{List, ℕ, ◌++◌, codes, Option, Some, None}
+use Rattle.office_events.specs.declared.answers.Answer.{Answer}
+use Rattle.office_events.specs.declared.answers.Answer.TheVariants.{Noted, Done, Again, Started}
+use Rattle.office_events.specs.declared.answers.CommandKind.{CommandKind}
+use Rattle.office_events.specs.declared.answers.CommandKind.TheVariants as kind
+
+-- the name of a kind of command
+abbrev pub kind_name : CommandKind → List ℕ
+kind_name kind.Device = codes "device"
+kind_name kind.List = codes "list"
+kind_name kind.Register = codes "register"
+kind_name kind.Install = codes "install"
+kind_name kind.Exchange = codes "exchange"
+kind_name kind.Reset = codes "reset"
+kind_name kind.Rescale = codes "rescale"
+kind_name kind.Manual = codes "manual"
+kind_name kind.Close = codes "close"
+kind_name kind.Void = codes "void"
+kind_name kind.Start = codes "start"
+
+abbrev pub done_text : CommandKind → List ℕ
+done_text k = codes "{\"done\":\"" ++ kind_name k ++ codes "\"}"
+
+-- the kind of the command that an answer says was carried out, now or when it was asked before
+abbrev pub kind_answered : Answer → Option CommandKind
+kind_answered Noted = None
+kind_answered (Done k) = Some k
+kind_answered (Again k) = Some k
+kind_answered (Started first count of) = Some kind.Start

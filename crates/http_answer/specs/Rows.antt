@@ -1,0 +1,47 @@
+-- The JSON of a meter and of a poll. Names are of bytes that JSON need not escape.
+use Rattle.std.specs.Prelude.{ℕ, Bool, true, false, List, ◌++◌, codes, decimal, Option, Some, None}
+use Rattle.std.specs.Fmt.{signed_decimal}
+use Rattle.poll_core.specs.Outcomes.{outcome_code, outcome_number}
+use Rattle.office_events.specs.declared.facts.EndedPoll.{EndedPoll}
+use Rattle.office_events.specs.declared.questions.Installation.{Installation}
+use Rattle.office_events.specs.declared.questions.PollRow.{PollRow}
+
+abbrev pub bool_text : Bool → List ℕ
+bool_text true = codes "true"
+bool_text false = codes "false"
+
+-- where a meter stands, its range, and its whole energy in mWh, as a string of digits
+abbrev pub meter_text : Installation → List ℕ
+meter_text row =
+    codes "{\"at\":" ++ decimal row.last.at
+    ++ codes ",\"ended\":" ++ bool_text row.ended
+    ++ codes ",\"last\":" ++ decimal row.last.raw
+    ++ codes ",\"meter\":\"" ++ row.opening.meter
+    ++ codes "\",\"range\":" ++ decimal row.opening.range
+    ++ codes ",\"register\":\"" ++ row.opening.register
+    ++ codes "\",\"sf\":" ++ signed_decimal row.last.sf
+    ++ codes ",\"total\":\"" ++ decimal row.total
+    ++ codes "\"}"
+
+-- how a poll ended: the moment, the number of the outcome and its code; all are 0 while it is pending
+pub record Ending : Type 0 where
+  pub moment : ℕ
+  pub outcome : ℕ
+  pub code : ℕ
+
+abbrev pub ending_of : Option EndedPoll → Ending
+ending_of None = record { moment = 0; outcome = 0; code = 0 }
+ending_of (Some ended) = record { moment = ended.at; outcome = outcome_number ended.outcome; code = outcome_code ended.outcome }
+
+abbrev pub poll_text_with : Ending → PollRow → List ℕ
+poll_text_with ending row =
+    codes "{\"code\":" ++ decimal ending.code
+    ++ codes ",\"device\":\"" ++ row.poll.device
+    ++ codes "\",\"moment\":" ++ decimal ending.moment
+    ++ codes ",\"outcome\":" ++ decimal ending.outcome
+    ++ codes ",\"poll\":" ++ decimal row.poll.number
+    ++ codes ",\"started\":" ++ decimal row.poll.at
+    ++ codes "}"
+
+abbrev pub poll_text : PollRow → List ℕ
+poll_text row = poll_text_with (ending_of row.ended) row

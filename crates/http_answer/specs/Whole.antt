@@ -1,0 +1,44 @@
+-- The reply to the bytes that were read, if these hold a whole request or a bad head; else nothing is.
+use Rattle.std.specs.Prelude.{◌≡◌, ◌≢◌, ◌⊎◌, ℕ, false, List, Some, None, Result, Err}
+use Rattle.http_commands.specs.Given.{Gives}
+use Rattle.http_commands.specs.declared.fault.CommandFault.{CommandFault}
+use Rattle.http_commands.specs.declared.fault.CommandFault.TheVariants.{Memory}
+use Rattle.http_head.specs.Heads.{IsBadHead}
+use Rattle.http_request.specs.HeadTests.{Start, head_fault}
+use Rattle.http_route.specs.Routes.{Table}
+use Rattle.http_route.specs.Targets.{is_question, name_in, route_in}
+use Rattle.http_route.specs.declared.routes.Route.{Route}
+use Rattle.http_status.specs.declared.Status.TheVariants.{BadRequest, FieldsTooLarge}
+use Rattle.http_whole.specs.Whole.{HoldsRequest}
+use Rattle.office_events.specs.declared.commands.Command.{Command}
+use Rattle.http_answer.specs.Offices.{Office}
+use Rattle.http_answer.specs.Replies.{fault, reply_bytes, reply_of}
+use Rattle.http_answer.specs.Requests.{name_asked}
+
+-- the request is a command's, of this route, all tests of whose head pass
+pub record IsCommand (table : Table) (start : Start) (route : Route) : Type 0 where
+  pub passes : head_fault table start ≡ None
+  pub leads : route_in table start.target ≡ Some route
+  pub changes : is_question route ≡ false
+
+-- what the body of a command's request gives; want of memory is no property of it
+abbrev pub BodyGives : Table → Start → (body : List ℕ) → Result Command CommandFault → Type 0
+BodyGives table start body given =
+    (route : Route) → IsCommand table start route → Gives route (name_asked (name_in table start.target)) body given × (given ≢ Err Memory)
+
+-- a whole request was read, and this is its reply
+pub record RepliesToRequest (office : Office) (table : Table) (bytes reply : List ℕ) : Type 0 where
+  pub start : Start
+  pub body : List ℕ
+  pub holds : HoldsRequest table bytes start body
+  pub given : Result Command CommandFault
+  pub gives : BodyGives table start body given
+  pub is : reply ≡ reply_bytes (reply_of office table start body given)
+
+-- a bad head was read, to which there are two replies
+pub record RepliesToBadHead (bytes reply : List ℕ) : Type 0 where
+  pub bad : IsBadHead bytes
+  pub is : (reply ≡ reply_bytes (fault BadRequest)) ⊎ (reply ≡ reply_bytes (fault FieldsTooLarge))
+
+abbrev pub IsReply : Office → Table → (bytes reply : List ℕ) → Type 0
+IsReply office table bytes reply = RepliesToBadHead bytes reply ⊎ RepliesToRequest office table bytes reply

@@ -1,0 +1,36 @@
+//! What replies tell of commands that were carried out.
+ghost use Rattle.std.specs.Prelude.{◌≡◌};
+ghost use Rattle.http_answer.specs.Kinds.{done_text, kind_answered};
+
+use office_events::{Answer, CommandKind};
+
+/// The body for a command that was carried out.
+pub fn done_body(kind: CommandKind) -> &'static [u8]
+    ensures { result.now ≡ done_text kind }
+{
+    match kind {
+        CommandKind::Device => b"{\"done\":\"device\"}",
+        CommandKind::List => b"{\"done\":\"list\"}",
+        CommandKind::Register => b"{\"done\":\"register\"}",
+        CommandKind::Install => b"{\"done\":\"install\"}",
+        CommandKind::Exchange => b"{\"done\":\"exchange\"}",
+        CommandKind::Reset => b"{\"done\":\"reset\"}",
+        CommandKind::Rescale => b"{\"done\":\"rescale\"}",
+        CommandKind::Manual => b"{\"done\":\"manual\"}",
+        CommandKind::Close => b"{\"done\":\"close\"}",
+        CommandKind::Void => b"{\"done\":\"void\"}",
+        CommandKind::Start => b"{\"done\":\"start\"}",
+    }
+}
+
+/// The kind of the command that an answer says was carried out, now or when it was asked before. An event that is no
+/// command has none.
+pub fn kind_answered(answer: Answer) -> Option<CommandKind>
+    ensures { result ≡ kind_answered answer }
+{
+    match answer {
+        Answer::Done(kind) | Answer::Again(kind) => Some(kind),
+        Answer::Started { .. } => Some(CommandKind::Start),
+        Answer::Noted => None,
+    }
+}

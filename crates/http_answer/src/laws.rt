@@ -1,0 +1,62 @@
+//! Laws: which reply answers what was read.
+ghost use Rattle.std.specs.Prelude.{◌≡◌, ◌≢◌, Ok, Err};
+ghost use Rattle.http_commands.specs.Given.{Gives};
+ghost use Rattle.http_commands.specs.declared.fault.CommandFault.TheVariants.{Memory};
+ghost use Rattle.http_request.specs.Asking.{TestsHead};
+ghost use Rattle.http_request.specs.HeadTests.{start_at};
+ghost use Rattle.http_request.specs.declared.ask.Ask.TheVariants.{Command as AskedCommand, Question};
+ghost use Rattle.http_route.specs.Targets.{name_of};
+ghost use Rattle.http_whole.specs.Whole.{Holds, IsWhole, TestsRequest, body_of};
+ghost use Rattle.http_answer.specs.Offices.{Office};
+ghost use Rattle.http_answer.specs.Replies.{ask, command_reply, fault, question_reply, reply_bytes};
+ghost use Rattle.http_answer.specs.Requests.{name_asked};
+ghost use Rattle.http_answer.specs.Whole.{IsReply};
+
+use http_commands::CommandFault;
+use http_head::{Head, Look};
+use http_request::Posted;
+use http_route::{Found, Route};
+use http_status::Status;
+use matchit::Router;
+use office_events::Command;
+
+/// A law: the status of the first test that fails answers, and 400 or 431 a bad head.
+pub fn faults_are_replied_to(router: &Router<Route>, bytes: &[u8], look: &Look, status: Status)
+    requires holds { Holds router.now bytes.now look.now }
+    requires fails { TestsRequest router.now bytes.now look.now (Err status) }
+    ensures { (office : Office) → IsReply office router.now bytes.now (reply_bytes (fault status)) }
+{}
+
+/// A law: what an office answers to a question is the reply to it.
+pub fn questions_are_replied_to(
+    router: &Router<Route>,
+    bytes: &[u8],
+    look: &Look,
+    found: &Found<'_>,
+)
+    requires holds { Holds router.now bytes.now look.now }
+    requires asks { TestsRequest router.now bytes.now look.now (Ok (Question found.now)) }
+    ensures { (office : Office) → IsReply office router.now bytes.now
+        (reply_bytes (question_reply office found.now.route (name_of found.now))) }
+{}
+
+/// A law: what an office answers to the command that a body asks for is the reply to it, and so is the fault of a body that
+/// asks for none.
+pub fn commands_are_replied_to(
+    router: &Router<Route>,
+    bytes: &[u8],
+    head: &Head,
+    found: &Found<'_>,
+    posted: &Posted<'_>,
+    given: &Result<Command, CommandFault>,
+)
+    requires holds { IsWhole router.now bytes.now head.now }
+    requires asks { TestsHead router.now (start_at bytes.now head.now)
+        (Ok (AskedCommand found.now posted.now)) }
+    requires gives { Gives found.now.route (name_asked (name_of found.now))
+        (body_of router.now bytes.now head.now) given.now }
+    requires memory { given.now ≢ Err Memory }
+    ensures { (office : Office) → IsReply office router.now bytes.now (reply_bytes (command_reply
+        (ask office (start_at bytes.now head.now) (body_of router.now bytes.now head.now))
+        given.now)) }
+{}

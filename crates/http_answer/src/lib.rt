@@ -1,0 +1,20 @@
+//! Replies to requests: what they tell of an office's answers, and when each is the reply.
+#![tactic(auto)]
+
+mod faults;
+mod kinds;
+mod laws;
+mod lines;
+mod putting;
+mod requests;
+mod rows;
+mod statuses;
+
+pub use faults::faults_body;
+pub use kinds::{done_body, kind_answered};
+pub use laws::{commands_are_replied_to, faults_are_replied_to, questions_are_replied_to};
+pub use lines::{put_day, put_end, put_share};
+pub use putting::{put_command_fault, put_done, put_fault, put_meter, put_poll, put_refusal};
+pub use requests::{asked, kept_request, name_asked, number_asked};
+pub use rows::{meter_body, poll_body};
+pub use statuses::status_of;

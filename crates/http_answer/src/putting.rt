@@ -1,0 +1,85 @@
+//! Replies that are put to an outlet. None takes memory.
+ghost use Rattle.std.specs.Prelude.{Err};
+ghost use Rattle.http_commands.specs.Few.{HasFewRows};
+ghost use Rattle.http_reply.specs.Sending.{Puts};
+ghost use Rattle.http_answer.specs.Replies.{fault, fault_said, refused, reply_bytes, row_reply};
+ghost use Rattle.http_answer.specs.Kinds.{done_text};
+ghost use Rattle.http_answer.specs.Rows.{meter_text, poll_text};
+
+use crate::faults::faults_body;
+use crate::kinds::done_body;
+use crate::rows::{meter_body, poll_body};
+use crate::statuses::status_of;
+use http_commands::CommandFault;
+use http_reply::{Outlet, fault_body, put_json, refused_body};
+use http_status::Status;
+use mb_wire::Link;
+use office_events::{CommandKind, Installation, PollRow, Refusal};
+
+/// Puts the reply for a fault that the office isn't asked of.
+pub fn put_fault<L: Link>(status: Status, outlet: &mut Outlet<'_, L>)
+    ensures { Puts outlet.old outlet.new (reply_bytes (fault status)) }
+{
+    let body = fault_body(status);
+    put_json(status, body.bytes(), outlet);
+}
+
+/// Puts the reply for a refusal.
+pub fn put_refusal<L: Link>(refusal: Refusal, outlet: &mut Outlet<'_, L>)
+    ensures { Puts outlet.old outlet.new (reply_bytes (refused refusal)) }
+{
+    let body = refused_body(refusal.number());
+    put_json(status_of(refusal), body.bytes(), outlet);
+}
+
+/// Puts the reply to a command for which the office was asked: the kind of the one that was carried out.
+pub fn put_done<L: Link>(answer: Result<CommandKind, Refusal>, outlet: &mut Outlet<'_, L>)
+    ensures { Puts outlet.old outlet.new (reply_bytes (row_reply done_text answer)) }
+{
+    match answer {
+        Ok(kind) => put_json(Status::Fine, done_body(kind), outlet),
+        Err(refusal) => put_refusal(refusal, outlet),
+    }
+}
+
+/// Puts the reply to a command whose body asks for nothing that the office could do.
+pub fn put_command_fault<L: Link>(fault: &CommandFault, outlet: &mut Outlet<'_, L>)
+    requires { HasFewRows (Err fault.now) }
+    ensures { Puts outlet.old outlet.new (reply_bytes (fault_said fault.now)) }
+{
+    match fault {
+        CommandFault::Malformed => put_fault(Status::BadRequest, outlet),
+        CommandFault::Negative => put_refusal(Refusal::Limit, outlet),
+        CommandFault::Faulty(rows) => {
+            let body = faults_body(rows.rows());
+            put_json(Status::Unprocessable, body.bytes(), outlet);
+        }
+        CommandFault::Memory => put_refusal(Refusal::Memory, outlet),
+    }
+}
+
+/// Puts the reply to the question for a meter.
+pub fn put_meter<L: Link>(answer: &Result<Installation, Refusal>, outlet: &mut Outlet<'_, L>)
+    ensures { Puts outlet.old outlet.new (reply_bytes (row_reply meter_text answer.now)) }
+{
+    match answer {
+        Ok(row) => {
+            let body = meter_body(row);
+            put_json(Status::Fine, body.bytes(), outlet);
+        }
+        Err(refusal) => put_refusal(*refusal, outlet),
+    }
+}
+
+/// Puts the reply to the question for a poll.
+pub fn put_poll<L: Link>(answer: &Result<PollRow, Refusal>, outlet: &mut Outlet<'_, L>)
+    ensures { Puts outlet.old outlet.new (reply_bytes (row_reply poll_text answer.now)) }
+{
+    match answer {
+        Ok(row) => {
+            let body = poll_body(row);
+            put_json(Status::Fine, body.bytes(), outlet);
+        }
+        Err(refusal) => put_refusal(*refusal, outlet),
+    }
+}

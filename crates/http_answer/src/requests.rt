@@ -1,0 +1,60 @@
+//! What a request gives the office beside its command.
+ghost use Rattle.std.specs.Prelude.{◌≡◌, IfOk, option_map};
+ghost use Rattle.http_request.specs.Asking.{Says};
+ghost use Rattle.http_request.specs.Tests.{PostHeaders};
+ghost use Rattle.http_answer.specs.Replies.{asked_with};
+ghost use Rattle.http_answer.specs.Requests.{kept_request, name_asked, number_asked};
+
+use http_request::{Posted, number};
+use office_events::{Asked, Command, Name, Piece};
+use std::alloc::{AllocError, Global};
+
+/// The bytes that are kept of a command's request: the method, a space, the target, a line feed and the body.
+pub fn kept_request(
+    alloc: Global,
+    method: &[u8],
+    target: &[u8],
+    body: &[u8],
+) -> Result<Piece, AllocError>
+    ensures { IfOk result (λ kept. kept ≡ kept_request method.now target.now body.now) }
+{
+    let mut bytes = Vec::from_slice(alloc, method)?;
+    bytes.push(b' ')?;
+    bytes.extend_from_slice(target)?;
+    bytes.push(b'\n')?;
+    bytes.extend_from_slice(body)?;
+    Ok(Piece::new(bytes))
+}
+
+/// The name that a route's parameter took, if it is one.
+pub fn name_asked(taken: Option<&str>) -> Option<Name>
+    ensures { result ≡ name_asked (option_map (λ s. s.now) taken.entry) }
+{
+    match taken {
+        Some(text) => Name::new(text.as_bytes()),
+        None => None,
+    }
+}
+
+/// The number of a poll that a route's parameter took: one to nineteen digits, up to 2^63 - 1.
+pub fn number_asked(taken: Option<&str>) -> Option<u64>
+    ensures { result ≡ number_asked (option_map (λ s. s.now) taken.entry) }
+{
+    match taken {
+        Some(text) => number(text.as_bytes()),
+        None => None,
+    }
+}
+
+/// A command as it is asked of the office, with the bytes that are kept of its request.
+pub fn asked(posted: &Posted<'_>, request: Piece, command: Command) -> Asked
+    ensures { (headers : PostHeaders) → Says headers posted.now
+        → result ≡ asked_with headers request command }
+{
+    Asked {
+        caller: Name::new(posted.caller),
+        number: posted.number,
+        request,
+        command,
+    }
+}

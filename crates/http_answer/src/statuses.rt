@@ -1,0 +1,29 @@
+//! The status of each refusal.
+ghost use Rattle.std.specs.Prelude.{◌≡◌};
+ghost use Rattle.http_answer.specs.Statuses.{status_of};
+
+use http_status::Status;
+use office_events::Refusal;
+
+/// The status of the reply that tells a refusal.
+pub fn status_of(refusal: Refusal) -> Status
+    ensures { result ≡ status_of refusal }
+{
+    match refusal {
+        Refusal::NotFound => Status::NotFound,
+        Refusal::Exists
+        | Refusal::ClockBack
+        | Refusal::Ended
+        | Refusal::Busy
+        | Refusal::Reused
+        | Refusal::NotVoidable => Status::Conflict,
+        Refusal::BadScale
+        | Refusal::NegativeStep
+        | Refusal::NotLater
+        | Refusal::SpanTooLong
+        | Refusal::TotalFull
+        | Refusal::Limit
+        | Refusal::NotPlausible(_) => Status::Unprocessable,
+        Refusal::Store(_) | Refusal::Memory | Refusal::Stopped => Status::Unavailable,
+    }
+}

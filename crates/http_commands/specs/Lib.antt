@@ -1,0 +1,5 @@
+pub mod Values
+pub mod Commands
+pub mod Given
+pub mod Seen
+pub mod Few

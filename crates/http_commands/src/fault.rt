@@ -1,0 +1,31 @@
+//! Why a body asks for no command.
+use http_json::BodyFault;
+use point_list::FaultyRows;
+
+/// Why a body asks for no command.
+#[derive(Debug, Drop)]
+pub enum CommandFault {
+    /// It is no JSON object, or a member that is wanted is missing or of another kind.
+    Malformed,
+    /// All members are there, and a number is negative that must not be.
+    Negative,
+    /// The rows of a point list that are faulty.
+    Faulty(FaultyRows),
+    /// Memory was refused.
+    Memory,
+}
+
+impl From<BodyFault> for CommandFault {
+    ghost use Rattle.std.specs.Prelude.{◌≡◌};
+    ghost use Rattle.http_commands.specs.Given.{fault_told};
+
+    ghost from_gives = { λ fault told. told ≡ fault_told fault };
+
+    fn from(fault: BodyFault) -> CommandFault {
+        match fault {
+            BodyFault::Malformed => CommandFault::Malformed,
+            BodyFault::Negative => CommandFault::Negative,
+            BodyFault::Memory => CommandFault::Memory,
+        }
+    }
+}

@@ -1,0 +1,11 @@
+//! The command that the body of a request asks for, by its route.
+#![tactic(auto)]
+
+mod fault;
+mod given;
+mod registers;
+mod setting;
+mod values;
+
+pub use fault::CommandFault;
+pub use given::command_in;

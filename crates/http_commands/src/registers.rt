@@ -1,0 +1,111 @@
+//! The commands that speak of the meter at a register.
+ghost use Rattle.std.specs.Prelude.{◌≡◌};
+ghost use Rattle.serde_json.specs.View.{view};
+ghost use Rattle.http_json.specs.Tables.{close_members, exchange_members, fault_of, install_members, manual_members, rescale_members, reset_members, void_members};
+ghost use Rattle.http_commands.specs.Commands.{close, exchange, install, manual, rescale, reset, unless_fault, void};
+
+use crate::values::{name, or_full_range};
+use http_json::{
+    Body, BodyFault, close_in, exchange_in, install_in, manual_in, rescale_in, reset_in, void_in,
+};
+use office_events::{Close, Command, Exchange, Install, Manual, Name, Rescale, Reset, VoidEntry};
+
+// A meter is installed.
+pub(crate) fn install(register: Option<Name>, body: &Body) -> Result<Command, BodyFault>
+    ensures { result ≡ unless_fault (fault_of install_members (view body.now))
+        (install register (view body.now)) }
+{
+    let given = install_in(body)?;
+    Ok(Command::Install(Install {
+        register,
+        meter: name(given.meter),
+        raw: given.raw,
+        sf: given.sf,
+        ceiling: given.ceiling,
+        range: or_full_range(given.range),
+    }))
+}
+
+// A meter is closed, and another installed.
+pub(crate) fn exchange(register: Option<Name>, body: &Body) -> Result<Command, BodyFault>
+    ensures { result ≡ unless_fault (fault_of exchange_members (view body.now))
+        (exchange register (view body.now)) }
+{
+    let given = exchange_in(body)?;
+    Ok(Command::Exchange(Exchange {
+        register,
+        last: given.last,
+        rolls: given.rolls,
+        meter: name(given.install.meter),
+        raw: given.install.raw,
+        sf: given.install.sf,
+        ceiling: given.install.ceiling,
+        range: or_full_range(given.install.range),
+    }))
+}
+
+// A counter is set.
+pub(crate) fn reset(register: Option<Name>, body: &Body) -> Result<Command, BodyFault>
+    ensures { result ≡ unless_fault (fault_of reset_members (view body.now))
+        (reset register (view body.now)) }
+{
+    let given = reset_in(body)?;
+    Ok(Command::Reset(Reset {
+        register,
+        before: given.before,
+        after: given.after,
+    }))
+}
+
+// A counter is set, at another scale.
+pub(crate) fn rescale(register: Option<Name>, body: &Body) -> Result<Command, BodyFault>
+    ensures { result ≡ unless_fault (fault_of rescale_members (view body.now))
+        (rescale register (view body.now)) }
+{
+    let given = rescale_in(body)?;
+    Ok(Command::Rescale(Rescale {
+        register,
+        before: given.before,
+        after: given.after,
+        sf: given.sf,
+    }))
+}
+
+// A reading by hand.
+pub(crate) fn manual(register: Option<Name>, body: &Body) -> Result<Command, BodyFault>
+    ensures { result ≡ unless_fault (fault_of manual_members (view body.now))
+        (manual register (view body.now)) }
+{
+    let given = manual_in(body)?;
+    Ok(Command::Manual(Manual {
+        register,
+        raw: given.raw,
+        rolls: given.rolls,
+        at: given.at,
+    }))
+}
+
+// A meter is closed.
+pub(crate) fn close(register: Option<Name>, body: &Body) -> Result<Command, BodyFault>
+    ensures { result ≡ unless_fault (fault_of close_members (view body.now))
+        (close register (view body.now)) }
+{
+    let given = close_in(body)?;
+    Ok(Command::Close(Close {
+        register,
+        raw: given.raw,
+        rolls: given.rolls,
+    }))
+}
+
+// An entry is voided.
+pub(crate) fn void(meter: Option<Name>, body: &Body) -> Result<Command, BodyFault>
+    ensures { result ≡ unless_fault (fault_of void_members (view body.now))
+        (void meter (view body.now)) }
+{
+    let given = void_in(body)?;
+    Ok(Command::Void(VoidEntry {
+        meter,
+        place: given.place,
+    }))
+}

@@ -1,0 +1,5 @@
+use Rattle.http_whole.proofs.Unique.{held}
+use Rattle.http_whole.proofs.a_look_finds_the_request.Goals as goal
+
+pub returns : goal.returns
+returns c = held c.args.router.now c.args.bytes.now c.args.head.now c.requires
