@@ -1,0 +1,6 @@
+pub mod Forms
+pub mod LineFaults
+pub mod Reading
+pub mod Seen
+pub mod Values
+pub mod Words
