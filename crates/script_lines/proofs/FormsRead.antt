@@ -6,10 +6,11 @@ use Rattle.std.proofs.lemmas.Slice.Eq.{bytes_eq-Decides}
 use Rattle.office_events.specs.declared.commands.Command.TheVariants as command
 use Rattle.office_events.specs.declared.events.Event.TheVariants as event
 use Rattle.poll_core.specs.declared.outcome.Closing.TheVariants as closing
-use Rattle.script_lines.specs.Forms.{Number, Word, Of, HasForm, IsLine, Spell, form_of}
-use Rattle.script_lines.specs.Reading.{Values, asked_by, SaysBytes, kinds_asked, kinds_of, line_asked, line_of, line_said, made, question_of, said_by, said_from, timed_said, verb_of}
+use Rattle.script_lines.specs.Forms.{HasForm, IsLine, form_of}
+use Rattle.script_words.specs.Fields.{Number, Of, Spell, Word}
+use Rattle.script_lines.specs.Reading.{Values, asked_by, SaysBytes, early_verb, first_of, kinds_asked, kinds_of, late_verb, line_asked, line_of, line_said, made, middle_verb, question_of, said_by, said_from, timed_said, verb_of}
 use Rattle.script_lines.specs.Seen.{BringBytes, IsOnly}
-use Rattle.script_lines.specs.Values.{number_of}
+use Rattle.script_words.specs.Values.{number_of}
 use Rattle.script_lines.specs.declared.verbs.Question.{Question}
 use Rattle.script_lines.specs.declared.verbs.Question.TheVariants as question
 use Rattle.script_lines.specs.declared.verbs.Verb.{Verb}
@@ -72,26 +73,49 @@ verb_known verb.Tick = refl
 verb_known verb.Gone = refl
 verb_known verb.Failed = refl
 
-verb_word : (word : List ℕ) (v : Verb) → verb_of word ≡ Some v → word ≡ verb_text v
-verb_word word v h =
+early_verb_word : (word : List ℕ) (v : Verb) → early_verb word ≡ Some v → word ≡ verb_text v
+early_verb_word word v h =
     tested verb_text word verb.Device v _
     (tested verb_text word verb.List v _
     (tested verb_text word verb.Register v _
     (tested verb_text word verb.Install v _
     (tested verb_text word verb.Exchange v _
-    (tested verb_text word verb.Reset v _
-    (tested verb_text word verb.Rescale v _
+    (tested verb_text word verb.Reset v None (λ none. cc none))))))
+    h
+
+middle_verb_word : (word : List ℕ) (v : Verb) → middle_verb word ≡ Some v → word ≡ verb_text v
+middle_verb_word word v h =
+    tested verb_text word verb.Rescale v _
     (tested verb_text word verb.Manual v _
     (tested verb_text word verb.Close v _
     (tested verb_text word verb.Void v _
     (tested verb_text word verb.Connect v _
-    (tested verb_text word verb.Start v _
-    (tested verb_text word verb.Round v _
+    (tested verb_text word verb.Start v None (λ none. cc none))))))
+    h
+
+late_verb_word : (word : List ℕ) (v : Verb) → late_verb word ≡ Some v → word ≡ verb_text v
+late_verb_word word v h =
+    tested verb_text word verb.Round v _
     (tested verb_text word verb.Bytes v _
     (tested verb_text word verb.Tick v _
     (tested verb_text word verb.Gone v _
-    (tested verb_text word verb.Failed v None (λ none. cc none)))))))))))))))))
+    (tested verb_text word verb.Failed v None (λ none. cc none)))))
     h
+
+either : {X : Type 0} (a b : Option X) (x : X) → first_of a b ≡ Some x → (a ≡ Some x) ⊎ (b ≡ Some x)
+either None b x h = inr h
+either (Some a) b x h = inl h
+
+verb_word : (word : List ℕ) (v : Verb) → verb_of word ≡ Some v → word ≡ verb_text v
+verb_word word v h =
+    elim (either (early_verb word) (first_of (middle_verb word) (late_verb word)) v h) [
+      | inl early ↦ early_verb_word word v early
+      | inr more ↦
+          elim (either (middle_verb word) (late_verb word) v more) [
+            | inl middle ↦ middle_verb_word word v middle
+            | inr late ↦ late_verb_word word v late
+          ]
+    ]
 
 abbrev question_text : Question → List ℕ
 question_text question.Meter = codes "meter"

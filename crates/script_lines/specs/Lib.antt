@@ -2,5 +2,3 @@ pub mod Forms
 pub mod LineFaults
 pub mod Reading
 pub mod Seen
-pub mod Values
-pub mod Words

@@ -4,9 +4,9 @@ use Rattle.std.specs.Str.{bytes_eq}
 use Rattle.office_events.specs.declared.commands.Command.TheVariants as command
 use Rattle.office_events.specs.declared.events.Event.TheVariants as event
 use Rattle.poll_core.specs.declared.outcome.Closing.TheVariants as closing
-use Rattle.script_lines.specs.Forms.{Kind, AnyName, Number, Signed, Scale, Hex, Range, Moment, Value, missing, spelled}
+use Rattle.script_words.specs.Fields.{Kind, AnyName, Number, Signed, Scale, Hex, Range, Moment, Value, first_value, nothing_more}
 use Rattle.script_lines.specs.Seen.{bytes_in}
-use Rattle.script_lines.specs.Values.{number_of}
+use Rattle.script_words.specs.Values.{number_of}
 use Rattle.script_lines.specs.declared.verbs.Verb.{Verb}
 use Rattle.script_lines.specs.declared.verbs.Verb.TheVariants as verb
 use Rattle.script_lines.specs.declared.verbs.Question.{Question}
@@ -19,15 +19,6 @@ infixl 10 ◌>>=◌
 abbrev pub ◌>>=◌ : {X Y : Type 0} → Option X → (X → Option Y) → Option Y
 None >>= goes_on = None
 Some x >>= goes_on = goes_on x
-
--- the value of the first word and the words behind it
-abbrev pub first_value : (kind : Kind) → List (List ℕ) → Option (Value kind × List (List ℕ))
-first_value kind [] = option_map (λ value. (value, [])) (missing kind)
-first_value kind (word ∷ words) = option_map (λ value. (value, words)) (spelled kind word)
-
-abbrev pub nothing_more : List (List ℕ) → Option (Unit {0})
-nothing_more [] = Some tt
-nothing_more (word ∷ words) = None
 
 -- a value of each kind
 abbrev pub Values : List Kind → Type 0
@@ -130,26 +121,42 @@ asked_by question.Intervals words = made (kinds_asked question.Intervals) (line_
 asked_by question.Days words = made (kinds_asked question.Days) (line_asked question.Days) words
 asked_by question.Poll words = made (kinds_asked question.Poll) (line_asked question.Poll) words
 
-abbrev pub verb_of : List ℕ → Option Verb
-verb_of word =
+-- one value, or the other where there is none
+abbrev pub first_of : {X : Type 0} → Option X → Option X → Option X
+first_of None other = other
+first_of (Some x) other = Some x
+
+abbrev pub early_verb : List ℕ → Option Verb
+early_verb word =
     if bytes_eq word (codes "device") then Some verb.Device
     else if bytes_eq word (codes "list") then Some verb.List
     else if bytes_eq word (codes "register") then Some verb.Register
     else if bytes_eq word (codes "install") then Some verb.Install
     else if bytes_eq word (codes "exchange") then Some verb.Exchange
     else if bytes_eq word (codes "reset") then Some verb.Reset
-    else if bytes_eq word (codes "rescale") then Some verb.Rescale
+    else None
+
+abbrev pub middle_verb : List ℕ → Option Verb
+middle_verb word =
+    if bytes_eq word (codes "rescale") then Some verb.Rescale
     else if bytes_eq word (codes "manual") then Some verb.Manual
     else if bytes_eq word (codes "close") then Some verb.Close
     else if bytes_eq word (codes "void") then Some verb.Void
     else if bytes_eq word (codes "connect") then Some verb.Connect
     else if bytes_eq word (codes "start") then Some verb.Start
-    else if bytes_eq word (codes "round") then Some verb.Round
+    else None
+
+abbrev pub late_verb : List ℕ → Option Verb
+late_verb word =
+    if bytes_eq word (codes "round") then Some verb.Round
     else if bytes_eq word (codes "bytes") then Some verb.Bytes
     else if bytes_eq word (codes "tick") then Some verb.Tick
     else if bytes_eq word (codes "gone") then Some verb.Gone
     else if bytes_eq word (codes "failed") then Some verb.Failed
     else None
+
+abbrev pub verb_of : List ℕ → Option Verb
+verb_of word = first_of (early_verb word) (first_of (middle_verb word) (late_verb word))
 
 abbrev pub question_of : List ℕ → Option Question
 question_of word =

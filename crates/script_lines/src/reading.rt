@@ -1,20 +1,18 @@
 //! Reading a line of a script.
 ghost use Rattle.std.specs.Prelude.{◌≡◌, ◌∷◌, IfOk, IsErr, None};
 ghost use Rattle.script_lines.specs.Reading.{SaysBytes, SaysPiece, device_bytes_said, line_said, said_by, said_from, timed_said};
-ghost use Rattle.script_lines.specs.Words.{words_of};
+ghost use Rattle.script_words.specs.Words.{words_of};
 ghost use Rattle.script_lines.specs.declared.verbs.Verb.TheVariants as verb;
 
 use crate::commands::{
     close, device, exchange, install, manual, register, rescale, reset, round, void_entry,
 };
-use crate::fields::{next_name, nothing_more};
 use crate::happenings::{asked, connect, failed, gone, start, tick};
 use crate::line_fault::LineFault;
 use crate::script::{GivenList, ScriptLine};
-use crate::values::{hex_bytes, number};
 use crate::verbs::{Verb, question_of, verb_of};
-use crate::words::Words;
 use office_events::{Event, Name, Piece};
+use script_words::{Words, hex_bytes, next_name, nothing_more, number};
 use std::alloc::{AllocError, Global};
 
 impl ScriptLine {

@@ -1,6 +1,6 @@
 //! The words that say what a line is.
 ghost use Rattle.std.specs.Prelude.{◌≡◌};
-ghost use Rattle.script_lines.specs.Reading.{question_of, verb_of};
+ghost use Rattle.script_lines.specs.Reading.{early_verb, late_verb, middle_verb, question_of, verb_of};
 
 /// What happens at a moment.
 #[derive(Clone, Copy)]
@@ -36,6 +36,18 @@ pub(crate) enum Question {
 pub(crate) fn verb_of(word: &[u8]) -> Option<Verb>
     ensures { result ≡ verb_of word.now }
 {
+    if let Some(verb) = early_verb(word) {
+        return Some(verb);
+    }
+    if let Some(verb) = middle_verb(word) {
+        return Some(verb);
+    }
+    late_verb(word)
+}
+
+fn early_verb(word: &[u8]) -> Option<Verb>
+    ensures { result ≡ early_verb word.now }
+{
     if word == b"device".as_slice() {
         Some(Verb::Device)
     } else if word == b"list".as_slice() {
@@ -48,7 +60,15 @@ pub(crate) fn verb_of(word: &[u8]) -> Option<Verb>
         Some(Verb::Exchange)
     } else if word == b"reset".as_slice() {
         Some(Verb::Reset)
-    } else if word == b"rescale".as_slice() {
+    } else {
+        None
+    }
+}
+
+fn middle_verb(word: &[u8]) -> Option<Verb>
+    ensures { result ≡ middle_verb word.now }
+{
+    if word == b"rescale".as_slice() {
         Some(Verb::Rescale)
     } else if word == b"manual".as_slice() {
         Some(Verb::Manual)
@@ -60,7 +80,15 @@ pub(crate) fn verb_of(word: &[u8]) -> Option<Verb>
         Some(Verb::Connect)
     } else if word == b"start".as_slice() {
         Some(Verb::Start)
-    } else if word == b"round".as_slice() {
+    } else {
+        None
+    }
+}
+
+fn late_verb(word: &[u8]) -> Option<Verb>
+    ensures { result ≡ late_verb word.now }
+{
+    if word == b"round".as_slice() {
         Some(Verb::Round)
     } else if word == b"bytes".as_slice() {
         Some(Verb::Bytes)

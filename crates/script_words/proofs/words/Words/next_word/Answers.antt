@@ -1,8 +1,8 @@
 use Rattle.std.proofs.Common.{◌≡◌, ap}
 use Rattle.std.specs.Prelude.{option_copied}
-use Rattle.script_lines.specs.Words.{words_left, words_of}
-use Rattle.script_lines.proofs.Breaks.{words_first, words_last}
-use Rattle.script_lines.proofs.words.Words.next_word.Goals as goal
+use Rattle.script_words.specs.Words.{words_left, words_of}
+use Rattle.script_words.proofs.Breaks.{words_first, words_last}
+use Rattle.script_words.proofs.words.Words.next_word.Goals as goal
 
 pub returns-in-Some : goal.returns-in-Some
 returns-in-Some c =

@@ -3,7 +3,7 @@ ghost use Rattle.std.specs.Prelude.{◌≡◌, ◌≤◌, IfOk, IfSome, IsErr, I
 ghost use Rattle.std.specs.List.{list_all};
 ghost use Rattle.std.specs.Char.{is_ascii_digit};
 ghost use Rattle.hex.specs.Hex.{is_hex_digit};
-ghost use Rattle.script_lines.specs.Values.{bytes_of, digits_value, is_paired, number_of};
+ghost use Rattle.script_words.specs.Values.{bytes_of, digits_value, is_paired, number_of};
 
 use std::alloc::{AllocError, Global};
 

@@ -7,7 +7,7 @@ use Rattle.std.proofs.lemmas.List.Sums.{AllPass-from_list_all, list_all-from_All
 use Rattle.std.proofs.lemmas.Grind.{common_steps}
 use Rattle.hex.specs.Hex.{decode_of, is_hex_digit}
 use Rattle.hex.specs.declared.error.FromHexError.{FromHexError}
-use Rattle.script_lines.specs.Values.{bytes_of, is_paired}
+use Rattle.script_words.specs.Values.{bytes_of, is_paired}
 use Rattle.hex.proofs.HexLemmas.{decode_of-digits, decode_of-ok}
 
 paired : (word : List ℕ) → length word % 2 ≡ 0 → list_all is_hex_digit word ≡ true → is_paired word ≡ true

@@ -13,7 +13,7 @@ pub struct Words<'a> {
 
 impl<'a> Model for Words<'a> {
     ghost use Rattle.std.specs.Prelude.{ℕ, List, option_copied};
-    ghost use Rattle.script_lines.specs.Words.{words_left};
+    ghost use Rattle.script_words.specs.Words.{words_left};
 
     ghost Value = { List (List ℕ) };
 
@@ -22,7 +22,7 @@ impl<'a> Model for Words<'a> {
 
 impl<'a> Words<'a> {
     ghost use Rattle.std.specs.Prelude.{[], ◌∷◌, MatchOption};
-    ghost use Rattle.script_lines.specs.Words.{words_of};
+    ghost use Rattle.script_words.specs.Words.{words_of};
 
     pub fn of(line: &'a [u8]) -> Self
         ensures { result ≡ words_of line.now }

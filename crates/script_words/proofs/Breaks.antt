@@ -7,7 +7,7 @@ use Rattle.std.proofs.lemmas.List.Splits.{slice_split_first, slice_split_none}
 use Rattle.std.proofs.lemmas.List.Sums.{fails_before_first}
 use Rattle.std.proofs.lemmas.List.Sums.{prefix_len-le-length}
 use Rattle.std.specs.Prelude.{not}
-use Rattle.script_lines.specs.Words.{words_of}
+use Rattle.script_words.specs.Words.{words_of}
 
 pub words_first : (line : List ℕ) (at : ℕ) → Some at ≡ position (λ byte. byte == 32) line
     → words_of line ≡ take at line ∷ words_of (take (length line - (at + 1)) (drop (at + 1) line))

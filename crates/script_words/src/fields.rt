@@ -1,8 +1,7 @@
 //! What the next word of a line spells.
 ghost use Rattle.std.specs.Prelude.{◌≡◌, option_map};
-ghost use Rattle.script_lines.specs.Forms.{AnyName, Number, Signed, Scale, Range, Moment};
-ghost use Rattle.script_lines.specs.Reading.{first_value, nothing_more};
-ghost use Rattle.script_lines.specs.Values.{name_of, scale_of, signed_of};
+ghost use Rattle.script_words.specs.Fields.{AnyName, Number, Signed, Scale, Range, Moment, first_value, nothing_more};
+ghost use Rattle.script_words.specs.Values.{name_of, scale_of, signed_of};
 
 use crate::values::number;
 use crate::words::Words;
@@ -12,7 +11,7 @@ use office_events::{GivenScale, Name};
 const WHOLE_RANGE: u64 = 4_294_967_296;
 
 // Any word: the name that it is, or none where the office knows no such names. An empty word is no word.
-pub(crate) fn any_name(word: &[u8]) -> Option<Option<Name>>
+fn any_name(word: &[u8]) -> Option<Option<Name>>
     ensures { result ≡ name_of word.now }
 {
     match word {
@@ -47,32 +46,36 @@ fn given_scale(word: &[u8]) -> Option<GivenScale>
     }
 }
 
-pub(crate) fn next_name(words: &mut Words<'_>) -> Option<Option<Name>>
+/// The name that the next word is, or none where it is no name.
+pub fn next_name(words: &mut Words<'_>) -> Option<Option<Name>>
     ensures { option_map (λ name. (name, words.new)) result ≡ first_value AnyName words.old }
 {
     any_name(words.next_word()?)
 }
 
-pub(crate) fn next_number(words: &mut Words<'_>) -> Option<u64>
+/// The number that the next word is.
+pub fn next_number(words: &mut Words<'_>) -> Option<u64>
     ensures { option_map (λ number. (number, words.new)) result ≡ first_value Number words.old }
 {
     number(words.next_word()?)
 }
 
-pub(crate) fn next_signed(words: &mut Words<'_>) -> Option<i64>
+/// The number, before which `-` may stand, that the next word is.
+pub fn next_signed(words: &mut Words<'_>) -> Option<i64>
     ensures { option_map (λ number. (number, words.new)) result ≡ first_value Signed words.old }
 {
     signed_number(words.next_word()?)
 }
 
-pub(crate) fn next_scale(words: &mut Words<'_>) -> Option<GivenScale>
+/// The scale that the next word tells.
+pub fn next_scale(words: &mut Words<'_>) -> Option<GivenScale>
     ensures { option_map (λ scale. (scale, words.new)) result ≡ first_value Scale words.old }
 {
     given_scale(words.next_word()?)
 }
 
 /// The range of a meter, which may be missing.
-pub(crate) fn next_range(words: &mut Words<'_>) -> Option<u64>
+pub fn next_range(words: &mut Words<'_>) -> Option<u64>
     ensures { option_map (λ range. (range, words.new)) result ≡ first_value Range words.old }
 {
     match words.next_word() {
@@ -82,7 +85,7 @@ pub(crate) fn next_range(words: &mut Words<'_>) -> Option<u64>
 }
 
 /// A moment, which may be missing.
-pub(crate) fn next_moment(words: &mut Words<'_>) -> Option<Option<u64>>
+pub fn next_moment(words: &mut Words<'_>) -> Option<Option<u64>>
     ensures { option_map (λ moment. (moment, words.new)) result ≡ first_value Moment words.old }
 {
     match words.next_word() {
@@ -92,7 +95,7 @@ pub(crate) fn next_moment(words: &mut Words<'_>) -> Option<Option<u64>>
 }
 
 /// No word is left.
-pub(crate) fn nothing_more(words: &mut Words<'_>) -> Option<()>
+pub fn nothing_more(words: &mut Words<'_>) -> Option<()>
     ensures { result ≡ nothing_more words.old }
 {
     match words.next_word() {
