@@ -1,5 +1,5 @@
 //! Lines that are commands.
-use crate::reading::command;
+use crate::reading::says;
 use office_events::{
     AddDevice, AddRegister, Close, Command, Exchange, GivenScale, Install, Manual, Name, Rescale,
     Reset, StartRound, VoidEntry,
@@ -14,32 +14,33 @@ fn named(text: &[u8]) -> Option<Name> {
 
 #[test]
 fn reads_devices(rt: HostRuntime) -> Result<(), Fail> {
-    let (at, said) = command(rt.alloc(), "1000 device inv 300 9223372036854775807 007")?;
+    let text = "5 device inv 300 9223372036854775807 007";
     let wanted = AddDevice {
         name: named(b"inv"),
         unit: 300,
         timeout: MOST,
         window: 7,
     };
-    assert_eq!(rt; at, 1000);
-    assert!(rt; matches!(said, Command::AddDevice(given) if given == wanted));
+    assert!(rt;
+        says(rt.alloc(), text, &Command::AddDevice(wanted))?,
+        "{text}"
+    );
     Ok(())
 }
 
 static SCALES: [(&str, GivenScale); 4] = [
     (
-        "0 register main inv 3 40094 @40096",
+        "5 register main inv 3 40094 @40096",
         GivenScale::Register(40096),
     ),
-    ("0 register main inv 3 40094 -3", GivenScale::Fixed(-3)),
-    ("0 register main inv 3 40094 -0", GivenScale::Fixed(0)),
-    ("0 register main inv 3 40094 12", GivenScale::Fixed(12)),
+    ("5 register main inv 3 40094 -3", GivenScale::Fixed(-3)),
+    ("5 register main inv 3 40094 -0", GivenScale::Fixed(0)),
+    ("5 register main inv 3 40094 12", GivenScale::Fixed(12)),
 ];
 
 #[test]
 fn reads_registers(rt: HostRuntime) -> Result<(), Fail> {
     for (text, scale) in &SCALES {
-        let (_, said) = command(rt.alloc(), text)?;
         let wanted = AddRegister {
             name: named(b"main"),
             device: named(b"inv"),
@@ -48,7 +49,7 @@ fn reads_registers(rt: HostRuntime) -> Result<(), Fail> {
             scale: *scale,
         };
         assert!(rt;
-            matches!(said, Command::AddRegister(given) if given == wanted),
+            says(rt.alloc(), text, &Command::AddRegister(wanted))?,
             "{text}"
         );
     }
@@ -65,7 +66,6 @@ static INSTALLS: [(&str, u64); 3] = [
 #[test]
 fn reads_installs(rt: HostRuntime) -> Result<(), Fail> {
     for (text, range) in &INSTALLS {
-        let (_, said) = command(rt.alloc(), text)?;
         let wanted = Install {
             register: named(b"main"),
             meter: named(b"m1"),
@@ -75,7 +75,7 @@ fn reads_installs(rt: HostRuntime) -> Result<(), Fail> {
             range: *range,
         };
         assert!(rt;
-            matches!(said, Command::Install(given) if given == wanted),
+            says(rt.alloc(), text, &Command::Install(wanted))?,
             "{text}"
         );
     }
@@ -83,17 +83,13 @@ fn reads_installs(rt: HostRuntime) -> Result<(), Fail> {
 }
 
 static EXCHANGES: [(&str, u64); 2] = [
-    ("2800 exchange main 5300 0 m2 17 0 100000", 4_294_967_296),
-    (
-        "2800 exchange main 5300 0 m2 17 0 100000 1000000",
-        1_000_000,
-    ),
+    ("5 exchange main 5300 0 m2 17 0 100000", 4_294_967_296),
+    ("5 exchange main 5300 0 m2 17 0 100000 1000000", 1_000_000),
 ];
 
 #[test]
 fn reads_exchanges(rt: HostRuntime) -> Result<(), Fail> {
     for (text, range) in &EXCHANGES {
-        let (at, said) = command(rt.alloc(), text)?;
         let wanted = Exchange {
             register: named(b"main"),
             last: 5300,
@@ -104,9 +100,8 @@ fn reads_exchanges(rt: HostRuntime) -> Result<(), Fail> {
             ceiling: 100_000,
             range: *range,
         };
-        assert_eq!(rt; at, 2800);
         assert!(rt;
-            matches!(said, Command::Exchange(given) if given == wanted),
+            says(rt.alloc(), text, &Command::Exchange(wanted))?,
             "{text}"
         );
     }
@@ -115,83 +110,85 @@ fn reads_exchanges(rt: HostRuntime) -> Result<(), Fail> {
 
 #[test]
 fn reads_resets(rt: HostRuntime) -> Result<(), Fail> {
-    let (_, said) = command(rt.alloc(), "5 reset main 5200 7")?;
+    let text = "5 reset main 5200 7";
     let wanted = Reset {
         register: named(b"main"),
         before: 5200,
         after: 7,
     };
-    assert!(rt; matches!(said, Command::Reset(given) if given == wanted));
+    assert!(rt; says(rt.alloc(), text, &Command::Reset(wanted))?, "{text}");
     Ok(())
 }
 
 #[test]
 fn reads_rescales(rt: HostRuntime) -> Result<(), Fail> {
-    let (_, said) = command(rt.alloc(), "5 rescale main 5200 520 1")?;
+    let text = "5 rescale main 5200 520 1";
     let wanted = Rescale {
         register: named(b"main"),
         before: 5200,
         after: 520,
         sf: 1,
     };
-    assert!(rt; matches!(said, Command::Rescale(given) if given == wanted));
+    assert!(rt;
+        says(rt.alloc(), text, &Command::Rescale(wanted))?,
+        "{text}"
+    );
     Ok(())
 }
 
 static READ_OFF: [(&str, Option<u64>); 2] = [
-    ("2800 manual main 5300 1", None),
-    ("2800 manual main 5300 1 2700", Some(2700)),
+    ("5 manual main 5300 1", None),
+    ("5 manual main 5300 1 2700", Some(2700)),
 ];
 
 #[test]
 fn reads_readings_by_hand(rt: HostRuntime) -> Result<(), Fail> {
     for (text, at) in &READ_OFF {
-        let (_, said) = command(rt.alloc(), text)?;
         let wanted = Manual {
             register: named(b"main"),
             raw: 5300,
             rolls: 1,
             at: *at,
         };
-        assert!(rt;
-            matches!(said, Command::Manual(given) if given == wanted),
-            "{text}"
-        );
+        assert!(rt; says(rt.alloc(), text, &Command::Manual(wanted))?, "{text}");
     }
     Ok(())
 }
 
 #[test]
 fn reads_closings(rt: HostRuntime) -> Result<(), Fail> {
-    let (_, said) = command(rt.alloc(), "5 close main 5300 2")?;
+    let text = "5 close main 5300 2";
     let wanted = Close {
         register: named(b"main"),
         raw: 5300,
         rolls: 2,
     };
-    assert!(rt; matches!(said, Command::Close(given) if given == wanted));
+    assert!(rt; says(rt.alloc(), text, &Command::Close(wanted))?, "{text}");
     Ok(())
 }
 
 #[test]
 fn reads_voids(rt: HostRuntime) -> Result<(), Fail> {
-    let (_, said) = command(rt.alloc(), "4000 void m1 2")?;
+    let text = "5 void m1 2";
     let wanted = VoidEntry {
         meter: named(b"m1"),
         place: 2,
     };
-    assert!(rt; matches!(said, Command::Void(given) if given == wanted));
+    assert!(rt; says(rt.alloc(), text, &Command::Void(wanted))?, "{text}");
     Ok(())
 }
 
 #[test]
 fn reads_rounds(rt: HostRuntime) -> Result<(), Fail> {
-    let (_, said) = command(rt.alloc(), "1898 round inv 0")?;
+    let text = "5 round inv 0";
     let wanted = StartRound {
         device: named(b"inv"),
         from: 0,
     };
-    assert!(rt; matches!(said, Command::StartRound(given) if given == wanted));
+    assert!(rt;
+        says(rt.alloc(), text, &Command::StartRound(wanted))?,
+        "{text}"
+    );
     Ok(())
 }
 
@@ -206,11 +203,11 @@ static OTHER_NAMES: [&str; 4] = [
 #[test]
 fn words_may_be_no_names(rt: HostRuntime) -> Result<(), Fail> {
     for text in &OTHER_NAMES {
-        let (_, said) = command(rt.alloc(), text)?;
-        assert!(rt;
-            matches!(said, Command::Void(given) if given.meter.is_none()),
-            "{text}"
-        );
+        let wanted = VoidEntry {
+            meter: None,
+            place: 2,
+        };
+        assert!(rt; says(rt.alloc(), text, &Command::Void(wanted))?, "{text}");
     }
     Ok(())
 }

@@ -9,15 +9,16 @@ use std::test::Fail;
 
 // The moment, the kind and the device of an event that has no other field.
 fn plain(alloc: Global, text: &str) -> Result<(u64, char, Option<Name>), Fail> {
-    match line(alloc, text.as_bytes())? {
-        ScriptLine::Event { at, event } => match event {
-            Event::Connected(device) => Ok((at, 'c', device)),
-            Event::Tick => Ok((at, 't', None)),
-            Event::Gone(device, Closing::Gone) => Ok((at, 'g', device)),
-            Event::Gone(device, Closing::Failed) => Ok((at, 'f', device)),
-            _ => Err("another event".into()),
-        },
-        _ => Err("no event".into()),
+    let said = line(alloc, text.as_bytes())?;
+    let ScriptLine::Event { at, event } = &said else {
+        return Err("no event".into());
+    };
+    match event {
+        Event::Connected(device) => Ok((*at, 'c', *device)),
+        Event::Tick => Ok((*at, 't', None)),
+        Event::Gone(device, Closing::Gone) => Ok((*at, 'g', *device)),
+        Event::Gone(device, Closing::Failed) => Ok((*at, 'f', *device)),
+        _ => Err("another event".into()),
     }
 }
 
@@ -48,11 +49,12 @@ fn reads_events(rt: HostRuntime) -> Result<(), Fail> {
 // Whether a line brings these bytes of `inv`: `b` that it sent, `l` of its point list.
 fn brings(alloc: Global, text: &[u8], kind: char, bytes: &[u8]) -> Result<bool, Fail> {
     let inv = Name::new(b"inv");
-    match line(alloc, text)? {
+    let said = line(alloc, text)?;
+    match &said {
         ScriptLine::Event {
             at: 1900,
             event: Event::Bytes(device, piece),
-        } => Ok(kind == 'b' && device == inv && piece.as_slice() == bytes),
+        } => Ok(kind == 'b' && *device == inv && piece.as_slice() == bytes),
         ScriptLine::List { at: 1900, list } => {
             Ok(kind == 'l' && list.device == inv && list.text.as_slice() == bytes)
         }
@@ -138,11 +140,12 @@ fn starts_are_of_spans(rt: HostRuntime) {
 
 // What a question asks, and the name or the number that it asks of.
 fn asked(alloc: Global, text: &str) -> Result<(char, Option<Name>, u64), Fail> {
-    match line(alloc, text.as_bytes())? {
-        ScriptLine::Meter { name } => Ok(('m', name, 0)),
-        ScriptLine::Intervals { name } => Ok(('i', name, 0)),
-        ScriptLine::Days { name } => Ok(('d', name, 0)),
-        ScriptLine::Poll { number } => Ok(('p', None, number)),
+    let said = line(alloc, text.as_bytes())?;
+    match &said {
+        ScriptLine::Meter { name } => Ok(('m', *name, 0)),
+        ScriptLine::Intervals { name } => Ok(('i', *name, 0)),
+        ScriptLine::Days { name } => Ok(('d', *name, 0)),
+        ScriptLine::Poll { number } => Ok(('p', None, *number)),
         _ => Err("no question".into()),
     }
 }

@@ -13,14 +13,31 @@ pub(crate) fn is_bad(alloc: Global, text: &[u8]) -> bool {
     matches!(&read, Err(LineFault::Bad))
 }
 
-/// The moment and the command of a line.
-pub(crate) fn command(alloc: Global, text: &str) -> Result<(u64, Command), Fail> {
-    match line(alloc, text.as_bytes())? {
+fn is_same(said: &Command, wanted: &Command) -> bool {
+    match (said, wanted) {
+        (Command::AddDevice(a), Command::AddDevice(b)) => a == b,
+        (Command::AddRegister(a), Command::AddRegister(b)) => a == b,
+        (Command::Install(a), Command::Install(b)) => a == b,
+        (Command::Exchange(a), Command::Exchange(b)) => a == b,
+        (Command::Reset(a), Command::Reset(b)) => a == b,
+        (Command::Rescale(a), Command::Rescale(b)) => a == b,
+        (Command::Manual(a), Command::Manual(b)) => a == b,
+        (Command::Close(a), Command::Close(b)) => a == b,
+        (Command::Void(a), Command::Void(b)) => a == b,
+        (Command::StartRound(a), Command::StartRound(b)) => a == b,
+        _ => false,
+    }
+}
+
+/// Whether a line is this command at the moment 5.
+pub(crate) fn says(alloc: Global, text: &str, wanted: &Command) -> Result<bool, Fail> {
+    let said = line(alloc, text.as_bytes())?;
+    match &said {
         ScriptLine::Event {
-            at,
+            at: 5,
             event: Event::Command(command),
-        } => Ok((at, command)),
-        _ => Err("no command".into()),
+        } => Ok(is_same(command, wanted)),
+        _ => Ok(false),
     }
 }
 

@@ -17,7 +17,8 @@ pub fn write_accepted<W: Write>(
     frames: &[u8],
     output: &mut W,
 ) -> io::Result<()>
-    ensures { GotText result (text.accepted_text answer.now notes.now frames.now) (W.contents output.old) (W.contents output.new) }
+    ensures { GotText result (text.accepted_text answer.now notes.now frames.now)
+        (W.contents output.old) (W.contents output.new) }
 {
     write_notes(notes, output)?;
     write_answer(answer, frames, output)
@@ -25,7 +26,8 @@ pub fn write_accepted<W: Write>(
 
 /// Writes a line for each note.
 pub fn write_notes<W: Write>(notes: &[Note], output: &mut W) -> io::Result<()>
-    ensures { GotText result (flat_map text.note_line notes.now) (W.contents output.old) (W.contents output.new) }
+    ensures { GotText result (flat_map text.note_line notes.now)
+        (W.contents output.old) (W.contents output.new) }
 {
     for note in notes {
         write_note(note, output)?;
@@ -35,7 +37,8 @@ pub fn write_notes<W: Write>(notes: &[Note], output: &mut W) -> io::Result<()>
 
 /// Writes `ok`, or for a start `started FIRST COUNT OF HEX`, where HEX is the frames that it wants sent.
 pub fn write_answer<W: Write>(answer: &Answer, frames: &[u8], output: &mut W) -> io::Result<()>
-    ensures { GotText result (text.answer_line answer.now frames.now) (W.contents output.old) (W.contents output.new) }
+    ensures { GotText result (text.answer_line answer.now frames.now)
+        (W.contents output.old) (W.contents output.new) }
 {
     match *answer {
         Answer::Noted | Answer::Done(_) | Answer::Again(_) => write_text(b"ok\n", output),
@@ -57,14 +60,16 @@ fn counts_text(first: u64, count: u64, of: u64) -> Line
 }
 
 fn write_started<W: Write>(counts: &[u8], frames: &[u8], output: &mut W) -> io::Result<()>
-    ensures { GotText result (counts.now ++ encode_lower frames.now ++ codes "\n") (W.contents output.old) (W.contents output.new) }
+    ensures { GotText result (counts.now ++ encode_lower frames.now ++ codes "\n")
+        (W.contents output.old) (W.contents output.new) }
 {
     write_text(counts, output)?;
     write_hex_line(frames, output)
 }
 
 fn write_hex_line<W: Write>(bytes: &[u8], output: &mut W) -> io::Result<()>
-    ensures { GotText result (encode_lower bytes.now ++ codes "\n") (W.contents output.old) (W.contents output.new) }
+    ensures { GotText result (encode_lower bytes.now ++ codes "\n")
+        (W.contents output.old) (W.contents output.new) }
 {
     write_hex(bytes, output)?;
     write_text(b"\n", output)

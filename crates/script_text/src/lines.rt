@@ -13,7 +13,8 @@ use std::io::{self, Write};
 
 /// Writes `refused N`.
 pub fn write_refusal<W: Write>(refusal: Refusal, output: &mut W) -> io::Result<()>
-    ensures { GotText result (text.refused_line refusal) (W.contents output.old) (W.contents output.new) }
+    ensures { GotText result (text.refused_line refusal)
+        (W.contents output.old) (W.contents output.new) }
 {
     write_text(refused_line(refusal).bytes(), output)
 }
@@ -29,7 +30,8 @@ fn refused_line(refusal: Refusal) -> Line
 
 /// Writes `meter NAME last RAW sf SF at MOMENT total MWH open`, whose last word is `ended` after a closing.
 pub fn write_meter<W: Write>(row: &Installation, output: &mut W) -> io::Result<()>
-    ensures { GotText result (text.meter_line row.now) (W.contents output.old) (W.contents output.new) }
+    ensures { GotText result (text.meter_line row.now)
+        (W.contents output.old) (W.contents output.new) }
 {
     write_named(
         b"meter ",
@@ -61,7 +63,8 @@ fn end_word(ended: bool) -> &'static [u8]
 
 /// Writes `poll N OUTCOME`, where the outcome of a poll that has not ended is `pending`.
 pub fn write_poll<W: Write>(row: &PollRow, output: &mut W) -> io::Result<()>
-    ensures { GotText result (text.poll_line row.now) (W.contents output.old) (W.contents output.new) }
+    ensures { GotText result (text.poll_line row.now)
+        (W.contents output.old) (W.contents output.new) }
 {
     write_text(poll_line(row).bytes(), output)
 }
@@ -90,7 +93,8 @@ fn push_ending(line: &mut Line, ended: &Option<EndedPoll>)
 
 /// Writes `row R fault N` for each row; the header is row 1.
 pub fn write_faults<W: Write>(faults: &[FaultyRow], output: &mut W) -> io::Result<()>
-    ensures { GotText result (flat_map text.fault_line faults.now) (W.contents output.old) (W.contents output.new) }
+    ensures { GotText result (flat_map text.fault_line faults.now)
+        (W.contents output.old) (W.contents output.new) }
 {
     for faulty in faults {
         write_fault(faulty, output)?;
@@ -99,7 +103,8 @@ pub fn write_faults<W: Write>(faults: &[FaultyRow], output: &mut W) -> io::Resul
 }
 
 fn write_fault<W: Write>(faulty: &FaultyRow, output: &mut W) -> io::Result<()>
-    ensures { GotText result (text.fault_line faulty.now) (W.contents output.old) (W.contents output.new) }
+    ensures { GotText result (text.fault_line faulty.now)
+        (W.contents output.old) (W.contents output.new) }
 {
     write_text(fault_line(faulty).bytes(), output)
 }
@@ -116,7 +121,8 @@ fn fault_line(faulty: &FaultyRow) -> Line
 
 /// Writes `bad line N`.
 pub fn write_bad_line<W: Write>(number: u64, output: &mut W) -> io::Result<()>
-    ensures { GotText result (text.bad_line number) (W.contents output.old) (W.contents output.new) }
+    ensures { GotText result (text.bad_line number)
+        (W.contents output.old) (W.contents output.new) }
 {
     write_text(bad_line(number).bytes(), output)
 }

@@ -11,7 +11,8 @@ use std::io::{self, Write};
 
 /// Writes `poll N OUTCOME`, `reading METER RAW rolls R step MWH` or `held METER RAW cause N`.
 pub fn write_note<W: Write>(note: &Note, output: &mut W) -> io::Result<()>
-    ensures { GotText result (text.note_line note.now) (W.contents output.old) (W.contents output.new) }
+    ensures { GotText result (text.note_line note.now)
+        (W.contents output.old) (W.contents output.new) }
 {
     match *note {
         Note::Outcome { poll, outcome } => write_text(outcome_line(poll, outcome).bytes(), output),

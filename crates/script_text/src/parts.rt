@@ -17,7 +17,8 @@ pub(crate) fn write_text<W: Write>(text: &[u8], output: &mut W) -> io::Result<()
 }
 
 fn write_both<W: Write>(first: &[u8], second: &[u8], output: &mut W) -> io::Result<()>
-    ensures { GotText result (first.now ++ second.now) (W.contents output.old) (W.contents output.new) }
+    ensures { GotText result (first.now ++ second.now)
+        (W.contents output.old) (W.contents output.new) }
 {
     write_text(first, output)?;
     write_text(second, output)
@@ -30,7 +31,8 @@ pub(crate) fn write_named<W: Write>(
     rest: &[u8],
     output: &mut W,
 ) -> io::Result<()>
-    ensures { GotText result (word.now ++ name.now ++ rest.now) (W.contents output.old) (W.contents output.new) }
+    ensures { GotText result (word.now ++ name.now ++ rest.now)
+        (W.contents output.old) (W.contents output.new) }
 {
     write_text(word, output)?;
     write_both(name, rest, output)
@@ -38,7 +40,8 @@ pub(crate) fn write_named<W: Write>(
 
 /// Writes bytes in lower-case hex.
 pub(crate) fn write_hex<W: Write>(bytes: &[u8], output: &mut W) -> io::Result<()>
-    ensures { GotText result (encode_lower bytes.now) (W.contents output.old) (W.contents output.new) }
+    ensures { GotText result (encode_lower bytes.now)
+        (W.contents output.old) (W.contents output.new) }
 {
     for byte in bytes {
         write_byte(*byte, output)?;
@@ -48,7 +51,8 @@ pub(crate) fn write_hex<W: Write>(bytes: &[u8], output: &mut W) -> io::Result<()
 
 #[tactic(auto, unfolding(hex::specs::Hex::encode_with))]
 fn write_byte<W: Write>(byte: u8, output: &mut W) -> io::Result<()>
-    ensures { GotText result (encode_lower (byte ∷ [])) (W.contents output.old) (W.contents output.new) }
+    ensures { GotText result (encode_lower (byte ∷ []))
+        (W.contents output.old) (W.contents output.new) }
 {
     let high = DIGITS[usize::from(byte / 16)];
     let low = DIGITS[usize::from(byte % 16)];
