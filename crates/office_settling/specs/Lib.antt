@@ -1,0 +1,4 @@
+pub mod Replies
+pub mod Drafts
+pub mod Behind
+pub mod Settling
