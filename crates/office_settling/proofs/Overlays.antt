@@ -1,6 +1,6 @@
 -- Installations behind the facts of a draft.
-use Rattle.std.proofs.Common.{◌≡◌, ℕ, ◌+◌, ◌<◌, Bool, true, false, cond, List, [], ◌∷◌, ◌++◌, reverse, take, length, get_or, refl, sym, ap, subst, ◌∙◌, Option, Some, None, Result, Ok, Err, zero, suc, arith, append_assoc, add-one}
-use Rattle.std.specs.List.{cons_option, filter_map, find, Contains}
+use Rattle.std.proofs.Common.{◌≡◌, ℕ, ◌+◌, ◌<◌, Bool, true, false, cond, List, [], ◌∷◌, ◌++◌, reverse, take, length, get_or, refl, sym, ap, subst, ◌∙◌, Option, Some, None, suc, arith}
+use Rattle.std.specs.List.{cons_option, find, Contains}
 use Rattle.std.specs.Option.{option_map, option_and_then}
 use Rattle.std.proofs.lemmas.List.{reverse-append, take_more}
 use Rattle.std.proofs.lemmas.List.Elements.{All-contains}
@@ -9,8 +9,6 @@ use Rattle.energy_core.specs.declared.entries.Last.{Last}
 use Rattle.energy_core.specs.declared.entries.Step.{Step}
 use Rattle.energy_core.specs.declared.entries.Entry.{Entry}
 use Rattle.energy_core.specs.declared.entries.Entry.TheVariants as entry
-use Rattle.energy_core.specs.declared.entering.TermFault.{TermFault}
-use Rattle.energy_core.specs.declared.judging.Terms.{Terms}
 use Rattle.energy_core.specs.Laws as energy
 use Rattle.meter_journal.specs.declared.lines.EntryKind.{EntryKind}
 use Rattle.meter_journal.specs.declared.lines.EntryKind.TheVariants as kind
@@ -30,7 +28,7 @@ use Rattle.office_laws.proofs.Lookups.{same_text}
 use Rattle.office_lawful.specs.Laws.{NamesAreDistinct}
 use Rattle.office_books.specs.Sound.{IsSound}
 use Rattle.office_settling.specs.Drafts.{IsTold, AreTold}
-use Rattle.office_settling.specs.Behind.{with_result, with_entry, with_booked, installation_with, IsIn, StandsBehind}
+use Rattle.office_settling.specs.Behind.{with_result, with_entry, installation_with, IsIn, StandsBehind}
 use Rattle.office_settling.proofs.Told.{told_openings, told_first, told_at, lawful_first}
 
 -- The laws of entries.

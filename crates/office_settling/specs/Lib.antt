@@ -2,3 +2,4 @@ pub mod Replies
 pub mod Drafts
 pub mod Behind
 pub mod Settling
+pub mod Events

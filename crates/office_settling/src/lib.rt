@@ -3,10 +3,10 @@
 
 mod behind;
 mod drafts;
-//mod events;
-//mod lines;
+mod events;
+mod lines;
 mod outcomes;
 mod readings;
-//mod sessions;
+mod sessions;
 
-//pub use events::settle_event;
+pub use events::settle_event;

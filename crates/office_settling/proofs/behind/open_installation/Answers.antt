@@ -1,4 +1,4 @@
-use Rattle.std.proofs.Common.{◌≡◌, List, true, false, None, Some, sym, subst, ◌∙◌}
+use Rattle.std.proofs.Common.{List, None, Some, sym, subst, ◌∙◌}
 use Rattle.std.proofs.lemmas.Bool.{cond-true, cond-false}
 use Rattle.office_events.specs.declared.facts.Fact.{Fact}
 use Rattle.office_settling.specs.Behind.{StandsBehind}

@@ -1,10 +1,10 @@
-use Rattle.std.proofs.Common.{◌≡◌, sym, subst, ◌∙◌}
+use Rattle.std.proofs.Common.{sym, subst, ◌∙◌}
 use Rattle.std.proofs.lemmas.Result.{on_ok_weaker}
 use Rattle.energy_core.specs.declared.judging.Reading.{Reading}
 use Rattle.office_rules.specs.Readings.{reading_fact}
 use Rattle.office_rules.specs.Notes.{reading_note}
 use Rattle.office_settling.specs.Drafts.{HasMore}
-use Rattle.office_settling.proofs.Growing.{unread_at, no_meter_at, read_at}
+use Rattle.office_settling.proofs.Growing.{read_at}
 use Rattle.office_settling.proofs.Reading.{reads_without}
 use Rattle.office_settling.proofs.outcomes.add_reading.Goals as goal
 

@@ -1,4 +1,4 @@
-use Rattle.std.proofs.Common.{List, take, Ok}
+use Rattle.std.proofs.Common.{take, Ok}
 use Rattle.office_rules.specs.Readings.{with_registers}
 use Rattle.office_rules.specs.Notes.{registers_notes}
 use Rattle.office_books.specs.Ledgers.{OnlyReads}
