@@ -25,7 +25,8 @@ with_entry row e = with_result row (entered row.opening.range row.total row.last
 
 -- Only an entry of its own meter changes an installation.
 abbrev pub with_booked : BookedEntry → Installation → Installation
-with_booked booked row = if same booked.meter row.opening.meter then with_entry row booked.entry else row
+with_booked booked row =
+    if same booked.meter row.opening.meter then with_entry row booked.entry else row
 
 abbrev pub installation_with : Fact → Installation → Installation
 installation_with (fact.Entry booked) row = with_booked booked row
@@ -38,5 +39,6 @@ pub record IsIn (facts : List Fact) (row : Installation) : Type 0 where
 
 -- behind these facts it stands so
 abbrev pub StandsBehind : Installation → (facts : List Fact) → Installation → Type 0
-StandsBehind row facts behind = (held : List Fact) → AreTold facts → AreLawful (reverse facts ++ held)
-    → IsIn held row → behind ≡ installation_of (reverse facts ++ held) row.opening
+StandsBehind row facts behind =
+    (held : List Fact) → AreTold facts → AreLawful (reverse facts ++ held) → IsIn held row
+    → behind ≡ installation_of (reverse facts ++ held) row.opening

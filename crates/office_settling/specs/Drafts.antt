@@ -30,29 +30,35 @@ AreTold [] = Unit {0}
 AreTold (f ∷ facts) = IsTold f × AreTold facts
 
 -- The facts go on as they are said to, and these notes more are told.
-pub record IsAdded (held : List Fact) (old new : Draft) (more : List Fact → List Fact) (tells : List Fact → List Note) : Type 0 where
+pub record IsAdded (held : List Fact) (old new : Draft) (more : List Fact → List Fact)
+    (tells : List Fact → List Note) : Type 0 where
   pub facts : so_far new held ≡ more (so_far old held)
   pub notes : new.notes.items ≡ old.notes.items ++ tells (so_far old held)
   pub told : AreTold new.facts.items
 
 -- So it is for all facts that the books hold, if none of their answers was wrong and the facts so reached are lawful.
-abbrev pub Grows : (holds : List Fact → Type 0) (clean : Type 0) (old new : Draft) → (List Fact → List Fact) → (List Fact → List Note) → Type 0
+abbrev pub Grows : (holds : List Fact → Type 0) (clean : Type 0) (old new : Draft)
+    → (List Fact → List Fact) → (List Fact → List Note) → Type 0
 Grows holds clean old new more tells =
-    (held : List Fact) → holds held → clean → AreTold old.facts.items → AreLawful (more (so_far old held)) → IsAdded held old new more tells
+    (held : List Fact) → holds held → clean → AreTold old.facts.items
+    → AreLawful (more (so_far old held)) → IsAdded held old new more tells
 
 -- ... where a call succeeds that asks the books
 abbrev pub Adds : {T : Type 0} → (old new : Ledger) → (before after : Draft) → Result T BooksFault
     → (List Fact → List Fact) → (List Fact → List Note) → Type 0
-Adds old new before after result more tells = OnOk result (Grows old.holds new.is_clean before after more tells)
+Adds old new before after result more tells =
+    OnOk result (Grows old.holds new.is_clean before after more tells)
 
 -- What is answered is what the facts say, those of the draft being in front.
-abbrev pub FindsBehind : {T : Type 0} → (old new : Ledger) → Draft → Result T BooksFault → (List Fact → T → Type 0) → Type 0
+abbrev pub FindsBehind : {T : Type 0} → (old new : Ledger) → Draft → Result T BooksFault
+    → (List Fact → T → Type 0) → Type 0
 FindsBehind old new draft result says =
-    (held : List Fact) → old.holds held → new.is_clean → AreTold draft.facts.items → AreLawful (so_far draft held)
-    → IfOk result (says (so_far draft held))
+    (held : List Fact) → old.holds held → new.is_clean → AreTold draft.facts.items
+    → AreLawful (so_far draft held) → IfOk result (says (so_far draft held))
 
 -- The call succeeds, and asks no books.
-pub record IsIdle {T B : Type 0} (result : Result T BooksFault) (old new : B) (before after : Draft) : Type 0 where
+pub record IsIdle {T B : Type 0} (result : Result T BooksFault) (old new : B)
+    (before after : Draft) : Type 0 where
   pub ok : IsOk result
   pub books : new ≡ old
   pub draft : after ≡ before

@@ -1,5 +1,5 @@
 -- An event of a device, after all that was accepted before it.
-use Rattle.std.specs.Prelude.{◌≡◌, ℕ, List, ◌∷◌, None, Result, IfOk, OnOk}
+use Rattle.std.specs.Prelude.{◌≡◌, ℕ, List, [], ◌∷◌, None, Result, IfOk, OnOk, IsOk}
 use Rattle.std.specs.declared.alloc.Global.{Global}
 use Rattle.std.specs.declared.vec.Vec.{Vec}
 use Rattle.office_events.specs.declared.answers.Note.{Note}
@@ -19,10 +19,17 @@ pub record IsNext (past : History) (lines : List Line) (at : ℕ) (e : Event) : 
   pub keeps : KeepsLines lines (lines_of past)
   pub accepted : refusal_of past at e ≡ None
 
--- What it settles is booked all at once and told: at Ok the lines stand where the event leaves them, the notes are the
+-- What it settles is booked all at once and told. At Ok the lines stand where the event leaves them, the notes are the
 -- event's, and the books move to the facts behind it; where the call fails they stay, or a stop may leave the later facts.
-pub record Settles (past : History) (at : ℕ) (e : Event) (old new : Ledger) (after : List Line) (result : Result (Vec Note Global) BooksFault) : Type 0 where
+pub record Settles (past : History) (at : ℕ) (e : Event) (old new : Ledger) (after : List Line)
+    (result : Result (Vec Note Global) BooksFault) : Type 0 where
   pub lines : OnOk result (KeepsLines after (lines_of (Fed at e ∷ past)))
   pub books : Moves old new (facts_of past) (facts_of (Fed at e ∷ past)) result
-  pub notes : old.holds (facts_of past) → new.is_clean
-      → IfOk result (λ told. told.items ≡ notes_of (next_poll (facts_of past)) at e (lines_of past) (facts_of past))
+  pub notes : old.holds (facts_of past) → new.is_clean → IfOk result (λ told.
+      told.items ≡ notes_of (next_poll (facts_of past)) at e (lines_of past) (facts_of past))
+
+-- The call succeeds, asks no books, and tells nothing.
+pub record IsQuiet {B : Type 0} (old new : B) (result : Result (Vec Note Global) BooksFault) : Type 0 where
+  pub ok : IsOk result
+  pub told : IfOk result (λ told. told.items ≡ [])
+  pub books : new ≡ old

@@ -28,9 +28,11 @@ IsSettling (event.Asked asked) = ⊥
 
 -- what such an event is on the session of a device, if it reaches it
 abbrev pub happening_on : (at : ℕ) → Event → Device → Option session.Event
-happening_on at (event.Bytes given piece) device = if is_named given device.name then Some (session.Piece at piece) else None
+happening_on at (event.Bytes given piece) device =
+    if is_named given device.name then Some (session.Piece at piece) else None
 happening_on at event.Tick device = Some (session.Tick at)
-happening_on at (event.Gone given closing) device = if is_named given device.name then Some (session.Close at closing) else None
+happening_on at (event.Gone given closing) device =
+    if is_named given device.name then Some (session.Close at closing) else None
 happening_on at _ device = None
 
 -- nothing on the present session is later than this moment
@@ -56,25 +58,31 @@ pub record SettlesNothing (kept : State) (happening : session.Event) : Type 0 wh
   pub nothing : session.outcomes_at kept.timeout events happening ≡ []
 
 -- what an event on the session settles is told to its end
-pub record Tells (holds : List Fact → Type 0) (clean : Type 0) (before after : State) (happening : session.Event) (first last : Draft) : Type 0 where
+pub record Tells (holds : List Fact → Type 0) (clean : Type 0) (before after : State)
+    (happening : session.Event) (first last : Draft) : Type 0 where
   pub timeout : after.timeout ≡ before.timeout
   pub window : after.window ≡ before.window
-  pub stands : (events : List session.Event) → Stands before events → Stands after (events ++ happening ∷ [])
+  pub stands : (events : List session.Event) → Stands before events
+      → Stands after (events ++ happening ∷ [])
   pub told : (events : List session.Event) → Stands before events
-      → Grows holds clean first last (with_outcomes (session.moment_of happening) (session.outcomes_at before.timeout events happening))
-      (outcomes_notes (session.moment_of happening) (session.outcomes_at before.timeout events happening))
+      → let at = session.moment_of happening in
+      let outcomes = session.outcomes_at before.timeout events happening in
+      Grows holds clean first last (with_outcomes at outcomes) (outcomes_notes at outcomes)
 
 -- ... where the call succeeds that brings it, and the event isn't back
-abbrev pub TellsAll : {T : Type 0} → (old new : Ledger) → (before after : State) → session.Event → (first last : Draft)
-    → Result T BooksFault → Type 0
+abbrev pub TellsAll : {T : Type 0} → (old new : Ledger) → (before after : State) → session.Event
+    → (first last : Draft) → Result T BooksFault → Type 0
 TellsAll old new before after happening first last result =
-    before.last ≤ session.moment_of happening → OnOk result (Tells old.holds new.is_clean before after happening first last)
+    before.last ≤ session.moment_of happening
+    → OnOk result (Tells old.holds new.is_clean before after happening first last)
 
 -- The same of an event of the office, where it reaches the session; else nothing changes.
-abbrev pub TellsReached : {T : Type 0} → (old new : Ledger) → (before after : State) → Option session.Event → (first last : Draft)
-    → Result T BooksFault → Type 0
-TellsReached old new before after None first last result = OnOk result ((after ≡ before) × (last ≡ first))
-TellsReached old new before after (Some happening) first last result = TellsAll old new before after happening first last result
+abbrev pub TellsReached : {T : Type 0} → (old new : Ledger) → (before after : State)
+    → Option session.Event → (first last : Draft) → Result T BooksFault → Type 0
+TellsReached old new before after None first last result =
+    OnOk result ((after ≡ before) × (last ≡ first))
+TellsReached old new before after (Some happening) first last result =
+    TellsAll old new before after happening first last result
 
 abbrev pub ReachesQuietly : State → Option session.Event → Type 0
 ReachesQuietly kept None = Unit {0}
@@ -88,4 +96,5 @@ ends_session (Some happening) = sessions.is_close happening
 -- The event settles no poll of any of these.
 abbrev pub SettleNothing : (number at : ℕ) → Event → List sessions.Line → Type 0
 SettleNothing number at e [] = Unit {0}
-SettleNothing number at e (line ∷ lines) = (settled_by number at e line ≡ []) × SettleNothing number at e lines
+SettleNothing number at e (line ∷ lines) =
+    (settled_by number at e line ≡ []) × SettleNothing number at e lines

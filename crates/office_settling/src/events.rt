@@ -6,7 +6,7 @@ ghost use Rattle.office_events.specs.declared.facts.Fact.{Fact};
 ghost use Rattle.office_rules.specs.Lawful.{AreLawful};
 ghost use Rattle.office_books.specs.Ledgers.{GoesOn, Moves, with_facts};
 ghost use Rattle.office_settling.specs.Settling.{IsSettling, SettleNothing};
-ghost use Rattle.office_settling.specs.Events.{IsNext, Settles};
+ghost use Rattle.office_settling.specs.Events.{IsNext, IsQuiet, Settles};
 
 use crate::drafts::Draft;
 use crate::lines::settle_lines;
@@ -18,8 +18,8 @@ use std::alloc::Global;
 
 /// Books the facts of an event, if it has any.
 fn book_all<B: Books>(books: &mut B, facts: Vec<Fact>) -> Result<(), BooksFault>
-    ensures moves { (held : List Fact) → AreLawful (with_facts facts.items held)
-        → Moves (B.ledger books.old) (B.ledger books.new) held (with_facts facts.items held) result }
+    ensures moves { (held : List Fact) → let later = with_facts facts.items held in
+        AreLawful later → Moves (B.ledger books.old) (B.ledger books.new) held later result }
     ensures refused { (held : List Fact) → (B.ledger books.old).holds held
         → OnErr result ((B.ledger books.new).holds held) }
     ensures quiet { facts.items ≡ [] → IsOk result × (books.new ≡ books.old) }
@@ -47,7 +47,7 @@ pub fn settle_event<B: Books>(
         → Settles past moment event.now (B.ledger books.old) (B.ledger books.new) lines.new result }
     ensures quiet { (past : History) → IsNext past lines.old moment event.now
         → SettleNothing (next_poll (facts_of past)) moment event.now (lines_of past)
-        → IsOk result × (books.new ≡ books.old) }
+        → IsQuiet books.old books.new result }
     ensures goes { GoesOn (B.ledger books.old) (B.ledger books.new) result }
 {
     facts_are_lawful();

@@ -116,7 +116,8 @@ pub fn settle_session<B: Books>(
     ensures tells { let happened = happening_on moment event.now device.now in
         TellsReached (B.ledger books.old) (B.ledger books.new) session.old session.new
         happened draft.old draft.new result }
-    ensures stays { IfOk result (λ b. b ≡ not (ends_session (happening_on moment event.now device.now))) }
+    ensures stays { let ends = ends_session (happening_on moment event.now device.now) in
+        IfOk result (λ b. b ≡ not ends) }
     ensures quiet { ReachesQuietly session.old (happening_on moment event.now device.now)
         → IsIdle result books.old books.new draft.old draft.new }
     ensures rests { IfOk result (λ b. b ≡ true → session.new.settling ≡ None) }

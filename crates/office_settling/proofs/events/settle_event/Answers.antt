@@ -22,7 +22,11 @@ pub returns-clause-quiet : goal.returns-clause-quiet
 returns-clause-quiet g c = λ past next settles.
     let quiet = c.in_ok-settle_lines.ensures.quiet (next_poll (facts_of past)) (lines_of past) (reaches_all past _ _ _ next) settles in
     let booked = c.in_ok-book_all.ensures.quiet (ap (λ (d : Draft). d.facts.items) quiet.draft ∙ c.new-draft.ensures.facts) in
-    (refl, booked.1 ∙ quiet.books)
+    record {
+      ok = refl;
+      told = ap (λ (d : Draft). d.notes.items) quiet.draft ∙ c.new-draft.ensures.notes;
+      books = booked.1 ∙ quiet.books;
+    }
 
 pub returns-in_err-book_all-clause-settles : goal.returns-in_err-book_all-clause-settles
 returns-in_err-book_all-clause-settles g c = λ past next.
