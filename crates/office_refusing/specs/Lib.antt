@@ -1,0 +1,5 @@
+pub mod Ranges
+pub mod Asking
+pub mod Given
+pub mod Reasons
+pub mod Entries
