@@ -3,3 +3,5 @@ pub mod Asking
 pub mod Given
 pub mod Reasons
 pub mod Entries
+pub mod Rounds
+pub mod Spots

@@ -3,13 +3,27 @@ ghost use Rattle.std.specs.Prelude.{◌≡◌, nat_lt, false};
 ghost use Rattle.office_events.specs.declared.commands.Command.TheVariants as command;
 ghost use Rattle.office_rules.specs.Refusals as refusals;
 
-use office_events::{AddDevice, AddRegister, GivenScale, Name};
+use office_events::{AddDevice, AddRegister, Close, Exchange, GivenScale, Manual, Name, Rescale};
 
 /// Whether a scale is none.
 pub fn is_off_scale(sf: i64) -> bool
     ensures { result ≡ refusals.is_off_scale sf }
 {
     sf < -3 || 3 < sf
+}
+
+/// Whether the new scale of a counter is none.
+pub fn is_off_scale_rescale(rescale: &Rescale) -> bool
+    ensures { result ≡ refusals.asks_bad_scale (command.Rescale rescale.now) }
+{
+    is_off_scale(rescale.sf)
+}
+
+/// Whether the scale of a meter that takes the place of another is none.
+pub fn is_off_scale_exchange(exchange: &Exchange) -> bool
+    ensures { result ≡ refusals.asks_bad_scale (command.Exchange exchange.now) }
+{
+    is_off_scale(exchange.sf)
 }
 
 /// Whether the scale of a new register is none.
@@ -83,11 +97,38 @@ pub fn is_bad_meter(meter: &Option<Name>, range: u64, raw: u64, ceiling: u64) ->
 }
 
 /// Whether someone tells that a number was read later than it came.
-pub fn is_later(moment: u64, told: Option<u64>) -> bool
+fn is_later(moment: u64, told: Option<u64>) -> bool
     ensures { result ≡ refusals.is_later moment told }
 {
     match told {
         None => false,
         Some(at) => moment < at,
     }
+}
+
+/// Whether a number of an entry by hand is outside its range.
+pub fn is_bad_manual(moment: u64, manual: &Manual) -> bool
+    ensures { result ≡ refusals.asks_bad_field moment (command.Manual manual.now) }
+{
+    255 < manual.rolls || is_later(moment, manual.at)
+}
+
+/// Whether a number of a closing is outside its range.
+pub fn is_bad_close(moment: u64, close: &Close) -> bool
+    ensures { result ≡ refusals.asks_bad_field moment (command.Close close.now) }
+{
+    255 < close.rolls
+}
+
+/// Whether a name or a number of an exchange is outside its range.
+pub fn is_bad_exchange(moment: u64, exchange: &Exchange) -> bool
+    ensures { result ≡ refusals.asks_bad_field moment (command.Exchange exchange.now) }
+{
+    255 < exchange.rolls
+        || is_bad_meter(
+            &exchange.meter,
+            exchange.range,
+            exchange.raw,
+            exchange.ceiling,
+        )
 }

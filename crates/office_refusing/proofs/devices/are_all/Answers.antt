@@ -1,4 +1,4 @@
-use Rattle.std.proofs.Common.{◌≡◌, ap, nat_le, length}
+use Rattle.std.proofs.Common.{ap, nat_le}
 use Rattle.office_lines.proofs.Keeping.{same_length}
 use Rattle.office_refusing.proofs.devices.are_all.Goals as goal
 
