@@ -1,1 +1,4 @@
 mod AtMeters
+mod Rooms
+mod Places
+mod OnVoids

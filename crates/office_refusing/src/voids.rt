@@ -38,16 +38,18 @@ fn spot_at<B: Books>(
     let Some(meter) = given else {
         return Ok(Spot::Nothing);
     };
-    match place {
-        0 => Ok(Spot::Nothing),
-        1 => match books.meter(meter)? {
+    if place == 0 {
+        return Ok(Spot::Nothing);
+    }
+    if place == 1 {
+        return match books.meter(meter)? {
             None => Ok(Spot::Nothing),
             Some(_) => Ok(Spot::Opening),
-        },
-        _ => match books.entry(meter, place)? {
-            None => Ok(Spot::Nothing),
-            Some(entry) => Ok(Spot::Entry(entry)),
-        },
+        };
+    }
+    match books.entry(meter, place)? {
+        None => Ok(Spot::Nothing),
+        Some(entry) => Ok(Spot::Entry(entry)),
     }
 }
 
