@@ -133,11 +133,11 @@ room_last arrival off_scale limits true row e =
     λ b why o p h. past true b why o ∙ ap (λ q. cond b (Some why) q) h in
     after arrival.is_back refusal.ClockBack _ _
     (after off_scale refusal.BadScale _ _
-      (after (is_faulty (if_open row) e fault.NegativeStep) refusal.NegativeStep _ _
-        (after (is_faulty (if_open row) e fault.NotLater) refusal.NotLater _ _
-          (after (is_faulty (if_open row) e fault.SpanTooLong) refusal.SpanTooLong _ _
-            (after (is_faulty (if_open row) e fault.TotalFull) refusal.TotalFull _ _
-              (after row.ended refusal.Ended _ _ (limited arrival.is_beyond limits (is_faulty (if_open row) e fault.NotBelowRange))))))))
+    (after (is_faulty (if_open row) e fault.NegativeStep) refusal.NegativeStep _ _
+    (after (is_faulty (if_open row) e fault.NotLater) refusal.NotLater _ _
+    (after (is_faulty (if_open row) e fault.SpanTooLong) refusal.SpanTooLong _ _
+    (after (is_faulty (if_open row) e fault.TotalFull) refusal.TotalFull _ _
+    (after row.ended refusal.Ended _ _ (limited arrival.is_beyond limits (is_faulty (if_open row) e fault.NotBelowRange))))))))
 
 -- an exchange is refused as its closing is, or else for want of room
 pub exchanged : (lines : List Line) (facts : List Fact) (arrival : Arrival) (c : Exchange) (row : Installation) (off_scale limits crowded : Bool) (r : Option Refusal)

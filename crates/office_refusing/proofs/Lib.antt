@@ -2,3 +2,4 @@ mod AtMeters
 mod Rooms
 mod Places
 mod OnVoids
+mod Asked

@@ -1,6 +1,5 @@
 -- Why a void is refused, told by what is at its place.
-use Rattle.std.proofs.Common.{◌≡◌, ℕ, Bool, false, ◌||◌, not, List, Option, Some, None, refl, sym, ap, ◌∙◌}
-use Rattle.std.specs.Option.{option_and_then}
+use Rattle.std.proofs.Common.{◌≡◌, List, Option, refl, sym, ap}
 use Rattle.office_events.specs.declared.commands.VoidEntry.{VoidEntry}
 use Rattle.office_events.specs.declared.commands.Command.TheVariants as command
 use Rattle.office_events.specs.declared.facts.Fact.{Fact}

@@ -1,5 +1,5 @@
 -- How many polls a session can start.
-use Rattle.std.proofs.Common.{◌≡◌, ℕ, suc, ◌+◌, ◌<◌, ◌≤◌, min, nat_lt, Bool, true, false, List, [], ◌∷◌, ◌++◌, length, get_or, refl, sym, ap, subst, ◌∙◌, inl, inr, Option, Some, None, append_assoc, arith}
+use Rattle.std.proofs.Common.{◌≡◌, ℕ, ◌+◌, ◌<◌, ◌≤◌, min, nat_lt, false, List, [], ◌∷◌, ◌++◌, length, get_or, refl, sym, ap, subst, ◌∙◌, inl, inr, Option, Some, None, append_assoc, arith}
 use Rattle.std.specs.Prelude.{IsSome}
 use Rattle.std.specs.List.{slice_get}
 use Rattle.std.specs.Option.{is_none}
@@ -92,7 +92,7 @@ room_kept device kept (Some events) id count keeps ready =
     let this : KeepsSession device kept events = keeps in
     room_after device events id count
     (subst (λ w. IsReady device.timeout w events id count) this.window
-      (subst (λ t. IsReady t kept.window events id count) this.timeout (ready events this.stands)))
+    (subst (λ t. IsReady t kept.window events id count) this.timeout (ready events this.stands)))
 
 -- the room of a device is that of its line's session
 pub room_found : (given : Option (List ℕ)) (kept : List Line) (lines : List sessions.Line) (i : ℕ) (d : Line) (count : ℕ)

@@ -1,5 +1,5 @@
 -- Why an entry that is handed in is not made at a meter.
-use Rattle.std.specs.Prelude.{◌≡◌, ℕ, Bool, true, false, ◌||◌, nat_le, Option, Some, None, if◌then◌else◌, IfSome}
+use Rattle.std.specs.Prelude.{◌≡◌, Bool, false, ◌||◌, Option, Some, None}
 use Rattle.std.specs.List.{find}
 use Rattle.energy_core.specs.declared.entries.Entry.{Entry}
 use Rattle.energy_core.specs.declared.entering.TermFault.{TermFault}
@@ -38,12 +38,15 @@ speaks_of_entry arrival off_scale off_limits row e _ = false
 abbrev pub entry_refusal : Arrival → (off_scale off_limits : Bool) → Installation → Entry → Option Refusal
 entry_refusal arrival off_scale off_limits row e = find (speaks_of_entry arrival off_scale off_limits row e) reasons
 
--- What holds where an entry is not refused: the command's numbers are in their ranges, and a counter of 32 bits can show the entry's.
-pub record IsEntryInRange (off_scale off_limits : Bool) (e : Entry) : Type 0 where
+-- What holds where an entry is not refused: it comes in range, so do the command's numbers, and a counter of 32 bits can show the
+-- entry's.
+pub record IsEntryInRange (arrival : Arrival) (off_scale off_limits : Bool) (e : Entry) : Type 0 where
+  pub not_back : arrival.is_back ≡ false
+  pub within : arrival.is_beyond ≡ false
   pub scale : off_scale ≡ false
   pub field : off_limits ≡ false
   pub shown : CanBeShown 4294967296 e
 
-abbrev pub BefitsEntry : (off_scale off_limits : Bool) → Entry → Option Refusal → Type 0
-BefitsEntry off_scale off_limits e None = IsEntryInRange off_scale off_limits e
-BefitsEntry off_scale off_limits e (Some why) = IsOfEvent why
+abbrev pub BefitsEntry : Arrival → (off_scale off_limits : Bool) → Entry → Option Refusal → Type 0
+BefitsEntry arrival off_scale off_limits e None = IsEntryInRange arrival off_scale off_limits e
+BefitsEntry arrival off_scale off_limits e (Some why) = IsOfEvent why

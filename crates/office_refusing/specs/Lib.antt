@@ -5,3 +5,5 @@ pub mod Reasons
 pub mod Entries
 pub mod Rounds
 pub mod Spots
+pub mod Kept
+pub mod Telling

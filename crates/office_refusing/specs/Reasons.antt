@@ -1,5 +1,5 @@
 -- Why a command is refused that comes at a time and in a way.
-use Rattle.std.specs.Prelude.{◌≡◌, ℕ, Bool, false, ◌||◌, List, Option, Some, None, is_none, nat_lt, IfSome}
+use Rattle.std.specs.Prelude.{◌≡◌, ℕ, Bool, false, ◌||◌, List, Option, Some, None, is_none, nat_lt}
 use Rattle.std.specs.List.{find}
 use Rattle.office_events.specs.declared.commands.Command.{Command}
 use Rattle.office_events.specs.declared.events.Asked.{Asked}
@@ -46,7 +46,22 @@ IsWhy arrival c facts r = (lines : List sessions.Line) → r ≡ refusal_under l
 abbrev pub IsWhyAmong : List Line → Arrival → Command → List Fact → Option Refusal → Type 0
 IsWhyAmong kept arrival c facts r = (lines : List sessions.Line) → KeepsLines kept lines → r ≡ refusal_under lines facts arrival c
 
--- A reason lies in the command; without one its numbers are in their ranges.
+-- It comes neither too early nor out of range, and its numbers are in their ranges.
+pub record ComesInRange (arrival : Arrival) (c : Command) : Type 0 where
+  pub not_back : arrival.is_back ≡ false
+  pub within : arrival.is_beyond ≡ false
+  pub command : IsCommandInRange arrival.moment c
+
+-- A reason lies in the command; without one it comes in range.
 abbrev pub Befits : Arrival → Command → Option Refusal → Type 0
-Befits arrival c None = IsCommandInRange arrival.moment c
+Befits arrival c None = ComesInRange arrival c
 Befits arrival c (Some why) = IsOfEvent why
+
+-- Why an event of a device is refused, by how it comes, and by whether its device is unknown, or is or isn't connected.
+abbrev pub speaks_of_session : Arrival → (is_unknown is_busy : Bool) → Refusal → Bool
+speaks_of_session arrival is_unknown is_busy refusal.NotFound = is_unknown
+speaks_of_session arrival is_unknown is_busy refusal.Busy = is_busy
+speaks_of_session arrival is_unknown is_busy why = comes_wrongly arrival why
+
+abbrev pub session_refusal : Arrival → (is_unknown is_busy : Bool) → Option Refusal
+session_refusal arrival is_unknown is_busy = find (speaks_of_session arrival is_unknown is_busy) reasons

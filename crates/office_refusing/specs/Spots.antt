@@ -1,5 +1,5 @@
 -- What is at a place of a meter: the opening has the place 1, and the entries those from 2 on.
-use Rattle.std.specs.Prelude.{◌≡◌, ℕ, Bool, true, false, ◌||◌, not, List, Option, Some, None}
+use Rattle.std.specs.Prelude.{◌≡◌, ℕ, Bool, true, false, not, List, Option, Some, None}
 use Rattle.std.specs.List.{find}
 use Rattle.std.specs.Option.{option_and_then}
 use Rattle.office_events.specs.declared.facts.Fact.{Fact}

@@ -20,7 +20,7 @@ pub fn refusal_of_entry(
 ) -> Option<Refusal>
     requires { IsSound row.now }
     ensures found { result ≡ entry_refusal arrival.now off_scale off_limits row.now (entry_of given.now) }
-    ensures befits { BefitsEntry off_scale off_limits (entry_of given.now) result }
+    ensures befits { BefitsEntry arrival.now off_scale off_limits (entry_of given.now) result }
 {
     if arrival.is_back {
         return Some(Refusal::ClockBack);

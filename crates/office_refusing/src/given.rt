@@ -10,7 +10,11 @@ use office_events::{Manual, Rescale};
 #[derive(Clone, Copy, Debug, PartialEq, Eq)]
 pub enum GivenEntry {
     /// The counter went on to `raw`, over so many full turns.
-    Step { at: u64, raw: u64, rolls: u64 },
+    Step {
+        at: u64,
+        raw: u64,
+        rolls: u64,
+    },
     /// The counter went on to `before` and was set to `after`, at the scale `sf`.
     Change {
         at: u64,

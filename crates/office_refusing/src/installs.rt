@@ -46,12 +46,7 @@ pub fn install<B: Books>(
         return Ok(Some(Refusal::BadScale));
     }
     if arrival.is_beyond
-        || is_bad_meter(
-            &install.meter,
-            install.range,
-            install.raw,
-            install.ceiling,
-        )
+        || is_bad_meter(&install.meter, install.range, install.raw, install.ceiling)
     {
         return Ok(Some(Refusal::Limit));
     }

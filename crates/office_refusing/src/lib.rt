@@ -1,10 +1,12 @@
-//! Why an office refuses an event.
+//! Why an office refuses an event, and how it answers a request that was asked before.
 #![tactic(auto)]
 
 mod arrivals;
+mod commands;
 mod corrections;
 mod devices;
 mod entries;
+mod events;
 mod exchanges;
 mod faults;
 mod given;
@@ -13,13 +15,10 @@ mod limits;
 mod meters;
 mod names;
 mod registers;
+mod requests;
+mod sessions;
 mod starts;
 mod voids;
 
-pub use corrections::{close, manual, rescale, reset};
-pub use devices::{add_device, put_list};
-pub use exchanges::exchange;
-pub use installs::install;
-pub use registers::add_register;
-pub use starts::{start_poll, start_round};
-pub use voids::void_entry;
+pub use events::refusal;
+pub use requests::kept;

@@ -47,10 +47,7 @@ fn reads_left(list: &PlannedList, from: u64) -> u64
 }
 
 /// The point list of the device of a name.
-fn list_at<B: Books>(
-    books: &mut B,
-    given: &Option<Name>,
-) -> Result<Option<PlannedList>, BooksFault>
+fn list_at<B: Books>(books: &mut B, given: &Option<Name>) -> Result<Option<PlannedList>, BooksFault>
     ensures found { Finds (B.ledger books.old) (B.ledger books.new) result
         (λ held list. list ≡ option_and_then (list_of held) given.now) }
     ensures reads { OnlyReads (B.ledger books.old) (B.ledger books.new) result }

@@ -1,5 +1,4 @@
 use Rattle.std.proofs.Common.{true, false, Some, None, refl, sym, ◌∙◌}
-use Rattle.office_events.specs.declared.refusals.Refusal.TheVariants as refusal
 use Rattle.office_refusing.proofs.AtMeters.{exchanged}
 use Rattle.office_refusing.proofs.exchanges.exchange.Goals as goal
 
