@@ -29,10 +29,11 @@ impl Arrival {
     pub fn of_request(latest: u64, moment: u64, asked: &Asked) -> Arrival
         ensures { result ≡ reasons.request_arrival latest moment asked.now }
     {
+        let arrival = Arrival::new(latest, moment);
         Arrival {
             moment,
-            is_back: moment < latest,
-            is_beyond: 4_102_444_800 < moment
+            is_back: arrival.is_back,
+            is_beyond: arrival.is_beyond
                 || asked.caller.is_none()
                 || 9_223_372_036_854_775_807 < asked.number,
         }
