@@ -1,0 +1,28 @@
+-- A value of a row as a number or a text within its bounds.
+use Rattle.std.specs.Prelude.{◌≡◌, ℕ, ℤ, pos, negsuc, ◌≤◌, nat_le, ◌&&◌, if◌then◌else◌, Option, Some, None, Result, Ok, Err}
+use Rattle.sqlite.specs.declared.types.Value.{Value}
+use Rattle.sqlite.specs.declared.types.Value.TheVariants.{Null, Int, Real, Text, Blob}
+use Rattle.store_tables.specs.declared.faults.RowFault.{RowFault}
+use Rattle.store_tables.specs.declared.faults.RowFault.TheVariants.{Damaged}
+
+-- a whole number from low to high
+abbrev pub whole_in : (low high : ℕ) → Value → Option ℕ
+whole_in low high (Int (pos n)) = if nat_le low n && nat_le n high then Some n else None
+whole_in low high (Int (negsuc n)) = None
+whole_in low high Null = None
+whole_in low high (Real x) = None
+whole_in low high (Text t) = None
+whole_in low high (Blob b) = None
+
+-- a number from -bound to bound
+abbrev pub within : (bound : ℕ) → Value → Option ℤ
+within bound (Int (pos n)) = if nat_le n bound then Some (pos n) else None
+within bound (Int (negsuc n)) = if nat_le (Rattle.std.specs.Prelude.suc n) bound then Some (negsuc n) else None
+within bound Null = None
+within bound (Real x) = None
+within bound (Text t) = None
+within bound (Blob b) = None
+
+abbrev pub or_damaged : {X : Type 0} → Option X → Result X RowFault
+or_damaged None = Err Damaged
+or_damaged (Some x) = Ok x

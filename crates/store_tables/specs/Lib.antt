@@ -1,0 +1,5 @@
+pub mod Schema
+pub mod Content
+pub mod Steps
+pub mod Answer
+pub mod Columns
