@@ -10,4 +10,5 @@ pub mod Updates
 pub mod Selects
 mod Apart
 pub mod StepLemmas
+pub mod LookUps
 mod Creates

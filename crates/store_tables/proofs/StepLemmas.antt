@@ -14,7 +14,8 @@ use Rattle.sqlite.specs.Clock.{timed}
 use Rattle.sqlite.specs.Schema.{Schema}
 use Rattle.store_tables.specs.Schema.{books_schema}
 use Rattle.store_tables.specs.Content.{Content, AreTables, AreTablesIn}
-use Rattle.store_tables.specs.Steps.{StepsTo, TurnsIn, Turns, TransactsTo, Asks, AsksInside}
+use Rattle.store_tables.specs.Steps.{StepsTo, TurnsIn, Turns, TransactsTo}
+use Rattle.store_tables.specs.Asking.{Asks, AsksInside}
 
 unchanged_kept : (old new : State) → IsUnchanged old new → KeepsCommit old new
 unchanged_kept old new h = record { was_open = λ _. h.0.was_open; committed = λ _. h.0.committed_is }

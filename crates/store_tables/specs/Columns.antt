@@ -1,5 +1,5 @@
 -- A value of a row as a number or a text within its bounds.
-use Rattle.std.specs.Prelude.{◌≡◌, ℕ, ℤ, pos, negsuc, ◌≤◌, nat_le, ◌&&◌, if◌then◌else◌, Option, Some, None, Result, Ok, Err}
+use Rattle.std.specs.Prelude.{ℕ, suc, ℤ, pos, negsuc, Bool, nat_le, ◌&&◌, if◌then◌else◌, Option, Some, None, Result, Ok, Err}
 use Rattle.sqlite.specs.declared.types.Value.{Value}
 use Rattle.sqlite.specs.declared.types.Value.TheVariants.{Null, Int, Real, Text, Blob}
 use Rattle.store_tables.specs.declared.faults.RowFault.{RowFault}
@@ -14,10 +14,14 @@ whole_in low high (Real x) = None
 whole_in low high (Text t) = None
 whole_in low high (Blob b) = None
 
+-- from -bound to bound
+abbrev pub is_within : (bound : ℕ) → ℤ → Bool
+is_within bound (pos n) = nat_le n bound
+is_within bound (negsuc n) = nat_le (suc n) bound
+
 -- a number from -bound to bound
 abbrev pub within : (bound : ℕ) → Value → Option ℤ
-within bound (Int (pos n)) = if nat_le n bound then Some (pos n) else None
-within bound (Int (negsuc n)) = if nat_le (Rattle.std.specs.Prelude.suc n) bound then Some (negsuc n) else None
+within bound (Int n) = if is_within bound n then Some n else None
 within bound Null = None
 within bound (Real x) = None
 within bound (Text t) = None

@@ -3,3 +3,4 @@ pub mod Content
 pub mod Steps
 pub mod Answer
 pub mod Columns
+pub mod Asking

@@ -1,0 +1,22 @@
+-- What the statements do.
+use Rattle.std.proofs.Common.{◌≡◌, ℕ, List, [], ◌∷◌, Result, OnOk, refl}
+use Rattle.sqlite.specs.declared.types.Value.TheVariants.{Null}
+use Rattle.sqlite.specs.declared.error.Error.{Error}
+use Rattle.sqlite.specs.Order.{Row}
+use Rattle.sqlite.specs.Cast.{cast_row}
+use Rattle.sqlite.specs.State.{State, Executes}
+use Rattle.store_tables.specs.Schema.{entries_table}
+use Rattle.store_tables.specs.Content.{Edits, with_row}
+use Rattle.store_tables.specs.Steps.{Turns}
+use Rattle.store_tables.proofs.Tables.{cast_int, cast_null}
+use Rattle.store_tables.proofs.Inserts.{plainly, inserts, chosen_rowid}
+use Rattle.store_meters.specs.Rows.{Entered, entry_columns}
+use Rattle.store_meters.specs.Trees.{entries}
+use Rattle.store_meters.proofs.Texts as text
+
+entry_cast : (e : Entered) → cast_row (plainly entries_table) (Null ∷ entry_columns e) ≡ Null ∷ entry_columns e
+entry_cast e = simp (cast_null, cast_int)
+
+pub insert_entry : (old new : State) (e : Entered) (r : Result ℕ Error) → Executes text.insert_entry (entry_columns e) old new r → OnOk r (Turns (Edits entries entry_columns (with_row e)) old.now new.now)
+insert_entry old new e r h =
+    inserts entries_table 5 refl entry_columns e (Null ∷ entry_columns e) (chosen_rowid _ _ (entry_cast e)) old new text.insert_entry_terms 9 text.insert_entry (entry_columns e) r text.insert_entry_is text.insert_entry_plain (λ rows s. s.1) h
