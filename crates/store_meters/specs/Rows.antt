@@ -1,5 +1,5 @@
 -- Rows of the tables, their columns, and the ranges of their values.
-use Rattle.std.specs.Prelude.{ℕ, ℤ, pos, ◌≤◌, ◌<◌, ◌^◌, List, [], ◌∷◌, IsTrue}
+use Rattle.std.specs.Prelude.{◌≡◌, ℕ, ℤ, pos, ◌≤◌, ◌<◌, ◌^◌, List, [], ◌∷◌, IsTrue, Bool, bytes_eq, ◌&&◌, ◌==◌, Option, Some, None, if◌then◌else◌}
 use Rattle.sqlite.specs.declared.types.Value.TheVariants.{Null, Int, Text}
 use Rattle.sqlite.specs.Order.{Row}
 use Rattle.store_tables.specs.Columns.{is_within}
@@ -8,11 +8,11 @@ use Rattle.store_meters.specs.declared.rows.EntryKind.{EntryKind}
 use Rattle.store_meters.specs.declared.rows.EntryKind.TheVariants.{Opening, Reading, Manual, Closing, Reset, Rescale}
 
 -- the greatest place, and the latest moment of the books, in seconds since 1970-01-01 UTC
-abbrev pub last_place : ℕ
-last_place = 4611686018427387904
+abbrev pub greatest_place : ℕ
+greatest_place = 4611686018427387904
 
-abbrev pub last_moment : ℕ
-last_moment = 4102444800
+abbrev pub latest_moment : ℕ
+latest_moment = 4102444800
 
 abbrev pub kind_number : EntryKind → ℕ
 kind_number Opening = 1
@@ -21,6 +21,15 @@ kind_number Manual = 3
 kind_number Closing = 4
 kind_number Reset = 5
 kind_number Rescale = 6
+
+abbrev pub kind_of : ℕ → Option EntryKind
+kind_of n =
+    if n == 1 then Some Opening else
+    if n == 2 then Some Reading else
+    if n == 3 then Some Manual else
+    if n == 4 then Some Closing else
+    if n == 5 then Some Reset else
+    if n == 6 then Some Rescale else None
 
 -- an entry of a meter
 pub record Entered : Type 0 where
@@ -32,7 +41,32 @@ entry_columns e =
     Text e.meter ∷ Int (pos e.entry.place) ∷ Int (pos (kind_number e.entry.kind)) ∷ Int (pos e.entry.moment)
     ∷ Int (pos e.entry.raw) ∷ Int (pos e.entry.rolls) ∷ Int (pos e.entry.after) ∷ Int e.entry.sf ∷ []
 
+-- the entry of a meter at a place, one of a meter, and one with other rollovers
+abbrev pub is_entry : (meter : List ℕ) → (place : ℕ) → Entered → Bool
+is_entry meter place e = bytes_eq e.meter meter && (e.entry.place == place)
+
+abbrev pub is_of : (meter : List ℕ) → Entered → Bool
+is_of meter e = bytes_eq e.meter meter
+
+abbrev pub rolled : (rolls : ℕ) → Entered → Entered
+rolled rolls e = record e { entry = record e.entry { rolls = rolls } }
+
 pub record IsSoundEntry (e : EntryRow) : Type 0 where
-  pub place : (1 ≤ e.place) × (e.place ≤ last_place)
-  pub moment : e.moment ≤ last_moment
+  pub place : (1 ≤ e.place) × (e.place ≤ greatest_place)
+  pub moment : e.moment ≤ latest_moment
   pub sf : IsTrue (is_within 3 e.sf)
+
+-- what the queries show of an entry
+abbrev pub entry_shown : Entered → Row
+entry_shown e =
+    Int (pos e.entry.place) ∷ Int (pos (kind_number e.entry.kind)) ∷ Int (pos e.entry.moment) ∷ Int (pos e.entry.raw)
+    ∷ Int (pos e.entry.rolls) ∷ Int (pos e.entry.after) ∷ Int e.entry.sf ∷ []
+
+abbrev pub IsRow : Entered → EntryRow → Type 0
+IsRow e row = row ≡ e.entry
+
+abbrev pub IsSoundEntered : Entered → Type 0
+IsSoundEntered e = IsSoundEntry e.entry
+
+abbrev pub place_shown : Entered → Row
+place_shown e = Int (pos e.entry.place) ∷ []

@@ -4,5 +4,5 @@
 mod entries;
 mod rows;
 
-pub use entries::insert_entry;
-pub use rows::{EntryKind, EntryRow};
+pub use entries::{entry_at, insert_entry, roll_entry};
+pub use rows::{EntryKind, EntryRow, GREATEST_PLACE, LATEST_MOMENT};

@@ -1,6 +1,12 @@
 //! Rows of the tables.
 ghost use Rattle.std.specs.Prelude.{◌≡◌};
-ghost use Rattle.store_meters.specs.Rows.{kind_number};
+ghost use Rattle.store_meters.specs.Rows.{kind_number, kind_of};
+
+/// The greatest place of an entry or an installation.
+pub const GREATEST_PLACE: u64 = 4_611_686_018_427_387_904;
+
+/// The latest moment of the books, in seconds since 1970-01-01 UTC.
+pub const LATEST_MOMENT: u64 = 4_102_444_800;
 
 /// What an entry of a meter is.
 #[derive(Clone, Copy, Debug, PartialEq, Eq)]
@@ -20,6 +26,21 @@ pub enum EntryKind {
 }
 
 impl EntryKind {
+    /// The kind that has this number, where one has.
+    pub(crate) fn of(number: u64) -> Option<EntryKind>
+        ensures { result ≡ kind_of number }
+    {
+        match number {
+            1 => Some(EntryKind::Opening),
+            2 => Some(EntryKind::Reading),
+            3 => Some(EntryKind::Manual),
+            4 => Some(EntryKind::Closing),
+            5 => Some(EntryKind::Reset),
+            6 => Some(EntryKind::Rescale),
+            _ => None,
+        }
+    }
+
     /// The number that the table has for the kind, from 1 to 6.
     pub fn number(self) -> u8
         ensures { result ≡ kind_number self }

@@ -39,14 +39,14 @@ module _ {S A X : Type 0} (g : Ghosts S) (old new : Held S) (tree : ℕ) (column
   }
 
   -- the first row is read
-  pub looked_some : (as_row : A → X) (row : Row) (a : A) → slice_get items 0 ≡ Some row → ReadsRow row shown as_row IsSound (Ok a)
-      → ((xs found : List X) → AreFound passes Later xs found → slice_get found 0 ≡ Some (as_row a) → Answers xs (Some a)) → LooksUp g old new tree columns IsSound (Ok (Some a)) Answers
-  looked_some as_row row a is reads tells = record {
+  pub looked_some : (IsSeen : X → A → Type 0) (row : Row) (a : A) → slice_get items 0 ≡ Some row → ReadsRow row shown IsSeen IsSound (Ok a)
+      → ((xs found : List X) (x : X) → AreFound passes Later xs found → slice_get found 0 ≡ Some x → IsSeen x a → Answers xs (Some a)) → LooksUp g old new tree columns IsSound (Ok (Some a)) Answers
+  looked_some IsSeen row a is reads tells = record {
     asks = asks;
     answer = λ clean held has rows of.
         let it = shows clean held has rows of in
         let one = some_shown row it.0 is it.2 in
-        tells rows it.0 it.1 (one.1 ∙ ap Some (sym (reads.read one.0 one.2)));
+        tells rows it.0 one.0 it.1 one.1 (reads.read one.0 one.2);
     fault = λ clean held has rows of sound. tt;
   }
 
@@ -57,8 +57,8 @@ module _ {S A X : Type 0} (g : Ghosts S) (old new : Held S) (tree : ℕ) (column
       let same : y ≡ x = cc in subst IsSound same all.0
 
   -- the first row is not read
-  pub looked_fault : (as_row : A → X) (row : Row) (e : RowFault) → slice_get items 0 ≡ Some row → ReadsRow {A = A} row shown as_row IsSound (Err e) → LooksUp g old new tree columns IsSound (Err e) Answers
-  looked_fault as_row row e is reads = record {
+  pub looked_fault : (IsSeen : X → A → Type 0) (row : Row) (e : RowFault) → slice_get items 0 ≡ Some row → ReadsRow row shown IsSeen IsSound (Err e) → LooksUp g old new tree columns IsSound (Err e) Answers
+  looked_fault IsSeen row e is reads = record {
     asks = asks;
     answer = λ clean held has rows of. tt;
     fault = λ clean held has rows of sound.

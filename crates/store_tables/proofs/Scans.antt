@@ -1,8 +1,10 @@
 -- A query over one table.
-use Rattle.std.proofs.Common.{◌≡◌, ℕ, pos, negsuc, List, [], ◌∷◌, map, filter, Bool, true, false, ◌&&◌, None, Some, refl, sym, ap, subst, ◌∙◌, bytes_eq, IsPermutation, Ordering, flat_map, cond, nat_le, ◌^◌, inl, inr}
+use Rattle.std.proofs.Common.{◌≡◌, ℕ, pos, negsuc, List, [], ◌∷◌, map, filter, Bool, true, false, ◌&&◌, None, Some, refl, sym, ap, subst, ◌∙◌, bytes_eq, IsPermutation, Ordering, flat_map, cond, nat_le, ◌^◌, inl, inr, ℤ, ◌<ℤ◌, ◌==◌, eq-eqb, ne_eqb, arith, Less, Equal, Greater}
 use Rattle.std.proofs.lemmas.Bool.{cases_Bool}
 use Rattle.std.specs.List.{list_all}
-use Rattle.std.specs.Ordering.{is_eq}
+use Rattle.std.specs.Ordering.{is_eq, int_cmp, MatchOrdering}
+use Rattle.std.specs.Cmp.{int_ranks}
+use Rattle.std.proofs.lemmas.Int.{ints}
 use Rattle.std.proofs.lemmas.Map.Text.{is_eq-slice_cmp}
 use Rattle.std.proofs.lemmas.List.Sorted.{IsPermutation-map}
 use Rattle.sqlite.specs.declared.types.Value.TheVariants.{Int, Text}
@@ -12,11 +14,12 @@ use Rattle.sqlite_sql.specs.declared.ops.BinaryOp.TheVariants.{Compare}
 use Rattle.sqlite_sql.specs.declared.ops.CompareOp.TheVariants.{Eq}
 use Rattle.sqlite_value.specs.declared.keys.Key.{Key}
 use Rattle.sqlite.specs.Collation.TheVariants.{Binary}
-use Rattle.sqlite_value.proofs.OrderLemmas.{value_cmp-Text}
+use Rattle.sqlite_value.proofs.OrderLemmas.{value_cmp-Int, value_cmp-Text}
 use Rattle.sqlite.specs.Term.{Term, Env, lit, holds, eval_all}
 use Rattle.sqlite.specs.Query.{Query, inner, end, IsAnswer, Output, output}
 use Rattle.sqlite.specs.Program.{overlay}
 use Rattle.sqlite.specs.Tree.{Trees}
+use Rattle.store_tables.specs.Content.{same_id}
 use Rattle.store_tables.proofs.Edits.{picked}
 
 abbrev pub no_limit : Term
@@ -94,3 +97,15 @@ text_is s t = truth_back _ ∙ (ap is_eq (value_cmp-Text s t) ∙ is_eq-slice_cm
 pub and_true : (b : Bool) → b && true ≡ b
 and_true true = refl
 and_true false = refl
+
+same_numbers : (a b : ℕ) → same_id (pos a) (pos b) ≡ (a == b)
+same_numbers a b = go (int_cmp (pos a) (pos b)) (int_ranks (pos a) (pos b))
+  where
+    go : (o : Ordering) → MatchOrdering o (pos a <ℤ pos b) (pos a ≡ pos b) (pos b <ℤ pos a) → is_eq o ≡ (a == b)
+    go Less h = sym (ne_eqb a b (omega (arith, ints)))
+    go Greater h = sym (ne_eqb a b (omega (arith, ints)))
+    go Equal h = let same : a ≡ b = omega (arith, ints) in sym (eq-eqb a b same)
+
+pub number_is : (a b : ℕ) → is_true (binary (Compare Eq Binary) (Int (pos a)) (Int (pos b))) ≡ (a == b)
+unfolding binary
+number_is a b = truth_back _ ∙ (ap is_eq (value_cmp-Int (pos a) (pos b)) ∙ same_numbers a b)

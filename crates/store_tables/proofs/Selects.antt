@@ -20,7 +20,7 @@ use Rattle.sqlite.specs.State.{State, Shown, Begins}
 use Rattle.sqlite.proofs.Callers.{IsPlain, command_of, reads_as}
 use Rattle.store_tables.specs.Schema.{books_schema}
 use Rattle.store_tables.specs.Content.{Content, HasTree, AreTables, HasRows, is_numbered, told}
-use Rattle.store_tables.specs.Answer.{AreFound, IsFound, IsLast}
+use Rattle.store_tables.specs.Answer.{AreFound, IsFound, IsLast, LastFirst}
 use Rattle.store_tables.proofs.Permuted.{unmapped}
 use Rattle.store_tables.proofs.Laid.{Numbered, laid, lay, IsLaid, laid_from, laid_chosen}
 use Rattle.store_tables.proofs.Scans.{scan, env, passes, shows, kept_are, no_limit, one}
@@ -100,10 +100,15 @@ empty_only : {X : Type 0} (xs : List X) → IsPermutation xs [] → xs ≡ []
 empty_only [] same = refl
 empty_only (x ∷ xs) same = absurd (omega (arith, length_permutation _ _ same))
 
-pub first_found : {X : Type 0} (p : X → Bool) (R : X → X → Type 0) (xs found : List X) → AreFound p R xs found → IsFound p xs (slice_get found 0)
-first_found p R xs [] h = empty_only _ h.all
-first_found p R xs (x ∷ found) h = (found, h.all)
+module _ {X A : Type 0} (passes : X → Bool) (IsSeen : X → A → Type 0) where
+  pub found_none : (Later : X → X → Type 0) (xs found : List X) → AreFound passes Later xs found → slice_get found 0 ≡ None → IsFound passes IsSeen xs None
+  found_none Later xs [] h is = empty_only _ h.all
+  found_none Later xs (x ∷ found) h is = absurd (let e = is in cc)
 
-pub first_last : {X : Type 0} (p : X → Bool) (key : X → ℕ) (xs found : List X) → AreFound p (λ x y. key y ≤ key x) xs found → IsLast p key xs (slice_get found 0)
-first_last p key xs [] h = empty_only _ h.all
-first_last p key xs (x ∷ found) h = (found, h.all, h.order.0)
+  pub found_some : (Later : X → X → Type 0) (xs found : List X) (x : X) (a : A) → AreFound passes Later xs found → slice_get found 0 ≡ Some x → IsSeen x a → IsFound passes IsSeen xs (Some a)
+  found_some Later xs [] x a h is seen = absurd (let e = is in cc)
+  found_some Later xs (y ∷ found) x a h is seen = let same : y ≡ x = cc in (y, subst (λ z. IsSeen z a) (sym same) seen, found, h.all)
+
+  pub last_some : (key : X → ℕ) (xs found : List X) (x : X) (a : A) → AreFound passes (LastFirst key) xs found → slice_get found 0 ≡ Some x → IsSeen x a → IsLast passes IsSeen key xs (Some a)
+  last_some key xs [] x a h is seen = absurd (let e = is in cc)
+  last_some key xs (y ∷ found) x a h is seen = let same : y ≡ x = cc in (y, subst (λ z. IsSeen z a) (sym same) seen, found, h.all, h.order.0)

@@ -10,14 +10,14 @@ use Rattle.sqlite.specs.Kind.TheVariants.{Integer}
 use Rattle.sqlite.specs.Cast.{cast}
 use Rattle.sqlite.specs.Table.{Table}
 use Rattle.sqlite.specs.Schema.{Schema}
-use Rattle.sqlite.specs.Tree.{Trees}
+use Rattle.sqlite.specs.Tree.{Trees, rowid}
 use Rattle.sqlite.specs.Effect.{Database, IsDatabase}
 use Rattle.sqlite_schema.specs.declared.schema.Keys.TheVariants.{Enforced}
 use Rattle.sqlite_schema.specs.declared.schema.Reference.{Reference}
 use Rattle.sqlite_schema.specs.Rules.{parent_key}
 use Rattle.sqlite_rules.specs.Action.{works, work_by, pairs, deed_for}
 use Rattle.store_tables.specs.Schema.{books_schema}
-use Rattle.store_tables.specs.Content.{HasTree, AreTablesIn, AreApart, Edits, is_numbered, told, with_rows}
+use Rattle.store_tables.specs.Content.{HasTree, AreTablesIn, AreApart, Edits, id_of, is_numbered, told, with_rows}
 use Rattle.store_tables.specs.Steps.{TurnsIn}
 use Rattle.store_tables.proofs.Frames.{framed, framed_apart, with_here, with_others}
 use Rattle.store_tables.proofs.Laid.{IsLaid, laid_from, laid_told}
@@ -33,6 +33,10 @@ cast_int n = either _ (Int n)
 pub cast_null : cast Integer Null ≡ Null
 unfolding unary
 cast_null = either _ Null
+
+-- a rowid stays what it is
+pub rowid_stays : (r : Row) → rowid r ≡ Int (id_of r) → cast Integer (rowid r) ≡ rowid r
+rowid_stays r keyed = ap (cast Integer) keyed ∙ (cast_int (id_of r) ∙ sym keyed)
 
 pub went : {B E R : Type 0} {b : B} {Stops : E → Type 0} → ((stop : E) × Stops stop × (Ok b ≡ Err stop)) ⊎ R → R
 went (inl stopped) = absurd (let e = stopped.2 in cc)

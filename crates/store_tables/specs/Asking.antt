@@ -38,10 +38,9 @@ abbrev pub Tells : {S A E X : Type 0} → Ghosts S → (old new : Held S) → (t
 Tells {S} {A} {E} {X} g old new tree columns result Answers =
     HasCleanDisk (state g new) → (held : Content) → AreTables (state g old).now held → (rows : List X) → HasRows tree columns rows held → IfOk result (Answers rows)
 
--- A row that stands for a value is read as that value, and what is read is always within its ranges.
-pub record ReadsRow {A X : Type 0} (row : Row) (shown : X → Row) (as_row : A → X) (IsSound : X → Type 0) (result : Result A RowFault) : Type 0 where
-  pub read : (x : X) → row ≡ shown x → IfOk result (λ a. as_row a ≡ x)
-  pub sound : IfOk result (λ a. IsSound (as_row a))
+-- A row that stands for a value is read as that value. Damage is told only where the value is out of its ranges.
+pub record ReadsRow {A X : Type 0} (row : Row) (shown : X → Row) (IsSeen : X → A → Type 0) (IsSound : X → Type 0) (result : Result A RowFault) : Type 0 where
+  pub read : (x : X) → row ≡ shown x → IfOk result (IsSeen x)
   pub fault : (x : X) → row ≡ shown x → IsSound x → IfErr result (λ e. e ≢ Damaged)
 
 -- A look-up asks, and answers of the rows of one table. Damage is told only where some row is out of its ranges.
