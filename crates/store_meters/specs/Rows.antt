@@ -1,8 +1,11 @@
 -- Rows of the tables, their columns, and the ranges of their values.
-use Rattle.std.specs.Prelude.{◌≡◌, ℕ, ℤ, pos, ◌≤◌, ◌<◌, ◌^◌, List, [], ◌∷◌, IsTrue, Bool, bytes_eq, ◌&&◌, ◌==◌, Option, Some, None, if◌then◌else◌}
+use Rattle.std.specs.Prelude.{◌≡◌, ℕ, ℤ, pos, ◌≤◌, ◌<◌, ◌^◌, List, [], ◌∷◌, IsTrue, Bool, bytes_eq, ◌&&◌, ◌==◌, Option, Some, None, if◌then◌else◌, Result, Ok, Err}
+use Rattle.std.specs.Option.{option_and_then}
+use Rattle.sqlite.specs.declared.types.Value.{Value}
+use Rattle.store_tables.specs.declared.faults.RowFault.{RowFault}
 use Rattle.sqlite.specs.declared.types.Value.TheVariants.{Null, Int, Text}
-use Rattle.sqlite.specs.Order.{Row}
-use Rattle.store_tables.specs.Columns.{is_within}
+use Rattle.sqlite.specs.Order.{Row, column}
+use Rattle.store_tables.specs.Columns.{is_within, whole_in, within, or_damaged, and_then}
 use Rattle.store_meters.specs.declared.rows.EntryRow.{EntryRow}
 use Rattle.store_meters.specs.declared.rows.EntryKind.{EntryKind}
 use Rattle.store_meters.specs.declared.rows.EntryKind.TheVariants.{Opening, Reading, Manual, Closing, Reset, Rescale}
@@ -54,6 +57,9 @@ rolled rolls e = record e { entry = record e.entry { rolls = rolls } }
 pub record IsSoundEntry (e : EntryRow) : Type 0 where
   pub place : (1 ≤ e.place) × (e.place ≤ greatest_place)
   pub moment : e.moment ≤ latest_moment
+  pub raw : e.raw ≤ 4294967295
+  pub rolls : e.rolls ≤ 255
+  pub after : e.after ≤ 4294967295
   pub sf : IsTrue (is_within 3 e.sf)
 
 -- what the queries show of an entry
@@ -70,3 +76,18 @@ IsSoundEntered e = IsSoundEntry e.entry
 
 abbrev pub place_shown : Entered → Row
 place_shown e = Int (pos e.entry.place) ∷ []
+
+abbrev pub kind_in : Value → Option EntryKind
+kind_in v = option_and_then kind_of (whole_in 1 6 v)
+
+-- the entry that the columns of a row are, or damage
+abbrev pub entry_in : Row → Result EntryRow RowFault
+entry_in row =
+    and_then (or_damaged (whole_in 1 greatest_place (column row 0))) (λ place.
+    and_then (or_damaged (kind_in (column row 1))) (λ kind.
+    and_then (or_damaged (whole_in 0 latest_moment (column row 2))) (λ moment.
+    and_then (or_damaged (whole_in 0 4294967295 (column row 3))) (λ raw.
+    and_then (or_damaged (whole_in 0 255 (column row 4))) (λ rolls.
+    and_then (or_damaged (whole_in 0 4294967295 (column row 5))) (λ after.
+    and_then (or_damaged (within 3 (column row 6))) (λ sf.
+    Ok (record { place = place; kind = kind; moment = moment; raw = raw; rolls = rolls; after = after; sf = sf }))))))))

@@ -5,7 +5,9 @@ ghost use Rattle.store_tables.specs.Content.{Edits, with_row, changed_where};
 ghost use Rattle.store_tables.specs.Steps.{Steps};
 ghost use Rattle.store_tables.specs.Answer.{IsFound, AnyOrder};
 ghost use Rattle.store_tables.specs.Asking.{Asks, Tells, ShowsFirst, ReadsRow, LooksUp};
-ghost use Rattle.store_meters.specs.Rows.{Entered, entry_columns, entry_shown, is_entry, IsRow, rolled, IsSoundEntry, IsSoundEntered, greatest_place};
+ghost use Rattle.sqlite.specs.Order.{column};
+ghost use Rattle.store_tables.specs.Columns.{or_damaged};
+ghost use Rattle.store_meters.specs.Rows.{kind_in, entry_in, Entered, entry_columns, entry_shown, is_entry, IsRow, rolled, IsSoundEntry, IsSoundEntered, greatest_place};
 ghost use Rattle.store_meters.specs.Trees.{entries};
 
 use crate::rows::{EntryKind, EntryRow, GREATEST_PLACE, LATEST_MOMENT};
@@ -77,15 +79,22 @@ fn rows_at<S: Alter>(
     )
 }
 
+/// The kind of an entry.
+fn kind(row: &Row, at: usize) -> Result<EntryKind, RowFault>
+    ensures { result ≡ or_damaged (kind_in (column row.now at)) }
+{
+    match EntryKind::of(whole(row, at, 1, 6)?) {
+        Some(kind) => Ok(kind),
+        None => Err(RowFault::Damaged),
+    }
+}
+
 /// Reads an entry from the columns that the queries show.
 fn read_entry(row: &Row) -> Result<EntryRow, RowFault>
-    ensures read { ReadsRow row.now entry_shown IsRow IsSoundEntered result }
-    ensures sound { IfOk result IsSoundEntry }
+    ensures { result ≡ entry_in row.now }
 {
     let place = whole(row, 0, 1, GREATEST_PLACE)?;
-    let Some(kind) = EntryKind::of(whole(row, 1, 1, 6)?) else {
-        return Err(RowFault::Damaged);
-    };
+    let kind = kind(row, 1)?;
     let moment = whole(row, 2, 0, LATEST_MOMENT)?;
     let raw = whole(row, 3, 0, 4_294_967_295)?;
     let rolls = whole(row, 4, 0, 255)?;

@@ -11,4 +11,5 @@ pub mod Selects
 mod Apart
 pub mod StepLemmas
 pub mod LookUps
+pub mod ReadLemmas
 mod Creates

@@ -1,5 +1,5 @@
 -- From the rows that a query shows to what a look-up answers.
-use Rattle.std.proofs.Common.{◌≡◌, ◌≢◌, ℕ, List, [], ◌∷◌, map, filter, take, slice_get, Bool, Option, Some, None, Ok, Err, Result, IfOk, IfErr, refl, sym, ap, subst, ◌∙◌, IsPermutation}
+use Rattle.std.proofs.Common.{◌≡◌, ◌≢◌, ℕ, List, [], ◌∷◌, map, filter, take, slice_get, Bool, Option, Some, None, Ok, Err, Result, IfOk, IfErr, IsErrAnd, refl, sym, ap, subst, ◌∙◌, IsPermutation}
 use Rattle.std.specs.List.{AllByRecursion}
 use Rattle.std.proofs.lemmas.List.Sorted.{All-permutation}
 use Rattle.std.proofs.lemmas.List.Elements.{All-from_recursion, recursion_from_All}
@@ -22,6 +22,10 @@ module _ {S A X : Type 0} (g : Ghosts S) (old new : Held S) (tree : ℕ) (column
 
 module _ {S A X : Type 0} (g : Ghosts S) (old new : Held S) (tree : ℕ) (columns : X → Row) (IsSound : X → Type 0) (asks : Asks g old new) (passes : X → Bool) (Later : X → X → Type 0) (shown : X → Row)
     (items : List Row) (shows : Tells {E = Error} g old new tree columns (Ok items) (ShowsFirst passes Later shown)) (Answers : List X → Option A → Type 0) where
+  is_empty : (rows : List Row) → slice_get rows 0 ≡ None → rows ≡ []
+  is_empty [] e = refl
+  is_empty (r ∷ rows) e = absurd (let f = e in cc)
+
   none_shown : (found : List X) → [] ≡ take 1 (map shown found) → slice_get found 0 ≡ None
   none_shown [] e = refl
   none_shown (x ∷ found) e = absurd (let f = e in cc)
@@ -31,10 +35,10 @@ module _ {S A X : Type 0} (g : Ghosts S) (old new : Held S) (tree : ℕ) (column
   some_shown row (x ∷ found) is e = (x, refl, (let f : Some row ≡ Some (shown x) = sym is ∙ ap (λ rs. slice_get rs 0) e in cc))
 
   -- no row is shown
-  pub looked_none : items ≡ [] → ((xs found : List X) → AreFound passes Later xs found → slice_get found 0 ≡ None → Answers xs None) → LooksUp g old new tree columns IsSound (Ok None) Answers
+  pub looked_none : slice_get items 0 ≡ None → ((xs found : List X) → AreFound passes Later xs found → slice_get found 0 ≡ None → Answers xs None) → LooksUp g old new tree columns IsSound (Ok None) Answers
   looked_none is tells = record {
     asks = asks;
-    answer = λ clean held has rows of. let it = shows clean held has rows of in tells rows it.0 it.1 (none_shown it.0 (sym is ∙ it.2));
+    answer = λ clean held has rows of. let it = shows clean held has rows of in tells rows it.0 it.1 (none_shown it.0 (sym (is_empty items is) ∙ it.2));
     fault = λ clean held has rows of sound. tt;
   }
 
@@ -57,12 +61,14 @@ module _ {S A X : Type 0} (g : Ghosts S) (old new : Held S) (tree : ℕ) (column
       let same : y ≡ x = cc in subst IsSound same all.0
 
   -- the first row is not read
-  pub looked_fault : (IsSeen : X → A → Type 0) (row : Row) (e : RowFault) → slice_get items 0 ≡ Some row → ReadsRow row shown IsSeen IsSound (Err e) → LooksUp g old new tree columns IsSound (Err e) Answers
-  looked_fault IsSeen row e is reads = record {
+  pub looked_fault : (IsSeen : X → A → Type 0) (row : Row) (e : RowFault) (r : Result (Option A) RowFault) → slice_get items 0 ≡ Some row → ReadsRow row shown IsSeen IsSound (Err e) → IsErrAnd r (λ d. d ≡ e)
+      → LooksUp g old new tree columns IsSound r Answers
+  looked_fault IsSeen row e (Ok a) is reads fails = absurd fails
+  looked_fault IsSeen row e (Err d) is reads fails = record {
     asks = asks;
     answer = λ clean held has rows of. tt;
     fault = λ clean held has rows of sound.
         let it = shows clean held has rows of in
         let one = some_shown row it.0 is it.2 in
-        reads.fault one.0 one.2 (one_sound rows it.0 one.0 it.1 sound one.1);
+        subst (λ f. f ≢ Damaged) (sym fails) (reads.fault one.0 one.2 (one_sound rows it.0 one.0 it.1 sound one.1));
   }

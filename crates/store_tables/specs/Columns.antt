@@ -30,3 +30,8 @@ within bound (Blob b) = None
 abbrev pub or_damaged : {X : Type 0} → Option X → Result X RowFault
 or_damaged None = Err Damaged
 or_damaged (Some x) = Ok x
+
+-- the next column, unless this one is damaged
+abbrev pub and_then : {X Y : Type 0} → Result X RowFault → (X → Result Y RowFault) → Result Y RowFault
+and_then (Err e) next = Err e
+and_then (Ok x) next = next x

@@ -1,5 +1,5 @@
 //! Columns of a row that a query answered.
-ghost use Rattle.std.specs.Prelude.{◌≡◌, string_bytes, IsUtf8, IfOk, IfErr};
+ghost use Rattle.std.specs.Prelude.{◌≡◌, ◌≤◌, string_bytes, IsUtf8, IfOk, IfErr};
 ghost use Rattle.sqlite.specs.declared.types.Value.TheVariants.{Text};
 ghost use Rattle.sqlite.specs.declared.error.ErrorCode.TheVariants.{OutOfMemory};
 ghost use Rattle.sqlite.specs.declared.error.Error.TheVariants.{SqliteFailure};
@@ -13,7 +13,8 @@ use sqlite::{Error, ErrorCode, Row};
 
 /// A column that is a whole number from `low` to `high`.
 pub fn whole(row: &Row, at: usize, low: u64, high: u64) -> Result<u64, RowFault>
-    ensures { result ≡ or_damaged (whole_in low high (column row.now at)) }
+    ensures read { result ≡ or_damaged (whole_in low high (column row.now at)) }
+    ensures bounds { IfOk result (λ n. (low ≤ n) × (n ≤ high)) }
 {
     match row.get_ref(at) {
         Ok(ValueRef::Int(n)) => {
