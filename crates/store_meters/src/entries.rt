@@ -3,16 +3,15 @@ ghost use Rattle.std.specs.Prelude.{◌≡◌, ◌≤◌, IfOk, IfSome};
 ghost use Rattle.sqlite.specs.Held.{state};
 ghost use Rattle.store_tables.specs.Content.{Edits, with_row, changed_where};
 ghost use Rattle.store_tables.specs.Steps.{Steps};
-ghost use Rattle.store_tables.specs.Answer.{IsFound, AnyOrder};
-ghost use Rattle.store_tables.specs.Asking.{Asks, Tells, ShowsFirst, ReadsRow, LooksUp};
-ghost use Rattle.sqlite.specs.Order.{column};
-ghost use Rattle.store_tables.specs.Columns.{or_damaged};
-ghost use Rattle.store_meters.specs.Rows.{kind_in, entry_in, Entered, entry_columns, entry_shown, is_entry, IsRow, rolled, IsSoundEntry, IsSoundEntered, greatest_place};
+ghost use Rattle.store_tables.specs.Answer.{IsFound, IsLast, AnyOrder, LastFirst, FirstFirst};
+ghost use Rattle.store_tables.specs.Asking.{Asks, Tells, Shows, ShowsFirst, LooksUp};
+ghost use Rattle.store_meters.specs.Rows.{entry_columns, entry_shown, place_shown, entry_place, is_entry, is_of, IsRow, HasEntryPlace, rolled, IsSoundEntry, IsSoundEntered, IsPlace, greatest_place};
 ghost use Rattle.store_meters.specs.Trees.{entries};
 
-use crate::rows::{EntryKind, EntryRow, GREATEST_PLACE, LATEST_MOMENT};
+use crate::reading::{entry, place};
+use crate::rows::EntryRow;
 use sqlite::{Alter, Connection, Error, Row, Transaction, params};
-use store_tables::{RowFault, number, scale, signed, whole};
+use store_tables::{RowFault, number, signed};
 
 /// Adds an entry of a meter.
 pub fn insert_entry<S: Alter>(
@@ -70,45 +69,14 @@ fn rows_at<S: Alter>(
 ) -> Result<Vec<Row>, Error>
     requires place { place ≤ greatest_place }
     ensures asks { Asks S.Store conn.old conn.new }
-    ensures shows { Tells S.Store conn.old conn.new entries entry_columns result (λ rows answer. ShowsFirst (is_entry meter.now place) AnyOrder entry_shown rows answer.items) }
+    ensures shows { Tells S.Store conn.old conn.new entries entry_columns result
+        (λ rows answer. ShowsFirst (is_entry meter.now place) AnyOrder entry_shown rows answer.items) }
 {
     let place = number(place);
     conn.query_all(
         "SELECT place, kind, moment, raw, rolls, \"after\", sf FROM entries WHERE meter = ?1 AND place = ?2 LIMIT 1",
         params![meter, &place],
     )
-}
-
-/// The kind of an entry.
-fn kind(row: &Row, at: usize) -> Result<EntryKind, RowFault>
-    ensures { result ≡ or_damaged (kind_in (column row.now at)) }
-{
-    match EntryKind::of(whole(row, at, 1, 6)?) {
-        Some(kind) => Ok(kind),
-        None => Err(RowFault::Damaged),
-    }
-}
-
-/// Reads an entry from the columns that the queries show.
-fn read_entry(row: &Row) -> Result<EntryRow, RowFault>
-    ensures { result ≡ entry_in row.now }
-{
-    let place = whole(row, 0, 1, GREATEST_PLACE)?;
-    let kind = kind(row, 1)?;
-    let moment = whole(row, 2, 0, LATEST_MOMENT)?;
-    let raw = whole(row, 3, 0, 4_294_967_295)?;
-    let rolls = whole(row, 4, 0, 255)?;
-    let after = whole(row, 5, 0, 4_294_967_295)?;
-    let sf = scale(row, 6)?;
-    Ok(EntryRow {
-        place,
-        kind,
-        moment,
-        raw: raw as u32,
-        rolls: rolls as u8,
-        after: after as u32,
-        sf,
-    })
 }
 
 /// The entry of a meter at a place.
@@ -118,12 +86,59 @@ pub fn entry_at<S: Alter>(
     place: u64,
 ) -> Result<Option<EntryRow>, RowFault>
     requires place { place ≤ greatest_place }
-    ensures finds { LooksUp S.Store conn.old conn.new entries entry_columns IsSoundEntered result (IsFound (is_entry meter.now place) IsRow) }
+    ensures finds { LooksUp S.Store conn.old conn.new entries entry_columns IsSoundEntered result
+        (IsFound (is_entry meter.now place) IsRow) }
     ensures sound { IfOk result (λ found. IfSome found IsSoundEntry) }
 {
     let rows = rows_at(conn, meter, place)?;
     match rows.first() {
         None => Ok(None),
-        Some(row) => Ok(Some(read_entry(row)?)),
+        Some(row) => Ok(Some(entry(row)?)),
     }
+}
+
+/// The place of the last entry of a meter, if there is one.
+fn last_rows<S: Alter>(
+    conn: &mut Connection<S>,
+    meter: &str,
+) -> Result<Vec<Row>, Error>
+    ensures asks { Asks S.Store conn.old conn.new }
+    ensures shows { Tells S.Store conn.old conn.new entries entry_columns result
+        (λ rows answer. ShowsFirst (is_of meter.now) (LastFirst entry_place) place_shown rows answer.items) }
+{
+    conn.query_all(
+        "SELECT place FROM entries WHERE meter = ?1 ORDER BY place DESC LIMIT 1",
+        params![meter],
+    )
+}
+
+/// The greatest place of the entries of a meter.
+pub fn last_place<S: Alter>(
+    conn: &mut Connection<S>,
+    meter: &str,
+) -> Result<Option<u64>, RowFault>
+    ensures finds { LooksUp S.Store conn.old conn.new entries entry_columns IsSoundEntered result
+        (IsLast (is_of meter.now) HasEntryPlace entry_place) }
+    ensures sound { IfOk result (λ found. IfSome found IsPlace) }
+{
+    let rows = last_rows(conn, meter)?;
+    match rows.first() {
+        None => Ok(None),
+        Some(row) => Ok(Some(place(row)?)),
+    }
+}
+
+/// The entries of a meter in order of place; `read_entry` reads each.
+pub fn entry_rows<S: Alter>(
+    conn: &mut Connection<S>,
+    meter: &str,
+) -> Result<Vec<Row>, Error>
+    ensures asks { Asks S.Store conn.old conn.new }
+    ensures shows { Tells S.Store conn.old conn.new entries entry_columns result
+        (λ rows answer. Shows (is_of meter.now) (FirstFirst entry_place) entry_shown rows answer.items) }
+{
+    conn.query_all(
+        "SELECT place, kind, moment, raw, rolls, \"after\", sf FROM entries WHERE meter = ?1 ORDER BY place",
+        params![meter],
+    )
 }

@@ -2,7 +2,21 @@
 #![tactic(auto)]
 
 mod entries;
+mod installations;
+mod ranges;
+mod reading;
 mod rows;
+mod voids;
 
-pub use entries::{entry_at, insert_entry, roll_entry};
-pub use rows::{EntryKind, EntryRow, GREATEST_PLACE, LATEST_MOMENT};
+pub use entries::{entry_at, entry_rows, insert_entry, last_place, roll_entry};
+pub use installations::{
+    end_installation, insert_installation, installation_at, installation_of, last_installation,
+    move_installation,
+};
+pub use ranges::{insert_range, range_of};
+pub use reading::{read_entry, read_void};
+pub use rows::{
+    EntryKind, EntryRow, GREATEST_CEILING, GREATEST_PLACE, GREATEST_TOTAL, Installation,
+    InstallationRow, LATEST_MOMENT, LastRow,
+};
+pub use voids::{insert_void, void_rows};

@@ -8,6 +8,12 @@ pub const GREATEST_PLACE: u64 = 4_611_686_018_427_387_904;
 /// The latest moment of the books, in seconds since 1970-01-01 UTC.
 pub const LATEST_MOMENT: u64 = 4_102_444_800;
 
+/// The greatest load of a register, in W.
+pub const GREATEST_CEILING: u64 = 1_000_000_000;
+
+/// The greatest energy of a meter, in mWh.
+pub const GREATEST_TOTAL: u64 = 4_000_000_000_000_000_000;
+
 /// What an entry of a meter is.
 #[derive(Clone, Copy, Debug, PartialEq, Eq)]
 pub enum EntryKind {
@@ -71,4 +77,33 @@ pub struct EntryRow {
     pub after: u32,
     /// The scale factor after the entry.
     pub sf: i16,
+}
+
+/// Where a meter stands: its last entry, and its energy since its opening, in mWh.
+#[derive(Clone, Copy, Debug, PartialEq, Eq)]
+pub struct LastRow {
+    pub moment: u64,
+    pub raw: u32,
+    pub sf: i16,
+    pub total: u64,
+}
+
+/// The numbers of an installation.
+#[derive(Clone, Copy, Debug, PartialEq, Eq)]
+pub struct InstallationRow {
+    /// Places count from 1.
+    pub place: u64,
+    /// The greatest load, in W.
+    pub ceiling: u64,
+    /// The meter was closed.
+    pub is_ended: bool,
+    pub last: LastRow,
+}
+
+/// A meter at a register.
+#[derive(Debug, Drop)]
+pub struct Installation {
+    pub meter: String,
+    pub register: String,
+    pub row: InstallationRow,
 }

@@ -35,6 +35,24 @@ module _ {B : Type 0} (Sound : Type 0) (Is : B → Type 0) where
   pub fair_within : (next : ℤ → Result B RowFault) (bound : ℕ) (n : ℤ) → (Sound → IsTrue (is_within bound n)) → IsFair Sound Is (next n) → IsFair Sound Is (and_then (or_damaged (within bound (Int n))) next)
   fair_within next bound n sound rest = tested Sound Is next (is_within bound n) n sound rest
 
+  if_fair : (b : Bool) (x : B) → (Sound → b ≡ true) → Is x → IsFair Sound Is (or_damaged (if b then Some x else None))
+  if_fair true x sound is = record { read = is; fault = λ s. tt }
+  if_fair false x sound is = record { read = tt; fault = λ s e. absurd (let f = sound s in cc) }
+
+  -- a part of the row that is read by itself
+  pub fair_then : {A : Type 0} (Part : Type 0) (a : A) (first : Result A RowFault) (next : A → Result B RowFault) → (Sound → Part) → IsFair Part (λ x. x ≡ a) first → IsFair Sound Is (next a) → IsFair Sound Is (and_then first next)
+  fair_then Part a (Ok x) next part one rest = subst (λ y. IsFair Sound Is (next y)) (sym one.read) rest
+  fair_then Part a (Err e) next part one rest = record { read = tt; fault = λ s. one.fault (part s) }
+
+-- the last number of a row
+pub fair_last : (Sound : Type 0) (Is : ℕ → Type 0) (low high n : ℕ) → (Sound → (low ≤ n) × (n ≤ high)) → Is n → IsFair Sound Is (or_damaged (whole_in low high (Int (pos n))))
+fair_last Sound Is low high n sound is = if_fair Sound Is (nat_le low n && nat_le n high) n (λ s. both _ _ (le-leb low n (sound s).0) (le-leb n high (sound s).1)) is
+
+-- a part that was read
+pub then_read : {A B : Type 0} (first : Result A RowFault) (next : A → Result B RowFault) (b : B) → and_then first next ≡ Ok b → (a : A) × (first ≡ Ok a) × (next a ≡ Ok b)
+then_read (Ok a) next b e = (a, refl, e)
+then_read (Err f) next b e = absurd (let g = e in cc)
+
 -- ---- what was read is within its bounds
 
 -- a number that was read, and the rest of the row

@@ -1,8 +1,12 @@
 -- What a SELECT from one table answers.
-use Rattle.std.proofs.Common.{◌≡◌, ◌≤◌, ℕ, ℤ, suc, pos, List, [], ◌∷◌, map, filter, drop, take, length, Bool, true, false, Option, Some, None, option_map, slice_get, Ordering, Less, Equal, Greater, is_lt, is_gt, refl, sym, ap, subst, ◌∙◌, arith, IsPermutation, IsSorted}
+use Rattle.std.proofs.Common.{◌≡◌, ◌≤◌, ◌<ℤ◌, ℕ, ℤ, suc, pos, List, [], ◌∷◌, map, filter, drop, take, length, Bool, true, false, Option, Some, None, option_map, slice_get, Ordering, Less, Equal, Greater, is_lt, is_gt, refl, sym, ap, subst, ◌∙◌, arith, IsPermutation, IsSorted}
 use Rattle.std.specs.List.{AllByRecursion}
 use Rattle.std.specs.Cmp.{IsTotalOrder}
-use Rattle.std.specs.Ordering.{ordering_reverse}
+use Rattle.std.specs.Ordering.{ordering_reverse, ordering_then, int_cmp, MatchOrdering}
+use Rattle.std.specs.Cmp.{int_ranks}
+use Rattle.std.proofs.lemmas.Int.{ints}
+use Rattle.sqlite.specs.Order.{value_cmp}
+use Rattle.sqlite_value.proofs.OrderLemmas.{value_cmp-Int, then-Equal}
 use Rattle.std.proofs.lemmas.Cmp.{upto}
 use Rattle.std.proofs.lemmas.List.Sorted.{IsPermutation-refl, IsPermutation-sym, IsPermutation-trans, IsPermutation-map, length_permutation}
 use Rattle.sqlite.specs.declared.types.Value.TheVariants.{Null, Int}
@@ -112,3 +116,14 @@ module _ {X A : Type 0} (passes : X → Bool) (IsSeen : X → A → Type 0) wher
   pub last_some : (key : X → ℕ) (xs found : List X) (x : X) (a : A) → AreFound passes (LastFirst key) xs found → slice_get found 0 ≡ Some x → IsSeen x a → IsLast passes IsSeen key xs (Some a)
   last_some key xs [] x a h is seen = absurd (let e = is in cc)
   last_some key xs (y ∷ found) x a h is seen = let same : y ≡ x = cc in (y, subst (λ z. IsSeen z a) (sym same) seen, found, h.all, h.order.0)
+
+-- ---- the order of numbers
+
+not_above : (a b : ℕ) (o : Ordering) → MatchOrdering o (pos a <ℤ pos b) (pos a ≡ pos b) (pos b <ℤ pos a) → is_gt o ≡ false → a ≤ b
+not_above a b Less h e = omega (arith, ints)
+not_above a b Equal h e = omega (arith, ints)
+not_above a b Greater h e = absurd (let f = e in cc)
+
+-- ORDER BY one column of numbers
+pub in_order : (a b : ℕ) → is_gt (ordering_then (value_cmp (Int (pos a)) (Int (pos b))) Equal) ≡ false → a ≤ b
+in_order a b e = not_above a b (int_cmp (pos a) (pos b)) (int_ranks (pos a) (pos b)) (sym (ap is_gt (then-Equal _ ∙ value_cmp-Int (pos a) (pos b))) ∙ e)
