@@ -26,4 +26,4 @@ returns-clause-finds g c =
     (reading.reads_range c.in-Some.row.now _ c.in_ok-whole-in-Some.ensures.read) (λ xs found x are is seen. found_some (is_range_of c.args.meter.now) HasRange (AnyOrder) xs found x _ are is seen)
 
 pub returns-clause-sound : goal.returns-clause-sound
-returns-clause-sound g c = reading.range_bounds c.in-Some.row.now (Ok c.in_ok-whole-in-Some.field-0) c.in_ok-whole-in-Some.ensures
+returns-clause-sound g c = c.in_ok-whole-in-Some.ensures.bounds
