@@ -2,7 +2,7 @@
 ghost use Rattle.std.specs.Prelude.{◌≡◌, IfOk, IfSome, IsOk, None};
 ghost use Rattle.office_books.specs.Ledgers.{OnlyReads};
 ghost use Rattle.office_refusing.specs.Asking.{AsksNoBooks, IsOfEvent};
-ghost use Rattle.office_refusing.specs.Ranges.{IsInRange};
+ghost use Rattle.office_lines.specs.Ranges.{IsInRange};
 ghost use Rattle.office_refusing.specs.Telling.{TellsWhy};
 
 use crate::arrivals::Arrival;
