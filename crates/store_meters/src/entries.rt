@@ -4,7 +4,7 @@ ghost use Rattle.sqlite.specs.Held.{state};
 ghost use Rattle.store_tables.specs.Content.{Edits, with_row, changed_where};
 ghost use Rattle.store_tables.specs.Steps.{Steps};
 ghost use Rattle.store_tables.specs.Answer.{IsFound, IsLast, AnyOrder, LastFirst, FirstFirst};
-ghost use Rattle.store_tables.specs.Asking.{Asks, Tells, Shows, ShowsFirst, LooksUp};
+ghost use Rattle.store_tables.specs.Asking.{Asks, AsksInside, Tells, Shows, ShowsFirst, LooksUp};
 ghost use Rattle.store_meters.specs.Rows.{entry_columns, entry_shown, place_shown, entry_place, is_entry, is_of, IsRow, HasEntryPlace, rolled, IsSoundEntry, IsSoundEntered, IsPlace, greatest_place};
 ghost use Rattle.store_meters.specs.Trees.{entries};
 
@@ -62,11 +62,7 @@ pub fn roll_entry<S: Alter>(
 }
 
 /// The row of an entry, if there is one.
-fn rows_at<S: Alter>(
-    conn: &mut Connection<S>,
-    meter: &str,
-    place: u64,
-) -> Result<Vec<Row>, Error>
+fn rows_at<S: Alter>(conn: &mut Connection<S>, meter: &str, place: u64) -> Result<Vec<Row>, Error>
     requires place { place ≤ greatest_place }
     ensures asks { Asks S.Store conn.old conn.new }
     ensures shows { Tells S.Store conn.old conn.new entries entry_columns result
@@ -98,10 +94,7 @@ pub fn entry_at<S: Alter>(
 }
 
 /// The place of the last entry of a meter, if there is one.
-fn last_rows<S: Alter>(
-    conn: &mut Connection<S>,
-    meter: &str,
-) -> Result<Vec<Row>, Error>
+fn last_rows<S: Alter>(conn: &mut Connection<S>, meter: &str) -> Result<Vec<Row>, Error>
     ensures asks { Asks S.Store conn.old conn.new }
     ensures shows { Tells S.Store conn.old conn.new entries entry_columns result
         (λ rows answer. ShowsFirst (is_of meter.now) (LastFirst entry_place) place_shown rows answer.items) }
@@ -113,10 +106,7 @@ fn last_rows<S: Alter>(
 }
 
 /// The greatest place of the entries of a meter.
-pub fn last_place<S: Alter>(
-    conn: &mut Connection<S>,
-    meter: &str,
-) -> Result<Option<u64>, RowFault>
+pub fn last_place<S: Alter>(conn: &mut Connection<S>, meter: &str) -> Result<Option<u64>, RowFault>
     ensures finds { LooksUp S.Store conn.old conn.new entries entry_columns IsSoundEntered result
         (IsLast (is_of meter.now) HasEntryPlace entry_place) }
     ensures sound { IfOk result (λ found. IfSome found IsPlace) }
@@ -129,16 +119,29 @@ pub fn last_place<S: Alter>(
 }
 
 /// The entries of a meter in order of place; `read_entry` reads each.
-pub fn entry_rows<S: Alter>(
-    conn: &mut Connection<S>,
-    meter: &str,
-) -> Result<Vec<Row>, Error>
+pub fn entry_rows<S: Alter>(conn: &mut Connection<S>, meter: &str) -> Result<Vec<Row>, Error>
     ensures asks { Asks S.Store conn.old conn.new }
     ensures shows { Tells S.Store conn.old conn.new entries entry_columns result
         (λ rows answer. Shows (is_of meter.now) (FirstFirst entry_place) entry_shown rows answer.items) }
 {
     conn.query_all(
         "SELECT place, kind, moment, raw, rolls, \"after\", sf FROM entries WHERE meter = ?1 ORDER BY place",
+        params![meter],
+    )
+}
+
+/// The place of the last entry of a meter inside a transaction; `read_place` reads it.
+pub fn last_entry_rows<S: Alter>(
+    tx: &mut Transaction<'_, S>,
+    meter: &str,
+) -> Result<Vec<Row>, Error>
+    ensures same_reference { tx.new.conn.ghost_name ≡ tx.old.conn.ghost_name }
+    ensures asks { AsksInside S.Store tx.old.conn.now tx.new.conn.now result }
+    ensures shows { Tells S.Store tx.old.conn.now tx.new.conn.now entries entry_columns result
+        (λ rows answer. ShowsFirst (is_of meter.now) (LastFirst entry_place) place_shown rows answer.items) }
+{
+    tx.query_all(
+        "SELECT place FROM entries WHERE meter = ?1 ORDER BY place DESC LIMIT 1",
         params![meter],
     )
 }

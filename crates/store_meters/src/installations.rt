@@ -4,11 +4,11 @@ ghost use Rattle.sqlite.specs.Held.{state};
 ghost use Rattle.store_tables.specs.Content.{Edits, with_row, changed_where};
 ghost use Rattle.store_tables.specs.Steps.{Steps};
 ghost use Rattle.store_tables.specs.Answer.{IsFound, IsLast, AnyOrder, LastFirst};
-ghost use Rattle.store_tables.specs.Asking.{Asks, Tells, ShowsFirst, LooksUp};
+ghost use Rattle.store_tables.specs.Asking.{Asks, AsksInside, Tells, ShowsFirst, LooksUp};
 ghost use Rattle.store_meters.specs.Rows.{installed_columns, installed_shown, installed_place_shown, installed_place, is_meter, is_at, every, IsInstalled, HasInstalledPlace, moved, ended, ended_number, IsSoundLast, IsSoundInstallation, IsSoundInstalled, IsPlace};
 ghost use Rattle.store_meters.specs.Trees.{installations};
 
-use crate::reading::{installation, place};
+use crate::reading::{place, read_installation};
 use crate::rows::{Installation, InstallationRow, LastRow};
 use sqlite::{Alter, Connection, Error, Row, Transaction, params};
 use store_tables::{RowFault, number, signed};
@@ -75,10 +75,7 @@ pub fn move_installation<S: Alter>(
 }
 
 /// Says that a meter was closed.
-pub fn end_installation<S: Alter>(
-    tx: &mut Transaction<'_, S>,
-    meter: &str,
-) -> Result<usize, Error>
+pub fn end_installation<S: Alter>(tx: &mut Transaction<'_, S>, meter: &str) -> Result<usize, Error>
     ensures same_reference { tx.new.conn.ghost_name ≡ tx.old.conn.ghost_name }
     ensures does { Steps (state S.Store tx.old.conn.now) (state S.Store tx.new.conn.now) result
         (Edits installations installed_columns (changed_where (is_meter meter.now) ended)) }
@@ -90,10 +87,7 @@ pub fn end_installation<S: Alter>(
 }
 
 /// The row of a meter, if there is one.
-fn rows_of<S: Alter>(
-    conn: &mut Connection<S>,
-    meter: &str,
-) -> Result<Vec<Row>, Error>
+fn rows_of<S: Alter>(conn: &mut Connection<S>, meter: &str) -> Result<Vec<Row>, Error>
     ensures asks { Asks S.Store conn.old conn.new }
     ensures shows { Tells S.Store conn.old conn.new installations installed_columns result
         (λ rows answer. ShowsFirst (is_meter meter.now) AnyOrder installed_shown rows answer.items) }
@@ -116,15 +110,12 @@ pub fn installation_of<S: Alter>(
     let rows = rows_of(conn, meter)?;
     match rows.first() {
         None => Ok(None),
-        Some(row) => Ok(Some(installation(row)?)),
+        Some(row) => Ok(Some(read_installation(row)?)),
     }
 }
 
 /// The row of the latest installation at a register, if there is one.
-fn rows_at<S: Alter>(
-    conn: &mut Connection<S>,
-    register: &str,
-) -> Result<Vec<Row>, Error>
+fn rows_at<S: Alter>(conn: &mut Connection<S>, register: &str) -> Result<Vec<Row>, Error>
     ensures asks { Asks S.Store conn.old conn.new }
     ensures shows { Tells S.Store conn.old conn.new installations installed_columns result
         (λ rows answer. ShowsFirst (is_at register.now) (LastFirst installed_place) installed_shown rows answer.items) }
@@ -147,7 +138,7 @@ pub fn installation_at<S: Alter>(
     let rows = rows_at(conn, register)?;
     match rows.first() {
         None => Ok(None),
-        Some(row) => Ok(Some(installation(row)?)),
+        Some(row) => Ok(Some(read_installation(row)?)),
     }
 }
 
@@ -164,9 +155,7 @@ fn last_rows<S: Alter>(conn: &mut Connection<S>) -> Result<Vec<Row>, Error>
 }
 
 /// The greatest place of an installation, which counts them.
-pub fn last_installation<S: Alter>(
-    conn: &mut Connection<S>,
-) -> Result<Option<u64>, RowFault>
+pub fn last_installation<S: Alter>(conn: &mut Connection<S>) -> Result<Option<u64>, RowFault>
     ensures finds { LooksUp S.Store conn.old conn.new installations installed_columns IsSoundInstalled result
         (IsLast every HasInstalledPlace installed_place) }
     ensures sound { IfOk result (λ found. IfSome found IsPlace) }
@@ -176,4 +165,20 @@ pub fn last_installation<S: Alter>(
         None => Ok(None),
         Some(row) => Ok(Some(place(row)?)),
     }
+}
+
+/// The row of a meter inside a transaction, if there is one; `read_installation` reads it.
+pub fn installation_rows<S: Alter>(
+    tx: &mut Transaction<'_, S>,
+    meter: &str,
+) -> Result<Vec<Row>, Error>
+    ensures same_reference { tx.new.conn.ghost_name ≡ tx.old.conn.ghost_name }
+    ensures asks { AsksInside S.Store tx.old.conn.now tx.new.conn.now result }
+    ensures shows { Tells S.Store tx.old.conn.now tx.new.conn.now installations installed_columns result
+        (λ rows answer. ShowsFirst (is_meter meter.now) AnyOrder installed_shown rows answer.items) }
+{
+    tx.query_all(
+        "SELECT place, meter, register, ceiling, ended, last_moment, last_raw, last_sf, total FROM installations WHERE meter = ?1 LIMIT 1",
+        params![meter],
+    )
 }

@@ -30,10 +30,7 @@ pub fn insert_range<S: Alter>(
 }
 
 /// The row of a meter, if there is one.
-fn rows_of<S: Alter>(
-    conn: &mut Connection<S>,
-    meter: &str,
-) -> Result<Vec<Row>, Error>
+fn rows_of<S: Alter>(conn: &mut Connection<S>, meter: &str) -> Result<Vec<Row>, Error>
     ensures asks { Asks S.Store conn.old conn.new }
     ensures shows { Tells S.Store conn.old conn.new ranges ranged_columns result
         (λ rows answer. ShowsFirst (is_range_of meter.now) AnyOrder range_shown rows answer.items) }
@@ -45,10 +42,7 @@ fn rows_of<S: Alter>(
 }
 
 /// How many counts the counter of a meter has.
-pub fn range_of<S: Alter>(
-    conn: &mut Connection<S>,
-    meter: &str,
-) -> Result<Option<u64>, RowFault>
+pub fn range_of<S: Alter>(conn: &mut Connection<S>, meter: &str) -> Result<Option<u64>, RowFault>
     ensures finds { LooksUp S.Store conn.old conn.new ranges ranged_columns IsSoundRanged result
         (IsFound (is_range_of meter.now) HasRange) }
     ensures sound { IfOk result (λ found. IfSome found IsRange) }

@@ -3,7 +3,7 @@ ghost use Rattle.std.specs.Prelude.{◌≡◌, IfOk};
 ghost use Rattle.sqlite.specs.Order.{column};
 ghost use Rattle.store_tables.specs.Asking.{ReadsRow};
 ghost use Rattle.store_tables.specs.Columns.{whole_in, or_damaged};
-ghost use Rattle.store_meters.specs.Rows.{greatest_place, kind_in, flag_in, entry_in, last_in, installation_in, entry_shown, IsRow, IsSoundEntry, IsSoundEntered, installed_shown, IsInstalled, IsSoundInstallation, IsSoundInstalled, voided_shown, HasPlace, IsPlace, IsSoundVoided};
+ghost use Rattle.store_meters.specs.Rows.{place_shown, HasEntryPlace, greatest_place, kind_in, flag_in, entry_in, last_in, installation_in, entry_shown, IsRow, IsSoundEntry, IsSoundEntered, installed_shown, IsInstalled, IsSoundInstallation, IsSoundInstalled, voided_shown, HasPlace, IsPlace, IsSoundVoided};
 
 use crate::rows::{
     EntryKind, EntryRow, GREATEST_CEILING, GREATEST_PLACE, GREATEST_TOTAL, Installation,
@@ -78,6 +78,14 @@ pub fn read_void(row: &Row) -> Result<u64, RowFault>
     place(row)
 }
 
+/// Reads the place of the last entry of `last_entry_rows`.
+pub fn read_place(row: &Row) -> Result<u64, RowFault>
+    ensures read { ReadsRow row.now place_shown HasEntryPlace IsSoundEntered result }
+    ensures sound { IfOk result IsPlace }
+{
+    place(row)
+}
+
 /// Where a meter stands.
 fn last(row: &Row) -> Result<LastRow, RowFault>
     ensures { result ≡ last_in row.now }
@@ -110,8 +118,8 @@ fn numbers(row: &Row) -> Result<InstallationRow, RowFault>
     })
 }
 
-/// An installation.
-pub(crate) fn installation(row: &Row) -> Result<Installation, RowFault>
+/// Reads an installation of `installation_rows`.
+pub fn read_installation(row: &Row) -> Result<Installation, RowFault>
     ensures read { ReadsRow row.now installed_shown IsInstalled IsSoundInstalled result }
     ensures sound { IfOk result (λ a. IsSoundInstallation a.row) }
 {

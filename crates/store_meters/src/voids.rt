@@ -33,10 +33,7 @@ pub fn insert_void<S: Alter>(
 }
 
 /// The voided entries of a meter in order of place; `read_void` reads each.
-pub fn void_rows<S: Alter>(
-    conn: &mut Connection<S>,
-    meter: &str,
-) -> Result<Vec<Row>, Error>
+pub fn void_rows<S: Alter>(conn: &mut Connection<S>, meter: &str) -> Result<Vec<Row>, Error>
     ensures asks { Asks S.Store conn.old conn.new }
     ensures shows { Tells S.Store conn.old conn.new voids voided_columns result
         (λ rows answer. Shows (is_void_of meter.now) (FirstFirst voided_place) voided_shown rows answer.items) }

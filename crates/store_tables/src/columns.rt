@@ -43,7 +43,8 @@ pub fn scale(row: &Row, at: usize) -> Result<i16, RowFault>
 /// A column that is a text.
 pub fn text(row: &Row, at: usize) -> Result<String, RowFault>
     ensures read { IfOk result (λ s. column row.now at ≡ Text (string_bytes s)) }
-    ensures fault { (t : _) → column row.now at ≡ Text t → IsUtf8 t → IfErr result (λ e. e ≡ Sql (SqliteFailure OutOfMemory)) }
+    ensures fault { (t : _) → column row.now at ≡ Text t → IsUtf8 t
+        → IfErr result (λ e. e ≡ Sql (SqliteFailure OutOfMemory)) }
 {
     match row.get::<String>(at) {
         Ok(text) => Ok(text),

@@ -11,4 +11,4 @@ returns-clause-asks g c =
 
 pub returns-clause-shows : goal.returns-clause-shows
 returns-clause-shows g c clean held has xs are =
-    IfOk-weaker c.query_all.result _ _ (λ rows h. asking.last_installation  (state g.S.Store c.args.conn.now) (state g.S.Store c.query_all.new.self) held xs rows.items has are h) (c.query_all.ensures.ok clean)
+    IfOk-weaker c.query_all.result _ _ (λ rows h. asking.last_installation (state g.S.Store c.args.conn.now) (state g.S.Store c.query_all.new.self) held xs rows.items has are h) (c.query_all.ensures.ok clean)
