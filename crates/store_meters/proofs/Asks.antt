@@ -1,11 +1,11 @@
 -- What the queries show.
-use Rattle.std.proofs.Common.{◌≡◌, ◌≤◌, ℕ, ◌==◌, pos, inl, inr, bytes_eq, List, [], ◌∷◌, map, take, Bool, refl}
+use Rattle.std.proofs.Common.{ℕ, ◌==◌, pos, bytes_eq, List, [], ◌∷◌, refl}
 use Rattle.sqlite.specs.declared.types.Value.TheVariants.{Int, Text}
 use Rattle.sqlite.specs.Order.{Row}
 use Rattle.sqlite.specs.State.{State, Shown}
 use Rattle.store_tables.specs.Schema.{books_schema, installations_table, entries_table, ranges_table, voids_table}
 use Rattle.store_tables.specs.Content.{Content, AreTables, HasRows}
-use Rattle.store_tables.specs.Answer.{AreFound, AnyOrder, LastFirst, FirstFirst}
+use Rattle.store_tables.specs.Answer.{AnyOrder, LastFirst, FirstFirst}
 use Rattle.store_tables.specs.Asking.{Shows, ShowsFirst}
 use Rattle.store_tables.proofs.Frames.{tree_at}
 use Rattle.store_tables.proofs.Scans.{text_is, number_is, and_true, no_limit, one}

@@ -1,21 +1,17 @@
 -- What is read of a row that the queries show.
-use Rattle.std.proofs.Common.{◌≡◌, ◌≢◌, ◌≤◌, Bool, true, false, IsErrAnd, IsUtf8, string_bytes, ℕ, pos, zero-le, List, [], ◌∷◌, Option, Some, None, Ok, Err, Result, IfOk, IfErr, refl, sym, ap, subst, ◌∙◌}
-use Rattle.sqlite.specs.declared.types.Value.TheVariants.{Int, Text}
+use Rattle.std.proofs.Common.{◌≡◌, ◌≤◌, ℕ, pos, zero-le, Option, Some, None, Ok, Err, Result, IfOk, refl, sym, ap, subst, ◌∙◌}
+use Rattle.sqlite.specs.declared.types.Value.TheVariants.{Int}
 use Rattle.sqlite.specs.Order.{Row, column}
 use Rattle.store_tables.specs.declared.faults.RowFault.{RowFault}
 use Rattle.store_tables.specs.Asking.{ReadsRow}
 use Rattle.store_tables.specs.Columns.{whole_in, within, or_damaged}
-use Rattle.store_tables.proofs.ReadLemmas.{IsFair, fair_last, fair_then, then_read, fair_some, fair_whole, fair_within, reads_row, has_read, whole_bounds, within_bounds}
+use Rattle.store_tables.proofs.ReadLemmas.{IsFair, fair_last, then_read, fair_some, fair_whole, fair_within, reads_row, has_read, whole_bounds, within_bounds}
 use Rattle.store_meters.specs.declared.rows.EntryKind.{EntryKind}
 use Rattle.store_meters.specs.declared.rows.EntryKind.TheVariants.{Opening, Reading, Manual, Closing, Reset, Rescale}
 use Rattle.store_meters.specs.declared.rows.EntryRow.{EntryRow}
 use Rattle.store_meters.specs.declared.rows.LastRow.{LastRow}
 use Rattle.store_meters.specs.declared.rows.InstallationRow.{InstallationRow}
-use Rattle.store_meters.specs.declared.rows.Installation.{Installation}
-use Rattle.sqlite.specs.declared.error.Error.TheVariants.{SqliteFailure}
-use Rattle.sqlite.specs.declared.error.ErrorCode.TheVariants.{OutOfMemory}
-use Rattle.store_tables.specs.declared.faults.RowFault.TheVariants.{Sql, Damaged}
-use Rattle.store_meters.specs.Rows.{place_shown, entry_place, HasEntryPlace, installed_place_shown, installed_place, HasInstalledPlace, range_shown, HasRange, IsSoundRanged, voided_shown, voided_place, HasPlace, IsSoundVoided, IsPlace, IsRange, ended_number, flag_in, Installed, installed_shown, installation_in, last_in, greatest_ceiling, greatest_total, IsInstalled, IsSoundLast, IsSoundInstallation, IsSoundInstalled, greatest_place, latest_moment, Entered, entry_in, entry_shown, kind_in, kind_number, IsRow, IsSoundEntry, IsSoundEntered}
+use Rattle.store_meters.specs.Rows.{place_shown, entry_place, HasEntryPlace, installed_place_shown, installed_place, HasInstalledPlace, range_shown, HasRange, IsSoundRanged, voided_shown, voided_place, HasPlace, IsSoundVoided, IsPlace, flag_in, installation_in, last_in, greatest_ceiling, greatest_total, IsSoundLast, IsSoundInstallation, IsSoundInstalled, greatest_place, latest_moment, Entered, entry_in, entry_shown, kind_in, kind_number, IsRow, IsSoundEntry, IsSoundEntered}
 
 kind_back : (k : EntryKind) → kind_in (Int (pos (kind_number k))) ≡ Some k
 kind_back Opening = refl
@@ -44,9 +40,6 @@ ok_is e = cc
 or_is : {A : Type 0} (o : Option A) (a : A) → or_damaged o ≡ Ok a → o ≡ Some a
 or_is (Some b) a e = ap Some (ok_is e)
 or_is None a e = absurd (let f = e in cc)
-
-text_same : {s t : List ℕ} → Text s ≡ Text t → s ≡ t
-text_same e = cc
 
 number_fair : (S : Type 0) (low high n : ℕ) → (S → (low ≤ n) × (n ≤ high)) → IsFair S (λ m. m ≡ n) (or_damaged (whole_in low high (Int (pos n))))
 number_fair S low high n bounds = fair_last S (λ m. m ≡ n) low high n bounds refl
@@ -86,35 +79,7 @@ pub reads_number : {X : Type 0} (low high : ℕ) (shown : X → Row) (of : X →
 reads_number low high shown of Sound first bounds row r is = reads_row row shown (λ x n. n ≡ of x) Sound r (λ x seen.
     subst (IsFair (Sound x) (λ n. n ≡ of x)) (sym (is ∙ ap (λ v. or_damaged (whole_in low high v)) (ap (λ r. column r 0) seen ∙ first x))) (number_fair (Sound x) low high (of x) (bounds x)))
 
-pub range_bounds : (row : Row) (r : Result ℕ RowFault) → r ≡ or_damaged (whole_in 65536 4294967296 (column row 0)) → IfOk r IsRange
-range_bounds row (Err f) is = tt
-range_bounds row (Ok n) is = whole_bounds 65536 4294967296 (column row 0) n (or_is _ n (sym is))
-
 -- ---- installations
-
-flag_back : (b : Bool) → flag_in (Int (pos (ended_number b))) ≡ Some b
-flag_back true = refl
-flag_back false = refl
-
-last_fair : (i : Installed) → IsFair (IsSoundLast i.row.last) (λ a. a ≡ i.row.last) (last_in (installed_shown i))
-last_fair i =
-    let S = IsSoundLast i.row.last in
-    let P : LastRow → Type 0 = λ a. a ≡ i.row.last in
-    fair_whole S P _ 0 _ i.row.last.moment (λ is. (zero-le, is.moment))
-    (fair_whole S P _ 0 _ i.row.last.raw (λ is. (zero-le, is.raw))
-    (fair_within S P _ 3 i.row.last.sf (λ is. is.sf)
-    (fair_whole S P _ 0 _ i.row.last.total (λ is. (zero-le, is.total))
-    (record { read = refl; fault = λ is. tt }))))
-
-installation_fair : (i : Installed) → IsFair (IsSoundInstallation i.row) (λ a. a ≡ i.row) (installation_in (installed_shown i))
-installation_fair i =
-    let S = IsSoundInstallation i.row in
-    let P : InstallationRow → Type 0 = λ a. a ≡ i.row in
-    fair_whole S P _ 1 _ i.row.place (λ is. is.place)
-    (fair_whole S P _ 1 _ i.row.ceiling (λ is. is.ceiling)
-    (fair_some S P _ _ i.row.is_ended (flag_back i.row.is_ended)
-    (fair_then S P (IsSoundLast i.row.last) i.row.last (last_in (installed_shown i)) _ (λ is. is.last) (last_fair i)
-    (record { read = refl; fault = λ is. tt }))))
 
 sound_last : (row : Row) (a : LastRow) → last_in row ≡ Ok a → IsSoundLast a
 sound_last row a is =
@@ -142,29 +107,6 @@ sound_installation row a is =
       ceiling = whole_bounds 1 greatest_ceiling (column row 3) ceiling.value ceiling.is;
       last = sound_last row last.0 last.1;
     })
-
--- the row is not read, for a fault that no sound row has
-unread : (row : Row) (e : RowFault) (r : Result Installation RowFault) → ((i : Installed) → row ≡ installed_shown i → IsSoundInstalled i → e ≢ Damaged) → IsErrAnd r (λ d. d ≡ e)
-    → ReadsRow row installed_shown IsInstalled IsSoundInstalled r
-unread row e (Ok a) not fails = absurd fails
-unread row e (Err d) not fails = record { read = λ i is. tt; fault = λ i is sound. subst (λ f. f ≢ Damaged) (sym fails) (not i is sound) }
-
-pub no_numbers : (row : Row) (e : RowFault) (r : Result Installation RowFault) → Err e ≡ installation_in row → IsErrAnd r (λ d. d ≡ e) → ReadsRow row installed_shown IsInstalled IsSoundInstalled r
-no_numbers row e r is fails = unread row e r (λ i seen sound. (subst (IsFair (IsSoundInstallation i.row) (λ a. a ≡ i.row)) (sym (is ∙ ap installation_in seen)) (installation_fair i)).fault sound.row) fails
-
-pub no_text : (row : Row) (at : ℕ) (of : Installed → List ℕ) (e : RowFault) (r : Result Installation RowFault) → ((i : Installed) → column (installed_shown i) at ≡ Text (of i)) → ((i : Installed) → IsSoundInstalled i → IsUtf8 (of i))
-    → ((t : List ℕ) → column row at ≡ Text t → IsUtf8 t → e ≡ Sql (SqliteFailure OutOfMemory)) → IsErrAnd r (λ d. d ≡ e) → ReadsRow row installed_shown IsInstalled IsSoundInstalled r
-no_text row at of e r shows utf8 memory fails = unread row e r (λ i seen sound is. let why = memory (of i) (ap (λ r. column r at) seen ∙ shows i) (utf8 i sound) in let f = sym why ∙ is in cc) fails
-
-pub all_read : (row : Row) (a : Installation) → Ok a.row ≡ installation_in row → column row 1 ≡ Text (string_bytes a.meter) → column row 2 ≡ Text (string_bytes a.register) → ReadsRow row installed_shown IsInstalled IsSoundInstalled (Ok a)
-all_read row a numbers meter register = record {
-  read = λ i seen. record {
-    meter = text_same (sym meter ∙ ap (λ r. column r 1) seen);
-    register = text_same (sym register ∙ ap (λ r. column r 2) seen);
-    row = (subst (IsFair (IsSoundInstallation i.row) (λ b. b ≡ i.row)) (sym (numbers ∙ ap installation_in seen)) (installation_fair i)).read;
-  };
-  fault = λ i seen sound. tt;
-}
 
 -- ---- places and ranges that look-ups show
 

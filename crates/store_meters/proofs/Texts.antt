@@ -1,5 +1,5 @@
 -- What the texts mean.
-use Rattle.std.proofs.Common.{◌≡◌, pos, List, [], ◌∷◌, codes, ℕ, Some, None, true, false, refl}
+use Rattle.std.proofs.Common.{◌≡◌, pos, List, [], ◌∷◌, codes, ℕ, true, false, refl}
 use Rattle.sqlite.specs.declared.types.Value.TheVariants.{Null, Int}
 use Rattle.sqlite.specs.Term.{Term, lit, col}
 use Rattle.sqlite.specs.Source.TheVariants.{Values}

@@ -66,7 +66,8 @@ fn rows_at<S: Alter>(conn: &mut Connection<S>, meter: &str, place: u64) -> Resul
     requires place { place ≤ greatest_place }
     ensures asks { Asks S.Store conn.old conn.new }
     ensures shows { Tells S.Store conn.old conn.new entries entry_columns result
-        (λ rows answer. ShowsFirst (is_entry meter.now place) AnyOrder entry_shown rows answer.items) }
+        (λ rows answer.
+        ShowsFirst (is_entry meter.now place) AnyOrder entry_shown rows answer.items) }
 {
     let place = number(place);
     conn.query_all(
@@ -97,7 +98,8 @@ pub fn entry_at<S: Alter>(
 fn last_rows<S: Alter>(conn: &mut Connection<S>, meter: &str) -> Result<Vec<Row>, Error>
     ensures asks { Asks S.Store conn.old conn.new }
     ensures shows { Tells S.Store conn.old conn.new entries entry_columns result
-        (λ rows answer. ShowsFirst (is_of meter.now) (LastFirst entry_place) place_shown rows answer.items) }
+        (λ rows answer.
+        ShowsFirst (is_of meter.now) (LastFirst entry_place) place_shown rows answer.items) }
 {
     conn.query_all(
         "SELECT place FROM entries WHERE meter = ?1 ORDER BY place DESC LIMIT 1",
@@ -122,7 +124,8 @@ pub fn last_place<S: Alter>(conn: &mut Connection<S>, meter: &str) -> Result<Opt
 pub fn entry_rows<S: Alter>(conn: &mut Connection<S>, meter: &str) -> Result<Vec<Row>, Error>
     ensures asks { Asks S.Store conn.old conn.new }
     ensures shows { Tells S.Store conn.old conn.new entries entry_columns result
-        (λ rows answer. Shows (is_of meter.now) (FirstFirst entry_place) entry_shown rows answer.items) }
+        (λ rows answer.
+        Shows (is_of meter.now) (FirstFirst entry_place) entry_shown rows answer.items) }
 {
     conn.query_all(
         "SELECT place, kind, moment, raw, rolls, \"after\", sf FROM entries WHERE meter = ?1 ORDER BY place",
@@ -138,7 +141,8 @@ pub fn last_entry_rows<S: Alter>(
     ensures same_reference { tx.new.conn.ghost_name ≡ tx.old.conn.ghost_name }
     ensures asks { AsksInside S.Store tx.old.conn.now tx.new.conn.now result }
     ensures shows { Tells S.Store tx.old.conn.now tx.new.conn.now entries entry_columns result
-        (λ rows answer. ShowsFirst (is_of meter.now) (LastFirst entry_place) place_shown rows answer.items) }
+        (λ rows answer.
+        ShowsFirst (is_of meter.now) (LastFirst entry_place) place_shown rows answer.items) }
 {
     tx.query_all(
         "SELECT place FROM entries WHERE meter = ?1 ORDER BY place DESC LIMIT 1",

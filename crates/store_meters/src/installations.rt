@@ -30,7 +30,8 @@ pub fn insert_installation<S: Alter>(
     requires sound { IsSoundInstallation row }
     ensures same_reference { tx.new.conn.ghost_name ≡ tx.old.conn.ghost_name }
     ensures does { Steps (state S.Store tx.old.conn.now) (state S.Store tx.new.conn.now) result
-        (Edits installations installed_columns (with_row (record { meter = meter.now; register = register.now; row = row }))) }
+        (Edits installations installed_columns
+        (with_row (record { meter = meter.now; register = register.now; row = row }))) }
 {
     let place = number(row.place);
     let ceiling = number(row.ceiling);
@@ -90,7 +91,8 @@ pub fn end_installation<S: Alter>(tx: &mut Transaction<'_, S>, meter: &str) -> R
 fn rows_of<S: Alter>(conn: &mut Connection<S>, meter: &str) -> Result<Vec<Row>, Error>
     ensures asks { Asks S.Store conn.old conn.new }
     ensures shows { Tells S.Store conn.old conn.new installations installed_columns result
-        (λ rows answer. ShowsFirst (is_meter meter.now) AnyOrder installed_shown rows answer.items) }
+        (λ rows answer.
+        ShowsFirst (is_meter meter.now) AnyOrder installed_shown rows answer.items) }
 {
     conn.query_all(
         "SELECT place, meter, register, ceiling, ended, last_moment, last_raw, last_sf, total FROM installations WHERE meter = ?1 LIMIT 1",
@@ -103,7 +105,8 @@ pub fn installation_of<S: Alter>(
     conn: &mut Connection<S>,
     meter: &str,
 ) -> Result<Option<Installation>, RowFault>
-    ensures finds { LooksUp S.Store conn.old conn.new installations installed_columns IsSoundInstalled result
+    ensures finds { LooksUp S.Store conn.old conn.new
+        installations installed_columns IsSoundInstalled result
         (IsFound (is_meter meter.now) IsInstalled) }
     ensures sound { IfOk result (λ found. IfSome found (λ a. IsSoundInstallation a.row)) }
 {
@@ -118,7 +121,9 @@ pub fn installation_of<S: Alter>(
 fn rows_at<S: Alter>(conn: &mut Connection<S>, register: &str) -> Result<Vec<Row>, Error>
     ensures asks { Asks S.Store conn.old conn.new }
     ensures shows { Tells S.Store conn.old conn.new installations installed_columns result
-        (λ rows answer. ShowsFirst (is_at register.now) (LastFirst installed_place) installed_shown rows answer.items) }
+        (λ rows answer.
+        ShowsFirst (is_at register.now) (LastFirst installed_place)
+        installed_shown rows answer.items) }
 {
     conn.query_all(
         "SELECT place, meter, register, ceiling, ended, last_moment, last_raw, last_sf, total FROM installations WHERE register = ?1 ORDER BY place DESC LIMIT 1",
@@ -131,7 +136,8 @@ pub fn installation_at<S: Alter>(
     conn: &mut Connection<S>,
     register: &str,
 ) -> Result<Option<Installation>, RowFault>
-    ensures finds { LooksUp S.Store conn.old conn.new installations installed_columns IsSoundInstalled result
+    ensures finds { LooksUp S.Store conn.old conn.new
+        installations installed_columns IsSoundInstalled result
         (IsLast (is_at register.now) IsInstalled installed_place) }
     ensures sound { IfOk result (λ found. IfSome found (λ a. IsSoundInstallation a.row)) }
 {
@@ -146,7 +152,9 @@ pub fn installation_at<S: Alter>(
 fn last_rows<S: Alter>(conn: &mut Connection<S>) -> Result<Vec<Row>, Error>
     ensures asks { Asks S.Store conn.old conn.new }
     ensures shows { Tells S.Store conn.old conn.new installations installed_columns result
-        (λ rows answer. ShowsFirst every (LastFirst installed_place) installed_place_shown rows answer.items) }
+        (λ rows answer.
+        ShowsFirst every (LastFirst installed_place)
+        installed_place_shown rows answer.items) }
 {
     conn.query_all(
         "SELECT place FROM installations ORDER BY place DESC LIMIT 1",
@@ -156,7 +164,8 @@ fn last_rows<S: Alter>(conn: &mut Connection<S>) -> Result<Vec<Row>, Error>
 
 /// The greatest place of an installation, which counts them.
 pub fn last_installation<S: Alter>(conn: &mut Connection<S>) -> Result<Option<u64>, RowFault>
-    ensures finds { LooksUp S.Store conn.old conn.new installations installed_columns IsSoundInstalled result
+    ensures finds { LooksUp S.Store conn.old conn.new
+        installations installed_columns IsSoundInstalled result
         (IsLast every HasInstalledPlace installed_place) }
     ensures sound { IfOk result (λ found. IfSome found IsPlace) }
 {
@@ -174,8 +183,10 @@ pub fn installation_rows<S: Alter>(
 ) -> Result<Vec<Row>, Error>
     ensures same_reference { tx.new.conn.ghost_name ≡ tx.old.conn.ghost_name }
     ensures asks { AsksInside S.Store tx.old.conn.now tx.new.conn.now result }
-    ensures shows { Tells S.Store tx.old.conn.now tx.new.conn.now installations installed_columns result
-        (λ rows answer. ShowsFirst (is_meter meter.now) AnyOrder installed_shown rows answer.items) }
+    ensures shows { Tells S.Store tx.old.conn.now tx.new.conn.now
+        installations installed_columns result
+        (λ rows answer.
+        ShowsFirst (is_meter meter.now) AnyOrder installed_shown rows answer.items) }
 {
     tx.query_all(
         "SELECT place, meter, register, ceiling, ended, last_moment, last_raw, last_sf, total FROM installations WHERE meter = ?1 LIMIT 1",

@@ -33,7 +33,8 @@ pub fn insert_range<S: Alter>(
 fn rows_of<S: Alter>(conn: &mut Connection<S>, meter: &str) -> Result<Vec<Row>, Error>
     ensures asks { Asks S.Store conn.old conn.new }
     ensures shows { Tells S.Store conn.old conn.new ranges ranged_columns result
-        (λ rows answer. ShowsFirst (is_range_of meter.now) AnyOrder range_shown rows answer.items) }
+        (λ rows answer.
+        ShowsFirst (is_range_of meter.now) AnyOrder range_shown rows answer.items) }
 {
     conn.query_all(
         "SELECT \"range\" FROM ranges WHERE meter = ?1 LIMIT 1",

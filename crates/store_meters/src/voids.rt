@@ -22,7 +22,8 @@ pub fn insert_void<S: Alter>(
     requires moment { moment ≤ latest_moment }
     ensures same_reference { tx.new.conn.ghost_name ≡ tx.old.conn.ghost_name }
     ensures does { Steps (state S.Store tx.old.conn.now) (state S.Store tx.new.conn.now) result
-        (Edits voids voided_columns (with_row (record { meter = meter.now; place = place; moment = moment }))) }
+        (Edits voids voided_columns
+        (with_row (record { meter = meter.now; place = place; moment = moment }))) }
 {
     let place = number(place);
     let moment = number(moment);
@@ -36,7 +37,8 @@ pub fn insert_void<S: Alter>(
 pub fn void_rows<S: Alter>(conn: &mut Connection<S>, meter: &str) -> Result<Vec<Row>, Error>
     ensures asks { Asks S.Store conn.old conn.new }
     ensures shows { Tells S.Store conn.old conn.new voids voided_columns result
-        (λ rows answer. Shows (is_void_of meter.now) (FirstFirst voided_place) voided_shown rows answer.items) }
+        (λ rows answer.
+        Shows (is_void_of meter.now) (FirstFirst voided_place) voided_shown rows answer.items) }
 {
     conn.query_all(
         "SELECT place FROM voids WHERE meter = ?1 ORDER BY place",

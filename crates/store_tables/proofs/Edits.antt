@@ -9,13 +9,13 @@ use Rattle.std.specs.declared.cmp.Ordering.TheVariants.{Less, Equal, Greater}
 use Rattle.std.proofs.lemmas.Int.{ints}
 use Rattle.std.proofs.lemmas.Bool.{cases_Bool}
 use Rattle.std.proofs.lemmas.List.{map-append}
-use Rattle.std.proofs.lemmas.List.Sorted.{IsPermutation-refl, IsPermutation-sym, IsPermutation-cons, IsPermutation-trans, IsPermutation-middle, IsPermutation-map, IsPermutation-append_left, IsPermutation-append_right, IsPermutation-filter_both, list_any-IsPermutation}
+use Rattle.std.proofs.lemmas.List.Sorted.{IsPermutation-refl, IsPermutation-sym, IsPermutation-trans, IsPermutation-middle, IsPermutation-map, IsPermutation-append_left, IsPermutation-append_right, IsPermutation-filter_both, list_any-IsPermutation}
 use Rattle.std.proofs.lemmas.Map.Keys.{IsDistinct-head, IsDistinct-tail}
 use Rattle.sqlite.specs.declared.types.Value.TheVariants.{Int}
 use Rattle.sqlite.specs.Order.{Row, value_cmp}
 use Rattle.sqlite_value.proofs.OrderLemmas.{value_cmp-Int}
 use Rattle.sqlite.specs.Tree.{put_row, without_rowid, has_rowid, rowid}
-use Rattle.sqlite.specs.Edit.{id_in, is_taken, are_fresh, without_all, put_all, numbered, with_rowid}
+use Rattle.sqlite.specs.Edit.{is_taken, are_fresh, without_all, put_all, numbered}
 use Rattle.sqlite.specs.Rowids.TheVariants.{Given}
 use Rattle.sqlite_rules.specs.Calls.{ids_of}
 use Rattle.store_tables.specs.Content.{id_of, same_id, AreApart}

@@ -1,5 +1,5 @@
 -- What an INSERT of one row does.
-use Rattle.std.proofs.Common.{◌≡◌, ◌≢◌, inl, inr, ℕ, ℤ, List, [], ◌∷◌, Bool, true, false, ◌&&◌, not, Option, Some, None, Ok, Err, Result, OnOk, refl, sym, ap, subst, ◌∙◌, IsPermutation, slice_get}
+use Rattle.std.proofs.Common.{◌≡◌, ℕ, ℤ, List, [], ◌∷◌, Bool, true, false, ◌&&◌, not, Some, None, Ok, Err, Result, OnOk, refl, sym, ap, subst, ◌∙◌, IsPermutation, slice_get}
 use Rattle.sqlite.specs.declared.types.Value.TheVariants.{Null, Int}
 use Rattle.sqlite.specs.declared.error.Error.{Error}
 use Rattle.sqlite.specs.Order.{Row}
@@ -21,7 +21,7 @@ use Rattle.sqlite_schema.specs.declared.schema.Keys.TheVariants.{Enforced}
 use Rattle.sqlite_trees.specs.View.{is_int}
 use Rattle.sqlite_rules.specs.Edit.{taken_by}
 use Rattle.store_tables.specs.Schema.{books_schema}
-use Rattle.store_tables.specs.Content.{HasTree, AreApart, AreTables, Edits, is_numbered, with_row}
+use Rattle.store_tables.specs.Content.{Edits, is_numbered, with_row}
 use Rattle.store_tables.specs.Steps.{Turns}
 use Rattle.store_tables.proofs.Fresh.{put_fresh}
 use Rattle.store_tables.proofs.Frames.{frame, tree_at}
@@ -96,7 +96,7 @@ module _ (t : Table) (at : ℕ) (place : slice_get books_schema.tables at ≡ So
         let number = stored (old.now.trees t.tree) in
         turns books_schema t.tree columns (with_row x) old.now new.now (tree_at books_schema.tables at table place) came.rewrites
         (λ apart xs lies. laid_permuted (is_numbered t.tree) columns _ (new.now.trees t.tree) (x ∷ xs) (subst (λ (r : Row). IsPermutation (r ∷ old.now.trees t.tree) (new.now.trees t.tree)) number.1 came.row)
-            (laid_more (is_numbered t.tree) columns (old.now.trees t.tree) xs number.0 x lies)) held has
+        (laid_more (is_numbered t.tree) columns (old.now.trees t.tree) xs number.0 x lies)) held has
 
 -- where SQLite chooses the rowid
 pub chosen_rowid : (row columns : Row) → row ≡ Null ∷ columns → (rows : List Row) → (n : ℤ) × (with_rowid Chosen rows row ≡ laid false n columns)

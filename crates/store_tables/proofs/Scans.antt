@@ -1,5 +1,5 @@
 -- A query over one table.
-use Rattle.std.proofs.Common.{◌≡◌, ℕ, pos, negsuc, List, [], ◌∷◌, map, filter, Bool, true, false, ◌&&◌, None, Some, refl, sym, ap, subst, ◌∙◌, bytes_eq, IsPermutation, Ordering, flat_map, cond, nat_le, ◌^◌, inl, inr, ℤ, ◌<ℤ◌, ◌==◌, eq-eqb, ne_eqb, arith, Less, Equal, Greater}
+use Rattle.std.proofs.Common.{◌≡◌, ℕ, pos, negsuc, List, [], ◌∷◌, map, filter, Bool, true, false, ◌&&◌, None, Some, refl, sym, ap, subst, ◌∙◌, bytes_eq, IsPermutation, Ordering, flat_map, cond, nat_le, ◌^◌, inl, inr, ◌<ℤ◌, ◌==◌, eq-eqb, ne_eqb, arith, Less, Equal, Greater}
 use Rattle.std.proofs.lemmas.Bool.{cases_Bool}
 use Rattle.std.specs.List.{list_all}
 use Rattle.std.specs.Ordering.{is_eq, int_cmp, MatchOrdering}

@@ -8,7 +8,7 @@ use Rattle.std.proofs.lemmas.Int.{ints}
 use Rattle.sqlite.specs.Order.{value_cmp}
 use Rattle.sqlite_value.proofs.OrderLemmas.{value_cmp-Int, then-Equal}
 use Rattle.std.proofs.lemmas.Cmp.{upto}
-use Rattle.std.proofs.lemmas.List.Sorted.{IsPermutation-refl, IsPermutation-sym, IsPermutation-trans, IsPermutation-map, length_permutation}
+use Rattle.std.proofs.lemmas.List.Sorted.{IsPermutation-sym, IsPermutation-trans, IsPermutation-map, length_permutation}
 use Rattle.sqlite.specs.declared.types.Value.TheVariants.{Null, Int}
 use Rattle.sqlite.specs.Order.{Row}
 use Rattle.sqlite_value.specs.declared.keys.Key.{Key}
@@ -17,17 +17,17 @@ use Rattle.sqlite.specs.Query.{Query, IsAnswer, Output, output, output_cmp, page
 use Rattle.sqlite.specs.Program.{overlay}
 use Rattle.sqlite.specs.Tree.{Trees, IsAscending}
 use Rattle.sqlite_sql.proofs.QueryLemmas.{output_cmp_total}
-use Rattle.sqlite_keyed.proofs.ListLemmas.{all_weaker, map-map, ascending-map, ascending_from_map, ascending_weaker}
+use Rattle.sqlite_keyed.proofs.ListLemmas.{all_weaker, ascending-map, ascending_from_map, ascending_weaker}
 use Rattle.sqlite.specs.Command.TheVariants.{Select}
 use Rattle.sqlite.specs.Listing.{understood, reads_listing}
-use Rattle.sqlite.specs.State.{State, Shown, Begins}
+use Rattle.sqlite.specs.State.{State, Shown}
 use Rattle.sqlite.proofs.Callers.{IsPlain, command_of, reads_as}
 use Rattle.store_tables.specs.Schema.{books_schema}
-use Rattle.store_tables.specs.Content.{Content, HasTree, AreTables, HasRows, is_numbered, told}
+use Rattle.store_tables.specs.Content.{Content, HasTree, AreTables, HasRows, is_numbered}
 use Rattle.store_tables.specs.Answer.{AreFound, IsFound, IsLast, LastFirst}
 use Rattle.store_tables.proofs.Permuted.{unmapped}
 use Rattle.store_tables.proofs.Laid.{Numbered, laid, lay, IsLaid, laid_from, laid_chosen}
-use Rattle.store_tables.proofs.Scans.{scan, env, passes, shows, kept_are, no_limit, one}
+use Rattle.store_tables.proofs.Scans.{scan, env, passes, shows, kept_are}
 
 -- ---- a sorted list ascends
 
@@ -58,7 +58,7 @@ module _ {X : Type 0} (cmp : X → X → Ordering) (total : IsTotalOrder cmp) wh
 module _ {X : Type 0} (tree : ℕ) (tests project : List Term) (order : List (Term × Key)) (limit : Term) (params : Row) (columns : X → Row) (p : X → Bool) (shown : X → Row) (R : X → X → Type 0)
     (tells : (n : ℤ) (x : X) → passes params tests (laid (is_numbered tree) n (columns x)) ≡ p x) (tells_columns : (n : ℤ) (x : X) → shows params project (laid (is_numbered tree) n (columns x)) ≡ shown x)
     (ranks : (m n : ℤ) (x y : X) → is_gt (output_cmp (scan tree tests project order limit) (output (scan tree tests project order limit) (env params (laid (is_numbered tree) m (columns x))))
-        (output (scan tree tests project order limit) (env params (laid (is_numbered tree) n (columns y))))) ≡ false → R x y) where
+    (output (scan tree tests project order limit) (env params (laid (is_numbered tree) n (columns y))))) ≡ false → R x y) where
   abbrev query : Query
   query = scan tree tests project order limit
 
@@ -80,7 +80,7 @@ module _ {X : Type 0} (tree : ℕ) (tests project : List Term) (order : List (Te
       let kept : a.kept ≡ map out chosen.all = kept_are params tree tests project order limit db rows a ∙ (ap (map (λ r. output query (env params r))) chosen.rows ∙ outs chosen.all) in
       let moved = unmapped out chosen.all a.ordered (subst (λ os. IsPermutation os a.ordered) kept a.same) in
       let up = ascending_weaker _ (λ (z w : Numbered X). R z.1 w.1) (λ (z w : Numbered X) le. ranks z.0 w.0 z.1 w.1 le) moved.0
-          (ascending_from_map _ out moved.0 (subst (IsAscending (λ x y. is_gt (output_cmp query x y) ≡ false)) moved.2 (ascends (output_cmp query) (output_cmp_total query) a.ordered a.sorted))) in (
+      (ascending_from_map _ out moved.0 (subst (IsAscending (λ x y. is_gt (output_cmp query x y) ≡ false)) moved.2 (ascends (output_cmp query) (output_cmp_total query) a.ordered a.sorted))) in (
         map (λ (z : Numbered X). z.1) moved.0,
         record {
           all = IsPermutation-trans _ _ _ (IsPermutation-sym _ _ chosen.same) (IsPermutation-map (λ (z : Numbered X). z.1) _ _ moved.1);

@@ -13,7 +13,7 @@ use Rattle.sqlite.specs.Listing.{understood}
 use Rattle.sqlite.specs.Clock.{timed}
 use Rattle.sqlite.specs.Schema.{Schema}
 use Rattle.store_tables.specs.Schema.{books_schema}
-use Rattle.store_tables.specs.Content.{Content, AreTables, AreTablesIn}
+use Rattle.store_tables.specs.Content.{Content}
 use Rattle.store_tables.specs.Steps.{StepsTo, TurnsIn, Turns, TransactsTo}
 use Rattle.store_tables.specs.Asking.{Asks, AsksInside}
 

@@ -1,7 +1,6 @@
 -- What an UPDATE and a DELETE do.
-use Rattle.std.proofs.Common.{◌≡◌, ◌≢◌, inl, inr, ℕ, ℤ, List, [], ◌∷◌, ◌++◌, map, filter, drop, Bool, true, false, not, Option, Some, None, Ok, Err, Result, OnOk, refl, sym, ap, subst, ◌∙◌, slice_get, IsPermutation}
-use Rattle.std.specs.List.{AllByRecursion}
-use Rattle.std.proofs.lemmas.List.Sorted.{IsPermutation-refl, IsPermutation-sym, IsPermutation-trans, IsPermutation-map}
+use Rattle.std.proofs.Common.{◌≡◌, ℕ, ℤ, List, [], ◌∷◌, map, filter, drop, Bool, not, Some, None, Ok, Err, Result, OnOk, refl, sym, ap, subst, ◌∙◌, slice_get, IsPermutation}
+use Rattle.std.proofs.lemmas.List.Sorted.{IsPermutation-map}
 use Rattle.sqlite.specs.declared.types.Value.TheVariants.{Null, Int}
 use Rattle.sqlite.specs.declared.error.Error.{Error}
 use Rattle.sqlite.specs.Order.{Row}
@@ -9,8 +8,7 @@ use Rattle.sqlite.specs.Term.{Term, col}
 use Rattle.sqlite.specs.Query.{Query}
 use Rattle.sqlite.specs.Command.TheVariants.{Update, Delete}
 use Rattle.sqlite.specs.Edit.{edit_of, without_all}
-use Rattle.sqlite.specs.Cast.{cast, cast_row}
-use Rattle.sqlite.specs.Kind.TheVariants.{Integer}
+use Rattle.sqlite.specs.Cast.{cast_row}
 use Rattle.sqlite.specs.Rowids.TheVariants.{Given}
 use Rattle.sqlite.specs.Does.{Tally, Does, AtPlace, OnRows}
 use Rattle.sqlite.specs.Rows.{Written}
@@ -24,7 +22,7 @@ use Rattle.sqlite_schema.specs.declared.schema.Keys.TheVariants.{Enforced}
 use Rattle.sqlite_rules.specs.Edit.{taken_by}
 use Rattle.sqlite_rules.specs.Calls.{ids_of}
 use Rattle.store_tables.specs.Schema.{books_schema}
-use Rattle.store_tables.specs.Content.{HasTree, AreTables, AreApart, id_of, is_numbered, Edits, changed_where, without_where}
+use Rattle.store_tables.specs.Content.{AreApart, id_of, is_numbered, Edits, changed_where, without_where}
 use Rattle.store_tables.specs.Steps.{Turns}
 use Rattle.store_tables.proofs.Frames.{frame, tree_at}
 use Rattle.store_tables.proofs.Apart.{apart_permutation, changed_apart, left_apart}
@@ -91,8 +89,8 @@ module _ (t : Table) (at : ℕ) (place : slice_get books_schema.tables at ≡ So
         let news = subst (λ xs. IsPermutation xs (map (λ s. cast_row table (drop 1 s)) rows)) (news_are (filter chosen (db k))) (IsPermutation-map (λ s. cast_row table (drop 1 s)) _ rows answer) in
         let given = given_are (without_all (db k) (ids_of rows)) (map (λ s. cast_row table (drop 1 s)) rows) in
         let stored = λ (apart : AreApart (db k)).
-            let put = edited_rows chosen made (db k) _ (ids_of rows) apart ids (subst (IsPermutation (map made (filter chosen (db k)))) (sym given) news) step.fresh in
-            subst (λ xs. IsPermutation (map (changed chosen made) (db k)) xs) (sym (ap (λ (f : Trees). f k) trees ∙ step.rows)) put in
+        let put = edited_rows chosen made (db k) _ (ids_of rows) apart ids (subst (IsPermutation (map made (filter chosen (db k)))) (sym given) news) step.fresh in
+        subst (λ xs. IsPermutation (map (changed chosen made) (db k)) xs) (sym (ap (λ (f : Trees). f k) trees ∙ step.rows)) put in
         record {
           rewrites = record {
             schema = ap (λ (d : Database). d.schema) now;
@@ -166,4 +164,3 @@ module _ (t : Table) (at : ℕ) (place : slice_get books_schema.tables at ≡ So
       let does = goes old new text count has.schema is plain h in
       turns books_schema k columns (without_where p) old.now new.now (tree_at books_schema.tables at table place) does.rewrites
       (λ apart xs lies. subst (λ rs. IsLaid (is_numbered k) columns rs (without_where p xs)) (sym (does.rows apart)) (laid_others (is_numbered k) columns chosen p tells (old.now.trees k) xs lies)) held has
-

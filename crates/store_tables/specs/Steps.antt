@@ -1,10 +1,10 @@
 -- What a call leaves of a connection inside a transaction, and after one.
-use Rattle.std.specs.Prelude.{◌≡◌, false, Result, IsTrue, OnOk, OnErr}
+use Rattle.std.specs.Prelude.{◌≡◌, Result, IsTrue, OnOk, OnErr}
 use Rattle.sqlite.specs.Effect.{Database}
 use Rattle.sqlite.specs.Schema.{Schema}
 use Rattle.sqlite.specs.State.{State, HasCleanDisk, KeepsCommit, Survives}
 use Rattle.store_tables.specs.Schema.{books_schema}
-use Rattle.store_tables.specs.Content.{Content, AreTablesIn, AreTables}
+use Rattle.store_tables.specs.Content.{Content, AreTablesIn}
 
 -- the tables hold what is made of what they held
 abbrev pub TurnsIn : Schema → (Content → Content → Type 0) → Database → Database → Type 0

@@ -22,7 +22,11 @@ pub fn whole(row: &Row, at: usize, low: u64, high: u64) -> Result<u64, RowFault>
                 return Err(RowFault::Damaged);
             }
             let n = n as u64;
-            if low <= n && n <= high { Ok(n) } else { Err(RowFault::Damaged) }
+            if low <= n && n <= high {
+                Ok(n)
+            } else {
+                Err(RowFault::Damaged)
+            }
         }
         _ => Err(RowFault::Damaged),
     }
@@ -34,7 +38,11 @@ pub fn scale(row: &Row, at: usize) -> Result<i16, RowFault>
 {
     match row.get_ref(at) {
         Ok(ValueRef::Int(n)) => {
-            if -3 <= n && n <= 3 { Ok(n as i16) } else { Err(RowFault::Damaged) }
+            if -3 <= n && n <= 3 {
+                Ok(n as i16)
+            } else {
+                Err(RowFault::Damaged)
+            }
         }
         _ => Err(RowFault::Damaged),
     }

@@ -9,7 +9,8 @@ use sqlite::{Alter, Connection, Error};
 pub fn touch<S: Alter>(conn: &mut Connection<S>) -> Result<(), Error>
     requires { conn.old.in_transaction ≡ false }
     ensures autocommit { conn.new.in_transaction ≡ false }
-    ensures opened { HasCleanDisk (state S.Store conn.new) → OnOk result (IsTrue (state S.Store conn.new).is_open
+    ensures opened { HasCleanDisk (state S.Store conn.new)
+        → OnOk result (IsTrue (state S.Store conn.new).is_open
         × ((state S.Store conn.new).now ≡ (state S.Store conn.new).committed)) }
     ensures kept { HasCleanDisk (state S.Store conn.new)
         → KeepsCommit (state S.Store conn.old) (state S.Store conn.new) }

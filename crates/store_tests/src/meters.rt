@@ -1,11 +1,12 @@
 //! Rows of meters, written and read back.
 use crate::given::{INSTALLED, OPENED, OPENING, READ, READING, one_meter, sound};
-use sqlite::{Connection, Error, MemStore, Transaction};
+use sqlite::{Connection, Error, MemStore, Row, Transaction};
 use std::test::Fail;
 use store_meters::{
-    EntryRow, Installation, InstallationRow, end_installation, entry_at, entry_rows, insert_void,
-    installation_at, installation_of, last_installation, last_place, move_installation, range_of,
-    read_entry, read_void, roll_entry, void_rows,
+    EntryRow, Installation, InstallationRow, end_installation, entry_at, entry_rows, insert_entry,
+    insert_void, installation_at, installation_of, installation_rows, last_entry_rows,
+    last_installation, last_place, move_installation, range_of, read_entry, read_installation,
+    read_place, read_void, roll_entry, void_rows,
 };
 
 fn is_installed(found: &Option<Installation>, row: InstallationRow) -> bool {
@@ -79,5 +80,46 @@ fn rows_are_changed(rt: HostRuntime) -> Result<(), Fail> {
     let voids = void_rows(&mut conn, "m1")?;
     assert_eq!(rt; voids.len(), 1);
     assert_eq!(rt; sound(read_void(&voids[0]))?, 2);
+    Ok(())
+}
+
+/// The rows of the meter and of its last place.
+type Seen = (Vec<Row>, Vec<Row>);
+
+fn end_and_see(tx: &mut Transaction<'_, MemStore>) -> Result<Seen, Error> {
+    let third = EntryRow {
+        place: 3,
+        moment: 2800,
+        ..READING
+    };
+    insert_entry(tx, "m1", third)?;
+    end_installation(tx, "m1")?;
+    Ok((installation_rows(tx, "m1")?, last_entry_rows(tx, "m1")?))
+}
+
+fn see_inside(conn: &mut Connection<MemStore>) -> Result<Seen, Error> {
+    if !conn.is_autocommit() {
+        return Err(Error::InvalidQuery);
+    }
+    let mut tx = conn.transaction();
+    let seen = end_and_see(&mut tx)?;
+    tx.rollback();
+    Ok(seen)
+}
+
+#[test]
+fn a_transaction_sees_its_own_writes(rt: HostRuntime) -> Result<(), Fail> {
+    let mut conn = one_meter(rt.alloc())?;
+    let (installed, last) = see_inside(&mut conn)?;
+    assert_eq!(rt; installed.len(), 1);
+    assert_eq!(rt; last.len(), 1);
+    let found = Some(sound(read_installation(&installed[0]))?);
+    let ended = InstallationRow {
+        is_ended: true,
+        ..INSTALLED
+    };
+    assert!(rt; is_installed(&found, ended));
+    assert_eq!(rt; sound(read_place(&last[0]))?, 3);
+    assert_eq!(rt; sound(last_place(&mut conn, "m1"))?, Some(2));
     Ok(())
 }

@@ -1,8 +1,5 @@
-use Rattle.std.proofs.Common.{[], ◌∷◌}
-use Rattle.sqlite.specs.declared.types.Value.TheVariants.{Text}
 use Rattle.sqlite.specs.Held.{state}
 use Rattle.store_tables.proofs.StepLemmas.{steps}
-use Rattle.store_meters.specs.Rows.{Entered}
 use Rattle.store_meters.proofs.Texts as text
 use Rattle.store_meters.proofs.Writes as writes
 use Rattle.store_meters.proofs.entries.roll_entry.Goals as goal

@@ -1,11 +1,10 @@
-use Rattle.std.proofs.Common.{sym, ◌∙◌, ap, slice_get, Ok}
+use Rattle.std.proofs.Common.{sym, ◌∙◌, ap, slice_get}
 use Rattle.std.specs.Option.{option_copied}
 use Rattle.store_tables.specs.Answer.{AnyOrder}
 use Rattle.store_tables.proofs.Selects.{found_none, found_some}
 use Rattle.store_tables.proofs.LookUps.{looked_none, looked_some, looked_fault}
 use Rattle.store_meters.specs.Rows.{IsInstalled, IsSoundInstalled, installed_columns, installed_shown, is_meter}
 use Rattle.store_meters.specs.Trees.{installations}
-use Rattle.store_meters.proofs.ReadRows as reading
 use Rattle.store_meters.proofs.installations.installation_of.Goals as goal
 
 pub returns-in-None-clause-finds : goal.returns-in-None-clause-finds

@@ -1,5 +1,3 @@
-use Rattle.std.proofs.Common.{[], ◌∷◌}
-use Rattle.sqlite.specs.declared.types.Value.TheVariants.{Text}
 use Rattle.sqlite.specs.Held.{state}
 use Rattle.store_tables.proofs.StepLemmas.{steps}
 use Rattle.store_meters.specs.Rows.{Ranged, ranged_columns}

@@ -1,4 +1,4 @@
-use Rattle.std.proofs.Common.{sym, ◌∙◌, ap, slice_get, Ok}
+use Rattle.std.proofs.Common.{sym, ◌∙◌, ap, slice_get}
 use Rattle.std.specs.Option.{option_copied}
 use Rattle.store_tables.specs.Answer.{AnyOrder}
 use Rattle.store_tables.proofs.Selects.{found_none, found_some}
