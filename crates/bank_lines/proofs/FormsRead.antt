@@ -8,15 +8,15 @@ use Rattle.mb_device.specs.declared.kinds.Kind.{Kind}
 use Rattle.mb_device.specs.declared.kinds.Kind.TheVariants as kind
 use Rattle.script_words.specs.Fields.{Field, Number, Of, Spell, Word, first_value, nothing_more}
 use Rattle.script_words.specs.Values.{number_of}
-use Rattle.bank_lines.specs.Forms.{CanBe, IsBankLine, IsPart, bank_form, kind_word, trick_form}
+use Rattle.bank_lines.specs.Forms.{IsBankLine, IsPart, bank_form, kind_word, trick_form}
 use Rattle.bank_lines.specs.Reading.{◌>>=◌, area_said, bank_said, cut_said, frame_said, kind_of, plain_of, set_said, three_said, trick_said, two_said}
 use Rattle.bank_lines.specs.Seen.{ReadsBank}
 use Rattle.bank_lines.specs.declared.bank.BankLine.{BankLine}
 use Rattle.bank_lines.specs.declared.bank.BankLine.TheVariants as line
 use Rattle.bank_lines.specs.declared.bank.GivenArea.{GivenArea}
 use Rattle.bank_lines.specs.declared.bank.GivenCell.{GivenCell}
-use Rattle.bank_lines.specs.declared.bank.GivenTrick.{GivenTrick}
-use Rattle.bank_lines.specs.declared.bank.GivenTrick.TheVariants as trick
+use Rattle.mb_device.specs.declared.trick.Trick.{Trick}
+use Rattle.mb_device.specs.declared.trick.Trick.TheVariants as trick
 
 same : {Y : Type 0} (x y : Y) → Some x ≡ Some y → x ≡ y
 same x y h = cc h
@@ -93,13 +93,13 @@ three_spelled (word ∷ words) v h =
     subst (λ (v : Kind × ℕ × ℕ). Spell (word ∷ words) (three_form v)) (same _ v two.2) (kind_is word k.0 k.1, two_form words two.0 two.1)
 
 -- the words of a trick
-abbrev IsTrick : List (List ℕ) → GivenTrick → Type 0
+abbrev IsTrick : List (List ℕ) → Trick → Type 0
 IsTrick words t = Spell words (trick_form t) × IsPart t
 
-abbrev IsWord : GivenTrick → List ℕ → Type 0
+abbrev IsWord : Trick → List ℕ → Type 0
 IsWord t word = IsTrick (word ∷ []) t
 
-plain_is : (word : List ℕ) (t : GivenTrick) → plain_of word ≡ Some t → IsWord t word
+plain_is : (word : List ℕ) (t : Trick) → plain_of word ≡ Some t → IsWord t word
 plain_is word t h =
     tested IsWord word (codes "drop") trick.Drop t _ ((refl, tt), tt)
     (tested IsWord word (codes "twice") trick.Twice t _ ((refl, tt), tt)
@@ -115,22 +115,22 @@ few n h = grind (arith, common_steps)
 as_few : (n : ℕ) → n ≤ 259 → nat_le n 259 ≡ true
 as_few n h = grind (arith, common_steps)
 
-cut_form : (words : List (List ℕ)) (t : GivenTrick) → cut_said words ≡ Some t → IsTrick (codes "cut" ∷ words) t
+cut_form : (words : List (List ℕ)) (t : Trick) → cut_said words ≡ Some t → IsTrick (codes "cut" ∷ words) t
 cut_form words t h =
     let count = bound (first_value Number words) _ t h in
     let none = bound (nothing_more count.0.1) _ t count.2 in
     elim (chosen (nat_le count.0.0 259) (Some (trick.Cut count.0.0)) None t none.2) [
       | inl here ↦
-          subst (λ (t : GivenTrick). IsTrick (codes "cut" ∷ words) t) (same (trick.Cut count.0.0) t here.1)
+          subst (λ (t : Trick). IsTrick (codes "cut" ∷ words) t) (same (trick.Cut count.0.0) t here.1)
           ((refl, number_spelled words count.0 [] count.1 (nothing_spelled count.0.1 none.0 none.1)), few count.0.0 here.0)
       | inr gone ↦ cc gone
     ]
 
-alone : (word : List ℕ) (words : List (List ℕ)) (none : Unit {0}) (t : GivenTrick) → nothing_more words ≡ Some none → IsWord t word → IsTrick (word ∷ words) t
+alone : (word : List ℕ) (words : List (List ℕ)) (none : Unit {0}) (t : Trick) → nothing_more words ≡ Some none → IsWord t word → IsTrick (word ∷ words) t
 alone word [] none t h is = is
 alone word (more ∷ words) none t h is = cc h
 
-trick_is : (words : List (List ℕ)) (t : GivenTrick) → trick_said words ≡ Some t → IsTrick words t
+trick_is : (words : List (List ℕ)) (t : Trick) → trick_said words ≡ Some t → IsTrick words t
 trick_is [] t h = cc h
 trick_is (word ∷ words) t h =
     elim (chosen (bytes_eq word (codes "cut")) (cut_said words) _ t h) [
@@ -138,7 +138,7 @@ trick_is (word ∷ words) t h =
       | inr there ↦
           let plain = bound (plain_of word) _ t there in
           let none = bound (nothing_more words) _ t plain.2 in
-          alone word words none.0 t none.1 (subst (λ (t : GivenTrick). IsWord t word) (same plain.0 t none.2) (plain_is word plain.0 plain.1))
+          alone word words none.0 t none.1 (subst (λ (t : Trick). IsWord t word) (same plain.0 t none.2) (plain_is word plain.0 plain.1))
     ]
 
 area_form : (words : List (List ℕ)) (said : BankLine) → area_said words ≡ Some said → IsBankLine (codes "area" ∷ words) said
@@ -193,7 +193,7 @@ three_read (w0 ∷ w1 ∷ []) v h = cc h.1.1.0
 three_read (w0 ∷ w1 ∷ w2 ∷ []) v h = rw (h.0, kind_known v.0, h.1.0, h.1.1.0) refl
 three_read (w0 ∷ w1 ∷ w2 ∷ more ∷ rest) v h = absurd h.1.1.1
 
-trick_read : (words : List (List ℕ)) (t : GivenTrick) → Spell words (trick_form t) → IsPart t → trick_said words ≡ Some t
+trick_read : (words : List (List ℕ)) (t : Trick) → Spell words (trick_form t) → IsPart t → trick_said words ≡ Some t
 trick_read [] trick.Drop h can = absurd h.0
 trick_read (w0 ∷ []) trick.Drop h can = rw h.0 refl
 trick_read (w0 ∷ more ∷ rest) trick.Drop h can = absurd h.1
@@ -225,7 +225,7 @@ set_read : (words : List (List ℕ)) (c : GivenCell) → Spell words (bank_form 
 set_read [] c h = absurd h.0
 set_read (word ∷ words) c h = rw (h.0, three_read words (c.kind, c.address, c.value) h.1) refl
 
-frame_read : (words : List (List ℕ)) (frame : ℕ) (t : GivenTrick) → Spell words (bank_form (line.Trick frame t)) → IsPart t
+frame_read : (words : List (List ℕ)) (frame : ℕ) (t : Trick) → Spell words (bank_form (line.Trick frame t)) → IsPart t
     → bank_said words ≡ Some (line.Trick frame t)
 frame_read [] frame t h can = absurd h.0
 frame_read (word ∷ []) frame t h can = cc h.1.0

@@ -5,8 +5,8 @@ use Rattle.mb_device.specs.declared.kinds.Kind.TheVariants as kind
 use Rattle.script_words.specs.Fields.{Field, Number, Of, Spell, Word}
 use Rattle.bank_lines.specs.declared.bank.BankLine.{BankLine}
 use Rattle.bank_lines.specs.declared.bank.BankLine.TheVariants as line
-use Rattle.bank_lines.specs.declared.bank.GivenTrick.{GivenTrick}
-use Rattle.bank_lines.specs.declared.bank.GivenTrick.TheVariants as trick
+use Rattle.mb_device.specs.declared.trick.Trick.{Trick}
+use Rattle.mb_device.specs.declared.trick.Trick.TheVariants as trick
 
 abbrev pub kind_word : Kind → List ℕ
 kind_word kind.Coil = codes "coil"
@@ -14,7 +14,7 @@ kind_word kind.Discrete = codes "discrete"
 kind_word kind.Holding = codes "holding"
 kind_word kind.Input = codes "input"
 
-abbrev pub trick_form : GivenTrick → List Field
+abbrev pub trick_form : Trick → List Field
 trick_form trick.Drop = Word (codes "drop") ∷ []
 trick_form trick.Twice = Word (codes "twice") ∷ []
 trick_form trick.Later = Word (codes "later") ∷ []
@@ -29,7 +29,7 @@ bank_form (line.Set cell) = Word (codes "set") ∷ Word (kind_word cell.kind) �
 bank_form (line.Trick frame trick) = Word (codes "trick") ∷ Of Number frame ∷ trick_form trick
 
 -- a part of a frame, which has at most 260 bytes
-abbrev pub IsPart : GivenTrick → Type 0
+abbrev pub IsPart : Trick → Type 0
 IsPart (trick.Cut count) = count ≤ 259
 IsPart trick = Unit {0}
 

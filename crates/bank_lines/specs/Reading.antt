@@ -1,13 +1,13 @@
 -- What the private readers of a line answer, word by word. What a line is stands in `Forms`.
-use Rattle.std.specs.Prelude.{ℕ, nat_le, if◌then◌else◌, List, [], ◌∷◌, Option, Some, None, codes, option_map}
+use Rattle.std.specs.Prelude.{ℕ, nat_le, if◌then◌else◌, List, [], ◌∷◌, Option, Some, None, codes}
 use Rattle.std.specs.Str.{bytes_eq}
 use Rattle.mb_device.specs.declared.kinds.Kind.{Kind}
 use Rattle.mb_device.specs.declared.kinds.Kind.TheVariants as kind
 use Rattle.script_words.specs.Fields.{Number, first_value, nothing_more}
 use Rattle.bank_lines.specs.declared.bank.BankLine.{BankLine}
 use Rattle.bank_lines.specs.declared.bank.BankLine.TheVariants as line
-use Rattle.bank_lines.specs.declared.bank.GivenTrick.{GivenTrick}
-use Rattle.bank_lines.specs.declared.bank.GivenTrick.TheVariants as trick
+use Rattle.mb_device.specs.declared.trick.Trick.{Trick}
+use Rattle.mb_device.specs.declared.trick.Trick.TheVariants as trick
 
 -- goes on with a value, where there is one
 infixl 10 ◌>>=◌
@@ -33,7 +33,7 @@ abbrev pub three_said : List (List ℕ) → Option (Kind × ℕ × ℕ)
 three_said [] = None
 three_said (word ∷ words) = kind_of word >>= λ kind. two_said words >>= λ two. Some (kind, two.0, two.1)
 
-abbrev pub plain_of : List ℕ → Option GivenTrick
+abbrev pub plain_of : List ℕ → Option Trick
 plain_of word =
     if bytes_eq word (codes "drop") then Some trick.Drop
     else if bytes_eq word (codes "twice") then Some trick.Twice
@@ -43,11 +43,11 @@ plain_of word =
     else if bytes_eq word (codes "garble") then Some trick.Garble
     else None
 
-abbrev pub cut_said : List (List ℕ) → Option GivenTrick
+abbrev pub cut_said : List (List ℕ) → Option Trick
 cut_said words =
     first_value Number words >>= λ count. nothing_more count.1 >>= λ none. if nat_le count.0 259 then Some (trick.Cut count.0) else None
 
-abbrev pub trick_said : List (List ℕ) → Option GivenTrick
+abbrev pub trick_said : List (List ℕ) → Option Trick
 trick_said [] = None
 trick_said (word ∷ words) =
     if bytes_eq word (codes "cut") then cut_said words

@@ -4,4 +4,4 @@
 mod bank;
 mod reading;
 
-pub use bank::{BankLine, GivenArea, GivenCell, GivenTrick};
+pub use bank::{BankLine, GivenArea, GivenCell};

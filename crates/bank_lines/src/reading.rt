@@ -3,8 +3,8 @@ ghost use Rattle.std.specs.Prelude.{◌≡◌};
 ghost use Rattle.bank_lines.specs.Reading as said;
 ghost use Rattle.script_words.specs.Words.{words_of};
 
-use crate::bank::{BankLine, GivenArea, GivenCell, GivenTrick};
-use mb_device::Kind;
+use crate::bank::{BankLine, GivenArea, GivenCell};
+use mb_device::{Kind, Trick};
 use script_words::{Words, next_number, nothing_more};
 
 /// The most bytes of a frame that are a part of one.
@@ -62,7 +62,7 @@ fn frame(words: &mut Words<'_>) -> Option<BankLine>
     ensures { result ≡ said.frame_said words.old }
 {
     let frame = next_number(words)?;
-    let trick = trick(words)?;
+    let trick = trick_in(words)?;
     Some(BankLine::Trick { frame, trick })
 }
 
@@ -99,7 +99,7 @@ fn kind_of(word: &[u8]) -> Option<Kind>
     }
 }
 
-fn trick(words: &mut Words<'_>) -> Option<GivenTrick>
+fn trick_in(words: &mut Words<'_>) -> Option<Trick>
     ensures { result ≡ said.trick_said words.old }
 {
     let word = words.next_word()?;
@@ -112,33 +112,33 @@ fn trick(words: &mut Words<'_>) -> Option<GivenTrick>
 }
 
 // `K`, 0 to 259.
-fn cut(words: &mut Words<'_>) -> Option<GivenTrick>
+fn cut(words: &mut Words<'_>) -> Option<Trick>
     ensures { result ≡ said.cut_said words.old }
 {
     let count = next_number(words)?;
     nothing_more(words)?;
     if count <= MOST_CUT {
-        Some(GivenTrick::Cut(count))
+        Some(Trick::Cut(count as u16))
     } else {
         None
     }
 }
 
-fn plain_of(word: &[u8]) -> Option<GivenTrick>
+fn plain_of(word: &[u8]) -> Option<Trick>
     ensures { result ≡ said.plain_of word.now }
 {
     if word == b"drop".as_slice() {
-        Some(GivenTrick::Drop)
+        Some(Trick::Drop)
     } else if word == b"twice".as_slice() {
-        Some(GivenTrick::Twice)
+        Some(Trick::Twice)
     } else if word == b"later".as_slice() {
-        Some(GivenTrick::Later)
+        Some(Trick::Later)
     } else if word == b"id".as_slice() {
-        Some(GivenTrick::Id)
+        Some(Trick::Id)
     } else if word == b"unit".as_slice() {
-        Some(GivenTrick::Unit)
+        Some(Trick::Unit)
     } else if word == b"garble".as_slice() {
-        Some(GivenTrick::Garble)
+        Some(Trick::Garble)
     } else {
         None
     }

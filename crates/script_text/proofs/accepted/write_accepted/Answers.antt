@@ -1,4 +1,4 @@
-use Rattle.std.proofs.Common.{◌++◌, append_assoc, refl, sym}
+use Rattle.std.proofs.Common.{refl}
 use Rattle.std.specs.List.{flat_map}
 use Rattle.script_text.specs.AnswerText.{answer_line, note_line}
 use Rattle.script_text.proofs.Got.{got_both, got_first}

@@ -1,4 +1,4 @@
-use Rattle.std.proofs.Common.{◌++◌, append_assoc, refl, sym}
+use Rattle.std.proofs.Common.{◌++◌, append_assoc, sym}
 use Rattle.std.specs.Prelude.{codes}
 use Rattle.hex.specs.Hex.{encode_lower}
 use Rattle.script_text.proofs.Got.{got_both, got_first}

@@ -1,5 +1,5 @@
 //! Lines that are commands.
-use crate::reading::says;
+use crate::reading::{command, line};
 use office_events::{
     AddDevice, AddRegister, Close, Command, Exchange, GivenScale, Install, Manual, Name, Rescale,
     Reset, StartRound, VoidEntry,
@@ -21,10 +21,11 @@ fn reads_devices(rt: HostRuntime) -> Result<(), Fail> {
         timeout: MOST,
         window: 7,
     };
-    assert!(rt;
-        says(rt.alloc(), text, &Command::AddDevice(wanted))?,
-        "{text}"
-    );
+    let said = line(rt.alloc(), text.as_bytes())?;
+    let Some(Command::AddDevice(given)) = command(&said) else {
+        return Err("another line".into());
+    };
+    assert!(rt; *given == wanted, "{text}");
     Ok(())
 }
 
@@ -48,10 +49,11 @@ fn reads_registers(rt: HostRuntime) -> Result<(), Fail> {
             address: 40094,
             scale: *scale,
         };
-        assert!(rt;
-            says(rt.alloc(), text, &Command::AddRegister(wanted))?,
-            "{text}"
-        );
+        let said = line(rt.alloc(), text.as_bytes())?;
+        let Some(Command::AddRegister(given)) = command(&said) else {
+            return Err("another line".into());
+        };
+        assert!(rt; *given == wanted, "{text}");
     }
     Ok(())
 }
@@ -74,10 +76,11 @@ fn reads_installs(rt: HostRuntime) -> Result<(), Fail> {
             ceiling: 100_000,
             range: *range,
         };
-        assert!(rt;
-            says(rt.alloc(), text, &Command::Install(wanted))?,
-            "{text}"
-        );
+        let said = line(rt.alloc(), text.as_bytes())?;
+        let Some(Command::Install(given)) = command(&said) else {
+            return Err("another line".into());
+        };
+        assert!(rt; *given == wanted, "{text}");
     }
     Ok(())
 }
@@ -100,10 +103,11 @@ fn reads_exchanges(rt: HostRuntime) -> Result<(), Fail> {
             ceiling: 100_000,
             range: *range,
         };
-        assert!(rt;
-            says(rt.alloc(), text, &Command::Exchange(wanted))?,
-            "{text}"
-        );
+        let said = line(rt.alloc(), text.as_bytes())?;
+        let Some(Command::Exchange(given)) = command(&said) else {
+            return Err("another line".into());
+        };
+        assert!(rt; *given == wanted, "{text}");
     }
     Ok(())
 }
@@ -116,7 +120,11 @@ fn reads_resets(rt: HostRuntime) -> Result<(), Fail> {
         before: 5200,
         after: 7,
     };
-    assert!(rt; says(rt.alloc(), text, &Command::Reset(wanted))?, "{text}");
+    let said = line(rt.alloc(), text.as_bytes())?;
+    let Some(Command::Reset(given)) = command(&said) else {
+        return Err("another line".into());
+    };
+    assert!(rt; *given == wanted, "{text}");
     Ok(())
 }
 
@@ -129,10 +137,11 @@ fn reads_rescales(rt: HostRuntime) -> Result<(), Fail> {
         after: 520,
         sf: 1,
     };
-    assert!(rt;
-        says(rt.alloc(), text, &Command::Rescale(wanted))?,
-        "{text}"
-    );
+    let said = line(rt.alloc(), text.as_bytes())?;
+    let Some(Command::Rescale(given)) = command(&said) else {
+        return Err("another line".into());
+    };
+    assert!(rt; *given == wanted, "{text}");
     Ok(())
 }
 
@@ -150,7 +159,11 @@ fn reads_readings_by_hand(rt: HostRuntime) -> Result<(), Fail> {
             rolls: 1,
             at: *at,
         };
-        assert!(rt; says(rt.alloc(), text, &Command::Manual(wanted))?, "{text}");
+        let said = line(rt.alloc(), text.as_bytes())?;
+        let Some(Command::Manual(given)) = command(&said) else {
+            return Err("another line".into());
+        };
+        assert!(rt; *given == wanted, "{text}");
     }
     Ok(())
 }
@@ -163,7 +176,11 @@ fn reads_closings(rt: HostRuntime) -> Result<(), Fail> {
         raw: 5300,
         rolls: 2,
     };
-    assert!(rt; says(rt.alloc(), text, &Command::Close(wanted))?, "{text}");
+    let said = line(rt.alloc(), text.as_bytes())?;
+    let Some(Command::Close(given)) = command(&said) else {
+        return Err("another line".into());
+    };
+    assert!(rt; *given == wanted, "{text}");
     Ok(())
 }
 
@@ -174,7 +191,11 @@ fn reads_voids(rt: HostRuntime) -> Result<(), Fail> {
         meter: named(b"m1"),
         place: 2,
     };
-    assert!(rt; says(rt.alloc(), text, &Command::Void(wanted))?, "{text}");
+    let said = line(rt.alloc(), text.as_bytes())?;
+    let Some(Command::Void(given)) = command(&said) else {
+        return Err("another line".into());
+    };
+    assert!(rt; *given == wanted, "{text}");
     Ok(())
 }
 
@@ -185,10 +206,11 @@ fn reads_rounds(rt: HostRuntime) -> Result<(), Fail> {
         device: named(b"inv"),
         from: 0,
     };
-    assert!(rt;
-        says(rt.alloc(), text, &Command::StartRound(wanted))?,
-        "{text}"
-    );
+    let said = line(rt.alloc(), text.as_bytes())?;
+    let Some(Command::StartRound(given)) = command(&said) else {
+        return Err("another line".into());
+    };
+    assert!(rt; *given == wanted, "{text}");
     Ok(())
 }
 
@@ -207,7 +229,11 @@ fn words_may_be_no_names(rt: HostRuntime) -> Result<(), Fail> {
             meter: None,
             place: 2,
         };
-        assert!(rt; says(rt.alloc(), text, &Command::Void(wanted))?, "{text}");
+        let said = line(rt.alloc(), text.as_bytes())?;
+        let Some(Command::Void(given)) = command(&said) else {
+            return Err("another line".into());
+        };
+        assert!(rt; *given == wanted, "{text}");
     }
     Ok(())
 }
