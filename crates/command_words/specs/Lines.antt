@@ -1,5 +1,5 @@
 -- The command that the words spell.
-use Rattle.std.specs.Prelude.{ℕ, Bool, List, Option, Some, None, codes, map, option_map, if◌then◌else◌}
+use Rattle.std.specs.Prelude.{ℕ, Bool, List, Option, Some, None, codes, map, if◌then◌else◌}
 use Rattle.std.specs.Str.{bytes_eq}
 use Rattle.clap.specs.Words.{Row, Text}
 use Rattle.word_values.specs.Devices.{Place, devices_in, place_of}
