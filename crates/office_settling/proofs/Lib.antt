@@ -1,0 +1,10 @@
+pub mod Words
+pub mod Told
+pub mod Reading
+pub mod Overlays
+pub mod Growing
+pub mod Turning
+pub mod SettledLines
+pub mod Moments
+pub mod Happened
+pub mod Moving

@@ -1,0 +1,114 @@
+-- How the books move by an event.
+use Rattle.std.proofs.Common.{◌≡◌, ◌⊎◌, ℕ, List, [], ◌∷◌, ◌++◌, refl, sym, ap, subst, inl, inr, ◌∙◌, Result, Ok, Err}
+use Rattle.std.specs.Prelude.{OnOk, OnErr}
+use Rattle.std.specs.Result.{IsErrAnd}
+use Rattle.std.specs.declared.alloc.Global.{Global}
+use Rattle.std.specs.declared.vec.Vec.{Vec}
+use Rattle.office_events.specs.declared.answers.Note.{Note}
+use Rattle.office_events.specs.declared.events.Event.{Event}
+use Rattle.office_rules.specs.History.{History, Fed, facts_of}
+use Rattle.office_lines.specs.declared.lines.Line.{Line}
+use Rattle.office_settling.specs.Events.{Settles}
+use Rattle.std.proofs.lemmas.Result.{on_ok_weaker, on_err_weaker}
+use Rattle.office_events.specs.declared.facts.Fact.{Fact}
+use Rattle.office_rules.specs.Lawful.{AreLawful}
+use Rattle.office_books.specs.declared.faults.BooksFault.{BooksFault}
+use Rattle.office_books.specs.Faults.{faults_after}
+use Rattle.office_books.specs.Ledgers.{Ledger, GoesOn, OnlyReads, Books, Moves, with_facts}
+
+-- all facts are booked, or none
+pub moves_booked : (old new : Ledger) (facts held : List Fact) (result : Result (Unit {0}) BooksFault) → Books old new facts result
+    → AreLawful (with_facts facts held) → Moves old new held (with_facts facts held) result
+moves_booked old new facts held result books lawful = record {
+  holds = λ h clean. books.booked held h lawful;
+  refused = λ h. books.refused held h;
+  settled = λ left h clean l. on_ok_weaker result (λ x. inl x) (books.settled held h lawful);
+  under_way = λ left h clean l. on_err_weaker result (λ x. inr x) (books.under_way held left h lawful l);
+  goes = books.goes;
+}
+
+-- there are none to book
+pub moves_nothing : (old : Ledger) (facts held : List Fact) → facts ≡ [] → Moves {T = Unit {0}} old old held (with_facts facts held) (Ok tt)
+moves_nothing old facts held none =
+    let same : with_facts facts held ≡ held = ap (λ fs. with_facts fs held) none in
+    record {
+      holds = λ h clean. subst old.holds (sym same) h;
+      refused = λ h. tt;
+      settled = λ left h clean l. inr (same, l);
+      under_way = λ left h clean l. tt;
+      goes = record { clean = λ clean. clean; faults = refl; zone = refl };
+    }
+
+-- What the books hold behind the facts of an event, and that these are lawful.
+abbrev pub Leads : Ledger → (clean : Type 0) → (facts held later : List Fact) → Type 0
+Leads old clean facts held later = old.holds held → clean → (with_facts facts held ≡ later) × AreLawful (with_facts facts held)
+
+-- Books that were only read before they move ..
+pub moves_after : {T U : Type 0} (old mid new : Ledger) (facts held later : List Fact) (x : T) (r : Result U BooksFault)
+    → OnlyReads old mid (Ok x) → Leads old mid.is_clean facts held later
+    → (AreLawful (with_facts facts held) → Moves mid new held (with_facts facts held) r)
+    → (mid.holds held → OnErr r (new.holds held)) → GoesOn mid new r → Moves old new held later r
+moves_after old mid new facts held later x r reads leads moves refused goes = record {
+  holds = λ h clean.
+      let there = leads h (goes.clean clean) in
+      subst (λ fs. OnOk r (new.holds fs)) there.0 ((moves there.1).holds (reads.keeps.facts held h) clean);
+  refused = λ h. refused (reads.keeps.facts held h);
+  settled = λ left h clean l.
+      let there = leads h (goes.clean clean) in
+      subst (λ fs. OnOk r (new.may_leave (fs ∷ []) ⊎ ((fs ≡ held) × new.may_leave left))) there.0
+      ((moves there.1).settled left (reads.keeps.facts held h) clean (reads.keeps.left left l));
+  under_way = λ left h clean l.
+      let there = leads h (goes.clean clean) in
+      subst (λ fs. OnErr r (new.may_leave left ⊎ new.may_leave (left ++ fs ∷ []))) there.0
+      ((moves there.1).under_way left (reads.keeps.facts held h) clean (reads.keeps.left left l));
+  goes = record {
+    clean = λ clean. reads.goes.clean (goes.clean clean);
+    faults = goes.faults ∙ ap (faults_after r) reads.goes.faults;
+    zone = goes.zone ∙ reads.goes.zone;
+  };
+}
+
+-- .. or where they could not be read
+pub moves_unread : {T : Type 0} (old new : Ledger) (held later : List Fact) (fault : BooksFault) → OnlyReads {T = T} old new (Err fault)
+    → Moves {T = T} old new held later (Err fault)
+moves_unread old new held later fault reads = record {
+  holds = λ h clean. tt;
+  refused = λ h. reads.keeps.facts held h;
+  settled = λ left h clean l. tt;
+  under_way = λ left h clean l. inl (reads.keeps.left left l);
+  goes = record { clean = reads.goes.clean; faults = reads.goes.faults; zone = reads.goes.zone };
+}
+
+-- the same at another type
+pub moves_as : {T U : Type 0} (old new : Ledger) (held later : List Fact) (x : T) (y : U) → Moves {T = T} old new held later (Ok x)
+    → Moves {T = U} old new held later (Ok y)
+moves_as old new held later x y moves = record {
+  holds = moves.holds;
+  refused = moves.refused;
+  settled = moves.settled;
+  under_way = moves.under_way;
+  goes = record { clean = moves.goes.clean; faults = moves.goes.faults; zone = moves.goes.zone };
+}
+
+failed_as : {T U : Type 0} (old new : Ledger) (held later : List Fact) (fault : BooksFault) → Moves {T = T} old new held later (Err fault)
+    → Moves {T = U} old new held later (Err fault)
+failed_as old new held later fault moves = record {
+  holds = moves.holds;
+  refused = moves.refused;
+  settled = moves.settled;
+  under_way = moves.under_way;
+  goes = record { clean = moves.goes.clean; faults = moves.goes.faults; zone = moves.goes.zone };
+}
+
+-- An event that fails settles nothing that is told.
+pub settles_not : {T : Type 0} (past : History) (at : ℕ) (e : Event) (old new : Ledger) (after : List Line) (fault : BooksFault)
+    (r : Result (Vec Note Global) BooksFault) → Moves {T = T} old new (facts_of past) (facts_of (Fed at e ∷ past)) (Err fault)
+    → IsErrAnd r (λ f. f ≡ fault) → Settles past at e old new after r
+settles_not past at e old new after fault (Ok notes) moves is = absurd is
+settles_not past at e old new after fault (Err f) moves is = record {
+  lines = tt;
+  books =
+      subst (λ g. Moves {T = Vec Note Global} old new (facts_of past) (facts_of (Fed at e ∷ past)) (Err g)) (sym is)
+      (failed_as old new (facts_of past) (facts_of (Fed at e ∷ past)) fault moves);
+  notes = λ h clean. tt;
+}

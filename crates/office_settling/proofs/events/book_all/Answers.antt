@@ -1,0 +1,5 @@
+use Rattle.office_settling.proofs.Moving.{moves_booked}
+use Rattle.office_settling.proofs.events.book_all.Goals as goal
+
+pub returns-clause-moves : goal.returns-clause-moves
+returns-clause-moves g c = λ held lawful. moves_booked _ _ c.args.facts.items held c.book.result c.book.ensures.books lawful

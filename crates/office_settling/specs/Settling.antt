@@ -1,0 +1,100 @@
+-- What an event of a device settles, session by session.
+use Rattle.std.specs.Prelude.{◌≡◌, ℕ, ◌≤◌, Bool, false, List, [], ◌∷◌, ◌++◌, Option, Some, None, Result, OnOk, if◌then◌else◌}
+use Rattle.poll_core.specs.Settling as session
+use Rattle.poll_core.specs.Standing.{State, Stands, last_moment}
+use Rattle.office_events.specs.declared.facts.Device.{Device}
+use Rattle.office_events.specs.declared.facts.Fact.{Fact}
+use Rattle.office_events.specs.declared.events.Event.{Event}
+use Rattle.office_events.specs.declared.events.Event.TheVariants as event
+use Rattle.office_rules.specs.Facts.{is_named}
+use Rattle.office_rules.specs.Sessions as sessions
+use Rattle.office_rules.specs.History.{with_outcomes, settled_by}
+use Rattle.office_rules.specs.Notes.{outcomes_notes}
+use Rattle.office_lines.specs.declared.lines.Line.{Line}
+use Rattle.office_lines.specs.Keeping.{KeepsLine}
+use Rattle.office_books.specs.declared.faults.BooksFault.{BooksFault}
+use Rattle.office_books.specs.Ledgers.{Ledger}
+use Rattle.office_settling.specs.declared.drafts.Draft.{Draft}
+use Rattle.office_settling.specs.Drafts.{Grows}
+
+-- the events that come from devices and their connections, and a tick
+abbrev pub IsSettling : Event → Type 0
+IsSettling (event.Connected given) = Unit {0}
+IsSettling (event.Bytes given piece) = Unit {0}
+IsSettling event.Tick = Unit {0}
+IsSettling (event.Gone given closing) = Unit {0}
+IsSettling (event.Command c) = ⊥
+IsSettling (event.Asked asked) = ⊥
+
+-- what such an event is on the session of a device, if it reaches it
+abbrev pub happening_on : (at : ℕ) → Event → Device → Option session.Event
+happening_on at (event.Bytes given piece) device =
+    if is_named given device.name then Some (session.Piece at piece) else None
+happening_on at event.Tick device = Some (session.Tick at)
+happening_on at (event.Gone given closing) device =
+    if is_named given device.name then Some (session.Close at closing) else None
+happening_on at _ device = None
+
+-- nothing on the present session is later than this moment
+abbrev pub IsBefore : ℕ → Option (List session.Event) → Type 0
+IsBefore at None = Unit {0}
+IsBefore at (Some events) = last_moment events ≤ at
+
+-- A line is kept, and an event that comes now may reach it.
+pub record MayReach (at : ℕ) (kept : Line) (line : sessions.Line) : Type 0 where
+  pub keeps : KeepsLine kept line
+  pub before : IsBefore at line.present
+
+abbrev pub MayReachAll : ℕ → List Line → List sessions.Line → Type 0
+MayReachAll at [] [] = Unit {0}
+MayReachAll at (k ∷ kept) (line ∷ lines) = MayReach at k line × MayReachAll at kept lines
+MayReachAll at _ _ = ⊥
+
+-- no poll of the session is settled by this, which isn't back
+pub record SettlesNothing (kept : State) (happening : session.Event) : Type 0 where
+  pub events : List session.Event
+  pub stands : Stands kept events
+  pub later : kept.last ≤ session.moment_of happening
+  pub nothing : session.outcomes_at kept.timeout events happening ≡ []
+
+-- what an event on the session settles is told to its end
+pub record Tells (holds : List Fact → Type 0) (clean : Type 0) (before after : State)
+    (happening : session.Event) (first last : Draft) : Type 0 where
+  pub timeout : after.timeout ≡ before.timeout
+  pub window : after.window ≡ before.window
+  pub stands : (events : List session.Event) → Stands before events
+      → Stands after (events ++ happening ∷ [])
+  pub told : (events : List session.Event) → Stands before events
+      → let at = session.moment_of happening in
+      let outcomes = session.outcomes_at before.timeout events happening in
+      Grows holds clean first last (with_outcomes at outcomes) (outcomes_notes at outcomes)
+
+-- ... where the call succeeds that brings it, and the event isn't back
+abbrev pub TellsAll : {T : Type 0} → (old new : Ledger) → (before after : State) → session.Event
+    → (first last : Draft) → Result T BooksFault → Type 0
+TellsAll old new before after happening first last result =
+    before.last ≤ session.moment_of happening
+    → OnOk result (Tells old.holds new.is_clean before after happening first last)
+
+-- The same of an event of the office, where it reaches the session; else nothing changes.
+abbrev pub TellsReached : {T : Type 0} → (old new : Ledger) → (before after : State)
+    → Option session.Event → (first last : Draft) → Result T BooksFault → Type 0
+TellsReached old new before after None first last result =
+    OnOk result ((after ≡ before) × (last ≡ first))
+TellsReached old new before after (Some happening) first last result =
+    TellsAll old new before after happening first last result
+
+abbrev pub ReachesQuietly : State → Option session.Event → Type 0
+ReachesQuietly kept None = Unit {0}
+ReachesQuietly kept (Some happening) = SettlesNothing kept happening
+
+-- the event reaches the session and ends it
+abbrev pub ends_session : Option session.Event → Bool
+ends_session None = false
+ends_session (Some happening) = sessions.is_close happening
+
+-- The event settles no poll of any of these.
+abbrev pub SettleNothing : (number at : ℕ) → Event → List sessions.Line → Type 0
+SettleNothing number at e [] = Unit {0}
+SettleNothing number at e (line ∷ lines) =
+    (settled_by number at e line ≡ []) × SettleNothing number at e lines

@@ -1,0 +1,12 @@
+//! What the events of devices settle: polls that end, and the readings of their replies, booked all at once.
+#![tactic(auto)]
+
+mod behind;
+mod drafts;
+mod events;
+mod lines;
+mod outcomes;
+mod readings;
+mod sessions;
+
+pub use events::settle_event;
