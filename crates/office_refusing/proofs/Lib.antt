@@ -1,0 +1,5 @@
+mod AtMeters
+mod Rooms
+mod Places
+mod OnVoids
+mod Asked

@@ -1,0 +1,36 @@
+-- Of what an office asks its books before it accepts an event, and what it then tells.
+use Rattle.office_events.specs.declared.commands.Command.{Command}
+use Rattle.office_events.specs.declared.commands.Command.TheVariants as command
+use Rattle.office_events.specs.declared.events.Event.{Event}
+use Rattle.office_events.specs.declared.events.Event.TheVariants as event
+use Rattle.office_events.specs.declared.refusals.Refusal.{Refusal}
+use Rattle.office_events.specs.declared.refusals.Refusal.TheVariants as refusal
+use Rattle.office_events.specs.declared.refusals.StoreCause.{StoreCause}
+use Rattle.office_events.specs.declared.refusals.StoreCause.TheVariants as store
+
+-- Whether a command is refused lies in the devices alone.
+abbrev pub IsOfDevices : Command → Type 0
+IsOfDevices (command.AddDevice c) = Unit {0}
+IsOfDevices (command.PutList c) = Unit {0}
+IsOfDevices _ = ⊥
+
+-- The books are not asked why such an event is refused.
+abbrev pub AsksNoBooks : Event → Type 0
+AsksNoBooks (event.Connected given) = Unit {0}
+AsksNoBooks (event.Bytes given piece) = Unit {0}
+AsksNoBooks event.Tick = Unit {0}
+AsksNoBooks (event.Gone given closing) = Unit {0}
+AsksNoBooks (event.Command c) = IsOfDevices c
+AsksNoBooks (event.Asked asked) = IsOfDevices asked.command
+
+-- A reason that lies in the event, and not in a failure: of the store's, that it can number no more polls.
+abbrev pub IsFull : StoreCause → Type 0
+IsFull store.Refused = Unit {0}
+IsFull _ = ⊥
+
+abbrev pub IsOfEvent : Refusal → Type 0
+IsOfEvent (refusal.Store why) = IsFull why
+IsOfEvent refusal.Memory = ⊥
+IsOfEvent refusal.Stopped = ⊥
+IsOfEvent refusal.Reused = ⊥
+IsOfEvent _ = Unit {0}

@@ -1,0 +1,40 @@
+-- The ranges in which the numbers of an event are that is not refused.
+use Rattle.std.specs.Prelude.{◌≡◌, ℕ, ◌≤◌, true, false, Option, Some, None, is_some}
+use Rattle.office_events.specs.declared.commands.Command.{Command}
+use Rattle.office_events.specs.declared.commands.Command.TheVariants as command
+use Rattle.office_events.specs.declared.events.Event.{Event}
+use Rattle.office_events.specs.declared.events.Event.TheVariants as event
+use Rattle.office_rules.specs.Facts.{moment_limit, request_limit}
+use Rattle.office_rules.specs.Sessions.{command_in}
+use Rattle.office_rules.specs.Refusals.{asks_bad_scale, asks_bad_field}
+
+-- what a command tells of a counter is what a counter of 32 bits can show
+abbrev pub FitsCounter : Command → Type 0
+FitsCounter (command.Exchange c) = c.last ≤ 4294967295
+FitsCounter (command.Reset c) = (c.before ≤ 4294967295) × (c.after ≤ 4294967295)
+FitsCounter (command.Rescale c) = (c.before ≤ 4294967295) × (c.after ≤ 4294967295)
+FitsCounter (command.Manual c) = c.raw ≤ 4294967295
+FitsCounter (command.Close c) = c.raw ≤ 4294967295
+FitsCounter _ = Unit {0}
+
+-- its scales, its other numbers, and what it tells of a counter
+pub record IsCommandInRange (at : ℕ) (c : Command) : Type 0 where
+  pub scale : asks_bad_scale c ≡ false
+  pub field : asks_bad_field at c ≡ false
+  pub counter : FitsCounter c
+
+abbrev pub AsksInRange : (at : ℕ) → Option Command → Type 0
+AsksInRange at None = Unit {0}
+AsksInRange at (Some c) = IsCommandInRange at c
+
+-- the caller of a request has a name, and its number is none too great
+abbrev pub IsRequestInRange : Event → Type 0
+IsRequestInRange (event.Asked asked) = (is_some asked.caller ≡ true) × (asked.number ≤ request_limit)
+IsRequestInRange _ = Unit {0}
+
+-- The moment of an event isn't before that of the latest accepted one, nor past the limit, and all its numbers are in their ranges.
+pub record IsInRange (latest at : ℕ) (e : Event) : Type 0 where
+  pub not_back : latest ≤ at
+  pub moment : at ≤ moment_limit
+  pub command : AsksInRange at (command_in e)
+  pub request : IsRequestInRange e

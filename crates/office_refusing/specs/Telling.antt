@@ -1,0 +1,15 @@
+-- What is told of an event after what was accepted.
+use Rattle.std.specs.Prelude.{◌≡◌, ℕ, List, Option, Result, IfOk}
+use Rattle.office_events.specs.declared.events.Event.{Event}
+use Rattle.office_events.specs.declared.refusals.Refusal.{Refusal}
+use Rattle.office_rules.specs.History.{History, facts_of, lines_of, latest_of}
+use Rattle.office_rules.specs.Refusals.{refusal_of}
+use Rattle.office_lines.specs.declared.lines.Line.{Line}
+use Rattle.office_lines.specs.Keeping.{KeepsLines}
+use Rattle.office_books.specs.declared.faults.BooksFault.{BooksFault}
+use Rattle.office_books.specs.Ledgers.{Ledger}
+
+-- It is why the event is refused after whatever was accepted, if that left these lines and facts.
+abbrev pub TellsWhy : (old new : Ledger) → List Line → (latest at : ℕ) → Event → Result (Option Refusal) BooksFault → Type 0
+TellsWhy old new kept latest at e result = (past : History) → latest ≡ latest_of past → KeepsLines kept (lines_of past)
+    → old.holds (facts_of past) → new.is_clean → IfOk result (λ r. r ≡ refusal_of past at e)

@@ -1,0 +1,46 @@
+//! Why a command is refused.
+ghost use Rattle.std.specs.Prelude.{◌≡◌, IfOk, IsOk};
+ghost use Rattle.office_books.specs.Ledgers.{Finds, OnlyReads};
+ghost use Rattle.office_refusing.specs.Asking.{IsOfDevices};
+ghost use Rattle.office_refusing.specs.Reasons.{IsWhyAmong, Befits};
+
+use crate::arrivals::Arrival;
+use crate::corrections::{close, manual, rescale, reset};
+use crate::devices::{add_device, put_list};
+use crate::exchanges::exchange;
+use crate::installs::install;
+use crate::registers::add_register;
+use crate::starts::{start_poll, start_round};
+use crate::voids::void_entry;
+use office_books::{Books, BooksFault};
+use office_events::{Command, Refusal};
+use office_lines::Line;
+
+/// Why a command is refused that comes so.
+pub fn refusal_of_command<B: Books>(
+    books: &mut B,
+    lines: &[Line],
+    arrival: &Arrival,
+    asked: &Command,
+) -> Result<Option<Refusal>, BooksFault>
+    ensures found { Finds (B.ledger books.old) (B.ledger books.new) result
+        (IsWhyAmong lines.now arrival.now asked.now) }
+    ensures reads { OnlyReads (B.ledger books.old) (B.ledger books.new) result }
+    ensures befits { IfOk result (Befits arrival.now asked.now) }
+    ensures quiet { IsOfDevices asked.now → (books.new ≡ books.old) × IsOk result }
+{
+    match asked {
+        Command::AddDevice(c) => Ok(add_device(lines, arrival, c)),
+        Command::PutList(c) => Ok(put_list(lines, arrival, c)),
+        Command::AddRegister(c) => add_register(books, lines, arrival, c),
+        Command::Install(c) => install(books, arrival, c),
+        Command::Exchange(c) => exchange(books, arrival, c),
+        Command::Reset(c) => reset(books, arrival, c),
+        Command::Rescale(c) => rescale(books, arrival, c),
+        Command::Manual(c) => manual(books, arrival, c),
+        Command::Close(c) => close(books, arrival, c),
+        Command::Void(c) => void_entry(books, arrival, c),
+        Command::StartPoll(c) => start_poll(books, lines, arrival, c),
+        Command::StartRound(c) => start_round(books, lines, arrival, c),
+    }
+}

@@ -1,0 +1,43 @@
+//! The latest meter at a register.
+ghost use Rattle.std.specs.Prelude.{◌≡◌, is_some};
+ghost use Rattle.std.specs.Option.{option_and_then};
+ghost use Rattle.office_rules.specs.Meters.{installation_at, if_open, open_at};
+ghost use Rattle.office_books.specs.Ledgers.{Finds, OnlyReads};
+ghost use Rattle.office_books.specs.Sound.{ReadsInstallation};
+
+use office_books::{Books, BooksFault};
+use office_events::{Installation, Name};
+
+/// The latest meter at the register of a name.
+pub fn meter_at<B: Books>(
+    books: &mut B,
+    given: &Option<Name>,
+) -> Result<Option<Installation>, BooksFault>
+    ensures found { Finds (B.ledger books.old) (B.ledger books.new) result
+        (λ held row. row ≡ option_and_then (installation_at held) given.now) }
+    ensures reads { ReadsInstallation (B.ledger books.old) (B.ledger books.new) result }
+{
+    match given {
+        None => Ok(None),
+        Some(register) => books.installation(register),
+    }
+}
+
+/// Whether a meter is open.
+fn is_open(row: &Option<Installation>) -> bool
+    ensures { result ≡ is_some (option_and_then if_open row.now) }
+{
+    match row {
+        None => false,
+        Some(row) => !row.ended,
+    }
+}
+
+/// Whether a meter is open at the register of a name.
+pub fn has_open_meter<B: Books>(books: &mut B, given: &Option<Name>) -> Result<bool, BooksFault>
+    ensures found { Finds (B.ledger books.old) (B.ledger books.new) result
+        (λ held b. b ≡ is_some (option_and_then (open_at held) given.now)) }
+    ensures reads { OnlyReads (B.ledger books.old) (B.ledger books.new) result }
+{
+    Ok(is_open(&meter_at(books, given)?))
+}

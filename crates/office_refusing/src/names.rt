@@ -1,0 +1,32 @@
+//! What the books have under a name that was handed in.
+ghost use Rattle.std.specs.Prelude.{◌≡◌, is_some};
+ghost use Rattle.std.specs.Option.{option_and_then};
+ghost use Rattle.office_rules.specs.Facts.{register_of, opening_of};
+ghost use Rattle.office_books.specs.Ledgers.{Finds, OnlyReads};
+
+use office_books::{Books, BooksFault};
+use office_events::Name;
+
+/// Whether a register has the name.
+pub fn has_register<B: Books>(books: &mut B, given: &Option<Name>) -> Result<bool, BooksFault>
+    ensures found { Finds (B.ledger books.old) (B.ledger books.new) result
+        (λ held b. b ≡ is_some (option_and_then (register_of held) given.now)) }
+    ensures reads { OnlyReads (B.ledger books.old) (B.ledger books.new) result }
+{
+    match given {
+        None => Ok(false),
+        Some(name) => Ok(books.register(name)?.is_some()),
+    }
+}
+
+/// Whether a meter has the name.
+pub fn has_meter<B: Books>(books: &mut B, given: &Option<Name>) -> Result<bool, BooksFault>
+    ensures found { Finds (B.ledger books.old) (B.ledger books.new) result
+        (λ held b. b ≡ is_some (option_and_then (opening_of held) given.now)) }
+    ensures reads { OnlyReads (B.ledger books.old) (B.ledger books.new) result }
+{
+    match given {
+        None => Ok(false),
+        Some(name) => Ok(books.meter(name)?.is_some()),
+    }
+}

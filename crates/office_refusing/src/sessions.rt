@@ -1,0 +1,26 @@
+//! Why an event of a device is refused.
+ghost use Rattle.std.specs.Prelude.{◌≡◌};
+ghost use Rattle.office_refusing.specs.Reasons.{session_refusal};
+
+use crate::arrivals::Arrival;
+use office_events::Refusal;
+
+/// Why an event of a device is refused that comes so: whether its device is unknown, and whether the device is connected where
+/// it should not be, or is not where it should.
+pub fn refusal_of_session(arrival: &Arrival, is_unknown: bool, is_busy: bool) -> Option<Refusal>
+    ensures { result ≡ session_refusal arrival.now is_unknown is_busy }
+{
+    if is_unknown {
+        return Some(Refusal::NotFound);
+    }
+    if arrival.is_back {
+        return Some(Refusal::ClockBack);
+    }
+    if is_busy {
+        return Some(Refusal::Busy);
+    }
+    if arrival.is_beyond {
+        return Some(Refusal::Limit);
+    }
+    None
+}

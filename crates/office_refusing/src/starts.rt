@@ -1,0 +1,135 @@
+//! Why polls are not started.
+ghost use Rattle.std.specs.Prelude.{◌≡◌, ◌+◌, List, Option, Some, IfOk, length, nat_lt};
+ghost use Rattle.std.specs.Option.{option_and_then};
+ghost use Rattle.poll_core.specs.Settling as session;
+ghost use Rattle.office_events.specs.declared.commands.Command.TheVariants as command;
+ghost use Rattle.office_events.specs.declared.facts.Device.{Device};
+ghost use Rattle.office_rules.specs.Facts.{list_of, polls_in, poll_limit};
+ghost use Rattle.office_rules.specs.Sessions as sessions;
+ghost use Rattle.office_rules.specs.History.{round_spans};
+ghost use Rattle.office_lines.specs.Keeping.{KeepsLines, KeepsPresent};
+ghost use Rattle.office_books.specs.Ledgers.{Finds, OnlyReads};
+ghost use Rattle.office_refusing.specs.Reasons.{IsWhyAmong, Befits};
+ghost use Rattle.office_refusing.specs.Rounds.{HasRoom, HasRoomOn};
+
+use crate::arrivals::Arrival;
+use office_books::{Books, BooksFault};
+use office_events::{Name, PlannedList, Refusal, StartPoll, StartRound, StoreCause};
+use office_lines::{Line, has_device, place_of};
+use poll_core::Session;
+
+/// How many polls can be started in a row on a session.
+fn session_room(kept: &Option<Session>) -> u64
+    ensures { (device : Device) (present : Option (List session.Event)) → KeepsPresent device kept.now present
+        → HasRoomOn device present result }
+{
+    match kept {
+        None => 0,
+        Some(session) => session.ready().count as u64,
+    }
+}
+
+/// How many polls can be started in a row on the session of a device.
+fn room(lines: &[Line], given: &Option<Name>) -> u64
+    ensures { (kept : List sessions.Line) → KeepsLines lines.now kept → HasRoom kept given.now result }
+{
+    match place_of(lines, given) {
+        None => 0,
+        Some(place) => session_room(&lines[place].session),
+    }
+}
+
+/// How many reads a plan has from the one of a number on.
+fn reads_left(list: &PlannedList, from: u64) -> u64
+    ensures { result ≡ length (round_spans from (Some list.now)) }
+{
+    (list.reads().len() as u64).saturating_sub(from)
+}
+
+/// The point list of the device of a name.
+fn list_at<B: Books>(books: &mut B, given: &Option<Name>) -> Result<Option<PlannedList>, BooksFault>
+    ensures found { Finds (B.ledger books.old) (B.ledger books.new) result
+        (λ held list. list ≡ option_and_then (list_of held) given.now) }
+    ensures reads { OnlyReads (B.ledger books.old) (B.ledger books.new) result }
+{
+    match given {
+        None => Ok(None),
+        Some(device) => books.list(device),
+    }
+}
+
+/// Whether so many polls more would be numbered past the greatest number.
+fn is_past_numbers<B: Books>(books: &mut B, more: u64) -> Result<bool, BooksFault>
+    ensures found { Finds (B.ledger books.old) (B.ledger books.new) result
+        (λ held b. b ≡ nat_lt poll_limit (length (polls_in held) + more)) }
+    ensures reads { OnlyReads (B.ledger books.old) (B.ledger books.new) result }
+{
+    let count = books.poll_count()?;
+    Ok(4_611_686_018_427_387_904 < u128::from(count) + u128::from(more))
+}
+
+/// Why a poll is not started.
+pub fn start_poll<B: Books>(
+    books: &mut B,
+    lines: &[Line],
+    arrival: &Arrival,
+    start: &StartPoll,
+) -> Result<Option<Refusal>, BooksFault>
+    ensures found { Finds (B.ledger books.old) (B.ledger books.new) result
+        (IsWhyAmong lines.now arrival.now (command.StartPoll start.now)) }
+    ensures reads { OnlyReads (B.ledger books.old) (B.ledger books.new) result }
+    ensures befits { IfOk result (Befits arrival.now (command.StartPoll start.now)) }
+{
+    if !has_device(lines, &start.device) {
+        return Ok(Some(Refusal::NotFound));
+    }
+    if arrival.is_back {
+        return Ok(Some(Refusal::ClockBack));
+    }
+    let room = room(lines, &start.device);
+    if room == 0 {
+        return Ok(Some(Refusal::Busy));
+    }
+    if arrival.is_beyond {
+        return Ok(Some(Refusal::Limit));
+    }
+    if is_past_numbers(books, room.min(1))? {
+        return Ok(Some(Refusal::Store(StoreCause::Refused)));
+    }
+    Ok(None)
+}
+
+/// Why a round is not started.
+pub fn start_round<B: Books>(
+    books: &mut B,
+    lines: &[Line],
+    arrival: &Arrival,
+    start: &StartRound,
+) -> Result<Option<Refusal>, BooksFault>
+    ensures found { Finds (B.ledger books.old) (B.ledger books.new) result
+        (IsWhyAmong lines.now arrival.now (command.StartRound start.now)) }
+    ensures reads { OnlyReads (B.ledger books.old) (B.ledger books.new) result }
+    ensures befits { IfOk result (Befits arrival.now (command.StartRound start.now)) }
+{
+    if !has_device(lines, &start.device) {
+        return Ok(Some(Refusal::NotFound));
+    }
+    let Some(list) = list_at(books, &start.device)? else {
+        return Ok(Some(Refusal::NotFound));
+    };
+    if arrival.is_back {
+        return Ok(Some(Refusal::ClockBack));
+    }
+    let room = room(lines, &start.device);
+    if room == 0 {
+        return Ok(Some(Refusal::Busy));
+    }
+    let left = reads_left(&list, start.from);
+    if arrival.is_beyond || left == 0 {
+        return Ok(Some(Refusal::Limit));
+    }
+    if is_past_numbers(books, room.min(left))? {
+        return Ok(Some(Refusal::Store(StoreCause::Refused)));
+    }
+    Ok(None)
+}

@@ -1,0 +1,98 @@
+//! Text that is built up in room of its own.
+ghost use Rattle.std.specs.Prelude.{◌≡◌, ◌≤◌, ◌<◌, ◌+◌, ℕ, List, [], ◌++◌, length, replicate, take};
+ghost use Rattle.interval_core.specs.Report.{right};
+ghost use Rattle.jiff_fmt.specs.Text.{pad2};
+
+use itoa::{Buffer, Integer};
+use std::marker::Model;
+
+/// A text of at most 128 bytes: a line.
+#[derive(Clone, Drop)]
+pub struct Line {
+    room: [u8; 128],
+    filled: usize,
+}
+
+impl Model for Line {
+    ghost Value = { List ℕ };
+
+    ghost view = { λ line. take line.filled line.room };
+
+    ghost invariant = { λ line. line.filled ≤ 128 };
+}
+
+impl Line {
+    /// A text of no bytes.
+    pub fn new() -> Line
+        ensures { result ≡ [] }
+    {
+        Line {
+            room: [0; 128],
+            filled: 0,
+        }
+    }
+
+    /// Its bytes.
+    pub fn bytes(&self) -> &[u8]
+        ensures { result.now ≡ self.now }
+    {
+        &self.room[..self.filled]
+    }
+
+    /// Puts bytes at its end.
+    pub fn push(&mut self, bytes: &[u8])
+        requires { length self.old + length bytes.now ≤ 128 }
+        ensures bytes { self.new ≡ self.old ++ bytes.now }
+        ensures size { length self.new ≡ length self.old + length bytes.now }
+    {
+        let end = self.filled + bytes.len();
+        self.room[self.filled..end].copy_from_slice(bytes);
+        self.filled = end;
+    }
+
+    /// Puts a number at its end, behind what introduces it.
+    pub fn push_number<I: Integer>(&mut self, key: &[u8], number: I)
+        requires { length self.old + length key.now + I.MAX_STR_LEN ≤ 128 }
+        ensures bytes { self.new ≡ self.old ++ key.now ++ I.text number }
+        ensures size { length self.new ≤ length self.old + length key.now + I.MAX_STR_LEN }
+    {
+        self.push(key);
+        let mut buffer = Buffer::new();
+        self.push(buffer.format(number).as_bytes());
+    }
+
+    /// Puts a number at its end, with so many spaces before it that it takes the width, which is at most 24.
+    pub fn push_right<I: Integer>(&mut self, width: usize, number: I)
+        requires narrow { width ≤ 24 }
+        requires room { length self.old + width + I.MAX_STR_LEN ≤ 128 }
+        ensures bytes { self.new ≡ self.old ++ right width (I.text number) }
+        ensures size { length self.new ≤ length self.old + width + I.MAX_STR_LEN }
+    {
+        let mut buffer = Buffer::new();
+        let text = buffer.format(number).as_bytes();
+        if text.len() < width {
+            self.push_spaces(width - text.len());
+        }
+        self.push(text);
+    }
+
+    // Puts at most 24 spaces at its end.
+    fn push_spaces(&mut self, count: usize)
+        requires few { count ≤ 24 }
+        requires room { length self.old + count ≤ 128 }
+        ensures bytes { self.new ≡ self.old ++ replicate count 32 }
+        ensures size { length self.new ≡ length self.old + count }
+    {
+        self.push(&[b' '; 24][..count]);
+    }
+
+    /// Puts a number below 100 at its end, in two digits.
+    pub fn push_pair(&mut self, number: u8)
+        requires few { number < 100 }
+        requires room { length self.old + 2 ≤ 128 }
+        ensures bytes { self.new ≡ self.old ++ pad2 number }
+        ensures size { length self.new ≡ length self.old + 2 }
+    {
+        self.push(&[b'0' + number / 10, b'0' + number % 10]);
+    }
+}

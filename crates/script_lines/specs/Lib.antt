@@ -1,0 +1,4 @@
+pub mod Forms
+pub mod LineFaults
+pub mod Reading
+pub mod Seen

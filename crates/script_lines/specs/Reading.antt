@@ -1,0 +1,191 @@
+-- What the private readers of a line answer, word by word. What a line is stands in `Forms`.
+use Rattle.std.specs.Prelude.{◌≡◌, ◌<◌, ℕ, if◌then◌else◌, List, [], ◌∷◌, Option, Some, None, codes, length, option_map}
+use Rattle.std.specs.Str.{bytes_eq}
+use Rattle.office_events.specs.declared.commands.Command.TheVariants as command
+use Rattle.office_events.specs.declared.events.Event.TheVariants as event
+use Rattle.poll_core.specs.declared.outcome.Closing.TheVariants as closing
+use Rattle.script_words.specs.Fields.{Kind, AnyName, Number, Signed, Scale, Hex, Range, Moment, Value, first_value, nothing_more}
+use Rattle.script_lines.specs.Seen.{bytes_in}
+use Rattle.script_words.specs.Values.{number_of}
+use Rattle.script_lines.specs.declared.verbs.Verb.{Verb}
+use Rattle.script_lines.specs.declared.verbs.Verb.TheVariants as verb
+use Rattle.script_lines.specs.declared.verbs.Question.{Question}
+use Rattle.script_lines.specs.declared.verbs.Question.TheVariants as question
+use Rattle.script_lines.specs.declared.script.ScriptLine.{ScriptLine}
+use Rattle.script_lines.specs.declared.script.ScriptLine.TheVariants as line
+
+-- goes on with a value, where there is one
+infixl 10 ◌>>=◌
+abbrev pub ◌>>=◌ : {X Y : Type 0} → Option X → (X → Option Y) → Option Y
+None >>= goes_on = None
+Some x >>= goes_on = goes_on x
+
+-- a value of each kind
+abbrev pub Values : List Kind → Type 0
+Values [] = Unit {0}
+Values (kind ∷ kinds) = Value kind × Values kinds
+
+-- what is made of the values of all words
+abbrev pub made : {X : Type 0} (kinds : List Kind) → (Values kinds → X) → List (List ℕ) → Option X
+made [] make words = nothing_more words >>= λ none. Some (make none)
+made (kind ∷ kinds) make words = first_value kind words >>= λ first. made kinds (λ values. make (first.0, values)) first.1
+
+-- the words behind the word that says what happens
+abbrev pub kinds_of : Verb → List Kind
+kinds_of verb.Device = AnyName ∷ Number ∷ Number ∷ Number ∷ []
+kinds_of verb.List = AnyName ∷ Hex ∷ []
+kinds_of verb.Register = AnyName ∷ AnyName ∷ Number ∷ Number ∷ Scale ∷ []
+kinds_of verb.Install = AnyName ∷ AnyName ∷ Number ∷ Signed ∷ Number ∷ Range ∷ []
+kinds_of verb.Exchange = AnyName ∷ Number ∷ Number ∷ AnyName ∷ Number ∷ Signed ∷ Number ∷ Range ∷ []
+kinds_of verb.Reset = AnyName ∷ Number ∷ Number ∷ []
+kinds_of verb.Rescale = AnyName ∷ Number ∷ Number ∷ Signed ∷ []
+kinds_of verb.Manual = AnyName ∷ Number ∷ Number ∷ Moment ∷ []
+kinds_of verb.Close = AnyName ∷ Number ∷ Number ∷ []
+kinds_of verb.Void = AnyName ∷ Number ∷ []
+kinds_of verb.Connect = AnyName ∷ []
+kinds_of verb.Start = AnyName ∷ Number ∷ Number ∷ Number ∷ []
+kinds_of verb.Round = AnyName ∷ Number ∷ []
+kinds_of verb.Bytes = AnyName ∷ Hex ∷ []
+kinds_of verb.Tick = []
+kinds_of verb.Gone = AnyName ∷ []
+kinds_of verb.Failed = AnyName ∷ []
+
+-- the line that the words say
+abbrev pub line_of : (verb : Verb) → (at : ℕ) → Values (kinds_of verb) → ScriptLine
+line_of verb.Device at v = line.Event at (event.Command (command.AddDevice (record { name = v.0; unit = v.1.0; timeout = v.1.1.0; window = v.1.1.1.0 })))
+line_of verb.List at v = line.List at (record { device = v.0; text = v.1.0 })
+line_of verb.Register at v =
+    line.Event at (event.Command (command.AddRegister (record { name = v.0; device = v.1.0; function = v.1.1.0; address = v.1.1.1.0; scale = v.1.1.1.1.0 })))
+line_of verb.Install at v =
+    line.Event at (event.Command (command.Install
+    (record { register = v.0; meter = v.1.0; raw = v.1.1.0; sf = v.1.1.1.0; ceiling = v.1.1.1.1.0; range = v.1.1.1.1.1.0 })))
+line_of verb.Exchange at v =
+    line.Event at (event.Command (command.Exchange (record {
+      register = v.0;
+      last = v.1.0;
+      rolls = v.1.1.0;
+      meter = v.1.1.1.0;
+      raw = v.1.1.1.1.0;
+      sf = v.1.1.1.1.1.0;
+      ceiling = v.1.1.1.1.1.1.0;
+      range = v.1.1.1.1.1.1.1.0;
+    })))
+line_of verb.Reset at v = line.Event at (event.Command (command.Reset (record { register = v.0; before = v.1.0; after = v.1.1.0 })))
+line_of verb.Rescale at v = line.Event at (event.Command (command.Rescale (record { register = v.0; before = v.1.0; after = v.1.1.0; sf = v.1.1.1.0 })))
+line_of verb.Manual at v = line.Event at (event.Command (command.Manual (record { register = v.0; raw = v.1.0; rolls = v.1.1.0; at = v.1.1.1.0 })))
+line_of verb.Close at v = line.Event at (event.Command (command.Close (record { register = v.0; raw = v.1.0; rolls = v.1.1.0 })))
+line_of verb.Void at v = line.Event at (event.Command (command.Void (record { meter = v.0; place = v.1.0 })))
+line_of verb.Connect at v = line.Event at (event.Connected v.0)
+line_of verb.Start at v = line.Start at (record { device = v.0; function = v.1.0; address = v.1.1.0; count = v.1.1.1.0 })
+line_of verb.Round at v = line.Event at (event.Command (command.StartRound (record { device = v.0; from = v.1.0 })))
+line_of verb.Bytes at v = line.Event at (event.Bytes v.0 v.1.0)
+line_of verb.Tick at v = line.Event at event.Tick
+line_of verb.Gone at v = line.Event at (event.Gone v.0 closing.Gone)
+line_of verb.Failed at v = line.Event at (event.Gone v.0 closing.Failed)
+
+-- the line of a verb, where the words behind it say one
+abbrev pub said_by : Verb → (at : ℕ) → List (List ℕ) → Option ScriptLine
+said_by verb.Device at words = made (kinds_of verb.Device) (line_of verb.Device at) words
+said_by verb.List at words = made (kinds_of verb.List) (line_of verb.List at) words
+said_by verb.Register at words = made (kinds_of verb.Register) (line_of verb.Register at) words
+said_by verb.Install at words = made (kinds_of verb.Install) (line_of verb.Install at) words
+said_by verb.Exchange at words = made (kinds_of verb.Exchange) (line_of verb.Exchange at) words
+said_by verb.Reset at words = made (kinds_of verb.Reset) (line_of verb.Reset at) words
+said_by verb.Rescale at words = made (kinds_of verb.Rescale) (line_of verb.Rescale at) words
+said_by verb.Manual at words = made (kinds_of verb.Manual) (line_of verb.Manual at) words
+said_by verb.Close at words = made (kinds_of verb.Close) (line_of verb.Close at) words
+said_by verb.Void at words = made (kinds_of verb.Void) (line_of verb.Void at) words
+said_by verb.Connect at words = made (kinds_of verb.Connect) (line_of verb.Connect at) words
+said_by verb.Start at words = made (kinds_of verb.Start) (line_of verb.Start at) words
+said_by verb.Round at words = made (kinds_of verb.Round) (line_of verb.Round at) words
+said_by verb.Bytes at words = made (kinds_of verb.Bytes) (line_of verb.Bytes at) words
+said_by verb.Tick at words = made (kinds_of verb.Tick) (line_of verb.Tick at) words
+said_by verb.Gone at words = made (kinds_of verb.Gone) (line_of verb.Gone at) words
+said_by verb.Failed at words = made (kinds_of verb.Failed) (line_of verb.Failed at) words
+
+abbrev pub kinds_asked : Question → List Kind
+kinds_asked question.Meter = AnyName ∷ []
+kinds_asked question.Intervals = AnyName ∷ []
+kinds_asked question.Days = AnyName ∷ []
+kinds_asked question.Poll = Number ∷ []
+
+abbrev pub line_asked : (question : Question) → Values (kinds_asked question) → ScriptLine
+line_asked question.Meter v = line.Meter v.0
+line_asked question.Intervals v = line.Intervals v.0
+line_asked question.Days v = line.Days v.0
+line_asked question.Poll v = line.Poll v.0
+
+abbrev pub asked_by : Question → List (List ℕ) → Option ScriptLine
+asked_by question.Meter words = made (kinds_asked question.Meter) (line_asked question.Meter) words
+asked_by question.Intervals words = made (kinds_asked question.Intervals) (line_asked question.Intervals) words
+asked_by question.Days words = made (kinds_asked question.Days) (line_asked question.Days) words
+asked_by question.Poll words = made (kinds_asked question.Poll) (line_asked question.Poll) words
+
+-- one value, or the other where there is none
+abbrev pub first_of : {X : Type 0} → Option X → Option X → Option X
+first_of None other = other
+first_of (Some x) other = Some x
+
+abbrev pub early_verb : List ℕ → Option Verb
+early_verb word =
+    if bytes_eq word (codes "device") then Some verb.Device
+    else if bytes_eq word (codes "list") then Some verb.List
+    else if bytes_eq word (codes "register") then Some verb.Register
+    else if bytes_eq word (codes "install") then Some verb.Install
+    else if bytes_eq word (codes "exchange") then Some verb.Exchange
+    else if bytes_eq word (codes "reset") then Some verb.Reset
+    else None
+
+abbrev pub middle_verb : List ℕ → Option Verb
+middle_verb word =
+    if bytes_eq word (codes "rescale") then Some verb.Rescale
+    else if bytes_eq word (codes "manual") then Some verb.Manual
+    else if bytes_eq word (codes "close") then Some verb.Close
+    else if bytes_eq word (codes "void") then Some verb.Void
+    else if bytes_eq word (codes "connect") then Some verb.Connect
+    else if bytes_eq word (codes "start") then Some verb.Start
+    else None
+
+abbrev pub late_verb : List ℕ → Option Verb
+late_verb word =
+    if bytes_eq word (codes "round") then Some verb.Round
+    else if bytes_eq word (codes "bytes") then Some verb.Bytes
+    else if bytes_eq word (codes "tick") then Some verb.Tick
+    else if bytes_eq word (codes "gone") then Some verb.Gone
+    else if bytes_eq word (codes "failed") then Some verb.Failed
+    else None
+
+abbrev pub verb_of : List ℕ → Option Verb
+verb_of word = first_of (early_verb word) (first_of (middle_verb word) (late_verb word))
+
+abbrev pub question_of : List ℕ → Option Question
+question_of word =
+    if bytes_eq word (codes "meter") then Some question.Meter
+    else if bytes_eq word (codes "intervals") then Some question.Intervals
+    else if bytes_eq word (codes "days") then Some question.Days
+    else if bytes_eq word (codes "poll") then Some question.Poll
+    else None
+
+abbrev pub timed_said : ℕ → List (List ℕ) → Option ScriptLine
+timed_said at [] = None
+timed_said at (word ∷ words) = verb_of word >>= λ verb. said_by verb at words
+
+-- a line begins with a moment, or asks something
+abbrev pub said_from : Option ℕ → List ℕ → List (List ℕ) → Option ScriptLine
+said_from None word words = question_of word >>= λ question. asked_by question words
+said_from (Some at) word words = timed_said at words
+
+abbrev pub line_said : List (List ℕ) → Option ScriptLine
+line_said [] = None
+line_said (word ∷ words) = said_from (number_of word) word words
+
+-- a device and bytes, which may be missing
+abbrev pub device_bytes_said : List (List ℕ) → Option (Option (List ℕ) × List ℕ)
+device_bytes_said words = made (AnyName ∷ Hex ∷ []) (λ values. (values.0, values.1.0)) words
+
+abbrev pub SaysPiece : Option (Option (List ℕ) × List ℕ) → Type 0
+SaysPiece found = (device : Option (List ℕ)) × (piece : List ℕ) × (found ≡ Some (device, piece)) × (0 < length piece)
+
+-- a line was said that brings one byte or more
+abbrev pub SaysBytes : Option ScriptLine → Type 0
+SaysBytes found = (said : ScriptLine) × (found ≡ Some said) × (0 < length (bytes_in said))

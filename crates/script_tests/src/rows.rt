@@ -1,0 +1,102 @@
+//! The lines of interval and day rows.
+use interval_core::{Day, DayTotal, Share};
+use row_text::{Line, write_day, write_end, write_interval};
+use std::test::Fail;
+
+#[test]
+fn intervals_are_told(rt: HostRuntime) -> Result<(), Fail> {
+    let mut told = Vec::new(rt.alloc());
+    write_interval(
+        Share {
+            start: 900,
+            mwh: 177_777,
+        },
+        &mut told,
+    )?;
+    write_interval(
+        Share {
+            start: 1800,
+            mwh: 22_223,
+        },
+        &mut told,
+    )?;
+    write_end(2, &mut told)?;
+    assert_eq!(rt;
+        told.as_slice(),
+        b"900 177777\n1800 22223\nend 2\n".as_slice()
+    );
+    Ok(())
+}
+
+#[test]
+fn the_greatest_numbers_are_told(rt: HostRuntime) -> Result<(), Fail> {
+    let mut told = Vec::new(rt.alloc());
+    write_interval(
+        Share {
+            start: u64::MAX,
+            mwh: u64::MAX,
+        },
+        &mut told,
+    )?;
+    write_end(u64::MAX, &mut told)?;
+    let wanted = b"18446744073709551615 18446744073709551615\nend 18446744073709551615\n";
+    assert_eq!(rt; told.as_slice(), wanted.as_slice());
+    Ok(())
+}
+
+// A day has 92 intervals where the clocks go an hour forward.
+static DAYS: [(i16, i8, i8, u32, u128, &str); 4] = [
+    (
+        2024,
+        3,
+        31,
+        92,
+        920_000,
+        "2024-03-31  92                   920000\n",
+    ),
+    (
+        1970,
+        1,
+        1,
+        100,
+        0,
+        "1970-01-01 100                        0\n",
+    ),
+    (33, 12, 9, 1, 7, "0033-12-09   1                        7\n"),
+    (
+        -1,
+        1,
+        1,
+        1000,
+        u128::MAX,
+        "-000001-01-01 1000 340282366920938463463374607431768211455\n",
+    ),
+];
+
+#[test]
+fn days_are_told(rt: HostRuntime) -> Result<(), Fail> {
+    for (year, month, of_month, count, mwh, wanted) in &DAYS {
+        let day = Day::new(*year, *month, *of_month).ok().ok_or("no day")?;
+        let total = DayTotal {
+            day,
+            count: *count,
+            mwh: *mwh,
+        };
+        let mut told = Vec::new(rt.alloc());
+        write_day(&total, &mut told)?;
+        assert_eq!(rt; told.as_slice(), wanted.as_bytes());
+    }
+    Ok(())
+}
+
+#[test]
+fn a_line_is_built_up(rt: HostRuntime) -> Result<(), Fail> {
+    let mut line = Line::new();
+    line.push(b"a");
+    line.push_number(b" ", 7u8);
+    line.push_right(4, -12i16);
+    line.push_pair(5);
+    let copy = line.clone()?;
+    assert_eq!(rt; copy.bytes(), b"a 7 -1205".as_slice());
+    Ok(())
+}

@@ -1,0 +1,14 @@
+//! The texts that a script prints. Each call writes its text whole, or a beginning of it where the writer fails. No call
+//! takes memory.
+#![tactic(auto)]
+
+mod accepted;
+mod lines;
+mod notes;
+mod parts;
+
+pub use accepted::{write_accepted, write_answer, write_notes};
+pub use lines::{
+    write_bad_line, write_faults, write_meter, write_poll, write_refusal, write_too_long,
+};
+pub use notes::write_note;

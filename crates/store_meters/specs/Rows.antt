@@ -1,0 +1,258 @@
+-- Rows of the tables, their columns, and the ranges of their values.
+use Rattle.std.specs.Prelude.{◌≡◌, ℕ, ℤ, pos, ◌≤◌, ◌<◌, ◌^◌, List, [], ◌∷◌, IsTrue, Bool, bytes_eq, ◌&&◌, ◌==◌, Option, Some, None, if◌then◌else◌, Result, Ok, Err, true, false, IsUtf8, string_bytes}
+use Rattle.std.specs.Option.{option_and_then}
+use Rattle.sqlite.specs.declared.types.Value.{Value}
+use Rattle.store_tables.specs.declared.faults.RowFault.{RowFault}
+use Rattle.sqlite.specs.declared.types.Value.TheVariants.{Null, Int, Text}
+use Rattle.sqlite.specs.Order.{Row, column}
+use Rattle.store_tables.specs.Columns.{is_within, whole_in, within, or_damaged, and_then}
+use Rattle.store_meters.specs.declared.rows.EntryRow.{EntryRow}
+use Rattle.store_meters.specs.declared.rows.LastRow.{LastRow}
+use Rattle.store_meters.specs.declared.rows.InstallationRow.{InstallationRow}
+use Rattle.store_meters.specs.declared.rows.Installation.{Installation}
+use Rattle.store_meters.specs.declared.rows.EntryKind.{EntryKind}
+use Rattle.store_meters.specs.declared.rows.EntryKind.TheVariants.{Opening, Reading, Manual, Closing, Reset, Rescale}
+
+-- the greatest place, and the latest moment of the books, in seconds since 1970-01-01 UTC
+abbrev pub greatest_place : ℕ
+greatest_place = 4611686018427387904
+
+abbrev pub latest_moment : ℕ
+latest_moment = 4102444800
+
+abbrev pub kind_number : EntryKind → ℕ
+kind_number Opening = 1
+kind_number Reading = 2
+kind_number Manual = 3
+kind_number Closing = 4
+kind_number Reset = 5
+kind_number Rescale = 6
+
+abbrev pub kind_of : ℕ → Option EntryKind
+kind_of n =
+    if n == 1 then Some Opening else
+    if n == 2 then Some Reading else
+    if n == 3 then Some Manual else
+    if n == 4 then Some Closing else
+    if n == 5 then Some Reset else
+    if n == 6 then Some Rescale else None
+
+-- an entry of a meter
+pub record Entered : Type 0 where
+  pub meter : List ℕ
+  pub entry : EntryRow
+
+abbrev pub entry_columns : Entered → Row
+entry_columns e =
+    Text e.meter ∷ Int (pos e.entry.place) ∷ Int (pos (kind_number e.entry.kind)) ∷ Int (pos e.entry.moment)
+    ∷ Int (pos e.entry.raw) ∷ Int (pos e.entry.rolls) ∷ Int (pos e.entry.after) ∷ Int e.entry.sf ∷ []
+
+-- the entry of a meter at a place, one of a meter, and one with other rollovers
+abbrev pub is_entry : (meter : List ℕ) → (place : ℕ) → Entered → Bool
+is_entry meter place e = bytes_eq e.meter meter && (e.entry.place == place)
+
+abbrev pub is_of : (meter : List ℕ) → Entered → Bool
+is_of meter e = bytes_eq e.meter meter
+
+abbrev pub rolled : (rolls : ℕ) → Entered → Entered
+rolled rolls e = record e { entry = record e.entry { rolls = rolls } }
+
+pub record IsSoundEntry (e : EntryRow) : Type 0 where
+  pub place : (1 ≤ e.place) × (e.place ≤ greatest_place)
+  pub moment : e.moment ≤ latest_moment
+  pub raw : e.raw ≤ 4294967295
+  pub rolls : e.rolls ≤ 255
+  pub after : e.after ≤ 4294967295
+  pub sf : IsTrue (is_within 3 e.sf)
+
+-- what the queries show of an entry
+abbrev pub entry_shown : Entered → Row
+entry_shown e =
+    Int (pos e.entry.place) ∷ Int (pos (kind_number e.entry.kind)) ∷ Int (pos e.entry.moment) ∷ Int (pos e.entry.raw)
+    ∷ Int (pos e.entry.rolls) ∷ Int (pos e.entry.after) ∷ Int e.entry.sf ∷ []
+
+abbrev pub IsRow : Entered → EntryRow → Type 0
+IsRow e row = row ≡ e.entry
+
+abbrev pub IsSoundEntered : Entered → Type 0
+IsSoundEntered e = IsSoundEntry e.entry
+
+abbrev pub place_shown : Entered → Row
+place_shown e = Int (pos e.entry.place) ∷ []
+
+abbrev pub kind_in : Value → Option EntryKind
+kind_in v = option_and_then kind_of (whole_in 1 6 v)
+
+-- the entry that the columns of a row are, or damage
+abbrev pub entry_in : Row → Result EntryRow RowFault
+entry_in row =
+    and_then (or_damaged (whole_in 1 greatest_place (column row 0))) (λ place.
+    and_then (or_damaged (kind_in (column row 1))) (λ kind.
+    and_then (or_damaged (whole_in 0 latest_moment (column row 2))) (λ moment.
+    and_then (or_damaged (whole_in 0 4294967295 (column row 3))) (λ raw.
+    and_then (or_damaged (whole_in 0 255 (column row 4))) (λ rolls.
+    and_then (or_damaged (whole_in 0 4294967295 (column row 5))) (λ after.
+    and_then (or_damaged (within 3 (column row 6))) (λ sf.
+    Ok (record { place = place; kind = kind; moment = moment; raw = raw; rolls = rolls; after = after; sf = sf }))))))))
+
+-- ---- installations
+
+abbrev pub greatest_ceiling : ℕ
+greatest_ceiling = 1000000000
+
+abbrev pub greatest_total : ℕ
+greatest_total = 4000000000000000000
+
+abbrev pub ended_number : Bool → ℕ
+ended_number false = 0
+ended_number true = 1
+
+-- a meter at a register
+pub record Installed : Type 0 where
+  pub meter : List ℕ
+  pub register : List ℕ
+  pub row : InstallationRow
+
+abbrev pub installed_columns : Installed → Row
+installed_columns i =
+    Int (pos i.row.place) ∷ Null ∷ Text i.meter ∷ Text i.register ∷ Int (pos i.row.ceiling)
+    ∷ Int (pos (ended_number i.row.is_ended)) ∷ Int (pos i.row.last.moment) ∷ Int (pos i.row.last.raw)
+    ∷ Int i.row.last.sf ∷ Int (pos i.row.last.total) ∷ []
+
+-- what the queries show of it
+abbrev pub installed_shown : Installed → Row
+installed_shown i =
+    Int (pos i.row.place) ∷ Text i.meter ∷ Text i.register ∷ Int (pos i.row.ceiling)
+    ∷ Int (pos (ended_number i.row.is_ended)) ∷ Int (pos i.row.last.moment) ∷ Int (pos i.row.last.raw)
+    ∷ Int i.row.last.sf ∷ Int (pos i.row.last.total) ∷ []
+
+abbrev pub is_meter : (meter : List ℕ) → Installed → Bool
+is_meter meter i = bytes_eq i.meter meter
+
+abbrev pub is_at : (register : List ℕ) → Installed → Bool
+is_at register i = bytes_eq i.register register
+
+abbrev pub installed_place : Installed → ℕ
+installed_place i = i.row.place
+
+-- it stands there, and it has ended
+abbrev pub moved : LastRow → Installed → Installed
+moved last i = record i { row = record i.row { last = last } }
+
+abbrev pub ended : Installed → Installed
+ended i = record i { row = record i.row { is_ended = true } }
+
+pub record IsSoundLast (last : LastRow) : Type 0 where
+  pub moment : last.moment ≤ latest_moment
+  pub raw : last.raw ≤ 4294967295
+  pub sf : IsTrue (is_within 3 last.sf)
+  pub total : last.total ≤ greatest_total
+
+pub record IsSoundInstallation (row : InstallationRow) : Type 0 where
+  pub place : (1 ≤ row.place) × (row.place ≤ greatest_place)
+  pub ceiling : (1 ≤ row.ceiling) × (row.ceiling ≤ greatest_ceiling)
+  pub last : IsSoundLast row.last
+
+pub record IsSoundInstalled (i : Installed) : Type 0 where
+  pub row : IsSoundInstallation i.row
+  pub meter : IsUtf8 i.meter
+  pub register : IsUtf8 i.register
+
+pub record IsInstalled (i : Installed) (a : Installation) : Type 0 where
+  pub meter : string_bytes a.meter ≡ i.meter
+  pub register : string_bytes a.register ≡ i.register
+  pub row : a.row ≡ i.row
+
+-- a flag is 0 or 1
+abbrev pub flag_of : ℕ → Option Bool
+flag_of n = if n == 0 then Some false else if n == 1 then Some true else None
+
+abbrev pub flag_in : Value → Option Bool
+flag_in v = option_and_then flag_of (whole_in 0 1 v)
+
+abbrev pub last_in : Row → Result LastRow RowFault
+last_in row =
+    and_then (or_damaged (whole_in 0 latest_moment (column row 5))) (λ moment.
+    and_then (or_damaged (whole_in 0 4294967295 (column row 6))) (λ raw.
+    and_then (or_damaged (within 3 (column row 7))) (λ sf.
+    and_then (or_damaged (whole_in 0 greatest_total (column row 8))) (λ total.
+    Ok (record { moment = moment; raw = raw; sf = sf; total = total })))))
+
+abbrev pub installation_in : Row → Result InstallationRow RowFault
+installation_in row =
+    and_then (or_damaged (whole_in 1 greatest_place (column row 0))) (λ place.
+    and_then (or_damaged (whole_in 1 greatest_ceiling (column row 3))) (λ ceiling.
+    and_then (or_damaged (flag_in (column row 4))) (λ is_ended.
+    and_then (last_in row) (λ last.
+    Ok (record { place = place; ceiling = ceiling; is_ended = is_ended; last = last })))))
+
+-- ---- ranges
+
+-- how many counts the counter of a meter has
+pub record Ranged : Type 0 where
+  pub meter : List ℕ
+  pub range : ℕ
+
+abbrev pub ranged_columns : Ranged → Row
+ranged_columns r = Text r.meter ∷ Int (pos r.range) ∷ []
+
+abbrev pub range_shown : Ranged → Row
+range_shown r = Int (pos r.range) ∷ []
+
+abbrev pub is_range_of : (meter : List ℕ) → Ranged → Bool
+is_range_of meter r = bytes_eq r.meter meter
+
+abbrev pub IsRange : ℕ → Type 0
+IsRange range = (65536 ≤ range) × (range ≤ 4294967296)
+
+abbrev pub IsSoundRanged : Ranged → Type 0
+IsSoundRanged r = IsRange r.range
+
+abbrev pub HasRange : Ranged → ℕ → Type 0
+HasRange r range = range ≡ r.range
+
+-- ---- voids
+
+-- the entry of a meter at a place was voided at a moment
+pub record Voided : Type 0 where
+  pub meter : List ℕ
+  pub place : ℕ
+  pub moment : ℕ
+
+abbrev pub voided_columns : Voided → Row
+voided_columns v = Text v.meter ∷ Int (pos v.place) ∷ Int (pos v.moment) ∷ []
+
+abbrev pub voided_shown : Voided → Row
+voided_shown v = Int (pos v.place) ∷ []
+
+abbrev pub is_void_of : (meter : List ℕ) → Voided → Bool
+is_void_of meter v = bytes_eq v.meter meter
+
+abbrev pub voided_place : Voided → ℕ
+voided_place v = v.place
+
+abbrev pub IsPlace : ℕ → Type 0
+IsPlace place = (1 ≤ place) × (place ≤ greatest_place)
+
+abbrev pub IsSoundVoided : Voided → Type 0
+IsSoundVoided v = IsPlace v.place
+
+abbrev pub HasPlace : Voided → ℕ → Type 0
+HasPlace v place = place ≡ v.place
+
+-- ---- places of entries and installations
+
+abbrev pub entry_place : Entered → ℕ
+entry_place e = e.entry.place
+
+abbrev pub HasEntryPlace : Entered → ℕ → Type 0
+HasEntryPlace e place = place ≡ e.entry.place
+
+abbrev pub installed_place_shown : Installed → Row
+installed_place_shown i = Int (pos i.row.place) ∷ []
+
+abbrev pub HasInstalledPlace : Installed → ℕ → Type 0
+HasInstalledPlace i place = place ≡ i.row.place
+
+abbrev pub every : {X : Type 0} → X → Bool
+every x = true

@@ -1,0 +1,55 @@
+//! The table `ranges`.
+ghost use Rattle.std.specs.Prelude.{◌≡◌, IfOk, IfSome};
+ghost use Rattle.sqlite.specs.Held.{state};
+ghost use Rattle.store_tables.specs.Content.{Edits, with_row};
+ghost use Rattle.store_tables.specs.Steps.{Steps};
+ghost use Rattle.store_tables.specs.Answer.{IsFound, AnyOrder};
+ghost use Rattle.store_tables.specs.Asking.{Asks, Tells, ShowsFirst, LooksUp};
+ghost use Rattle.store_meters.specs.Rows.{ranged_columns, range_shown, is_range_of, HasRange, IsRange, IsSoundRanged};
+ghost use Rattle.store_meters.specs.Trees.{ranges};
+
+use sqlite::{Alter, Connection, Error, Row, Transaction, params};
+use store_tables::{RowFault, number, whole};
+
+/// Adds how many counts the counter of a meter has.
+pub fn insert_range<S: Alter>(
+    tx: &mut Transaction<'_, S>,
+    meter: &str,
+    range: u64,
+) -> Result<usize, Error>
+    requires sound { IsRange range }
+    ensures same_reference { tx.new.conn.ghost_name ≡ tx.old.conn.ghost_name }
+    ensures does { Steps (state S.Store tx.old.conn.now) (state S.Store tx.new.conn.now) result
+        (Edits ranges ranged_columns (with_row (record { meter = meter.now; range = range }))) }
+{
+    let range = number(range);
+    tx.execute(
+        "INSERT INTO ranges (meter, \"range\") VALUES (?1, ?2)",
+        params![meter, &range],
+    )
+}
+
+/// The row of a meter, if there is one.
+fn rows_of<S: Alter>(conn: &mut Connection<S>, meter: &str) -> Result<Vec<Row>, Error>
+    ensures asks { Asks S.Store conn.old conn.new }
+    ensures shows { Tells S.Store conn.old conn.new ranges ranged_columns result
+        (λ rows answer. ShowsFirst (is_range_of meter.now) AnyOrder range_shown rows answer.items) }
+{
+    conn.query_all(
+        "SELECT \"range\" FROM ranges WHERE meter = ?1 LIMIT 1",
+        params![meter],
+    )
+}
+
+/// How many counts the counter of a meter has.
+pub fn range_of<S: Alter>(conn: &mut Connection<S>, meter: &str) -> Result<Option<u64>, RowFault>
+    ensures finds { LooksUp S.Store conn.old conn.new ranges ranged_columns IsSoundRanged result
+        (IsFound (is_range_of meter.now) HasRange) }
+    ensures sound { IfOk result (λ found. IfSome found IsRange) }
+{
+    let rows = rows_of(conn, meter)?;
+    match rows.first() {
+        None => Ok(None),
+        Some(row) => Ok(Some(whole(row, 0, 65_536, 4_294_967_296)?)),
+    }
+}

@@ -1,0 +1,15 @@
+pub mod Permuted
+mod Fresh
+pub mod Frames
+pub mod Edits
+pub mod Laid
+pub mod Tables
+pub mod Inserts
+pub mod Scans
+pub mod Updates
+pub mod Selects
+mod Apart
+pub mod StepLemmas
+pub mod LookUps
+pub mod ReadLemmas
+mod Creates

@@ -1,0 +1,74 @@
+-- From the rows that a query shows to what a look-up answers.
+use Rattle.std.proofs.Common.{◌≡◌, ◌≢◌, ℕ, List, [], ◌∷◌, map, filter, take, slice_get, Bool, Option, Some, None, Ok, Err, Result, IfOk, IfErr, IsErrAnd, refl, sym, ap, subst, ◌∙◌, IsPermutation}
+use Rattle.std.specs.List.{AllByRecursion}
+use Rattle.std.proofs.lemmas.List.Sorted.{All-permutation}
+use Rattle.std.proofs.lemmas.List.Elements.{All-from_recursion, recursion_from_All}
+use Rattle.sqlite_keyed.proofs.ListLemmas.{all-filter}
+use Rattle.sqlite.specs.Order.{Row}
+use Rattle.sqlite.specs.declared.error.Error.{Error}
+use Rattle.sqlite.specs.Store.{Ghosts}
+use Rattle.sqlite.specs.Held.{Held, state}
+use Rattle.sqlite.specs.State.{HasCleanDisk}
+use Rattle.store_tables.specs.declared.faults.RowFault.{RowFault}
+use Rattle.store_tables.specs.declared.faults.RowFault.TheVariants.{Sql, Damaged}
+use Rattle.store_tables.specs.Content.{Content, AreTables, HasRows}
+use Rattle.store_tables.specs.Answer.{AreFound}
+use Rattle.store_tables.specs.Asking.{Asks, Tells, Shows, ShowsFirst, ReadsRow, LooksUp}
+
+module _ {S A X : Type 0} (g : Ghosts S) (old new : Held S) (tree : ℕ) (columns : X → Row) (IsSound : X → Type 0) (Answers : List X → A → Type 0) (asks : Asks g old new) where
+  -- the query failed
+  pub refused : (e : Error) → LooksUp g old new tree columns IsSound (Err (Sql e)) Answers
+  refused e = record { asks = asks; answer = λ clean held has rows of. tt; fault = λ clean held has rows of sound is. let f = is in cc }
+
+module _ {S A X : Type 0} (g : Ghosts S) (old new : Held S) (tree : ℕ) (columns : X → Row) (IsSound : X → Type 0) (asks : Asks g old new) (passes : X → Bool) (Later : X → X → Type 0) (shown : X → Row)
+    (items : List Row) (shows : Tells {E = Error} g old new tree columns (Ok items) (ShowsFirst passes Later shown)) (Answers : List X → Option A → Type 0) where
+  is_empty : (rows : List Row) → slice_get rows 0 ≡ None → rows ≡ []
+  is_empty [] e = refl
+  is_empty (r ∷ rows) e = absurd (let f = e in cc)
+
+  none_shown : (found : List X) → [] ≡ take 1 (map shown found) → slice_get found 0 ≡ None
+  none_shown [] e = refl
+  none_shown (x ∷ found) e = absurd (let f = e in cc)
+
+  some_shown : (row : Row) (found : List X) → slice_get items 0 ≡ Some row → items ≡ take 1 (map shown found) → (x : X) × (slice_get found 0 ≡ Some x) × (row ≡ shown x)
+  some_shown row [] is e = absurd (let f = sym is ∙ ap (λ rs. slice_get rs 0) e in cc)
+  some_shown row (x ∷ found) is e = (x, refl, (let f : Some row ≡ Some (shown x) = sym is ∙ ap (λ rs. slice_get rs 0) e in cc))
+
+  -- no row is shown
+  pub looked_none : slice_get items 0 ≡ None → ((xs found : List X) → AreFound passes Later xs found → slice_get found 0 ≡ None → Answers xs None) → LooksUp g old new tree columns IsSound (Ok None) Answers
+  looked_none is tells = record {
+    asks = asks;
+    answer = λ clean held has rows of. let it = shows clean held has rows of in tells rows it.0 it.1 (none_shown it.0 (sym (is_empty items is) ∙ it.2));
+    fault = λ clean held has rows of sound. tt;
+  }
+
+  -- the first row is read
+  pub looked_some : (IsSeen : X → A → Type 0) (row : Row) (a : A) → slice_get items 0 ≡ Some row → ReadsRow row shown IsSeen IsSound (Ok a)
+      → ((xs found : List X) (x : X) → AreFound passes Later xs found → slice_get found 0 ≡ Some x → IsSeen x a → Answers xs (Some a)) → LooksUp g old new tree columns IsSound (Ok (Some a)) Answers
+  looked_some IsSeen row a is reads tells = record {
+    asks = asks;
+    answer = λ clean held has rows of.
+        let it = shows clean held has rows of in
+        let one = some_shown row it.0 is it.2 in
+        tells rows it.0 one.0 it.1 one.1 (reads.read one.0 one.2);
+    fault = λ clean held has rows of sound. tt;
+  }
+
+  one_sound : (xs found : List X) (x : X) → AreFound passes Later xs found → AllByRecursion IsSound xs → slice_get found 0 ≡ Some x → IsSound x
+  one_sound xs [] x are sound is = absurd (let f = is in cc)
+  one_sound xs (y ∷ found) x are sound is =
+      let all = recursion_from_All IsSound (y ∷ found) (All-permutation IsSound _ _ are.all (All-from_recursion IsSound _ (all-filter IsSound passes xs sound))) in
+      let same : y ≡ x = cc in subst IsSound same all.0
+
+  -- the first row is not read
+  pub looked_fault : (IsSeen : X → A → Type 0) (row : Row) (e : RowFault) (r : Result (Option A) RowFault) → slice_get items 0 ≡ Some row → ReadsRow row shown IsSeen IsSound (Err e) → IsErrAnd r (λ d. d ≡ e)
+      → LooksUp g old new tree columns IsSound r Answers
+  looked_fault IsSeen row e (Ok a) is reads fails = absurd fails
+  looked_fault IsSeen row e (Err d) is reads fails = record {
+    asks = asks;
+    answer = λ clean held has rows of. tt;
+    fault = λ clean held has rows of sound.
+        let it = shows clean held has rows of in
+        let one = some_shown row it.0 is it.2 in
+        subst (λ f. f ≢ Damaged) (sym fails) (reads.fault one.0 one.2 (one_sound rows it.0 one.0 it.1 sound one.1));
+  }

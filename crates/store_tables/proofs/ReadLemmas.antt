@@ -1,0 +1,96 @@
+-- Reading a row column by column.
+use Rattle.std.proofs.Common.{◌≡◌, ◌≢◌, ◌≤◌, inl, inr, ℕ, ℤ, pos, nat_le, Bool, true, false, ◌&&◌, if◌then◌else◌, Option, Some, None, Ok, Err, Result, IfOk, IfErr, IsTrue, refl, sym, ap, subst, ◌∙◌}
+use Rattle.std.proofs.lemmas.Bool.{cases_Bool, le-leb, leb-true, and_parts}
+use Rattle.sqlite.specs.declared.types.Value.{Value}
+use Rattle.sqlite.specs.declared.types.Value.TheVariants.{Null, Int, Real, Text, Blob}
+use Rattle.sqlite.specs.Order.{Row}
+use Rattle.store_tables.specs.declared.faults.RowFault.{RowFault}
+use Rattle.store_tables.specs.declared.faults.RowFault.TheVariants.{Sql, Damaged}
+use Rattle.store_tables.specs.Columns.{whole_in, within, is_within, or_damaged, and_then}
+use Rattle.store_tables.specs.Asking.{ReadsRow}
+
+-- It reads as this, and is damaged only where it is unsound.
+pub record IsFair {A : Type 0} (Sound : Type 0) (Is : A → Type 0) (result : Result A RowFault) : Type 0 where
+  pub read : IfOk result Is
+  pub fault : Sound → IfErr result (λ e. e ≢ Damaged)
+
+module _ {A B : Type 0} (Sound : Type 0) (Is : B → Type 0) (next : A → Result B RowFault) where
+  tested : (b : Bool) (x : A) → (Sound → b ≡ true) → IsFair Sound Is (next x) → IsFair Sound Is (and_then (or_damaged (if b then Some x else None)) next)
+  tested true x sound rest = rest
+  tested false x sound rest = record { read = tt; fault = λ is e. absurd (let f = sound is in cc) }
+
+  -- a column that is read as it is
+  pub fair_some : (o : Option A) (x : A) → o ≡ Some x → IsFair Sound Is (next x) → IsFair Sound Is (and_then (or_damaged o) next)
+  fair_some o x is rest = rw is rest
+
+pub both : (a b : Bool) → a ≡ true → b ≡ true → a && b ≡ true
+both true b e f = f
+both false b e f = absurd (let g = e in cc)
+
+module _ {B : Type 0} (Sound : Type 0) (Is : B → Type 0) where
+  -- a whole number within its bounds, and a number within its bound
+  pub fair_whole : (next : ℕ → Result B RowFault) (low high n : ℕ) → (Sound → (low ≤ n) × (n ≤ high)) → IsFair Sound Is (next n) → IsFair Sound Is (and_then (or_damaged (whole_in low high (Int (pos n)))) next)
+  fair_whole next low high n sound rest = tested Sound Is next (nat_le low n && nat_le n high) n (λ is. both _ _ (le-leb low n (sound is).0) (le-leb n high (sound is).1)) rest
+
+  pub fair_within : (next : ℤ → Result B RowFault) (bound : ℕ) (n : ℤ) → (Sound → IsTrue (is_within bound n)) → IsFair Sound Is (next n) → IsFair Sound Is (and_then (or_damaged (within bound (Int n))) next)
+  fair_within next bound n sound rest = tested Sound Is next (is_within bound n) n sound rest
+
+  if_fair : (b : Bool) (x : B) → (Sound → b ≡ true) → Is x → IsFair Sound Is (or_damaged (if b then Some x else None))
+  if_fair true x sound is = record { read = is; fault = λ s. tt }
+  if_fair false x sound is = record { read = tt; fault = λ s e. absurd (let f = sound s in cc) }
+
+  -- a part of the row that is read by itself
+  pub fair_then : {A : Type 0} (Part : Type 0) (a : A) (first : Result A RowFault) (next : A → Result B RowFault) → (Sound → Part) → IsFair Part (λ x. x ≡ a) first → IsFair Sound Is (next a) → IsFair Sound Is (and_then first next)
+  fair_then Part a (Ok x) next part one rest = subst (λ y. IsFair Sound Is (next y)) (sym one.read) rest
+  fair_then Part a (Err e) next part one rest = record { read = tt; fault = λ s. one.fault (part s) }
+
+-- the last number of a row
+pub fair_last : (Sound : Type 0) (Is : ℕ → Type 0) (low high n : ℕ) → (Sound → (low ≤ n) × (n ≤ high)) → Is n → IsFair Sound Is (or_damaged (whole_in low high (Int (pos n))))
+fair_last Sound Is low high n sound is = if_fair Sound Is (nat_le low n && nat_le n high) n (λ s. both _ _ (le-leb low n (sound s).0) (le-leb n high (sound s).1)) is
+
+-- a part that was read
+pub then_read : {A B : Type 0} (first : Result A RowFault) (next : A → Result B RowFault) (b : B) → and_then first next ≡ Ok b → (a : A) × (first ≡ Ok a) × (next a ≡ Ok b)
+then_read (Ok a) next b e = (a, refl, e)
+then_read (Err f) next b e = absurd (let g = e in cc)
+
+-- ---- what was read is within its bounds
+
+-- a number that was read, and the rest of the row
+pub record HasRead {X B : Type 0} (o : Option X) (next : X → Result B RowFault) (b : B) : Type 0 where
+  pub value : X
+  pub is : o ≡ Some value
+  pub rest : next value ≡ Ok b
+
+pub has_read : {X B : Type 0} (o : Option X) (next : X → Result B RowFault) (b : B) → and_then (or_damaged o) next ≡ Ok b → HasRead o next b
+has_read (Some x) next b e = record { value = x; is = refl; rest = e }
+has_read None next b e = absurd (let f = e in cc)
+
+bounds_if : (low high n m : ℕ) (b : Bool) → nat_le low n && nat_le n high ≡ b → (if b then Some n else None) ≡ Some m → (low ≤ m) × (m ≤ high)
+bounds_if low high n m true is e =
+    let same : n ≡ m = cc in
+    let parts = and_parts (nat_le low n) (nat_le n high) is in
+    subst (λ k. (low ≤ k) × (k ≤ high)) same (leb-true low n parts.0, leb-true n high parts.1)
+bounds_if low high n m false is e = absurd (let f = e in cc)
+
+pub whole_bounds : (low high : ℕ) (v : Value) (n : ℕ) → whole_in low high v ≡ Some n → (low ≤ n) × (n ≤ high)
+whole_bounds low high (Int (pos k)) n e = bounds_if low high k n _ refl e
+whole_bounds low high (Int (Rattle.std.proofs.Common.negsuc k)) n e = absurd (let f = e in cc)
+whole_bounds low high Null n e = absurd (let f = e in cc)
+whole_bounds low high (Real x) n e = absurd (let f = e in cc)
+whole_bounds low high (Text t) n e = absurd (let f = e in cc)
+whole_bounds low high (Blob b) n e = absurd (let f = e in cc)
+
+within_if : (bound : ℕ) (n m : ℤ) (b : Bool) → is_within bound n ≡ b → (if b then Some n else None) ≡ Some m → IsTrue (is_within bound m)
+within_if bound n m true is e = let same : n ≡ m = cc in subst (λ k. IsTrue (is_within bound k)) same is
+within_if bound n m false is e = absurd (let f = e in cc)
+
+pub within_bounds : (bound : ℕ) (v : Value) (n : ℤ) → within bound v ≡ Some n → IsTrue (is_within bound n)
+within_bounds bound (Int k) n e = within_if bound k n _ refl e
+within_bounds bound Null n e = absurd (let f = e in cc)
+within_bounds bound (Real x) n e = absurd (let f = e in cc)
+within_bounds bound (Text t) n e = absurd (let f = e in cc)
+within_bounds bound (Blob b) n e = absurd (let f = e in cc)
+
+pub reads_row : {A X : Type 0} (row : Row) (shown : X → Row) (IsSeen : X → A → Type 0) (IsSound : X → Type 0) (result : Result A RowFault) → ((x : X) → row ≡ shown x → IsFair (IsSound x) (IsSeen x) result)
+    → ReadsRow row shown IsSeen IsSound result
+reads_row row shown IsSeen IsSound result fair = record { read = λ x is. (fair x is).read; fault = λ x is. (fair x is).fault }

@@ -1,0 +1,37 @@
+-- A value of a row as a number or a text within its bounds.
+use Rattle.std.specs.Prelude.{ℕ, suc, ℤ, pos, negsuc, Bool, nat_le, ◌&&◌, if◌then◌else◌, Option, Some, None, Result, Ok, Err}
+use Rattle.sqlite.specs.declared.types.Value.{Value}
+use Rattle.sqlite.specs.declared.types.Value.TheVariants.{Null, Int, Real, Text, Blob}
+use Rattle.store_tables.specs.declared.faults.RowFault.{RowFault}
+use Rattle.store_tables.specs.declared.faults.RowFault.TheVariants.{Damaged}
+
+-- a whole number from low to high
+abbrev pub whole_in : (low high : ℕ) → Value → Option ℕ
+whole_in low high (Int (pos n)) = if nat_le low n && nat_le n high then Some n else None
+whole_in low high (Int (negsuc n)) = None
+whole_in low high Null = None
+whole_in low high (Real x) = None
+whole_in low high (Text t) = None
+whole_in low high (Blob b) = None
+
+-- from -bound to bound
+abbrev pub is_within : (bound : ℕ) → ℤ → Bool
+is_within bound (pos n) = nat_le n bound
+is_within bound (negsuc n) = nat_le (suc n) bound
+
+-- a number from -bound to bound
+abbrev pub within : (bound : ℕ) → Value → Option ℤ
+within bound (Int n) = if is_within bound n then Some n else None
+within bound Null = None
+within bound (Real x) = None
+within bound (Text t) = None
+within bound (Blob b) = None
+
+abbrev pub or_damaged : {X : Type 0} → Option X → Result X RowFault
+or_damaged None = Err Damaged
+or_damaged (Some x) = Ok x
+
+-- the next column, unless this one is damaged
+abbrev pub and_then : {X Y : Type 0} → Result X RowFault → (X → Result Y RowFault) → Result Y RowFault
+and_then (Err e) next = Err e
+and_then (Ok x) next = next x

@@ -1,0 +1,6 @@
+pub mod Schema
+pub mod Content
+pub mod Steps
+pub mod Answer
+pub mod Columns
+pub mod Asking

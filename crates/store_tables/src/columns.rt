@@ -1,0 +1,56 @@
+//! Columns of a row that a query answered.
+ghost use Rattle.std.specs.Prelude.{◌≡◌, ◌≤◌, string_bytes, IsUtf8, IfOk, IfErr};
+ghost use Rattle.sqlite.specs.declared.types.Value.TheVariants.{Text};
+ghost use Rattle.sqlite.specs.declared.error.ErrorCode.TheVariants.{OutOfMemory};
+ghost use Rattle.sqlite.specs.declared.error.Error.TheVariants.{SqliteFailure};
+ghost use Rattle.sqlite.specs.Order.{column};
+ghost use Rattle.store_tables.specs.declared.faults.RowFault.TheVariants.{Sql};
+ghost use Rattle.store_tables.specs.Columns.{whole_in, within, or_damaged};
+
+use crate::faults::RowFault;
+use sqlite::types::ValueRef;
+use sqlite::{Error, ErrorCode, Row};
+
+/// A column that is a whole number from `low` to `high`.
+pub fn whole(row: &Row, at: usize, low: u64, high: u64) -> Result<u64, RowFault>
+    ensures read { result ≡ or_damaged (whole_in low high (column row.now at)) }
+    ensures bounds { IfOk result (λ n. (low ≤ n) × (n ≤ high)) }
+{
+    match row.get_ref(at) {
+        Ok(ValueRef::Int(n)) => {
+            if n < 0 {
+                return Err(RowFault::Damaged);
+            }
+            let n = n as u64;
+            if low <= n && n <= high { Ok(n) } else { Err(RowFault::Damaged) }
+        }
+        _ => Err(RowFault::Damaged),
+    }
+}
+
+/// A column that is a number from -3 to 3, as a SunSpec scale factor of these books.
+pub fn scale(row: &Row, at: usize) -> Result<i16, RowFault>
+    ensures { result ≡ or_damaged (within 3 (column row.now at)) }
+{
+    match row.get_ref(at) {
+        Ok(ValueRef::Int(n)) => {
+            if -3 <= n && n <= 3 { Ok(n as i16) } else { Err(RowFault::Damaged) }
+        }
+        _ => Err(RowFault::Damaged),
+    }
+}
+
+/// A column that is a text.
+pub fn text(row: &Row, at: usize) -> Result<String, RowFault>
+    ensures read { IfOk result (λ s. column row.now at ≡ Text (string_bytes s)) }
+    ensures fault { (t : _) → column row.now at ≡ Text t → IsUtf8 t
+        → IfErr result (λ e. e ≡ Sql (SqliteFailure OutOfMemory)) }
+{
+    match row.get::<String>(at) {
+        Ok(text) => Ok(text),
+        Err(Error::SqliteFailure(ErrorCode::OutOfMemory)) => {
+            Err(RowFault::Sql(Error::SqliteFailure(ErrorCode::OutOfMemory)))
+        }
+        Err(_) => Err(RowFault::Damaged),
+    }
+}

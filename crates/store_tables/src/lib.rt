@@ -1,0 +1,12 @@
+//! The tables of the books.
+#![tactic(auto)]
+
+mod columns;
+mod faults;
+mod numbers;
+mod opened;
+
+pub use columns::{scale, text, whole};
+pub use faults::RowFault;
+pub use numbers::{number, signed};
+pub use opened::touch;

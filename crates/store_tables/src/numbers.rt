@@ -1,0 +1,20 @@
+//! Numbers as SQL's.
+ghost use Rattle.std.specs.Prelude.{◌≡◌, ◌<◌, ◌^◌, pos};
+ghost use Rattle.sqlite.specs.declared.types.Value.TheVariants.{Int};
+
+use sqlite::types::Value;
+
+/// The number as SQL's.
+pub fn number(n: u64) -> Value
+    requires { n < 2 ^ 63 }
+    ensures { result ≡ Int (pos n) }
+{
+    Value::Int(n as i64)
+}
+
+/// The number as SQL's, with its sign.
+pub fn signed(n: &i16) -> Value
+    ensures { result ≡ Int n.now }
+{
+    Value::Int(i64::from(*n))
+}

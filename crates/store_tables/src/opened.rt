@@ -1,0 +1,21 @@
+//! A call that finds out whether the store still answers.
+ghost use Rattle.std.specs.Prelude.{◌≡◌, false, IsTrue, OnOk};
+ghost use Rattle.sqlite.specs.State.{HasCleanDisk, KeepsCommit, Survives};
+ghost use Rattle.sqlite.specs.Held.{state};
+
+use sqlite::{Alter, Connection, Error};
+
+/// Answers only where the store is open, and then with no transaction under way: what is seen is what is committed.
+pub fn touch<S: Alter>(conn: &mut Connection<S>) -> Result<(), Error>
+    requires { conn.old.in_transaction ≡ false }
+    ensures autocommit { conn.new.in_transaction ≡ false }
+    ensures opened { HasCleanDisk (state S.Store conn.new) → OnOk result (IsTrue (state S.Store conn.new).is_open
+        × ((state S.Store conn.new).now ≡ (state S.Store conn.new).committed)) }
+    ensures kept { HasCleanDisk (state S.Store conn.new)
+        → KeepsCommit (state S.Store conn.old) (state S.Store conn.new) }
+    ensures survives { Survives (state S.Store conn.old) (state S.Store conn.new) (λ _. ⊥) }
+{
+    let _plan = conn.prepare("SELECT 1")?;
+    let _settled = conn.is_autocommit();
+    Ok(())
+}
