@@ -1,5 +1,5 @@
 -- How books move where the polls that wait are booked as lost.
-use Rattle.std.proofs.Common.{◌≡◌, ◌⊎◌, ℕ, List, [], ◌∷◌, ◌++◌, map, reverse, refl, sym, ap, subst, inl, inr, ◌∙◌, Result, Ok, Err}
+use Rattle.std.proofs.Common.{◌≡◌, ◌⊎◌, ℕ, List, [], ◌∷◌, ◌++◌, map, sym, ap, subst, inl, inr, ◌∙◌, Result, Ok}
 use Rattle.std.specs.Prelude.{OnOk, OnErr}
 use Rattle.std.proofs.lemmas.Result.{on_ok_weaker, on_err_weaker}
 use Rattle.office_events.specs.declared.facts.Fact.{Fact}
@@ -8,7 +8,7 @@ use Rattle.office_rules.specs.Facts.{pending_in}
 use Rattle.office_rules.specs.History.{lost, with_lost}
 use Rattle.office_rules.specs.Lawful.{AreLawful}
 use Rattle.office_books.specs.declared.faults.BooksFault.{BooksFault}
-use Rattle.office_books.specs.Ledgers.{Ledger, GoesOn, OnlyReads, Books, Moves, with_facts}
+use Rattle.office_books.specs.Ledgers.{Ledger, OnlyReads, Books, Moves, with_facts}
 use Rattle.office_books.proofs.Moving.{goes_on_then}
 
 -- the facts of the polls that wait
@@ -22,7 +22,7 @@ pub books_lost : (old between new : Ledger) (at : ℕ) (held : List Fact) (polls
     → AreLawful (with_lost at held) → Books between new facts result → Moves old new held (with_lost at held) result
 books_lost old between new at held polls facts x result reads found is lawful books =
     let same : old.holds held → new.is_clean → with_facts facts held ≡ with_lost at held =
-        λ h c. lost_as at facts polls held is (found h (books.goes.clean c)) in
+    λ h c. lost_as at facts polls held is (found h (books.goes.clean c)) in
     let fits : old.holds held → new.is_clean → AreLawful (with_facts facts held) = λ h c. subst AreLawful (sym (same h c)) lawful in
     record {
       holds = λ h c. subst (λ fs. OnOk result (new.holds fs)) (same h c) (books.booked held (reads.keeps.facts held h) (fits h c));
@@ -39,7 +39,7 @@ pub nothing_lost : (old new : Ledger) (at : ℕ) (held : List Fact) (polls : Lis
     → (old.holds held → new.is_clean → polls ≡ pending_in held) → polls ≡ [] → Moves {T = Unit {0}} old new held (with_lost at held) (Ok tt)
 nothing_lost old new at held polls x reads found none =
     let same : old.holds held → new.is_clean → held ≡ with_lost at held =
-        λ h c. lost_as at [] polls held (sym (ap (map (lost at)) none)) (found h c) in
+    λ h c. lost_as at [] polls held (sym (ap (map (lost at)) none)) (found h c) in
     record {
       holds = λ h c. subst new.holds (same h c) (reads.keeps.facts held h);
       refused = λ h. tt;

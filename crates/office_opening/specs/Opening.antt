@@ -1,5 +1,5 @@
 -- What the opening of an office leaves.
-use Rattle.std.specs.Prelude.{◌≡◌, ℕ, true, List, ◌∷◌, None, Result, IfOk}
+use Rattle.std.specs.Prelude.{◌≡◌, ℕ, true, ◌∷◌, None, Result, IfOk}
 use Rattle.std.specs.declared.alloc.Global.{Global}
 use Rattle.std.specs.declared.vec.Vec.{Vec}
 use Rattle.office_events.specs.declared.facts.Device.{Device}

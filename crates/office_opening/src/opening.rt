@@ -80,10 +80,7 @@ fn book_lost<B: Books>(alloc: Global, books: &mut B, moment: u64) -> Result<(), 
 
 /// Why the opening of an office is refused over these books: it comes before what is recorded, or past the limit. `None`
 /// where nothing speaks against it. Moments are seconds since 1970-01-01 UTC.
-pub fn opening_refusal<B: Books>(
-    books: &mut B,
-    moment: u64,
-) -> Result<Option<Refusal>, BooksFault>
+pub fn opening_refusal<B: Books>(books: &mut B, moment: u64) -> Result<Option<Refusal>, BooksFault>
     ensures found { Finds (B.ledger books.old) (B.ledger books.new) result
         (λ held why. why ≡ refusals.opening_refusal_of held moment) }
     ensures reads { OnlyReads (B.ledger books.old) (B.ledger books.new) result }
