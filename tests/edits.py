@@ -33,7 +33,7 @@ NAMES = r": error.*(has no field|is not in scope|has no `|was not admitted)"
 TAKEN_AWAY = " (only because a proof file names what the edit took away)"
 CLAUSE = re.compile(r" *(requires|ensures)\b")
 # What a function's line says that is no fault of its own.
-OF_OTHERS = re.compile(r"no proof|not proved|expected answers in \S+|it calls .* not proved|it waits for .*")
+OF_OTHERS = re.compile(r"no proof|not proved|expected answers in \S+|it calls .* not proved|it waits for .*|the borrow checker's part in its proof is not made yet.*")
 
 # The lines of a function, and patterns of the name that a check gives it: one of an impl may go by the module of its type.
 Function = collections.namedtuple("Function", "file first last name loose")

@@ -16,7 +16,7 @@ use Rattle.office_lines.specs.declared.lines.Line.{Line}
 use Rattle.office_lines.specs.Keeping.{KeepsLines}
 use Rattle.office_books.specs.declared.faults.BooksFault.{BooksFault}
 use Rattle.office_refusing.specs.declared.arrivals.Arrival.{Arrival}
-use Rattle.office_refusing.specs.Ranges.{IsInRange}
+use Rattle.office_lines.specs.Ranges.{IsInRange}
 use Rattle.office_refusing.specs.Reasons.{arrival_of, request_arrival, speaks_against, refusal_under, IsWhy, IsWhyAmong, Befits}
 use Rattle.office_refusing.proofs.AtMeters.{same_find, or_false}
 

@@ -1,4 +1,3 @@
-pub mod Ranges
 pub mod Asking
 pub mod Given
 pub mod Reasons

@@ -13,7 +13,7 @@ use Rattle.office_lines.specs.declared.lines.Line.{Line}
 use Rattle.office_lines.specs.Keeping.{KeepsLines}
 use Rattle.office_refusing.specs.declared.arrivals.Arrival.{Arrival}
 use Rattle.office_refusing.specs.Asking.{IsOfEvent}
-use Rattle.office_refusing.specs.Ranges.{IsCommandInRange}
+use Rattle.office_lines.specs.Ranges.{IsCommandInRange}
 
 -- how an event comes after the latest accepted one, and how a request does
 abbrev pub arrival_of : (latest at : ℕ) → Arrival

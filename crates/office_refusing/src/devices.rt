@@ -14,14 +14,16 @@ use office_lines::{Line, has_device};
 
 /// Whether there are as many devices as there may be.
 fn are_all(lines: &[Line]) -> bool
-    ensures { (kept : List sessions.Line) → KeepsLines lines.now kept → result ≡ nat_le device_limit (length kept) }
+    ensures { (kept : List sessions.Line) → KeepsLines lines.now kept
+        → result ≡ nat_le device_limit (length kept) }
 {
     64 <= lines.len()
 }
 
 /// Why a device is not added.
 pub fn add_device(lines: &[Line], arrival: &Arrival, device: &AddDevice) -> Option<Refusal>
-    ensures found { (held : List Fact) → IsWhyAmong lines.now arrival.now (command.AddDevice device.now) held result }
+    ensures found { (held : List Fact)
+        → IsWhyAmong lines.now arrival.now (command.AddDevice device.now) held result }
     ensures befits { Befits arrival.now (command.AddDevice device.now) result }
 {
     if has_device(lines, &device.name) {
@@ -38,7 +40,8 @@ pub fn add_device(lines: &[Line], arrival: &Arrival, device: &AddDevice) -> Opti
 
 /// Why a list is not put.
 pub fn put_list(lines: &[Line], arrival: &Arrival, put: &PutList) -> Option<Refusal>
-    ensures found { (held : List Fact) → IsWhyAmong lines.now arrival.now (command.PutList put.now) held result }
+    ensures found { (held : List Fact)
+        → IsWhyAmong lines.now arrival.now (command.PutList put.now) held result }
     ensures befits { Befits arrival.now (command.PutList put.now) result }
 {
     if !has_device(lines, &put.device) {

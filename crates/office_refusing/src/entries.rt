@@ -19,7 +19,8 @@ pub fn refusal_of_entry(
     given: &GivenEntry,
 ) -> Option<Refusal>
     requires { IsSound row.now }
-    ensures found { result ≡ entry_refusal arrival.now off_scale off_limits row.now (entry_of given.now) }
+    ensures found { result ≡ entry_refusal arrival.now off_scale off_limits row.now
+        (entry_of given.now) }
     ensures befits { BefitsEntry arrival.now off_scale off_limits (entry_of given.now) result }
 {
     if arrival.is_back {

@@ -2,7 +2,7 @@
 ghost use Rattle.std.specs.Prelude.{◌≡◌, IfOk, IfSome, IsOk, None};
 ghost use Rattle.office_books.specs.Ledgers.{OnlyReads};
 ghost use Rattle.office_refusing.specs.Asking.{AsksNoBooks, IsOfEvent};
-ghost use Rattle.office_refusing.specs.Ranges.{IsInRange};
+ghost use Rattle.office_lines.specs.Ranges.{IsInRange};
 ghost use Rattle.office_refusing.specs.Telling.{TellsWhy};
 
 use crate::arrivals::Arrival;
@@ -22,7 +22,8 @@ pub fn refusal<B: Books>(
     moment: u64,
     event: &Event,
 ) -> Result<Option<Refusal>, BooksFault>
-    ensures found { TellsWhy (B.ledger books.old) (B.ledger books.new) lines.now latest moment event.now result }
+    ensures found { TellsWhy (B.ledger books.old) (B.ledger books.new) lines.now latest moment
+        event.now result }
     ensures reads { OnlyReads (B.ledger books.old) (B.ledger books.new) result }
     ensures of_event { IfOk result (λ r. IfSome r IsOfEvent) }
     ensures in_range { IfOk result (λ r. r ≡ None → IsInRange latest moment event.now) }

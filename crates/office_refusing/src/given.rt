@@ -26,7 +26,8 @@ pub enum GivenEntry {
 
 /// What a change of the scale hands in.
 pub fn rescaled(moment: u64, rescale: &Rescale) -> GivenEntry
-    ensures { entry_of result ≡ entry.Change moment rescale.now.before rescale.now.after rescale.now.sf }
+    ensures { entry_of result
+        ≡ entry.Change moment rescale.now.before rescale.now.after rescale.now.sf }
 {
     GivenEntry::Change {
         at: moment,
@@ -38,7 +39,8 @@ pub fn rescaled(moment: u64, rescale: &Rescale) -> GivenEntry
 
 /// What someone hands in who read a meter.
 pub fn read_off(moment: u64, manual: &Manual) -> GivenEntry
-    ensures { entry_of result ≡ entry.Step (read_at moment manual.now.at) manual.now.raw manual.now.rolls }
+    ensures { entry_of result
+        ≡ entry.Step (read_at moment manual.now.at) manual.now.raw manual.now.rolls }
 {
     GivenEntry::Step {
         at: manual.at.unwrap_or(moment),

@@ -27,7 +27,8 @@ pub fn kept<B: Books>(
     ensures found { Finds (B.ledger books.old) (B.ledger books.new) result
         (λ held answer. answer ≡ kept_of held event.now) }
     ensures reads { OnlyReads (B.ledger books.old) (B.ledger books.new) result }
-    ensures reused { IfOk result (λ answer. IfSome answer (λ r. IfErr r (λ why. why ≡ refusal.Reused))) }
+    ensures reused { IfOk result (λ answer.
+        IfSome answer (λ r. IfErr r (λ why. why ≡ refusal.Reused))) }
     ensures quiet { IsNoRequest event.now → (books.new ≡ books.old) × IsOk result }
 {
     let Event::Asked(asked) = event else {

@@ -31,7 +31,8 @@ fn session_room(kept: &Option<Session>) -> u64
 
 /// How many polls can be started in a row on the session of a device.
 fn room(lines: &[Line], given: &Option<Name>) -> u64
-    ensures { (kept : List sessions.Line) → KeepsLines lines.now kept → HasRoom kept given.now result }
+    ensures { (kept : List sessions.Line) → KeepsLines lines.now kept
+        → HasRoom kept given.now result }
 {
     match place_of(lines, given) {
         None => 0,

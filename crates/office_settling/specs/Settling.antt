@@ -1,7 +1,7 @@
 -- What an event of a device settles, session by session.
 use Rattle.std.specs.Prelude.{◌≡◌, ℕ, ◌≤◌, Bool, false, List, [], ◌∷◌, ◌++◌, Option, Some, None, Result, OnOk, if◌then◌else◌}
 use Rattle.poll_core.specs.Settling as session
-use Rattle.poll_core.specs.Standing.{State, Stands, last_moment}
+use Rattle.poll_core.specs.Standing.{State, Stands}
 use Rattle.office_events.specs.declared.facts.Device.{Device}
 use Rattle.office_events.specs.declared.facts.Fact.{Fact}
 use Rattle.office_events.specs.declared.events.Event.{Event}
@@ -12,6 +12,7 @@ use Rattle.office_rules.specs.History.{with_outcomes, settled_by}
 use Rattle.office_rules.specs.Notes.{outcomes_notes}
 use Rattle.office_lines.specs.declared.lines.Line.{Line}
 use Rattle.office_lines.specs.Keeping.{KeepsLine}
+use Rattle.office_lines.specs.Moments.{none_later}
 use Rattle.office_books.specs.declared.faults.BooksFault.{BooksFault}
 use Rattle.office_books.specs.Ledgers.{Ledger}
 use Rattle.office_settling.specs.declared.drafts.Draft.{Draft}
@@ -35,15 +36,10 @@ happening_on at (event.Gone given closing) device =
     if is_named given device.name then Some (session.Close at closing) else None
 happening_on at _ device = None
 
--- nothing on the present session is later than this moment
-abbrev pub IsBefore : ℕ → Option (List session.Event) → Type 0
-IsBefore at None = Unit {0}
-IsBefore at (Some events) = last_moment events ≤ at
-
 -- A line is kept, and an event that comes now may reach it.
 pub record MayReach (at : ℕ) (kept : Line) (line : sessions.Line) : Type 0 where
   pub keeps : KeepsLine kept line
-  pub before : IsBefore at line.present
+  pub before : none_later at line.present
 
 abbrev pub MayReachAll : ℕ → List Line → List sessions.Line → Type 0
 MayReachAll at [] [] = Unit {0}
