@@ -1,0 +1,6 @@
+pub mod Events
+pub mod Failing
+pub mod Leaving
+pub mod Deciding
+pub mod Standing
+pub mod Taking
