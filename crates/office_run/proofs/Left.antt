@@ -1,5 +1,5 @@
 -- Books stand after a call.
-use Rattle.std.proofs.Common.{◌≡◌, ◌⊎◌, ℕ, zero, suc, ◌<◌, List, [], ◌∷◌, ◌++◌, length, inl, inr, refl, sym, ap, subst, ◌∙◌, arith, Result, Ok, Err}
+use Rattle.std.proofs.Common.{◌≡◌, ◌⊎◌, zero, suc, List, [], ◌∷◌, ◌++◌, inl, inr, refl, sym, ◌∙◌, arith, Result, Ok, Err}
 use Rattle.std.specs.Prelude.{All}
 use Rattle.std.proofs.lemmas.List.Elements.{All-append}
 use Rattle.office_events.specs.declared.facts.Fact.{Fact}
@@ -7,7 +7,7 @@ use Rattle.office_rules.specs.History.{History, Accepted, facts_of}
 use Rattle.office_lawful.specs.Laws.{IsPast}
 use Rattle.office_books.specs.declared.faults.BooksFault.{BooksFault}
 use Rattle.office_books.specs.Ledgers.{Ledger, OnlyReads, Moves}
-use Rattle.office_run.specs.Leaving.{IsOneMore, MayBeLeft, StopLeaves, BooksStand}
+use Rattle.office_run.specs.Leaving.{MayBeLeft, StopLeaves, BooksStand}
 
 only_one : {X : Type 0} (P : X → Type 0) (x : X) → P x → All P (x ∷ [])
 only_one P x h zero d less = h

@@ -1,11 +1,11 @@
 -- What taking an event leaves and answers.
-use Rattle.std.specs.Prelude.{◌≡◌, ◌⊎◌, ◌↔◌, ℕ, Bool, true, false, ◌||◌, List, [], Result, Ok, Err, IsOk}
+use Rattle.std.specs.Prelude.{◌≡◌, ◌⊎◌, ◌↔◌, ℕ, true, false, ◌||◌, [], Result, Err, IfErr}
 use Rattle.office_events.specs.declared.answers.Answer.{Answer}
 use Rattle.office_events.specs.declared.events.Event.{Event}
 use Rattle.office_events.specs.declared.refusals.Refusal.{Refusal}
 use Rattle.office_events.specs.declared.refusals.Refusal.TheVariants as refusal
-use Rattle.office_rules.specs.History.{History, facts_of, lines_of, next_poll}
-use Rattle.office_rules.specs.Refusals.{IsAccepted, response_of, with_answer}
+use Rattle.office_rules.specs.History.{History}
+use Rattle.office_rules.specs.Refusals.{response_of, with_answer}
 use Rattle.office_rules.specs.Notes.{notes_after, outgoing_after}
 use Rattle.office_rules.specs.Sessions.{command_in}
 use Rattle.office_lawful.specs.Laws.{PutsPlanned}
@@ -13,7 +13,11 @@ use Rattle.office_books.specs.Ledgers.{Ledger}
 use Rattle.office_run.specs.declared.office.Office.{Office}
 use Rattle.office_run.specs.Failing.{Counts, FailsOutside, is_failure, stops}
 use Rattle.office_run.specs.Leaving.{BooksStand}
-use Rattle.office_run.specs.Standing.{Goes, Stands, books_in, is_stopped, notes_in, outgoing_in}
+use Rattle.office_run.specs.Standing.{Goes, books_in, is_stopped, notes_in, outgoing_in}
+
+-- how often the books of an office failed
+abbrev pub failures_of : {B : Type 0} → (B → Ledger) → Office B → ℕ
+failures_of ledger office = (ledger office.books).fault_count
 
 -- An event is answered as its definition says, and the count of the books' failures stays; or it failed outside.
 abbrev pub IsAnswer : History → (at : ℕ) → Event → (before after : ℕ) → Result Answer Refusal → Type 0
@@ -55,6 +59,11 @@ pub record Takes {B : Type 0} (ledger : B → Ledger) (past : History) (at : ℕ
   pub goes : stops e result ≡ false → Goes (with_answer past at e result) new
   pub told : IsTold past at e result new
 
+-- A reason other than that the office had stopped.
+abbrev pub IsNotStopped : Refusal → Type 0
+IsNotStopped refusal.Stopped = ⊥
+IsNotStopped _ = Unit {0}
+
 -- The count of the books' failures rises by those alone, whatever they hold; a wrong answer of a store that was taken as
 -- true stays one, and so do the zone and that the office goes on.
 pub record Passes {B : Type 0} (ledger : B → Ledger) (old new : Office B) (result : Result Answer Refusal) : Type 0 where
@@ -62,3 +71,4 @@ pub record Passes {B : Type 0} (ledger : B → Ledger) (old new : Office B) (res
   pub clean : (ledger (books_in new)).is_clean → (ledger (books_in old)).is_clean
   pub zone : (ledger (books_in new)).zone ≡ (ledger (books_in old)).zone
   pub stopped : is_stopped new ≡ is_stopped old
+  pub not_stopped : IfErr result IsNotStopped

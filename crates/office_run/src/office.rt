@@ -1,18 +1,15 @@
 //! The office.
-ghost use Rattle.std.specs.Prelude.{◌≡◌, ◌≤◌, true, false, [], None, OnErr};
+ghost use Rattle.std.specs.Prelude.{◌≡◌, ◌≤◌, true, false};
 ghost use Rattle.office_rules.specs.Facts.{moment_limit};
 ghost use Rattle.office_rules.specs.Sessions.{command_in};
-ghost use Rattle.office_rules.specs.History.{History, facts_of, lines_of, next_poll};
+ghost use Rattle.office_rules.specs.History.{History};
 ghost use Rattle.office_rules.specs.Refusals.{IsAccepted, with_answer};
 ghost use Rattle.office_lines.specs.Ranges.{AsksInRange};
-ghost use Rattle.office_books.specs.Ledgers.{GoesOn};
-ghost use Rattle.office_settling.specs.Settling.{SettleNothing};
 ghost use Rattle.office_run.specs.Events as events;
-ghost use Rattle.office_run.specs.Failing.{Counts};
-ghost use Rattle.office_run.specs.Standing.{Stands, books_in, is_stopped, notes_in, outgoing_in};
-ghost use Rattle.office_run.specs.Taking.{MayTake, Takes, Passes};
+ghost use Rattle.office_run.specs.Standing.{Stands, books_in, notes_in, outgoing_in};
+ghost use Rattle.office_run.specs.Taking.{MayTake, Takes, Passes, IsAnswer, IsTold, Ends, failures_of};
 
-use crate::deciding::decide;
+use crate::deciding::{decide, is_command, is_failure, puts_planned};
 use office_books::Books;
 use office_commands::carry_out;
 use office_events::{Answer, Event, Note, Refusal};
@@ -69,5 +66,69 @@ impl<B: Books> Office<B> {
             }
             Err(fault) => Err(Refusal::from(fault)),
         }
+    }
+
+    /// Takes an event while the office goes on: it is answered by what was kept, refused, settled or carried out.
+    fn take(&mut self, moment: u64, event: &Event) -> Result<Answer, Refusal>
+        ensures takes { (past : History) → MayTake B.ledger past event.now self.old
+            → (B.ledger (books_in self.new)).is_clean → Takes B.ledger past moment event.now self.old self.new result }
+        ensures passes { Passes B.ledger self.old self.new result }
+    {
+        match decide(&mut self.books, &self.lines, self.latest, moment, event) {
+            Err(fault) => Err(Refusal::from(fault)),
+            Ok(Some(given)) => given,
+            Ok(None) => {
+                if is_command(event) {
+                    self.obey(moment, event)
+                } else {
+                    self.settle(moment, event)
+                }
+            }
+        }
+    }
+
+    /// Takes an event. A refused one changes nothing, save that nothing is told and nothing wants to be sent; so does a
+    /// request that was asked before. Where the books or memory fail while an event of a device is settled, the office
+    /// stops, and refuses whatever comes until it is opened again. Moments are seconds since 1970-01-01 UTC.
+    pub fn feed(&mut self, moment: u64, event: &Event) -> Result<Answer, Refusal>
+        ensures answers { (past : History) → Stands B.ledger past self.old → (B.ledger (books_in self.new)).is_clean
+            → IsAnswer past moment event.now (failures_of B.ledger self.old) (failures_of B.ledger self.new) result }
+        ensures stands { (past : History) → Stands B.ledger past self.old → (B.ledger (books_in self.new)).is_clean
+            → Stands B.ledger (with_answer past moment event.now result) self.new }
+        ensures told { (past : History) → Stands B.ledger past self.old → (B.ledger (books_in self.new)).is_clean
+            → IsTold past moment event.now result self.new }
+        ensures ends { Ends B.ledger self.old self.new event.now result }
+    {
+        self.outgoing = Outgoing::none();
+        self.notes = Vec::new(self.alloc);
+        if self.stopped {
+            return Err(Refusal::Stopped);
+        }
+        puts_planned(event);
+        let answer = self.take(moment, event);
+        self.stopped = !is_command(event) && is_failure(&answer);
+        answer
+    }
+
+    /// The bytes that the last event wants sent: the frames of its polls, where it started some.
+    pub fn outgoing(&self) -> &[u8]
+        ensures { result.now ≡ outgoing_in self.now }
+    {
+        self.outgoing.as_slice()
+    }
+
+    /// What the last event brought: outcomes of polls, each followed by its readings.
+    pub fn notes(&self) -> &[Note]
+        ensures { result.now ≡ notes_in self.now }
+    {
+        &self.notes
+    }
+
+    /// Hands the books back.
+    pub fn into_books(self) -> B
+        ensures { result ≡ books_in self }
+    {
+        let Office { books, .. } = self;
+        books
     }
 }
