@@ -4,3 +4,4 @@ pub mod Leaving
 pub mod Deciding
 pub mod Standing
 pub mod Taking
+pub mod Reopening

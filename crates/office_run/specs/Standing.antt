@@ -1,5 +1,5 @@
 -- Where an office stands after what it accepted.
-use Rattle.std.specs.Prelude.{◌≡◌, ℕ, Bool, false, List}
+use Rattle.std.specs.Prelude.{◌≡◌, ℕ, Bool, false, List, []}
 use Rattle.office_events.specs.declared.answers.Note.{Note}
 use Rattle.office_rules.specs.History.{History, lines_of, latest_of}
 use Rattle.office_lines.specs.Keeping.{KeepsLines}
@@ -29,3 +29,9 @@ pub record Goes {B : Type 0} (past : History) (office : Office B) : Type 0 where
 pub record Stands {B : Type 0} (ledger : B → Ledger) (past : History) (office : Office B) : Type 0 where
   pub books : BooksStand (ledger office.books) past
   pub goes : office.stopped ≡ false → Goes past office
+
+-- An office that was just opened goes on, and tells nothing.
+pub record IsFresh {B : Type 0} (office : Office B) : Type 0 where
+  pub goes : is_stopped office ≡ false
+  pub notes : notes_in office ≡ []
+  pub outgoing : outgoing_in office ≡ []

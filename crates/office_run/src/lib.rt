@@ -3,5 +3,6 @@
 
 mod deciding;
 mod office;
+mod opening;
 
 pub use office::Office;

@@ -1,14 +1,17 @@
 //! The office.
-ghost use Rattle.std.specs.Prelude.{◌≡◌, ◌≤◌, true, false};
+ghost use Rattle.std.specs.Prelude.{◌≡◌, ◌≤◌, ◌∷◌, true, false, Ok, Err, IfOk, IfErr, MatchResult};
 ghost use Rattle.office_rules.specs.Facts.{moment_limit};
 ghost use Rattle.office_rules.specs.Sessions.{command_in};
-ghost use Rattle.office_rules.specs.History.{History};
+ghost use Rattle.office_rules.specs.History.{History, Opened};
+ghost use Rattle.office_run.specs.Leaving.{BooksStand};
+ghost use Rattle.office_run.specs.Reopening.{IsNotOpened, Passed};
 ghost use Rattle.office_rules.specs.Refusals.{IsAccepted, with_answer};
 ghost use Rattle.office_lines.specs.Ranges.{AsksInRange};
 ghost use Rattle.office_run.specs.Events as events;
-ghost use Rattle.office_run.specs.Standing.{Stands, books_in, notes_in, outgoing_in};
+ghost use Rattle.office_run.specs.Standing.{IsFresh, Stands, books_in, notes_in, outgoing_in};
 ghost use Rattle.office_run.specs.Taking.{MayTake, Takes, Passes, IsAnswer, IsTold, Ends, failures_of};
 
+use crate::opening::reopen;
 use crate::deciding::{decide, is_command, is_failure, puts_planned};
 use office_books::Books;
 use office_commands::carry_out;
@@ -31,6 +34,32 @@ pub struct Office<B: Books> {
 }
 
 impl<B: Books> Office<B> {
+    /// Opens an office over books; each poll that has no outcome is lost, and no device is connected. A refusal hands the
+    /// books back. Moments are seconds since 1970-01-01 UTC.
+    pub fn open(alloc: Global, mut books: B, moment: u64) -> Result<Office<B>, (B, Refusal)>
+        ensures opened { (past : History) → BooksStand (B.ledger books) past → IfOk result (λ office.
+            (B.ledger (books_in office)).is_clean → Stands B.ledger (Opened moment ∷ past) office) }
+        ensures fresh { IfOk result (λ office. IsFresh office) }
+        ensures refused { (past : History) → BooksStand (B.ledger books) past → IfErr result (λ e.
+            (B.ledger e.0).is_clean → IsNotOpened past moment (B.ledger books) (B.ledger e.0) e.1) }
+        ensures passed { MatchResult result
+            (λ office. Passed (B.ledger books) (B.ledger (books_in office)) (Ok office))
+            (λ e. Passed {T = B} (B.ledger books) (B.ledger e.0) (Err e.1)) }
+    {
+        match reopen(alloc, &mut books, moment) {
+            Err(why) => Err((books, why)),
+            Ok(lines) => Ok(Office {
+                alloc,
+                books,
+                latest: moment,
+                lines,
+                stopped: false,
+                outgoing: Outgoing::none(),
+                notes: Vec::new(alloc),
+            }),
+        }
+    }
+
     /// Settles an event of a device that is accepted.
     fn settle(&mut self, moment: u64, event: &Event) -> Result<Answer, Refusal>
         requires settling { events.is_command event.now ≡ false }
