@@ -10,6 +10,7 @@ ghost use Rattle.office_rules.specs.Refusals.{IsAccepted, is_start};
 ghost use Rattle.office_lines.specs.Keeping.{KeepsLines};
 ghost use Rattle.office_lines.specs.Ranges.{IsCommandInRange, AsksInRange};
 ghost use Rattle.office_lawful.specs.Laws.{IsPast, PutsPlanned};
+ghost use Rattle.office_books.specs.Ledgers.{GoesOn};
 ghost use Rattle.office_commands.specs.Carrying.{AsksCommand, Carries, replies_by};
 
 use crate::records::record;
@@ -80,6 +81,7 @@ fn add_device<B: Books>(
         → command_in e ≡ Some command.now → replies_by moment e ≡ option_to_list reply
         → Carries (B.ledger books.old) (B.ledger books.new) lines.new.items past moment e result }
     ensures unchanged { OnErr result (lines.new.items ≡ lines.old.items) }
+    ensures goes { GoesOn (B.ledger books.old) (B.ledger books.new) result }
 {
     facts_are_lawful();
     puts_planned(command);
@@ -105,6 +107,7 @@ fn note<B: Books>(
     ensures carried { (past : History) (e : Event) → IsPast past → KeepsLines lines.now (lines_of past) → IsAccepted past moment e
         → command_in e ≡ Some command.now → replies_by moment e ≡ option_to_list reply
         → Carries (B.ledger books.old) (B.ledger books.new) lines.now past moment e result }
+    ensures goes { GoesOn (B.ledger books.old) (B.ledger books.new) result }
 {
     facts_are_lawful();
     puts_planned(command);
@@ -128,6 +131,7 @@ fn start_at<B: Books>(
         → command_in e ≡ Some command.now → replies_by moment e ≡ option_to_list reply
         → Carries (B.ledger books.old) (B.ledger books.new) lines.new past moment e result }
     ensures unchanged { OnErr result (lines.new ≡ lines.old) }
+    ensures goes { GoesOn (B.ledger books.old) (B.ledger books.new) result }
 {
     facts_are_lawful();
     each_once();
@@ -155,6 +159,7 @@ fn obey<B: Books>(
         → command_in e ≡ Some command.now → replies_by moment e ≡ option_to_list reply
         → Carries (B.ledger books.old) (B.ledger books.new) lines.new.items past moment e result }
     ensures unchanged { OnErr result (lines.new.items ≡ lines.old.items) }
+    ensures goes { GoesOn (B.ledger books.old) (B.ledger books.new) result }
 {
     match command {
         Command::AddDevice(add) => add_device(alloc, lines, books, moment, add, command, reply),
@@ -191,6 +196,7 @@ pub fn carry_out<B: Books>(
     ensures carried { (past : History) → IsPast past → KeepsLines lines.old.items (lines_of past) → IsAccepted past moment event.now
         → Carries (B.ledger books.old) (B.ledger books.new) lines.new.items past moment event.now result }
     ensures unchanged { OnErr result (lines.new.items ≡ lines.old.items) }
+    ensures goes { GoesOn (B.ledger books.old) (B.ledger books.new) result }
 {
     let reply = reply_of(moment, event)?;
     match event {

@@ -8,7 +8,7 @@ ghost use Rattle.office_rules.specs.Sessions as sessions;
 ghost use Rattle.office_rules.specs.History.{kind_of};
 ghost use Rattle.office_rules.specs.Refusals.{is_start};
 ghost use Rattle.office_lines.specs.Ranges.{IsCommandInRange};
-ghost use Rattle.office_books.specs.Ledgers.{Moves};
+ghost use Rattle.office_books.specs.Ledgers.{GoesOn, Moves};
 ghost use Rattle.office_commands.specs.Carrying.{Tries, facts_obeyed};
 
 use crate::additions::facts_by;
@@ -55,6 +55,7 @@ pub fn record<B: Books>(
     ensures books { (kept : List sessions.Line) (held : List Fact)
         → AreLawful (facts_obeyed moment kept held command.now (option_to_list reply))
         → Moves (B.ledger books.old) (B.ledger books.new) held (facts_obeyed moment kept held command.now (option_to_list reply)) result }
+    ensures goes { GoesOn (B.ledger books.old) (B.ledger books.new) result }
     ensures answer { IfOk result (λ done. done.answer ≡ answers.Done (kind_of command.now)) }
     ensures sent { IfOk result (λ done. done.outgoing ≡ []) }
 {

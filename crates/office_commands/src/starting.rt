@@ -8,7 +8,7 @@ ghost use Rattle.office_rules.specs.Sessions as sessions;
 ghost use Rattle.office_rules.specs.History.{next_poll, spans_by};
 ghost use Rattle.office_rules.specs.Refusals.{is_start, reads_in_all};
 ghost use Rattle.office_lines.specs.Keeping.{KeepsLine};
-ghost use Rattle.office_books.specs.Ledgers.{Moves, with_facts};
+ghost use Rattle.office_books.specs.Ledgers.{GoesOn, Moves, with_facts};
 ghost use Rattle.office_starting.specs.Starts.{IsBefore, line_sent};
 ghost use Rattle.office_commands.specs.Carrying.{polls_by, frames_by, sends_by, line_by};
 
@@ -45,6 +45,7 @@ pub fn start<B: Books>(
     ensures sent { (kept : sessions.Line) (held : List Fact) → KeepsLine line.old kept → IsBefore moment kept
         → next_poll held ≤ 4611686018427387905 → (B.ledger books.old).holds held → (B.ledger books.new).is_clean
         → IfOk result (λ done. done.outgoing ≡ frames_by moment kept held command.now) }
+    ensures goes { GoesOn (B.ledger books.old) (B.ledger books.new) result }
     ensures unchanged { OnErr result (line.new ≡ line.old) }
 {
     let reads = reads_by(alloc, books, command)?;

@@ -14,4 +14,5 @@ returns g c = record {
       (obeys_idle (g.B.Books.ledger c.args.books.now) (g.B.Books.ledger c.record.new.books) c.args.lines.now (lines_of past) [] (facts_of past) c.args.moment
       c.args.command.now (option_to_list c.args.reply) c.record.result c.requires.no_start c.requires.no_line (keeps_all c.args.lines.now (lines_of past) c.record.result keeps)
       (c.record.ensures.books (lines_of past) (facts_of past) lawful) c.record.ensures.answer c.record.ensures.sent);
+  goes = c.record.ensures.goes;
 }

@@ -1,0 +1,49 @@
+-- How books move where the polls that wait are booked as lost.
+use Rattle.std.proofs.Common.{◌≡◌, ◌⊎◌, ℕ, List, [], ◌∷◌, ◌++◌, map, sym, ap, subst, inl, inr, ◌∙◌, Result, Ok}
+use Rattle.std.specs.Prelude.{OnOk, OnErr}
+use Rattle.std.proofs.lemmas.Result.{on_ok_weaker, on_err_weaker}
+use Rattle.office_events.specs.declared.facts.Fact.{Fact}
+use Rattle.office_events.specs.declared.facts.Poll.{Poll}
+use Rattle.office_rules.specs.Facts.{pending_in}
+use Rattle.office_rules.specs.History.{lost, with_lost}
+use Rattle.office_rules.specs.Lawful.{AreLawful}
+use Rattle.office_books.specs.declared.faults.BooksFault.{BooksFault}
+use Rattle.office_books.specs.Ledgers.{Ledger, OnlyReads, Books, Moves, with_facts}
+use Rattle.office_books.proofs.Moving.{goes_on_then}
+
+-- the facts of the polls that wait
+lost_as : (at : ℕ) (facts : List Fact) (polls : List Poll) (held : List Fact) → facts ≡ map (lost at) polls → polls ≡ pending_in held
+    → with_facts facts held ≡ with_lost at held
+lost_as at facts polls held is found = ap (λ fs. with_facts fs held) (is ∙ ap (map (lost at)) found)
+
+-- they are booked after the polls were looked up
+pub books_lost : (old between new : Ledger) (at : ℕ) (held : List Fact) (polls : List Poll) (facts : List Fact) {T : Type 0} (x : T) (result : Result (Unit {0}) BooksFault)
+    → OnlyReads old between (Ok x) → (old.holds held → between.is_clean → polls ≡ pending_in held) → facts ≡ map (lost at) polls
+    → AreLawful (with_lost at held) → Books between new facts result → Moves old new held (with_lost at held) result
+books_lost old between new at held polls facts x result reads found is lawful books =
+    let same : old.holds held → new.is_clean → with_facts facts held ≡ with_lost at held =
+    λ h c. lost_as at facts polls held is (found h (books.goes.clean c)) in
+    let fits : old.holds held → new.is_clean → AreLawful (with_facts facts held) = λ h c. subst AreLawful (sym (same h c)) lawful in
+    record {
+      holds = λ h c. subst (λ fs. OnOk result (new.holds fs)) (same h c) (books.booked held (reads.keeps.facts held h) (fits h c));
+      refused = λ h. books.refused held (reads.keeps.facts held h);
+      settled = λ left h c may. subst (λ fs. OnOk result (new.may_leave (fs ∷ []) ⊎ ((fs ≡ held) × new.may_leave left))) (same h c)
+          (on_ok_weaker result (λ done. inl done) (books.settled held (reads.keeps.facts held h) (fits h c)));
+      under_way = λ left h c may. subst (λ fs. OnErr result (new.may_leave left ⊎ new.may_leave (left ++ fs ∷ []))) (same h c)
+          (on_err_weaker result (λ done. inr done) (books.under_way held left (reads.keeps.facts held h) (fits h c) (reads.keeps.left left may)));
+      goes = goes_on_then old between new x result reads.goes books.goes;
+    }
+
+-- no poll waits
+pub nothing_lost : (old new : Ledger) (at : ℕ) (held : List Fact) (polls : List Poll) {T : Type 0} (x : T) → OnlyReads old new (Ok x)
+    → (old.holds held → new.is_clean → polls ≡ pending_in held) → polls ≡ [] → Moves {T = Unit {0}} old new held (with_lost at held) (Ok tt)
+nothing_lost old new at held polls x reads found none =
+    let same : old.holds held → new.is_clean → held ≡ with_lost at held =
+    λ h c. lost_as at [] polls held (sym (ap (map (lost at)) none)) (found h c) in
+    record {
+      holds = λ h c. subst new.holds (same h c) (reads.keeps.facts held h);
+      refused = λ h. tt;
+      settled = λ left h c may. inr (sym (same h c), reads.keeps.left left may);
+      under_way = λ left h c may. tt;
+      goes = record { clean = reads.goes.clean; faults = reads.goes.faults; zone = reads.goes.zone };
+    }
