@@ -1,5 +1,5 @@
 -- How an opening leaves books.
-use Rattle.std.proofs.Common.{◌≡◌, ℕ, ◌∷◌, inl, inr, sym, subst, ◌∙◌, Result, Ok, Err, Some, None}
+use Rattle.std.proofs.Common.{◌≡◌, ℕ, ◌∷◌, inl, inr, sym, subst, Ok, Err, Some, None}
 use Rattle.std.specs.declared.alloc.Global.{Global}
 use Rattle.std.specs.declared.vec.Vec.{Vec}
 use Rattle.office_events.specs.declared.refusals.Refusal.{Refusal}

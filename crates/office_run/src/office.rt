@@ -11,8 +11,8 @@ ghost use Rattle.office_run.specs.Events as events;
 ghost use Rattle.office_run.specs.Standing.{IsFresh, Stands, books_in, notes_in, outgoing_in};
 ghost use Rattle.office_run.specs.Taking.{MayTake, Takes, Passes, IsAnswer, IsTold, Ends, failures_of};
 
-use crate::opening::reopen;
 use crate::deciding::{decide, is_command, is_failure, puts_planned};
+use crate::opening::reopen;
 use office_books::Books;
 use office_commands::carry_out;
 use office_events::{Answer, Event, Note, Refusal};

@@ -10,11 +10,7 @@ use office_opening::{book_opening, opening_refusal};
 use std::alloc::Global;
 
 /// Books the opening of an office, where it is not refused, and answers the lines of its devices.
-pub fn reopen<B: Books>(
-    alloc: Global,
-    books: &mut B,
-    moment: u64,
-) -> Result<Vec<Line>, Refusal>
+pub fn reopen<B: Books>(alloc: Global, books: &mut B, moment: u64) -> Result<Vec<Line>, Refusal>
     ensures reopens { (past : History) → BooksStand (B.ledger books.old) past → (B.ledger books.new).is_clean
         → Reopens past moment (B.ledger books.old) (B.ledger books.new) result }
     ensures passed { Passed (B.ledger books.old) (B.ledger books.new) result }
