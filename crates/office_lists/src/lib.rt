@@ -1,0 +1,11 @@
+//! Books in memory.
+#![tactic(auto)]
+
+mod accounts;
+mod kinds;
+mod list_books;
+mod lookups;
+mod meters;
+mod rows;
+
+pub use list_books::ListBooks;
