@@ -1,7 +1,7 @@
 -- What is known of an installation of lawful facts.
 use Rattle.std.proofs.Common.{◌≡◌, List, sym, subst}
 use Rattle.meter_journal.specs.declared.lines.EntryRow.{EntryRow}
-use Rattle.meter_journal.specs.Books.{HasAccount}
+use Rattle.meter_journal.specs.Books.{IsWellInstalled, HasAccount}
 use Rattle.meter_journal.specs.Fitting.{AreFitting}
 use Rattle.meter_journal.specs.Journal.{entries_in}
 use Rattle.meter_journal.specs.Laws.{JournalsAreKept}
@@ -11,22 +11,24 @@ use Rattle.office_rules.specs.Lawful.{AreLawful}
 use Rattle.office_rules.specs.Meters.{installed, journal_of, rows_of}
 use Rattle.office_laws.specs.Laws.{IsRecorded, JournalsFit}
 use Rattle.office_laws.specs.Ranges.{InstallationsAreInRange}
-use Rattle.office_laws.proofs.Journals.{found, well}
+use Rattle.office_laws.proofs.Journals.{found, well as well_installed}
 use Rattle.office_lists.specs.Accounts.{HasNumbers}
 
 pub record IsKnown (held : List Fact) (o : Opening) : Type 0 where
   pub numbers : HasNumbers o
+  pub well : IsWellInstalled (installed o)
   pub fits : AreFitting (installed o) (journal_of held o.meter)
   pub account : (rows : List EntryRow) → rows ≡ rows_of held o → HasAccount (installed o) (entries_in rows)
 
 pub known : JournalsFit → JournalsAreKept → InstallationsAreInRange → (held : List Fact) (o : Opening) → AreLawful held → IsRecorded held o
     → IsKnown held o
 known journals kept ranges held o lawful there =
-    let own = well held o lawful (found held o lawful there) in
+    let own = well_installed held o lawful (found held o lawful there) in
     let range = (ranges held lawful).recorded o there in
     let fits = journals held o lawful there in
     record {
       numbers = record { range = range.range; ceiling = range.ceiling; raw = own.raw; scale = own.scale };
+      well = own;
       fits = fits;
       account = λ rows is. subst (λ (rs : List EntryRow). HasAccount (installed o) (entries_in rs)) (sym is) (kept (installed o) (journal_of held o.meter) own fits).account;
     }

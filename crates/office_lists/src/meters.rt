@@ -1,5 +1,7 @@
 //! Installations out of the facts.
-ghost use Rattle.std.specs.Prelude.{◌≡◌, Some, IfOk, IfSome};
+ghost use Rattle.std.specs.Prelude.{◌≡◌, take, Some, IfOk, IfSome};
+ghost use Rattle.std.specs.Option.{option_map};
+ghost use Rattle.meter_journal.specs.Journal.{row_at};
 ghost use Rattle.office_books.specs.Sound.{IsSound};
 ghost use Rattle.office_laws.specs.Laws.{IsRecorded};
 ghost use Rattle.office_rules.specs.Intervals.{rows_of_opening};
@@ -10,8 +12,8 @@ ghost use Rattle.office_lists.specs.Looking.{latest_first};
 use crate::accounts::{shares, standing};
 use crate::rows::{has_ended, rows};
 use interval_core::Share;
-use meter_journal::journals_are_kept;
-use office_events::{Fact, Installation, Opening};
+use meter_journal::{EntryRow, find_row, journals_are_kept, places_were_kept};
+use office_events::{EntryPlace, Fact, Installation, Opening};
 use office_laws::{installations_are_in_range, journals_fit};
 use std::alloc::{AllocError, Global};
 
@@ -50,4 +52,47 @@ pub(crate) fn interval_rows(
     let lines = rows(alloc, facts, opening)?;
     let found = shares(alloc, opening, &lines)?;
     Ok(found)
+}
+
+/// The first so many of these rows, or all.
+fn first(rows: &[EntryRow], count: usize) -> &[EntryRow]
+    ensures { result.now ≡ take count rows.now }
+{
+    if count < rows.len() {
+        &rows[..count]
+    } else {
+        rows
+    }
+}
+
+/// Where an opening's meter stood before its entry at a place, and the next that stands.
+pub(crate) fn entry(
+    alloc: Global,
+    facts: &[Fact],
+    opening: &Opening,
+    place: u64,
+) -> Result<Option<EntryPlace>, AllocError>
+    ensures found { let held = latest_first facts.now in
+        AreLawful held → IsRecorded held opening.now
+        → IfOk result (λ found. found ≡ option_map (meters.place_in held opening.now)
+        (row_at place (meters.rows_of held opening.now))) }
+    ensures sound { IfOk result (λ found. IfSome found (λ p. IsSound p.before)) }
+{
+    journals_fit();
+    journals_are_kept();
+    installations_are_in_range();
+    places_were_kept();
+    let lines = rows(alloc, facts, opening)?;
+    let Some(found) = find_row(&lines, place) else {
+        return Ok(None);
+    };
+    let ended = has_ended(facts, opening);
+    let Some(before) = standing(opening, first(&lines, found.index), ended) else {
+        return Ok(None);
+    };
+    Ok(Some(EntryPlace {
+        before,
+        row: found.row,
+        next: found.next,
+    }))
 }
