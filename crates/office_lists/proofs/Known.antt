@@ -1,5 +1,8 @@
 -- What is known of an installation of lawful facts.
-use Rattle.std.proofs.Common.{◌≡◌, List, sym, subst}
+use Rattle.std.proofs.Common.{◌≡◌, suc, Bool, List, [], ◌∷◌, Some, sym, subst, ◌∙◌, inl, inr, arith}
+use Rattle.std.specs.List.{find, Contains}
+use Rattle.std.proofs.lemmas.Bool.{cases_Bool, cond-true, cond-false}
+use Rattle.std.proofs.lemmas.Option.{same_Some}
 use Rattle.meter_journal.specs.declared.lines.EntryRow.{EntryRow}
 use Rattle.meter_journal.specs.Books.{IsWellInstalled, HasAccount}
 use Rattle.meter_journal.specs.Fitting.{AreFitting}
@@ -32,3 +35,13 @@ known journals kept ranges held o lawful there =
       fits = fits;
       account = λ rows is. subst (λ (rs : List EntryRow). HasAccount (installed o) (entries_in rs)) (sym is) (kept (installed o) (journal_of held o.meter) own fits).account;
     }
+
+-- what is found is there
+pub found_is_there : {X : Type 0} (p : X → Bool) (xs : List X) (x : X) → find p xs ≡ Some x → Contains xs x
+found_is_there p [] x h = absurd (cc)
+found_is_there p (y ∷ ys) x h =
+    elim (cases_Bool (p y)) [
+      | inl e ↦ let same_one : Some y ≡ Some x = sym (cond-true _ _ _ e) ∙ h in (0, omega arith, same_Some y x same_one)
+      | inr e ↦
+          let rest = found_is_there p ys x (sym (cond-false _ _ _ e) ∙ h) in (suc rest.0, omega (arith, rest.1), rest.2)
+    ]

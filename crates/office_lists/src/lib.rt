@@ -2,6 +2,7 @@
 #![tactic(auto)]
 
 mod accounts;
+mod handing;
 mod kinds;
 mod list_books;
 mod lookups;

@@ -4,16 +4,17 @@ ghost use Rattle.std.specs.Option.{option_map};
 ghost use Rattle.meter_journal.specs.Journal.{row_at};
 ghost use Rattle.office_books.specs.Sound.{IsSound};
 ghost use Rattle.office_laws.specs.Laws.{IsRecorded};
-ghost use Rattle.office_rules.specs.Intervals.{rows_of_opening};
+ghost use Rattle.office_rules.specs.Intervals.{rows_of_opening, rows_of_meter};
 ghost use Rattle.office_rules.specs.Lawful.{AreLawful};
 ghost use Rattle.office_rules.specs.Meters as meters;
 ghost use Rattle.office_lists.specs.Looking.{latest_first};
 
 use crate::accounts::{shares, standing};
+use crate::lookups;
 use crate::rows::{has_ended, rows};
 use interval_core::Share;
 use meter_journal::{EntryRow, find_row, journals_are_kept, places_were_kept};
-use office_events::{EntryPlace, Fact, Installation, Opening};
+use office_events::{EntryPlace, Fact, Installation, Name, Opening};
 use office_laws::{installations_are_in_range, journals_fit};
 use std::alloc::{AllocError, Global};
 
@@ -95,4 +96,72 @@ pub(crate) fn entry(
         row: found.row,
         next: found.next,
     }))
+}
+
+/// The installation of a meter, as it stands.
+pub(crate) fn named(
+    alloc: Global,
+    facts: &[Fact],
+    meter: &Name,
+) -> Result<Option<Installation>, AllocError>
+    ensures found { let held = latest_first facts.now in
+        AreLawful held → IfOk result (λ row. row ≡ meters.meter_of held meter.now) }
+    ensures sound { IfOk result (λ row. IfSome row IsSound) }
+{
+    let Some(opening) = lookups::opening(facts, meter) else {
+        return Ok(None);
+    };
+    let row = installation(alloc, facts, &opening)?;
+    Ok(row)
+}
+
+/// The latest installation at a register, as it stands.
+pub(crate) fn at_register(
+    alloc: Global,
+    facts: &[Fact],
+    register: &Name,
+) -> Result<Option<Installation>, AllocError>
+    ensures found { let held = latest_first facts.now in
+        AreLawful held → IfOk result (λ row. row ≡ meters.installation_at held register.now) }
+    ensures sound { IfOk result (λ row. IfSome row IsSound) }
+{
+    let Some(opening) = lookups::installed(facts, register) else {
+        return Ok(None);
+    };
+    let row = installation(alloc, facts, &opening)?;
+    Ok(row)
+}
+
+/// Where a meter stood before its entry at a place, and the next that stands.
+pub(crate) fn placed(
+    alloc: Global,
+    facts: &[Fact],
+    meter: &Name,
+    place: u64,
+) -> Result<Option<EntryPlace>, AllocError>
+    ensures found { let held = latest_first facts.now in
+        AreLawful held → IfOk result (λ found. found ≡ meters.entry_at held meter.now place) }
+    ensures sound { IfOk result (λ found. IfSome found (λ p. IsSound p.before)) }
+{
+    let Some(opening) = lookups::opening(facts, meter) else {
+        return Ok(None);
+    };
+    let found = entry(alloc, facts, &opening, place)?;
+    Ok(found)
+}
+
+/// The interval rows of a meter.
+pub(crate) fn intervals(
+    alloc: Global,
+    facts: &[Fact],
+    meter: &Name,
+) -> Result<Vec<Share>, AllocError>
+    ensures { let held = latest_first facts.now in
+        AreLawful held → IfOk result (λ v. v.items ≡ rows_of_meter held meter.now) }
+{
+    let Some(opening) = lookups::opening(facts, meter) else {
+        return Ok(Vec::new(alloc));
+    };
+    let rows = interval_rows(alloc, facts, &opening)?;
+    Ok(rows)
 }

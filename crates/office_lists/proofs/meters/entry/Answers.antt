@@ -1,4 +1,4 @@
-use Rattle.std.proofs.Common.{◌≡◌, ◌∙◌, List, Option, Some, None, Bool, take, sym, ap, subst}
+use Rattle.std.proofs.Common.{◌≡◌, ◌∙◌, List, Some, None, Bool, take, sym, ap, subst}
 use Rattle.std.specs.Option.{option_map}
 use Rattle.meter_journal.specs.declared.lines.EntryRow.{EntryRow}
 use Rattle.meter_journal.specs.Books.{HasAccount}
@@ -6,7 +6,6 @@ use Rattle.meter_journal.specs.Journal.{Around, entries_in, row_at}
 use Rattle.meter_journal.specs.Lists as lists
 use Rattle.office_events.specs.declared.facts.Fact.{Fact}
 use Rattle.office_events.specs.declared.facts.Opening.{Opening}
-use Rattle.office_events.specs.declared.questions.EntryPlace.{EntryPlace}
 use Rattle.office_events.specs.declared.questions.Installation.{Installation}
 use Rattle.office_rules.specs.Meters.{installed, journal_of, rows_of, standing, is_ended, place_in}
 use Rattle.office_lists.specs.Looking.{latest_first}
@@ -39,7 +38,7 @@ returns-in_default-standing-clause-found c = λ lawful there.
     let account : HasAccount (installed o) (entries_in (lists.latest_first c.first.result.now)) =
     subst (λ (rs : List EntryRow). HasAccount (installed o) (entries_in (lists.latest_first rs))) (sym before) kept.account in
     absurd (let e : None ≡ Some (standing o (entries_in (lists.latest_first c.first.result.now)) c.has_ended-ended.result) =
-      c.in_default-standing.ensures.found all.numbers account in cc)
+    c.in_default-standing.ensures.found all.numbers account in cc)
 
 pub returns-clause-found : goal.returns-clause-found
 returns-clause-found c = λ lawful there.
