@@ -10,7 +10,7 @@ one_last : {X Y : Type 0} (h : X → Option Y) (x : X) (o : Option Y) (ys : List
 one_last h x None ys is = append-nil (reverse ys)
 one_last h x (Some y) ys is = sym (reverse_cons y ys)
 
-filter_map_reverse : {X Y : Type 0} (h : X → Option Y) (xs : List X) → filter_map h (reverse xs) ≡ reverse (filter_map h xs)
+pub filter_map_reverse : {X Y : Type 0} (h : X → Option Y) (xs : List X) → filter_map h (reverse xs) ≡ reverse (filter_map h xs)
 filter_map_reverse h [] = refl
 filter_map_reverse h (x ∷ xs) =
     ap (filter_map h) (reverse_cons x xs) ∙ filter_map-append h (reverse xs) (x ∷ [])

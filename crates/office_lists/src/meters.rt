@@ -4,7 +4,7 @@ ghost use Rattle.std.specs.Option.{option_map};
 ghost use Rattle.meter_journal.specs.Journal.{row_at};
 ghost use Rattle.office_books.specs.Sound.{IsSound};
 ghost use Rattle.office_laws.specs.Laws.{IsRecorded};
-ghost use Rattle.office_rules.specs.Intervals.{rows_of_opening, rows_of_meter};
+ghost use Rattle.office_rules.specs.Intervals.{rows_of_opening, rows_of_meter, rows_of_register};
 ghost use Rattle.office_rules.specs.Lawful.{AreLawful};
 ghost use Rattle.office_rules.specs.Meters as meters;
 ghost use Rattle.office_lists.specs.Looking.{latest_first};
@@ -164,4 +164,22 @@ pub(crate) fn intervals(
     };
     let rows = interval_rows(alloc, facts, &opening)?;
     Ok(rows)
+}
+
+/// The interval rows of a register.
+pub(crate) fn register_intervals(
+    alloc: Global,
+    facts: &[Fact],
+    register: &Name,
+) -> Result<Vec<Share>, AllocError>
+    ensures { let held = latest_first facts.now in
+        AreLawful held → IfOk result (λ v. v.items ≡ rows_of_register held register.now) }
+{
+    let openings = lookups::openings_at(alloc, facts, register)?;
+    let mut all = Vec::new(alloc);
+    for opening in &openings {
+        let mut rows = interval_rows(alloc, facts, opening)?;
+        all.append(&mut rows)?;
+    }
+    Ok(all)
 }
