@@ -1,0 +1,62 @@
+-- Facts that are added behind the others.
+use Rattle.std.proofs.Common.{◌≡◌, true, false, List, [], ◌∷◌, ◌++◌, reverse, inl, inr, refl, sym, ap, ◌∙◌, Result, Ok, Err, OnOk, OnErr, IfErr}
+use Rattle.std.specs.Prelude.{IsOk}
+use Rattle.std.proofs.lemmas.List.{append-nil, reverse-append, reverse-reverse}
+use Rattle.office_events.specs.declared.facts.Fact.{Fact}
+use Rattle.office_rules.specs.Lawful.{AreLawful}
+use Rattle.office_books.specs.declared.faults.BooksFault.{BooksFault}
+use Rattle.office_books.specs.declared.faults.BooksFault.TheVariants.{Store, Memory}
+use Rattle.office_books.specs.Ledgers.{Books, with_facts}
+use Rattle.office_lists.specs.declared.list_books.ListBooks.{ListBooks}
+use Rattle.office_lists.specs.Listed.{AreListed, HasOne, ledger_of}
+
+behind : (held facts : List Fact) → reverse held ++ facts ≡ reverse (with_facts facts held)
+behind held facts = sym (reverse-append (reverse facts) held ∙ ap (λ (xs : List Fact). reverse held ++ xs) (reverse-reverse facts))
+
+listed_on : (old new : ListBooks) (held facts : List Fact) → new.facts.items ≡ old.facts.items ++ facts → AreListed old held
+    → AreLawful (with_facts facts held) → AreListed new (with_facts facts held)
+listed_on old new held facts is listed lawful = record {
+  lawful = lawful;
+  facts = is ∙ ap (λ (xs : List Fact). xs ++ facts) listed.facts ∙ behind held facts;
+}
+
+listed_still : (old new : ListBooks) (held : List Fact) → new.facts.items ≡ old.facts.items → AreListed old held → AreListed new held
+listed_still old new held same listed = record { lawful = listed.lawful; facts = same ∙ listed.facts }
+
+one_still : (old new : ListBooks) → new.facts.items ≡ old.facts.items → (left : List (List Fact)) → HasOne old left → HasOne new left
+one_still old new same [] may = may
+one_still old new same (held ∷ left) (inl listed) = inl (listed_still old new held same listed)
+one_still old new same (held ∷ left) (inr may) = inr (one_still old new same left may)
+
+one_among : (books : ListBooks) (left more : List (List Fact)) → HasOne books left → HasOne books (left ++ more)
+one_among books [] more may = absurd may
+one_among books (held ∷ left) more (inl listed) = inl listed
+one_among books (held ∷ left) more (inr may) = inr (one_among books left more may)
+
+pub added : (old new : ListBooks) (facts : List Fact) (result : Result (Unit {0}) BooksFault)
+    → OnOk result (new.facts.items ≡ old.facts.items ++ facts) → OnErr result (new.facts.items ≡ old.facts.items) → new.zone ≡ old.zone
+    → IfErr result (λ e. e ≡ Memory) → (facts ≡ [] → IsOk result) → Books (ledger_of old) (ledger_of new) facts result
+added old new facts (Ok done) ok err zone memory nothing = record {
+  booked = λ held listed lawful. listed_on old new held facts ok listed lawful;
+  settled = λ held listed lawful. inl (listed_on old new held facts ok listed lawful);
+  refused = λ held listed. tt;
+  under_way = λ held left listed lawful may. tt;
+  nothing = λ none.
+      let same : new.facts.items ≡ old.facts.items = ok ∙ ap (λ (xs : List Fact). old.facts.items ++ xs) none ∙ append-nil old.facts.items in (
+        nothing none,
+        record {
+          facts = λ held listed. listed_still old new held same listed;
+          left = λ left may. one_still old new same left may;
+        },
+      );
+  goes = record { clean = λ c. c; faults = refl; zone = zone };
+}
+added old new facts (Err (Store fault)) ok err zone memory nothing = absurd (let never : Store fault ≡ Memory = memory in cc)
+added old new facts (Err Memory) ok err zone memory nothing = record {
+  booked = λ held listed lawful. tt;
+  settled = λ held listed lawful. tt;
+  refused = λ held listed. listed_still old new held err listed;
+  under_way = λ held left listed lawful may. one_among new left _ (one_still old new err left may);
+  nothing = λ none. absurd (let never : false ≡ true = nothing none in cc);
+  goes = record { clean = λ c. c; faults = refl; zone = zone };
+}

@@ -1,0 +1,5 @@
+pub mod Turned
+pub mod Passing
+pub mod Known
+pub mod Adding
+pub mod Joined

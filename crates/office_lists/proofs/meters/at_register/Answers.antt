@@ -1,0 +1,18 @@
+use Rattle.std.proofs.Common.{◌≡◌, ◌∙◌, List, Some, sym, ap}
+use Rattle.std.specs.List.{Contains}
+use Rattle.std.specs.Option.{option_map}
+use Rattle.office_rules.specs.Meters.{installation_of}
+use Rattle.office_events.specs.declared.facts.Fact.{Fact}
+use Rattle.office_events.specs.declared.facts.Opening.{Opening}
+use Rattle.office_rules.specs.Facts.{same, openings_in, installed_at}
+use Rattle.office_lists.specs.Looking.{latest_first}
+use Rattle.office_lists.proofs.Known.{found_is_there}
+use Rattle.office_lists.proofs.meters.at_register.Goals as goal
+
+pub returns-clause-found : goal.returns-clause-found
+returns-clause-found c = λ lawful.
+    let held : List Fact = latest_first c.args.facts.now in
+    let is : Some c.in-Some.opening ≡ installed_at held c.args.register.now = c.in-Some.ensures in
+    let there : Contains (openings_in held) c.in-Some.opening =
+    found_is_there (λ (o : Opening). same o.register c.args.register.now) (openings_in held) c.in-Some.opening (sym is) in
+    c.in_ok-row.ensures.found lawful there ∙ ap (option_map (installation_of held)) is

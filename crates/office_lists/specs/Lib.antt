@@ -1,0 +1,4 @@
+pub mod Looking
+pub mod Accounts
+pub mod Rows
+pub mod Listed

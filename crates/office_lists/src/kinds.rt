@@ -1,0 +1,109 @@
+//! Each kind of fact.
+ghost use Rattle.std.specs.Prelude.{◌≡◌};
+ghost use Rattle.office_rules.specs.Facts.{as_device, as_register, as_opening, as_poll, as_ended, moment_in};
+
+use energy_core::Entry;
+use office_events::{Device, EndedPoll, Fact, Opening, Poll, Register};
+
+pub(crate) fn device_in(fact: &Fact) -> Option<Device>
+    ensures { result ≡ as_device fact.now }
+{
+    match fact {
+        Fact::Device(device) => Some(*device),
+        Fact::List(_)
+        | Fact::Register(_)
+        | Fact::Opening(_)
+        | Fact::Entry(_)
+        | Fact::Hold(_)
+        | Fact::Void(_)
+        | Fact::Poll(_)
+        | Fact::Outcome(_)
+        | Fact::Reply(_) => None,
+    }
+}
+
+pub(crate) fn register_in(fact: &Fact) -> Option<Register>
+    ensures { result ≡ as_register fact.now }
+{
+    match fact {
+        Fact::Register(register) => Some(*register),
+        Fact::Device(_)
+        | Fact::List(_)
+        | Fact::Opening(_)
+        | Fact::Entry(_)
+        | Fact::Hold(_)
+        | Fact::Void(_)
+        | Fact::Poll(_)
+        | Fact::Outcome(_)
+        | Fact::Reply(_) => None,
+    }
+}
+
+pub(crate) fn opening_in(fact: &Fact) -> Option<Opening>
+    ensures { result ≡ as_opening fact.now }
+{
+    match fact {
+        Fact::Opening(opening) => Some(*opening),
+        Fact::Device(_)
+        | Fact::List(_)
+        | Fact::Register(_)
+        | Fact::Entry(_)
+        | Fact::Hold(_)
+        | Fact::Void(_)
+        | Fact::Poll(_)
+        | Fact::Outcome(_)
+        | Fact::Reply(_) => None,
+    }
+}
+
+pub(crate) fn poll_in(fact: &Fact) -> Option<Poll>
+    ensures { result ≡ as_poll fact.now }
+{
+    match fact {
+        Fact::Poll(poll) => Some(*poll),
+        Fact::Device(_)
+        | Fact::List(_)
+        | Fact::Register(_)
+        | Fact::Opening(_)
+        | Fact::Entry(_)
+        | Fact::Hold(_)
+        | Fact::Void(_)
+        | Fact::Outcome(_)
+        | Fact::Reply(_) => None,
+    }
+}
+
+pub(crate) fn end_in(fact: &Fact) -> Option<EndedPoll>
+    ensures { result ≡ as_ended fact.now }
+{
+    match fact {
+        Fact::Outcome(ended) => Some(*ended),
+        Fact::Device(_)
+        | Fact::List(_)
+        | Fact::Register(_)
+        | Fact::Opening(_)
+        | Fact::Entry(_)
+        | Fact::Hold(_)
+        | Fact::Void(_)
+        | Fact::Poll(_)
+        | Fact::Reply(_) => None,
+    }
+}
+
+/// The moment of a fact; those that have none count as 0.
+pub(crate) fn moment(fact: &Fact) -> u64
+    ensures { result ≡ moment_in fact.now }
+{
+    match fact {
+        Fact::Device(_) | Fact::List(_) | Fact::Register(_) => 0,
+        Fact::Opening(opening) => opening.at,
+        Fact::Entry(booked) => match booked.entry {
+            Entry::Step { at, .. } | Entry::Change { at, .. } => at,
+        },
+        Fact::Hold(held) => held.at,
+        Fact::Void(voided) => voided.at,
+        Fact::Poll(poll) => poll.at,
+        Fact::Outcome(ended) => ended.at,
+        Fact::Reply(reply) => reply.at,
+    }
+}

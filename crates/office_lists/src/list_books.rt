@@ -1,0 +1,162 @@
+//! Books in memory.
+ghost use Rattle.std.specs.Prelude.{◌≡◌, [], ◌++◌, OnOk, OnErr, IfErr, IsOk};
+ghost use Rattle.office_books.specs.declared.faults.BooksFault.TheVariants.{Memory};
+ghost use Rattle.office_lists.specs.Listed.{AreListed};
+
+use crate::handing::hand_on;
+use crate::{lookups, meters};
+use interval_core::{Share, Zone};
+use office_books::{Books, BooksFault, Repeat, RowSink};
+use office_events::{
+    Device, EntryPlace, Fact, Installation, Name, PlannedList, Poll, PollRow, Register,
+};
+use std::alloc::Global;
+
+/// Books in memory: a list of the facts, in the order in which they came. They have no store, and so never answer
+/// `BooksFault::Store`: a call fails only for want of memory, and then changes nothing. A look-up walks the list.
+#[derive(Drop)]
+pub struct ListBooks {
+    facts: Vec<Fact>,
+    zone: Zone,
+}
+
+impl ListBooks {
+    /// Books that hold nothing yet.
+    pub fn new(alloc: Global, zone: Zone) -> ListBooks
+        ensures empty { AreListed result [] }
+        ensures zone { result.zone ≡ zone }
+    {
+        ListBooks {
+            facts: Vec::new(alloc),
+            zone,
+        }
+    }
+
+    /// Adds facts behind the others: all of them or, where memory is wanting, none.
+    fn add(&mut self, facts: Vec<Fact>) -> Result<(), BooksFault>
+        ensures ok { OnOk result (self.new.facts.items ≡ self.old.facts.items ++ facts.items) }
+        ensures err { OnErr result (self.new.facts.items ≡ self.old.facts.items) }
+        ensures zone { self.new.zone ≡ self.old.zone }
+        ensures memory { IfErr result (λ e. e ≡ Memory) }
+        ensures nothing { facts.items ≡ [] → IsOk result }
+    {
+        let mut more = facts;
+        self.facts.append(&mut more)?;
+        Ok(())
+    }
+}
+
+impl Books for ListBooks {
+    ghost use Rattle.office_lists.specs.Listed.{ledger_of};
+
+    ghost ledger = { ledger_of };
+
+    fn faults(&self) -> u64 {
+        0
+    }
+
+    fn zone(&self) -> Zone {
+        self.zone
+    }
+
+    fn tables_are_held(&self) {}
+
+    fn devices(&mut self) -> Result<Vec<Device>, BooksFault> {
+        let alloc = *self.facts.allocator();
+        Ok(lookups::devices(alloc, &self.facts)?)
+    }
+
+    fn list(&mut self, device: &Name) -> Result<Option<PlannedList>, BooksFault> {
+        Ok(lookups::list(&self.facts, device)?)
+    }
+
+    fn register(&mut self, name: &Name) -> Result<Option<Register>, BooksFault> {
+        Ok(lookups::register(&self.facts, name))
+    }
+
+    fn registers(&mut self, device: &Name) -> Result<Vec<Register>, BooksFault> {
+        let alloc = *self.facts.allocator();
+        Ok(lookups::registers(alloc, &self.facts, device)?)
+    }
+
+    fn register_count(&mut self, device: &Name) -> Result<usize, BooksFault> {
+        let alloc = *self.facts.allocator();
+        let registers = lookups::registers(alloc, &self.facts, device)?;
+        Ok(registers.len())
+    }
+
+    fn meter(&mut self, name: &Name) -> Result<Option<Installation>, BooksFault> {
+        let alloc = *self.facts.allocator();
+        Ok(meters::named(alloc, &self.facts, name)?)
+    }
+
+    fn installation(&mut self, register: &Name) -> Result<Option<Installation>, BooksFault> {
+        let alloc = *self.facts.allocator();
+        Ok(meters::at_register(alloc, &self.facts, register)?)
+    }
+
+    fn installation_count(&mut self) -> Result<usize, BooksFault> {
+        let alloc = *self.facts.allocator();
+        let openings = lookups::all_openings(alloc, &self.facts)?;
+        Ok(openings.len())
+    }
+
+    fn entry(&mut self, meter: &Name, place: u64) -> Result<Option<EntryPlace>, BooksFault> {
+        let alloc = *self.facts.allocator();
+        Ok(meters::placed(alloc, &self.facts, meter, place)?)
+    }
+
+    fn poll(&mut self, number: u64) -> Result<Option<PollRow>, BooksFault> {
+        Ok(lookups::poll(&self.facts, number))
+    }
+
+    fn poll_count(&mut self) -> Result<u64, BooksFault> {
+        let alloc = *self.facts.allocator();
+        let polls = lookups::all_polls(alloc, &self.facts)?;
+        Ok(polls.len() as u64)
+    }
+
+    fn pending(&mut self) -> Result<Vec<Poll>, BooksFault> {
+        let alloc = *self.facts.allocator();
+        Ok(lookups::pending(alloc, &self.facts)?)
+    }
+
+    fn latest(&mut self) -> Result<u64, BooksFault> {
+        Ok(lookups::latest(&self.facts))
+    }
+
+    fn repeat(
+        &mut self,
+        caller: &Name,
+        number: u64,
+        request: &[u8],
+    ) -> Result<Option<Repeat>, BooksFault> {
+        Ok(lookups::repeat(&self.facts, caller, number, request))
+    }
+
+    fn intervals<K: RowSink<Share>>(
+        &mut self,
+        meter: &Name,
+        sink: &mut K,
+    ) -> Result<(), BooksFault> {
+        let alloc = *self.facts.allocator();
+        let rows = meters::intervals(alloc, &self.facts, meter)?;
+        hand_on(&rows, sink);
+        Ok(())
+    }
+
+    fn register_intervals<K: RowSink<Share>>(
+        &mut self,
+        register: &Name,
+        sink: &mut K,
+    ) -> Result<(), BooksFault> {
+        let alloc = *self.facts.allocator();
+        let rows = meters::register_intervals(alloc, &self.facts, register)?;
+        hand_on(&rows, sink);
+        Ok(())
+    }
+
+    fn book(&mut self, facts: Vec<Fact>) -> Result<(), BooksFault> {
+        self.add(facts)
+    }
+}
