@@ -1,0 +1,7 @@
+//! Tests of the office over books in memory.
+#![tactic(auto)]
+
+#[cfg(test)]
+mod events;
+#[cfg(test)]
+mod readings;
