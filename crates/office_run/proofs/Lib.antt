@@ -1,3 +1,6 @@
 pub mod Left
 pub mod Taken
 pub mod Reopened
+pub mod Runs
+pub mod AddingUp
+mod Examples

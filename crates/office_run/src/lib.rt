@@ -4,5 +4,9 @@
 mod deciding;
 mod office;
 mod opening;
+mod results;
+mod running;
 
 pub use office::Office;
+pub use results::Run;
+pub use running::run;
