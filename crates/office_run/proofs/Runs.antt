@@ -9,11 +9,11 @@ use Rattle.office_rules.specs.History.{History, Opened}
 use Rattle.office_rules.specs.Refusals.{with_answer}
 use Rattle.office_books.specs.Ledgers.{Ledger}
 use Rattle.office_run.specs.declared.office.Office.{Office}
-use Rattle.office_run.specs.Failing.{Counts, stops}
+use Rattle.office_run.specs.Failing.{Counts, is_failure, stops}
 use Rattle.office_run.specs.Leaving.{BooksStand}
-use Rattle.office_run.specs.Standing.{Stands, books_in, is_stopped}
-use Rattle.office_run.specs.Taking.{IsAnswer, IsTold, Ends, failures_of}
-use Rattle.office_run.specs.Running.{Answered, in_turn, history_after, AreAnswers, TellsOfLast, StopsInTurn, CountInTurn}
+use Rattle.office_run.specs.Standing.{After, Stands, books_in, is_stopped}
+use Rattle.office_run.specs.Taking.{IsAnswer, IsTold, IsQuiet, SettlesNothing, Ends, failures_of}
+use Rattle.office_run.specs.Running.{Answered, in_turn, history_after, IsAnswered, AreAnswered, TellsOfLast, StopsInTurn, CountInTurn}
 
 abbrev Events : Type 0
 Events = List (ℕ × Event)
@@ -45,8 +45,8 @@ history_push past [] one = refl
 history_push past (f ∷ fed) one = history_push (with_answer past f.at f.event f.result) fed one
 
 answers_push : (past : History) (before between after : ℕ) (fed : List Answered) (one : Answered)
-    → AreAnswers past before between fed → IsAnswer (history_after past fed) one.at one.event between after one.result
-    → AreAnswers past before after (fed ++ one ∷ [])
+    → AreAnswered past before between fed → IsAnswered (history_after past fed) between after one
+    → AreAnswered past before after (fed ++ one ∷ [])
 answers_push past before between after [] one h k = (after, rw (sym h) k, refl)
 answers_push past before between after (f ∷ fed) one h k =
     (h.0, h.1, answers_push (with_answer past f.at f.event f.result) h.0 between after fed one h.2 k)
@@ -74,7 +74,7 @@ pub record SoFar {B : Type 0} (ledger : B → Ledger) (books : B) (opened : ℕ)
   pub stands : (past : History) → BooksStand (ledger books) past → (ledger (books_in office)).is_clean
       → Stands ledger (history_after (Opened opened ∷ past) fed) office
   pub answers : (past : History) → BooksStand (ledger books) past → (ledger (books_in office)).is_clean
-      → AreAnswers (Opened opened ∷ past) (ledger books).fault_count (ledger (books_in office)).fault_count fed
+      → AreAnswered (Opened opened ∷ past) (ledger books).fault_count (ledger (books_in office)).fault_count fed
   pub told : (past : History) → BooksStand (ledger books) past → (ledger (books_in office)).is_clean
       → TellsOfLast (Opened opened ∷ past) fed office
   pub stops : StopsInTurn false (is_stopped office) fed
@@ -84,13 +84,19 @@ pub record SoFar {B : Type 0} (ledger : B → Ledger) (books : B) (opened : ℕ)
 
 -- what feeding one more event promises
 pub record Feeds {B : Type 0} (ledger : B → Ledger) (old new : Office B) (one : Answered) : Type 0 where
-  pub answers : (past : History) → Stands ledger past old → (ledger (books_in new)).is_clean
-      → IsAnswer past one.at one.event (failures_of ledger old) (failures_of ledger new) one.result
-  pub stands : (past : History) → Stands ledger past old → (ledger (books_in new)).is_clean
-      → Stands ledger (with_answer past one.at one.event one.result) new
-  pub told : (past : History) → Stands ledger past old → (ledger (books_in new)).is_clean
-      → IsTold past one.at one.event one.result new
+  pub answers : After ledger old new (λ past. IsAnswer past one.at one.event (failures_of ledger old) (failures_of ledger new) one.result)
+  pub stands : After ledger old new (λ past. Stands ledger (with_answer past one.at one.event one.result) new)
+  pub told : After ledger old new (λ past. IsTold past one.at one.event one.result new)
+  pub quiet : (past : History) → Stands ledger past old → is_stopped old ≡ false → SettlesNothing past one.at one.event
+      → IsQuiet old new one.result
   pub ends : Ends ledger old new one.event one.result
+
+-- an office that had stopped says so, which is no failure
+not_failing : {B : Type 0} (ledger : B → Ledger) (past : History) (old new : Office B) (one : Answered) → Feeds ledger old new one
+    → Stands ledger past old → SettlesNothing past one.at one.event → (stopped : Bool) → is_stopped old ≡ stopped
+    → is_failure one.result ≡ false
+not_failing ledger past old new one feeds stands nothing true is = ap is_failure (feeds.ends.stopped.1 is)
+not_failing ledger past old new one feeds stands nothing false is = (feeds.quiet past stands is nothing).answer
 
 pub further : {B : Type 0} (ledger : B → Ledger) (books : B) (opened : ℕ) (fed : List Answered) (old new : Office B) (one : Answered)
     → SoFar ledger books opened fed old → Feeds ledger old new one → SoFar ledger books opened (fed ++ one ∷ []) new
@@ -100,7 +106,12 @@ further ledger books opened fed old new one so feeds = record {
       (feeds.stands (history_after (Opened opened ∷ past) fed) (so.stands past stood (feeds.ends.clean clean)) clean);
   answers = λ past stood clean.
       answers_push (Opened opened ∷ past) _ _ _ fed one (so.answers past stood (feeds.ends.clean clean))
-      (feeds.answers (history_after (Opened opened ∷ past) fed) (so.stands past stood (feeds.ends.clean clean)) clean);
+      (let before = so.stands past stood (feeds.ends.clean clean) in
+      let history = history_after (Opened opened ∷ past) fed in
+      record {
+        answer = feeds.answers history before clean;
+        quiet = λ nothing. not_failing ledger history old new one feeds before nothing (is_stopped old) refl;
+      });
   told = λ past stood clean.
       told_push (Opened opened ∷ past) fed one new
       (feeds.told (history_after (Opened opened ∷ past) fed) (so.stands past stood (feeds.ends.clean clean)) clean);

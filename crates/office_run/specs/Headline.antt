@@ -1,10 +1,11 @@
--- The headline, word for word, of whatever an office accepted:
+-- The headline, word for word:
 --
---   "Each started poll has exactly one recorded outcome or is pending, and each installed meter's booked energy over all
---   intervals is its last accepted reading less its first, plus one full range for each recorded rollover and the recorded
---   differences of its resets and rescalings."
+--   "Over every list of device bytes, silences and office commands, each started poll has exactly one recorded outcome
+--   or is pending, and each installed meter's booked energy over all intervals is its last accepted reading less its
+--   first, plus one full range for each recorded rollover and the recorded differences of its resets and rescalings."
 --
--- Energy is in mWh. A reading counts where it stands: a voided one is none, and leaves no trace.
+-- Here it is said of a history: what was accepted of such a list. Energy is in mWh. A reading counts where it stands: one
+-- that was voided is none, and leaves no trace.
 use Rattle.std.specs.Prelude.{◌≡◌, ℕ, ◌+◌, ◌*◌, ℤ, pos, ◌+ℤ◌, ◌-ℤ◌, List, [], ◌∷◌, All, sum_by}
 use Rattle.energy_core.specs.declared.entries.Last.{Last}
 use Rattle.energy_core.specs.declared.entries.Entry.{Entry}
@@ -40,14 +41,17 @@ abbrev pub full_ranges : (range : ℕ) → (first : Last) → List Entry → ℕ
 full_ranges range first [] = 0
 full_ranges range first (entry.Step at raw rolls ∷ earlier) =
     rolls * range * unit_of (last_of first earlier).sf + full_ranges range first earlier
-full_ranges range first (entry.Change at before after sf ∷ earlier) = full_ranges range first earlier
+full_ranges range first (entry.Change at before after sf ∷ earlier) =
+    full_ranges range first earlier
 
--- "the recorded differences of its resets and rescalings": what the counter showed before each, less what it was set to
+-- "the recorded differences of its resets and rescalings": what the counter showed before each, less what it was set
+-- to, each at its own scale
 abbrev pub differences : (first : Last) → List Entry → ℤ
 differences first [] = pos 0
 differences first (entry.Step at raw rolls ∷ earlier) = differences first earlier
 differences first (entry.Change at before after sf ∷ earlier) =
-    pos (before * unit_of (last_of first earlier).sf) -ℤ pos (after * unit_of sf) +ℤ differences first earlier
+    pos (before * unit_of (last_of first earlier).sf) -ℤ pos (after * unit_of sf)
+    +ℤ differences first earlier
 
 -- The booked energy of a meter is its last accepted reading less its first, plus the full ranges, and the differences.
 abbrev pub AddsUp : List Fact → Opening → Type 0

@@ -4,7 +4,8 @@ ghost use Rattle.office_rules.specs.History.{History, Opened};
 ghost use Rattle.office_run.specs.Leaving.{BooksStand};
 ghost use Rattle.office_run.specs.Reopening.{IsNotOpened, Passed};
 ghost use Rattle.office_run.specs.Standing.{books_in};
-ghost use Rattle.office_run.specs.Running.{Ran, StandsAfter, AreAnswersOf, EndsInTurn, IsRecorded, accepted_by};
+ghost use Rattle.office_run.specs.Running.{AnswersEach, EndsInTurn, IsRecorded, Ran, StandsAfter};
+ghost use Rattle.office_run.specs.Running.{accepted_by};
 
 use crate::office::Office;
 use crate::results::Run;
@@ -13,9 +14,10 @@ use office_events::{Event, Refusal};
 use office_lawful::books_are_true;
 use std::alloc::Global;
 
-/// Opens an office over books and feeds it events, each at its moment. Whatever events come, each has its result, and what
-/// the books hold in the end is what the accepted ones leave: this is the headline. Room for all results is made first, and
-/// then the office is opened; where one of these fails, the books are handed back. Moments are seconds since 1970-01-01 UTC.
+/// Opens an office over books and feeds it events, each at its moment. Whatever events come, each has its answer, what
+/// the books hold in the end is what the accepted ones leave, and of this the headline holds. Room for all answers is
+/// made first, and then the office is opened; where one of these fails, the books are handed back. Moments are seconds
+/// since 1970-01-01 UTC.
 pub fn run<B: Books>(
     alloc: Global,
     books: B,
@@ -27,10 +29,11 @@ pub fn run<B: Books>(
     ensures stands { Ran B.ledger books result (λ past run.
         StandsAfter B.ledger (Opened opened ∷ past) events.now run) }
     ensures answers { Ran B.ledger books result (λ past run.
-        AreAnswersOf B.ledger books (Opened opened ∷ past) events.now run) }
+        AnswersEach B.ledger books (Opened opened ∷ past) events.now run) }
     ensures ends { IfOk result (λ run. EndsInTurn B.ledger books events.now run) }
-    ensures refused { (past : History) → BooksStand (B.ledger books) past → IfErr result (λ e.
-        (B.ledger e.0).is_clean → IsNotOpened past opened (B.ledger books) (B.ledger e.0) e.1) }
+    ensures refused { (past : History) → BooksStand (B.ledger books) past
+        → IfErr result (λ e. (B.ledger e.0).is_clean
+        → IsNotOpened past opened (B.ledger books) (B.ledger e.0) e.1) }
     ensures counted { IfErr result (λ e.
         Passed {T = B} (B.ledger books) (B.ledger e.0) (Err e.1)) }
 {

@@ -24,6 +24,7 @@ loop-moment-preserved g c =
             answers = c.feed-result.ensures.answers;
             stands = c.feed-result.ensures.stands;
             told = c.feed-result.ensures.told;
+            quiet = c.feed-result.ensures.quiet;
             ends = c.feed-result.ensures.ends;
           }));
       count = omega arith;
