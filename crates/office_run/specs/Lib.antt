@@ -7,3 +7,5 @@ pub mod Taking
 pub mod Reopening
 pub mod Asking
 pub mod DaySums
+pub mod Headline
+pub mod Running

@@ -6,5 +6,9 @@ mod deciding;
 mod office;
 mod opening;
 mod questions;
+mod results;
+mod running;
 
 pub use office::Office;
+pub use results::Run;
+pub use running::run;
