@@ -12,7 +12,7 @@ use Rattle.store_tables.proofs.Frames.{tree_at}
 use Rattle.store_tables.proofs.Scans.{text_is, number_is, and_true, one, falling}
 use Rattle.store_tables.proofs.Selects.{selects, in_order}
 use Rattle.store_polls.specs.declared.rows.OutcomeRow.{OutcomeRow}
-use Rattle.store_polls.specs.Rows.{Started, poll_columns, poll_shown, number_shown, poll_number, is_poll, outcome_columns, outcome_shown, is_outcome_of, Held, hold_columns, hold_place, hold_place_shown, Kept, reply_columns, reply_shown, is_reply}
+use Rattle.store_polls.specs.Rows.{Started, poll_columns, poll_shown, number_shown, poll_number, is_poll, outcome_columns, outcome_shown, is_outcome_of, Held, hold_columns, hold_place, hold_place_shown, Kept, reply_columns, reply_shown, is_reply, start_of, start_shown, outcome_moment, outcome_moment_shown, hold_moment, hold_moment_shown, reply_moment, reply_moment_shown}
 use Rattle.store_polls.specs.Trees.{polls, outcomes, holds, replies}
 use Rattle.store_polls.proofs.Texts as text
 
@@ -50,3 +50,31 @@ repeat_of caller number old new held xs rows has are h =
     selects replies text.repeat_of_tests text.repeat_of_project [] one (Text caller ∷ Int (pos number) ∷ []) reply_columns (is_reply caller number) reply_shown (AnyOrder)
     (λ n x. rw (text_is x.caller caller, number_is x.number number, and_true (x.number == number)) refl) (λ n x. refl) (λ m n x y le. tt)
     old new text.repeat_of text.repeat_of_names held xs rows (tree_at books_schema.tables 10 replies_table refl) has are text.repeat_of_is text.repeat_of_unlisted text.repeat_of_plain h
+
+pub latest_start : (old new : State) (held : Content) (xs : List Started) (rows : List Row) → AreTables old.now held → HasRows polls poll_columns xs held
+    → Shown text.latest_start ([]) old new rows → ShowsFirst (every) (LastFirst start_of) start_shown xs rows
+latest_start old new held xs rows has are h =
+    selects polls text.latest_start_tests text.latest_start_project ((col 1 4, falling) ∷ []) one ([]) poll_columns (every) start_shown (LastFirst start_of)
+    (λ n x. refl) (λ n x. refl) (λ m n x y le. in_order y.row.started x.row.started le)
+    old new text.latest_start text.latest_start_names held xs rows (tree_at books_schema.tables 6 polls_table refl) has are text.latest_start_is text.latest_start_unlisted text.latest_start_plain h
+
+pub latest_outcome : (old new : State) (held : Content) (xs : List OutcomeRow) (rows : List Row) → AreTables old.now held → HasRows outcomes outcome_columns xs held
+    → Shown text.latest_outcome ([]) old new rows → ShowsFirst (every) (LastFirst outcome_moment) outcome_moment_shown xs rows
+latest_outcome old new held xs rows has are h =
+    selects outcomes text.latest_outcome_tests text.latest_outcome_project ((col 1 2, falling) ∷ []) one ([]) outcome_columns (every) outcome_moment_shown (LastFirst outcome_moment)
+    (λ n x. refl) (λ n x. refl) (λ m n x y le. in_order y.moment x.moment le)
+    old new text.latest_outcome text.latest_outcome_names held xs rows (tree_at books_schema.tables 8 outcomes_table refl) has are text.latest_outcome_is text.latest_outcome_unlisted text.latest_outcome_plain h
+
+pub latest_hold : (old new : State) (held : Content) (xs : List Held) (rows : List Row) → AreTables old.now held → HasRows holds hold_columns xs held
+    → Shown text.latest_hold ([]) old new rows → ShowsFirst (every) (LastFirst hold_moment) hold_moment_shown xs rows
+latest_hold old new held xs rows has are h =
+    selects holds text.latest_hold_tests text.latest_hold_project ((col 1 4, falling) ∷ []) one ([]) hold_columns (every) hold_moment_shown (LastFirst hold_moment)
+    (λ n x. refl) (λ n x. refl) (λ m n x y le. in_order y.row.moment x.row.moment le)
+    old new text.latest_hold text.latest_hold_names held xs rows (tree_at books_schema.tables 7 holds_table refl) has are text.latest_hold_is text.latest_hold_unlisted text.latest_hold_plain h
+
+pub latest_reply : (old new : State) (held : Content) (xs : List Kept) (rows : List Row) → AreTables old.now held → HasRows replies reply_columns xs held
+    → Shown text.latest_reply ([]) old new rows → ShowsFirst (every) (LastFirst reply_moment) reply_moment_shown xs rows
+latest_reply old new held xs rows has are h =
+    selects replies text.latest_reply_tests text.latest_reply_project ((col 1 5, falling) ∷ []) one ([]) reply_columns (every) reply_moment_shown (LastFirst reply_moment)
+    (λ n x. refl) (λ n x. refl) (λ m n x y le. in_order y.moment x.moment le)
+    old new text.latest_reply text.latest_reply_names held xs rows (tree_at books_schema.tables 10 replies_table refl) has are text.latest_reply_is text.latest_reply_unlisted text.latest_reply_plain h

@@ -3,9 +3,6 @@ use Rattle.std.proofs.lemmas.Bool.{cases_Bool}
 use Rattle.std.proofs.Common.{◌≡◌, ◌≢◌, ◌≤◌, ◌+◌, ◌-◌, ◌==◌, inl, inr, if◌then◌else◌, ℕ, List, pos, min, zero-le, Option, Some, None, Ok, Err, Result, Bool, true, false, bytes_eq, IfOk, IfErr, refl, sym, ap, subst, ◌∙◌, arith}
 use Rattle.sqlite.specs.declared.types.Value.TheVariants.{Int, Text}
 use Rattle.sqlite.specs.Order.{Row, column}
-use Rattle.mb_wire.specs.declared.span.ReadFunction.{ReadFunction}
-use Rattle.mb_wire.specs.declared.span.ReadFunction.TheVariants.{HoldingRegisters, InputRegisters}
-use Rattle.mb_wire.specs.Spans.{code_of}
 use Rattle.poll_core.specs.declared.outcome.Outcome.{Outcome}
 use Rattle.poll_core.specs.declared.outcome.Outcome.TheVariants.{Answered, Exception, Silent, Malformed, Lost}
 use Rattle.poll_core.specs.declared.outcome.Malformation.TheVariants as malformation
@@ -16,15 +13,15 @@ use Rattle.poll_core.specs.Outcomes.{outcome_number, outcome_code, malformation_
 use Rattle.store_tables.specs.declared.faults.RowFault.{RowFault}
 use Rattle.store_tables.specs.declared.faults.RowFault.TheVariants.{Damaged}
 use Rattle.store_tables.specs.Asking.{ReadsRow}
-use Rattle.store_tables.specs.Columns.{whole_in, or_damaged, and_then}
+use Rattle.store_tables.specs.Columns.{whole_in, function_in, or_damaged, and_then}
 use Rattle.store_tables.specs.Limits.{greatest_place, latest_moment}
-use Rattle.store_tables.proofs.ReadLemmas.{IsFair, fair_some, fair_whole, reads_row, reads_number, has_read, whole_bounds, ok_is}
+use Rattle.store_tables.proofs.ReadLemmas.{IsFair, fair_some, fair_whole, reads_row, reads_number, has_read, whole_bounds, ok_is, function_back}
 use Rattle.store_polls.specs.declared.rows.PollRow.{PollRow}
 use Rattle.store_polls.specs.declared.rows.OutcomeRow.{OutcomeRow}
 use Rattle.store_polls.specs.declared.rows.ReplyKind.{ReplyKind}
 use Rattle.store_polls.specs.declared.rows.ReplyKind.TheVariants as kind
 use Rattle.store_polls.specs.declared.rows.Repeat.{Repeat}
-use Rattle.store_polls.specs.Rows.{Started, poll_shown, number_shown, poll_number, poll_in, HasNumber, IsSoundPoll, IsSoundStarted, function_in, greatest_count, outcome_shown, outcome_in, malformation_of, lost_of, malformed_of, lost_by, outcome_of, IsOutcome, IsSoundOutcome, hold_place_shown, hold_place, HasHoldPlace, IsSoundHeld, kind_word, kind_in, same_bytes, reply_shown, repeat_in, repeat_as, IsRepeat, IsSoundKept}
+use Rattle.store_polls.specs.Rows.{Started, poll_shown, number_shown, poll_number, poll_in, HasNumber, IsSoundPoll, IsSoundStarted, greatest_count, outcome_shown, outcome_in, malformation_of, lost_of, malformed_of, lost_by, outcome_of, IsOutcome, IsSoundOutcome, hold_place_shown, hold_place, HasHoldPlace, IsSoundHeld, kind_word, kind_in, same_bytes, reply_shown, repeat_in, repeat_as, IsRepeat, IsSoundKept, start_of, start_shown, HasStart, outcome_moment, outcome_moment_shown, HasOutcomeMoment, hold_moment, hold_moment_shown, HasHoldMoment, reply_moment, reply_moment_shown, HasReplyMoment}
 
 -- ---- numbers
 
@@ -34,30 +31,24 @@ reads_poll_number = reads_number 1 greatest_place number_shown poll_number IsSou
 pub reads_hold_place : (row : Row) (r : Result ℕ RowFault) → r ≡ or_damaged (whole_in 1 greatest_place (column row 0)) → ReadsRow row hold_place_shown HasHoldPlace IsSoundHeld r
 reads_hold_place = reads_number 1 greatest_place hold_place_shown hold_place IsSoundHeld (λ h. refl) (λ h is. is.place)
 
+-- ---- moments
+
+pub reads_start_moment : (row : Row) (r : Result ℕ RowFault) → r ≡ or_damaged (whole_in 0 latest_moment (column row 0)) → ReadsRow row start_shown HasStart IsSoundStarted r
+reads_start_moment = reads_number 0 latest_moment start_shown start_of IsSoundStarted (λ p. refl) (λ p is. (zero-le, is.row.started))
+
+pub reads_outcome_moment : (row : Row) (r : Result ℕ RowFault) → r ≡ or_damaged (whole_in 0 latest_moment (column row 0)) → ReadsRow row outcome_moment_shown HasOutcomeMoment IsSoundOutcome r
+reads_outcome_moment = reads_number 0 latest_moment outcome_moment_shown outcome_moment IsSoundOutcome (λ o. refl) (λ o is. (zero-le, is.moment))
+
+pub reads_hold_moment : (row : Row) (r : Result ℕ RowFault) → r ≡ or_damaged (whole_in 0 latest_moment (column row 0)) → ReadsRow row hold_moment_shown HasHoldMoment IsSoundHeld r
+reads_hold_moment = reads_number 0 latest_moment hold_moment_shown hold_moment IsSoundHeld (λ h. refl) (λ h is. (zero-le, is.moment))
+
+pub reads_reply_moment : (row : Row) (r : Result ℕ RowFault) → r ≡ or_damaged (whole_in 0 latest_moment (column row 0)) → ReadsRow row reply_moment_shown HasReplyMoment IsSoundKept r
+reads_reply_moment = reads_number 0 latest_moment reply_moment_shown reply_moment IsSoundKept (λ k. refl) (λ k is. (zero-le, is))
+
 -- ---- polls
-
-function_back : (f : ReadFunction) → function_in (Int (pos (code_of f))) ≡ Some f
-function_back HoldingRegisters = refl
-function_back InputRegisters = refl
-
-room_for : (address count : ℕ) → count ≤ 125 → address + count ≤ 65536 → count ≤ greatest_count address
-room_for address count few inside = omega arith
 
 room_of : (address count : ℕ) → address ≤ 65535 → count ≤ greatest_count address → (count ≤ 125) × (address + count ≤ 65536)
 room_of address count low room = (omega arith, omega arith)
-
-pub poll_fair : (p : Started) → IsFair (IsSoundStarted p) (λ (a : PollRow). a ≡ p.row) (poll_in (poll_shown p))
-poll_fair p =
-    let S = IsSoundStarted p in
-    let P = λ (a : PollRow). a ≡ p.row in
-    fair_whole S P _ 1 _ p.row.number (λ is. is.row.number)
-    (fair_whole S P _ 0 _ p.row.unit (λ is. (zero-le, is.row.unit))
-    (fair_whole S P _ 0 _ p.row.started (λ is. (zero-le, is.row.started))
-    (fair_whole S P _ 0 _ p.row.id (λ is. (zero-le, is.row.id))
-    (fair_some S P _ _ p.row.function (function_back p.row.function)
-    (fair_whole S P _ 0 _ p.row.address (λ is. (zero-le, is.row.address))
-    (fair_whole S P _ 1 _ p.row.count (λ is. (is.row.count.0, room_for p.row.address p.row.count is.row.count.1 is.row.inside))
-    (record { read = refl; fault = λ is. tt })))))))
 
 pub sound_poll : (row : Row) (a : PollRow) → poll_in row ≡ Ok a → IsSoundPoll a
 sound_poll row a is =

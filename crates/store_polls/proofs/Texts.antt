@@ -210,6 +210,110 @@ pub repeat_of_plain : IsPlain (understood books_schema repeat_of)
 unfolding understood everything
 repeat_of_plain = (refl, refl)
 
+-- ---- latest_start
+
+abbrev pub latest_start : List ℕ
+latest_start = codes "SELECT started FROM polls ORDER BY started DESC LIMIT 1"
+
+abbrev pub latest_start_tests : List Term
+latest_start_tests = []
+
+abbrev pub latest_start_project : List Term
+latest_start_project = col 1 4 ∷ []
+
+abbrev pub latest_start_names : List (List ℕ)
+latest_start_names = codes "started" ∷ []
+
+pub latest_start_is : command_of (understood books_schema latest_start) ≡ Select (record { lets = []; body = scan 11 latest_start_tests latest_start_project ((col 1 4, falling) ∷ []) one }) latest_start_names
+unfolding understood everything
+latest_start_is = refl
+
+pub latest_start_unlisted : reads_listing books_schema latest_start ≡ false
+unfolding understood everything
+latest_start_unlisted = refl
+
+pub latest_start_plain : IsPlain (understood books_schema latest_start)
+unfolding understood everything
+latest_start_plain = (refl, refl)
+
+-- ---- latest_outcome
+
+abbrev pub latest_outcome : List ℕ
+latest_outcome = codes "SELECT moment FROM outcomes ORDER BY moment DESC LIMIT 1"
+
+abbrev pub latest_outcome_tests : List Term
+latest_outcome_tests = []
+
+abbrev pub latest_outcome_project : List Term
+latest_outcome_project = col 1 2 ∷ []
+
+abbrev pub latest_outcome_names : List (List ℕ)
+latest_outcome_names = codes "moment" ∷ []
+
+pub latest_outcome_is : command_of (understood books_schema latest_outcome) ≡ Select (record { lets = []; body = scan 13 latest_outcome_tests latest_outcome_project ((col 1 2, falling) ∷ []) one }) latest_outcome_names
+unfolding understood everything
+latest_outcome_is = refl
+
+pub latest_outcome_unlisted : reads_listing books_schema latest_outcome ≡ false
+unfolding understood everything
+latest_outcome_unlisted = refl
+
+pub latest_outcome_plain : IsPlain (understood books_schema latest_outcome)
+unfolding understood everything
+latest_outcome_plain = (refl, refl)
+
+-- ---- latest_hold
+
+abbrev pub latest_hold : List ℕ
+latest_hold = codes "SELECT moment FROM holds ORDER BY moment DESC LIMIT 1"
+
+abbrev pub latest_hold_tests : List Term
+latest_hold_tests = []
+
+abbrev pub latest_hold_project : List Term
+latest_hold_project = col 1 4 ∷ []
+
+abbrev pub latest_hold_names : List (List ℕ)
+latest_hold_names = codes "moment" ∷ []
+
+pub latest_hold_is : command_of (understood books_schema latest_hold) ≡ Select (record { lets = []; body = scan 12 latest_hold_tests latest_hold_project ((col 1 4, falling) ∷ []) one }) latest_hold_names
+unfolding understood everything
+latest_hold_is = refl
+
+pub latest_hold_unlisted : reads_listing books_schema latest_hold ≡ false
+unfolding understood everything
+latest_hold_unlisted = refl
+
+pub latest_hold_plain : IsPlain (understood books_schema latest_hold)
+unfolding understood everything
+latest_hold_plain = (refl, refl)
+
+-- ---- latest_reply
+
+abbrev pub latest_reply : List ℕ
+latest_reply = codes "SELECT moment FROM replies ORDER BY moment DESC LIMIT 1"
+
+abbrev pub latest_reply_tests : List Term
+latest_reply_tests = []
+
+abbrev pub latest_reply_project : List Term
+latest_reply_project = col 1 5 ∷ []
+
+abbrev pub latest_reply_names : List (List ℕ)
+latest_reply_names = codes "moment" ∷ []
+
+pub latest_reply_is : command_of (understood books_schema latest_reply) ≡ Select (record { lets = []; body = scan 16 latest_reply_tests latest_reply_project ((col 1 5, falling) ∷ []) one }) latest_reply_names
+unfolding understood everything
+latest_reply_is = refl
+
+pub latest_reply_unlisted : reads_listing books_schema latest_reply ≡ false
+unfolding understood everything
+latest_reply_unlisted = refl
+
+pub latest_reply_plain : IsPlain (understood books_schema latest_reply)
+unfolding understood everything
+latest_reply_plain = (refl, refl)
+
 -- ---- pending_rows
 
 abbrev pub pending : List ℕ

@@ -1,11 +1,9 @@
 -- Rows of the tables, their columns, and the ranges of their values.
-use Rattle.std.specs.Prelude.{⊤, ◌≡◌, ℕ, pos, ◌≤◌, ◌<◌, ◌+◌, ◌-◌, ◌^◌, min, List, [], ◌∷◌, IsTrue, Bool, bytes_eq, ◌&&◌, ◌==◌, Option, Some, None, if◌then◌else◌, Result, Ok, Err, IsUtf8, string_bytes, codes}
+use Rattle.std.specs.Prelude.{◌≡◌, ℕ, pos, ◌≤◌, ◌<◌, ◌+◌, ◌-◌, ◌^◌, min, List, [], ◌∷◌, IsTrue, Bool, bytes_eq, ◌&&◌, ◌==◌, Option, Some, None, if◌then◌else◌, Result, Ok, Err, IsUtf8, string_bytes, codes}
 use Rattle.std.specs.Option.{option_and_then}
 use Rattle.sqlite.specs.declared.types.Value.{Value}
 use Rattle.sqlite.specs.declared.types.Value.TheVariants.{Null, Int, Real, Text, Blob}
 use Rattle.sqlite.specs.Order.{Row, column}
-use Rattle.mb_wire.specs.declared.span.ReadFunction.{ReadFunction}
-use Rattle.mb_wire.specs.declared.span.ReadFunction.TheVariants.{HoldingRegisters, InputRegisters}
 use Rattle.mb_wire.specs.Spans.{code_of}
 use Rattle.energy_core.specs.declared.judging.Cause.{Cause}
 use Rattle.energy_core.specs.Verdict.{cause_number}
@@ -17,7 +15,7 @@ use Rattle.poll_core.specs.declared.outcome.LostCause.{LostCause}
 use Rattle.poll_core.specs.declared.outcome.LostCause.TheVariants as lost
 use Rattle.poll_core.specs.Outcomes.{outcome_number, outcome_code}
 use Rattle.store_tables.specs.declared.faults.RowFault.{RowFault}
-use Rattle.store_tables.specs.Columns.{is_within, whole_in, or_damaged, and_then}
+use Rattle.store_tables.specs.Columns.{whole_in, function_in, or_damaged, and_then}
 use Rattle.store_tables.specs.Limits.{greatest_place, IsPlace, latest_moment}
 use Rattle.store_polls.specs.declared.rows.PollRow.{PollRow}
 use Rattle.store_polls.specs.declared.rows.Poll.{Poll}
@@ -78,12 +76,6 @@ pub record IsStarted (p : Started) (a : Poll) : Type 0 where
 
 abbrev pub HasNumber : Started → ℕ → Type 0
 HasNumber p number = number ≡ p.row.number
-
-abbrev pub function_of : ℕ → Option ReadFunction
-function_of code = if code == 3 then Some HoldingRegisters else if code == 4 then Some InputRegisters else None
-
-abbrev pub function_in : Value → Option ReadFunction
-function_in v = option_and_then function_of (whole_in 3 4 v)
 
 -- the poll that the columns of a row are, or damage
 abbrev pub poll_in : Row → Result PollRow RowFault
@@ -257,9 +249,8 @@ repeat_as kind same = if same then Same kind else Other
 abbrev pub IsRepeat : (request : List ℕ) → Kept → Repeat → Type 0
 IsRepeat request k a = a ≡ repeat_as k.kind (bytes_eq k.request request)
 
--- each reply that is kept is sound: its kind has a word
 abbrev pub IsSoundKept : Kept → Type 0
-IsSoundKept k = ⊤
+IsSoundKept k = k.moment ≤ latest_moment
 
 abbrev pub kind_in : Value → Option ReplyKind
 kind_in (Text word) = kind_of word
@@ -282,3 +273,41 @@ repeat_in request row =
     and_then (or_damaged (same_bytes request (column row 0))) (λ same.
     and_then (or_damaged (kind_in (column row 1))) (λ kind.
     Ok (repeat_as kind same)))
+
+-- ---- moments
+
+abbrev pub start_of : Started → ℕ
+start_of p = p.row.started
+
+abbrev pub start_shown : Started → Row
+start_shown p = Int (pos p.row.started) ∷ []
+
+abbrev pub HasStart : Started → ℕ → Type 0
+HasStart p moment = moment ≡ p.row.started
+
+abbrev pub outcome_moment : OutcomeRow → ℕ
+outcome_moment o = o.moment
+
+abbrev pub outcome_moment_shown : OutcomeRow → Row
+outcome_moment_shown o = Int (pos o.moment) ∷ []
+
+abbrev pub HasOutcomeMoment : OutcomeRow → ℕ → Type 0
+HasOutcomeMoment o moment = moment ≡ o.moment
+
+abbrev pub hold_moment : Held → ℕ
+hold_moment h = h.row.moment
+
+abbrev pub hold_moment_shown : Held → Row
+hold_moment_shown h = Int (pos h.row.moment) ∷ []
+
+abbrev pub HasHoldMoment : Held → ℕ → Type 0
+HasHoldMoment h moment = moment ≡ h.row.moment
+
+abbrev pub reply_moment : Kept → ℕ
+reply_moment k = k.moment
+
+abbrev pub reply_moment_shown : Kept → Row
+reply_moment_shown k = Int (pos k.moment) ∷ []
+
+abbrev pub HasReplyMoment : Kept → ℕ → Type 0
+HasReplyMoment k moment = moment ≡ k.moment

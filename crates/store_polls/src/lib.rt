@@ -2,6 +2,7 @@
 #![tactic(auto)]
 
 mod holds;
+mod latest;
 mod outcomes;
 mod polls;
 mod reading;
@@ -9,6 +10,7 @@ mod replies;
 mod rows;
 
 pub use holds::{insert_hold, last_hold_rows};
+pub use latest::{latest_hold, latest_outcome, latest_reply, latest_start};
 pub use outcomes::{insert_outcome, outcome_of};
 pub use polls::{insert_poll, last_poll, pending_rows, poll_at};
 pub use reading::{read_place, read_poll};

@@ -7,25 +7,13 @@ ghost use Rattle.store_tables.specs.Limits.{greatest_place, IsPlace};
 ghost use Rattle.store_tables.specs.Answer.{IsFound, IsLast, AnyOrder, LastFirst, every};
 ghost use Rattle.store_tables.specs.Asking.{Asks, Tells, ShowsFirst, LooksUp};
 ghost use Rattle.store_polls.specs.Rows.{poll_columns, poll_shown, number_shown, poll_number, is_poll, IsStarted, HasNumber, IsSoundPoll, IsSoundStarted};
-ghost use Rattle.mb_wire.specs.Spans.{code_of};
 ghost use Rattle.store_polls.specs.Pending.{ShowsPending};
 ghost use Rattle.store_polls.specs.Trees.{polls};
 
 use crate::reading::{place, read_poll};
 use crate::rows::{Poll, PollRow};
-use mb_wire::ReadFunction;
 use sqlite::{Alter, Connection, Error, Row, Transaction, params};
 use store_tables::{RowFault, number};
-
-/// The function code as the table has it.
-fn code(function: ReadFunction) -> u32
-    ensures { result ≡ code_of function }
-{
-    match function {
-        ReadFunction::HoldingRegisters => 3,
-        ReadFunction::InputRegisters => 4,
-    }
-}
 
 /// Adds a poll of a device.
 pub fn insert_poll<S: Alter>(
@@ -48,7 +36,7 @@ pub fn insert_poll<S: Alter>(
             u32::from(poll.unit),
             &started,
             u32::from(poll.id),
-            code(poll.function),
+            u32::from(poll.function.code()),
             u32::from(poll.address),
             u32::from(poll.count)
         ],

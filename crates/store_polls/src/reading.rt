@@ -3,15 +3,14 @@ ghost use Rattle.std.specs.Prelude.{◌≡◌, ◌≤◌, IfOk};
 ghost use Rattle.sqlite.specs.Order.{column};
 ghost use Rattle.store_tables.specs.Asking.{ReadsRow};
 ghost use Rattle.store_tables.specs.Columns.{whole_in, or_damaged};
-ghost use Rattle.store_tables.specs.Limits.{greatest_place, IsPlace};
-ghost use Rattle.store_polls.specs.Rows.{function_in, poll_in, poll_shown, IsStarted, IsSoundPoll, IsSoundStarted, greatest_count, malformation_of, lost_of, outcome_of, outcome_in, hold_place_shown, HasHoldPlace, IsSoundHeld, kind_in, same_bytes, repeat_in};
+ghost use Rattle.store_tables.specs.Limits.{greatest_place, latest_moment, IsPlace};
+ghost use Rattle.store_polls.specs.Rows.{poll_in, poll_shown, IsStarted, IsSoundPoll, IsSoundStarted, greatest_count, malformation_of, lost_of, outcome_of, outcome_in, hold_place_shown, HasHoldPlace, IsSoundHeld, kind_in, same_bytes, repeat_in};
 
 use crate::rows::{OutcomeRow, Poll, PollRow, Repeat, ReplyKind};
-use mb_wire::ReadFunction;
 use poll_core::{LostCause, Malformation, Outcome};
 use sqlite::Row;
 use sqlite::types::ValueRef;
-use store_tables::{GREATEST_PLACE, LATEST_MOMENT, RowFault, text, whole};
+use store_tables::{GREATEST_PLACE, LATEST_MOMENT, RowFault, function, text, whole};
 
 /// A place or number in the first column.
 pub(crate) fn place(row: &Row) -> Result<u64, RowFault>
@@ -20,23 +19,19 @@ pub(crate) fn place(row: &Row) -> Result<u64, RowFault>
     whole(row, 0, 1, GREATEST_PLACE)
 }
 
+/// A moment in the first column.
+pub(crate) fn moment(row: &Row) -> Result<u64, RowFault>
+    ensures { result ≡ or_damaged (whole_in 0 latest_moment (column row.now 0)) }
+{
+    whole(row, 0, 0, LATEST_MOMENT)
+}
+
 /// Reads the place of the last held reading of `last_hold_rows`.
 pub fn read_place(row: &Row) -> Result<u64, RowFault>
     ensures read { ReadsRow row.now hold_place_shown HasHoldPlace IsSoundHeld result }
     ensures sound { IfOk result IsPlace }
 {
     place(row)
-}
-
-/// A function by which registers are read.
-fn function(row: &Row, at: usize) -> Result<ReadFunction, RowFault>
-    ensures { result ≡ or_damaged (function_in (column row.now at)) }
-{
-    match whole(row, at, 3, 4)? {
-        3 => Ok(ReadFunction::HoldingRegisters),
-        4 => Ok(ReadFunction::InputRegisters),
-        _ => Err(RowFault::Damaged),
-    }
 }
 
 /// How many registers there may be from an address on.
