@@ -1,0 +1,5 @@
+mod Texts
+mod Kept
+mod Upserts
+mod Writes
+mod Loops

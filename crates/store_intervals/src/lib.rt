@@ -1,0 +1,8 @@
+//! The energy of meters by intervals, in the tables of the books.
+#![tactic(auto)]
+
+mod booking;
+mod reading;
+
+pub use booking::{book_step, drop_from, take_step};
+pub use reading::{GREATEST_ENERGY, LATEST_MOMENT};
