@@ -3,3 +3,6 @@ mod Kept
 mod Upserts
 mod Writes
 mod Loops
+mod Handed
+mod Shared
+mod Joins

@@ -1,10 +1,10 @@
 -- What the texts mean.
-use Rattle.std.proofs.Common.{◌≡◌, List, [], ◌∷◌, codes, ℕ, Some, refl}
-use Rattle.sqlite.specs.declared.types.Value.TheVariants.{Null}
+use Rattle.std.proofs.Common.{◌≡◌, List, [], ◌∷◌, codes, ℕ, pos, negsuc, true, false, Some, None, refl}
+use Rattle.sqlite.specs.declared.types.Value.TheVariants.{Null, Int}
 use Rattle.sqlite.specs.Term.{Term, lit, col}
-use Rattle.sqlite.specs.Query.{Query}
+use Rattle.sqlite.specs.Query.{Query, inner, end}
 use Rattle.sqlite.specs.Source.TheVariants.{Values}
-use Rattle.sqlite.specs.Command.TheVariants.{InsertOr, Update, Delete}
+use Rattle.sqlite.specs.Command.TheVariants.{Select, InsertOr, Update, Delete}
 use Rattle.sqlite_schema.specs.declared.command.Conflict.TheVariants.{Abort}
 use Rattle.sqlite_schema.specs.declared.command.Upsert.{Upsert}
 use Rattle.sqlite_sql.specs.Term.{op2}
@@ -13,7 +13,8 @@ use Rattle.sqlite_sql.specs.declared.ops.CompareOp.TheVariants.{Eq, Ge}
 use Rattle.sqlite_sql.specs.declared.ops.ArithOp.TheVariants.{Add, Sub}
 use Rattle.sqlite.specs.Collation.TheVariants.{Binary}
 use Rattle.sqlite_tied.specs.Compute.{everything}
-use Rattle.sqlite.specs.Listing.{understood}
+use Rattle.sqlite_value.specs.declared.keys.Key.{Key}
+use Rattle.sqlite.specs.Listing.{understood, reads_listing}
 use Rattle.sqlite.proofs.Callers.{IsPlain, command_of}
 use Rattle.store_tables.specs.Schema.{books_schema}
 use Rattle.store_tables.proofs.Scans.{scan, no_limit}
@@ -85,3 +86,74 @@ drop_from_is = refl
 pub drop_from_plain : IsPlain (understood books_schema drop_from)
 unfolding understood everything
 drop_from_plain = (refl, refl)
+
+-- ---- meter_intervals
+
+abbrev pub rising : Key
+rising = record { collation = Binary; descending = false }
+
+abbrev pub meter_intervals : List ℕ
+meter_intervals = codes "SELECT start, mwh FROM intervals WHERE meter = ?1 ORDER BY start"
+
+abbrev pub meter_intervals_tests : List Term
+meter_intervals_tests = is_param 1 0 ∷ []
+
+abbrev pub shares_project : List Term
+shares_project = col 1 2 ∷ col 1 3 ∷ []
+
+abbrev pub meter_intervals_order : List (Term × Key)
+meter_intervals_order = (col 1 2, rising) ∷ []
+
+abbrev pub names : List (List ℕ)
+names = codes "start" ∷ codes "mwh" ∷ []
+
+pub meter_intervals_is : command_of (understood books_schema meter_intervals) ≡ Select (record { lets = []; body = scan 14 meter_intervals_tests shares_project meter_intervals_order no_limit }) names
+unfolding understood everything
+meter_intervals_is = refl
+
+pub meter_intervals_unlisted : reads_listing books_schema meter_intervals ≡ false
+unfolding understood everything
+meter_intervals_unlisted = refl
+
+pub meter_intervals_plain : IsPlain (understood books_schema meter_intervals)
+unfolding understood everything
+meter_intervals_plain = (refl, refl)
+
+-- ---- register_intervals
+
+abbrev pub register_intervals : List ℕ
+register_intervals = codes "SELECT intervals.start, intervals.mwh FROM installations JOIN intervals ON intervals.meter = installations.meter WHERE installations.register = ?1 ORDER BY installations.place, intervals.start"
+
+abbrev pub register_intervals_tests : List Term
+register_intervals_tests = op2 (Compare Eq Binary) (col 2 1) (col 1 2) ∷ is_param 3 0 ∷ []
+
+abbrev pub register_intervals_project : List Term
+register_intervals_project = col 2 2 ∷ col 2 3 ∷ []
+
+abbrev pub register_intervals_order : List (Term × Key)
+register_intervals_order = (col 1 0, rising) ∷ (col 2 2, rising) ∷ []
+
+abbrev pub register_intervals_query : Query
+register_intervals_query = record {
+  from = inner 7 (inner 14 end);
+  filter = register_intervals_tests;
+  group = None;
+  project = register_intervals_project;
+  distinct = false;
+  collations = [];
+  order = register_intervals_order;
+  limit = lit (Int (negsuc 0));
+  offset = lit (Int (pos 0));
+}
+
+pub register_intervals_is : command_of (understood books_schema register_intervals) ≡ Select (record { lets = []; body = register_intervals_query }) names
+unfolding understood everything
+register_intervals_is = refl
+
+pub register_intervals_unlisted : reads_listing books_schema register_intervals ≡ false
+unfolding understood everything
+register_intervals_unlisted = refl
+
+pub register_intervals_plain : IsPlain (understood books_schema register_intervals)
+unfolding understood everything
+register_intervals_plain = (refl, refl)

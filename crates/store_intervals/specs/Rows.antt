@@ -46,9 +46,6 @@ pub record IsSoundShare (share : Share) : Type 0 where
 abbrev pub IsSoundInterval : Interval → Type 0
 IsSoundInterval i = IsSoundShare i.share
 
-abbrev pub IsShare : Interval → Share → Type 0
-IsShare i share = share ≡ i.share
-
 -- the share that the columns of a row are, or damage
 abbrev pub share_in : Row → Result Share RowFault
 share_in row =

@@ -1,7 +1,6 @@
 //! Rows as the queries show them.
-ghost use Rattle.std.specs.Prelude.{◌≡◌, IfOk};
-ghost use Rattle.store_tables.specs.Asking.{ReadsRow};
-ghost use Rattle.store_intervals.specs.Rows.{share_in, share_shown, IsShare, IsSoundInterval};
+ghost use Rattle.std.specs.Prelude.{◌≡◌};
+ghost use Rattle.store_intervals.specs.Rows.{share_in};
 
 use interval_core::Share;
 use sqlite::Row;
@@ -15,7 +14,7 @@ pub const GREATEST_ENERGY: u64 = 4_000_000_000_000_000_000;
 
 /// The share of a row that the queries show.
 pub(crate) fn read_share(row: &Row) -> Result<Share, RowFault>
-    ensures { ReadsRow row.now share_shown IsShare IsSoundInterval result }
+    ensures { result ≡ share_in row.now }
 {
     let start = whole(row, 0, 0, LATEST_MOMENT)?;
     let mwh = whole(row, 1, 0, GREATEST_ENERGY)?;

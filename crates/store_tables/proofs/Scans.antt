@@ -43,7 +43,7 @@ scan tree tests project order limit = record {
 }
 
 -- no table is computed first
-overlay_none : (db : Trees) (tree : ℕ) → overlay db [] tree ≡ db tree
+pub overlay_none : (db : Trees) (tree : ℕ) → overlay db [] tree ≡ db tree
 overlay_none db tree = elim (cases_Bool (nat_le (2 ^ 31) tree)) [
   | inl high ↦ rw high refl
   | inr low ↦ rw low refl
