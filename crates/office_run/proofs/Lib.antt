@@ -1,7 +1,6 @@
 pub mod Left
 pub mod Taken
 pub mod Reopened
-pub mod Asked
 pub mod Summing
 pub mod Runs
 pub mod AddingUp
