@@ -8,12 +8,13 @@ const ROOM: usize = 8192;
 
 /// A writer that holds bytes back, at most 8,192, and gives them out once there is no room for more: up to the last line's
 /// end among them, where there is one. `flush` gives out all. No byte is lost by a write that fails: what was not
-/// written is still held back.
+/// written is still held back. But for one that was interrupted, no write is made after it.
 #[derive(Drop)]
 pub struct Buffered<W> {
     pub(crate) output: W,
     pub(crate) held: [u8; 8192],
     pub(crate) filled: usize,
+    pub(crate) failed: bool,
     ghost room: { filled ≤ 8192 },
 }
 
@@ -34,7 +35,7 @@ fn lines_len(bytes: &[u8]) -> usize
 }
 
 impl<W: Write> Buffered<W> {
-    ghost use Rattle.std.specs.Prelude.{IfOk, OnOk, OnErr, IfErr};
+    ghost use Rattle.std.specs.Prelude.{true, IsErr, OnOk, IfErr};
     ghost use Rattle.std.specs.IoError.{error_kind};
     ghost use Rattle.std.specs.Io.KnownBytes.{Keeps};
     ghost use Rattle.command_io.specs.Holding.{contents_of, held_back, output_of};
@@ -48,6 +49,7 @@ impl<W: Write> Buffered<W> {
             output,
             held: [0; ROOM],
             filled: 0,
+            failed: false,
         }
     }
 
@@ -64,15 +66,27 @@ impl<W: Write> Buffered<W> {
         requires some { 0 < end }
         requires within { end ≤ self.old.filled }
         ensures less { OnOk result (self.new.filled < self.old.filled) }
-        ensures same { OnErr result (self.new.filled ≡ self.old.filled) }
         ensures bytes { Keeps (contents_of W.contents self.old) (contents_of W.contents self.new) }
+        ensures stuck { self.old.failed ≡ true → IsErr result × (self.new ≡ self.old) }
+        ensures failed { IfErr result (λ error. error_kind error ≢ ErrorKind.Interrupted → self.new.failed ≡ true) }
     {
-        let count = self.output.write(&self.held[..end])?;
-        if count == 0 {
-            return Err(io::Error::from(ErrorKind::WriteZero));
+        if self.failed {
+            return Err(io::Error::from(ErrorKind::BrokenPipe));
         }
-        self.drop_front(count);
-        Ok(())
+        match self.output.write(&self.held[..end]) {
+            Ok(0) => {
+                self.failed = true;
+                Err(io::Error::from(ErrorKind::WriteZero))
+            }
+            Ok(count) => {
+                self.drop_front(count);
+                Ok(())
+            }
+            Err(error) => {
+                self.failed = error.kind() != ErrorKind::Interrupted;
+                Err(error)
+            }
+        }
     }
 
     // Holds back all but the first so many.
