@@ -1,3 +1,4 @@
 pub mod Left
 pub mod Taken
 pub mod Reopened
+pub mod Summing
