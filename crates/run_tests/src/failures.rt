@@ -1,6 +1,6 @@
 //! Books that fail at each of their calls in turn.
-use crate::failing_books::FailingBooks;
 use crate::scripts::{command_of, feed, print};
+use failing_books::FailingBooks;
 use interval_core::Zone;
 use office_books::Books;
 use office_events::{Asked, Event, Name, Piece, Refusal, StoreCause};

@@ -11,8 +11,6 @@ mod chances;
 #[cfg(test)]
 mod entries;
 #[cfg(test)]
-mod failing_books;
-#[cfg(test)]
 mod failures;
 #[cfg(test)]
 mod kept_rows;

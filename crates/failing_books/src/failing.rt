@@ -1,4 +1,4 @@
-//! Books for tests: one of their calls is refused.
+//! Books of which one call is refused.
 ghost use Rattle.std.specs.Prelude.{◌≡◌, IfErr, OnOk};
 ghost use Rattle.office_books.specs.Faults.{one_more};
 ghost use Rattle.office_books.specs.declared.faults.BooksFault.TheVariants.{Store};
@@ -11,9 +11,9 @@ use office_events::{
 };
 use office_lists::ListBooks;
 
-/// Books in memory; the call of this number, from 1, is refused.
+/// Books in memory. The call of one number is refused, as by a store; no other fails but for want of memory.
 #[derive(Drop)]
-pub(crate) struct FailingBooks {
+pub struct FailingBooks {
     books: ListBooks,
     calls: u64,
     failing: u64,
@@ -21,7 +21,17 @@ pub(crate) struct FailingBooks {
 }
 
 impl FailingBooks {
-    pub(crate) fn new(books: ListBooks, failing: u64) -> FailingBooks {
+    ghost use Rattle.std.specs.Prelude.{◌≡◌, List};
+    ghost use Rattle.office_events.specs.declared.facts.Fact.{Fact};
+    ghost use Rattle.office_lists.specs.Listed.{ledger_of};
+
+    /// Nothing was called yet. From 1 on all calls are counted but those that can't fail, and that which books nothing.
+    pub fn new(books: ListBooks, failing: u64) -> FailingBooks
+        ensures holds { (held : List Fact) → (ledger_of books).holds held
+            → (⟦<FailingBooks as Books>⟧.ledger result).holds held }
+        ensures zone { (⟦<FailingBooks as Books>⟧.ledger result).zone ≡ (ledger_of books).zone }
+        ensures faults { (⟦<FailingBooks as Books>⟧.ledger result).fault_count ≡ 0 }
+    {
         FailingBooks {
             books,
             calls: 0,
@@ -48,7 +58,7 @@ impl FailingBooks {
 
 impl Books for FailingBooks {
     ghost use Rattle.office_lists.specs.Listed.{ledger_of};
-    ghost use Rattle.run_tests.specs.Failing.{refusing};
+    ghost use Rattle.failing_books.specs.Refusing.{refusing};
 
     ghost ledger = { λ failing. refusing (ledger_of failing.books) failing.faults };
 
@@ -157,11 +167,13 @@ impl Books for FailingBooks {
         self.books.register_intervals(register, sink)
     }
 
-    /// To book nothing never fails.
     fn book(&mut self, facts: Vec<Fact>) -> Result<(), BooksFault> {
-        if !facts.is_empty() {
-            self.called()?;
+        if facts.is_empty() {
+            return self.books.book(facts);
         }
-        self.books.book(facts)
+        match self.called() {
+            Ok(()) => self.books.book(facts),
+            Err(fault) => Err(fault),
+        }
     }
 }
