@@ -1,6 +1,7 @@
 #!/usr/bin/env bash
-# Times a run of the office over 200,000 and over 400,000 readings of one meter: `bench/office.sh`. Twice the readings should take at
-# most 2.5 times as long. A small program over the proved libraries is proved and built in a copy of the repository, and times itself.
+# Times the office over books in memory, on polls that each read one counter: over 50,000 and 100,000 polls of one meter, and of
+# 2,048 meters at 64 devices of 32 registers: `bench/office.sh`. Twice the polls should take at most 2.2 times as long. A small
+# program over the proved libraries is proved and built in a copy of the repository, and times itself.
 set -euo pipefail
 . "$(dirname "$(readlink -f "$0")")/../tests/scratch.sh"
 
@@ -8,11 +9,21 @@ cat > "$scratch/office_bench.rt" <<'END'
 //! Feeds an office with readings.
 #![tactic(auto)]
 
+use interval_core::Zone;
 use mb_wire::ReadSpan;
-use office_core::{
-    AddDevice, AddRegister, Command, Event, GivenScale, Install, ListBooks, Name, Office, Piece, StartPoll,
+use office_core::Office;
+use office_events::{
+    AddDevice, AddRegister, Command, Event, GivenScale, Install, Name, Piece, StartPoll,
 };
+use office_lists::ListBooks;
 use std::time::SystemTime;
+
+// Meters at devices, as many at each.
+#[derive(Clone, Copy)]
+struct Site {
+    devices: u64,
+    registers: u64,
+}
 
 fn feed(office: &mut Office<ListBooks>, at: u64, event: &Event) -> anyhow::Result<()> {
     match office.feed(at, event) {
@@ -25,66 +36,105 @@ fn command(office: &mut Office<ListBooks>, at: u64, command: Command) -> anyhow:
     feed(office, at, &Event::Command(command))
 }
 
-fn device() -> Option<Name> {
-    Name::new(b"inv")
+fn digit(number: u64) -> u8 {
+    b'0' + (number % 10) as u8
 }
 
-fn register() -> Option<Name> {
-    Name::new(b"main")
+// A letter and four digits.
+fn name(letter: u8, number: u64) -> Option<Name> {
+    Name::new(&[letter, digit(number / 1000), digit(number / 100), digit(number / 10), digit(number)])
 }
 
-fn prepare(office: &mut Office<ListBooks>) -> anyhow::Result<()> {
-    let added = AddDevice { name: device(), unit: 1, timeout: 5, window: 1 };
+fn add_device(office: &mut Office<ListBooks>, device: u64) -> anyhow::Result<()> {
+    let added = AddDevice { name: name(b'd', device), unit: 1, timeout: 5, window: 1 };
     command(office, 0, Command::AddDevice(added))?;
-    let counter = AddRegister { name: register(), device: device(), function: 3, address: 0, scale: GivenScale::Fixed(0) };
-    command(office, 0, Command::AddRegister(counter))?;
-    let meter = Install { register: register(), meter: Name::new(b"m1"), raw: 1, sf: 0, ceiling: 100_000 };
-    command(office, 0, Command::Install(meter))?;
-    feed(office, 0, &Event::Connected(device()))
+    feed(office, 0, &Event::Connected(name(b'd', device)))
 }
 
-// The frame that answers the poll: the counter rises by 1 Wh from poll to poll.
-fn reply(rt: &HostRuntime, number: u32) -> anyhow::Result<Vec<u8>> {
+fn add_meter(office: &mut Office<ListBooks>, site: Site, k: u64) -> anyhow::Result<()> {
+    let (device, address) = (k / site.registers, 2 * (k % site.registers));
+    let counter = AddRegister {
+        name: name(b'r', k),
+        device: name(b'd', device),
+        function: 3,
+        address,
+        scale: GivenScale::Fixed(0),
+    };
+    command(office, 0, Command::AddRegister(counter))?;
+    let meter = Install {
+        register: name(b'r', k),
+        meter: name(b'm', k),
+        raw: 1,
+        sf: 0,
+        ceiling: 100_000,
+        range: 4_294_967_296,
+    };
+    command(office, 0, Command::Install(meter))
+}
+
+fn prepare(office: &mut Office<ListBooks>, site: Site) -> anyhow::Result<()> {
+    for device in 0..site.devices {
+        add_device(office, device)?;
+    }
+    for k in 0..site.devices * site.registers {
+        add_meter(office, site, k)?;
+    }
+    Ok(())
+}
+
+// The frame that answers a poll.
+fn reply(rt: &HostRuntime, id: u64, raw: u64) -> anyhow::Result<Vec<u8>> {
     let mut frame = Vec::new(rt.alloc());
-    frame.extend_from_slice(&((number % 65_536) as u16).to_be_bytes())?;
+    frame.extend_from_slice(&((id % 65_536) as u16).to_be_bytes())?;
     frame.extend_from_slice(b"\x00\x00\x00\x07\x01\x03\x04")?;
-    frame.extend_from_slice(&number.saturating_add(2).to_be_bytes())?;
+    frame.extend_from_slice(&(raw as u32).to_be_bytes())?;
     Ok(frame)
 }
 
-// A poll, and its reply, each 900 seconds behind those before.
-fn read(rt: &HostRuntime, office: &mut Office<ListBooks>, number: u32) -> anyhow::Result<()> {
-    let Some(span) = ReadSpan::new(3, 0, 2) else {
+// A poll of the meters in turn, and its reply: each counter rises by 1 Wh from poll to poll, which come 900 seconds apart.
+fn read(rt: &HostRuntime, office: &mut Office<ListBooks>, site: Site, n: u64) -> anyhow::Result<()> {
+    let meters = site.devices * site.registers;
+    let (round, k) = (n / meters, n % meters);
+    let (device, address) = (k / site.registers, 2 * (k % site.registers));
+    let Some(span) = ReadSpan::new(3, address as u16, 2) else {
         anyhow::bail!("no span");
     };
-    let moment = 900 * (u64::from(number) + 1);
-    command(office, moment, Command::StartPoll(StartPoll { device: device(), span }))?;
-    let frame = reply(rt, number)?;
-    feed(office, moment + 1, &Event::Bytes(device(), Piece::new(frame)))
+    let moment = 900 * (round + 1);
+    command(office, moment, Command::StartPoll(StartPoll { device: name(b'd', device), span }))?;
+    let id = round * site.registers + k % site.registers;
+    let frame = reply(rt, id, round + 2)?;
+    feed(office, moment, &Event::Bytes(name(b'd', device), Piece::new(frame)))
 }
 
-fn time(rt: &HostRuntime, readings: u32) -> anyhow::Result<()> {
-    let Ok(mut office) = Office::open(rt.alloc(), ListBooks::new(rt.alloc()), 0) else {
+fn time(rt: &HostRuntime, site: Site, polls: u64) -> anyhow::Result<()> {
+    let Ok(zone) = Zone::read("UTC0") else {
+        anyhow::bail!("no zone");
+    };
+    let Ok(mut office) = Office::open(rt.alloc(), ListBooks::new(rt.alloc(), zone), 0) else {
         anyhow::bail!("not opened");
     };
+    prepare(&mut office, site)?;
     let before = SystemTime::now(rt)?;
-    prepare(&mut office)?;
-    for number in 0..readings {
-        read(rt, &mut office, number)?;
+    for n in 0..polls {
+        read(rt, &mut office, site, n)?;
     }
     let Ok(taken) = SystemTime::now(rt)?.duration_since(before) else {
         anyhow::bail!("the clock went back");
     };
-    let Ok(meter) = office.meter(&Name::new(b"m1")) else {
+    let Ok(meter) = office.meter(&name(b'm', 0)) else {
         anyhow::bail!("no meter");
     };
-    println!(rt; "{readings} readings: {} ms, {} mWh", taken.as_millis(), meter.total)?;
+    let meters = site.devices * site.registers;
+    println!(rt; "{meters} meters, {polls} polls: {} ms, first meter {} mWh", taken.as_millis(), meter.total)?;
     Ok(())
 }
 
 fn main(rt: HostRuntime) -> anyhow::Result<()> {
-    time(&rt, 200_000)?;
-    time(&rt, 400_000)
+    for site in [Site { devices: 1, registers: 1 }, Site { devices: 64, registers: 32 }] {
+        time(&rt, site, 50_000)?;
+        time(&rt, site, 100_000)?;
+    }
+    Ok(())
 }
 END
-scratch office_bench "anyhow mb_wire office_core" "$scratch/office_bench.rt"
+scratch office_bench "anyhow interval_core jiff jiff_core jiff_tz mb_wire office_core office_events office_lists" "$scratch/office_bench.rt"
