@@ -24,8 +24,13 @@ fn insert_point<'a, S: Alter>(
     requires sound { IsSoundPoint point }
     ensures same_reference { tx.new.conn.ghost_name ≡ tx.old.conn.ghost_name }
     ensures does { Steps (state S.Store tx.old.conn.now) (state S.Store tx.new.conn.now) result
-        (Edits trees.points point_columns (with_row (record { device = device.now; name = name.now;
-        kind = kind.now; scale = scale.now; row = point }))) }
+        (Edits trees.points point_columns (with_row (record {
+          device = device.now;
+          name = name.now;
+          kind = kind.now;
+          scale = scale.now;
+          row = point;
+        }))) }
 {
     let place = number(point.place);
     tx.execute(

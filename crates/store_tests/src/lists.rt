@@ -8,8 +8,8 @@ use std::alloc::{AllocError, Global};
 use std::test::Fail;
 use store_lists::{
     DeviceRow, Point, PointRow, RegisterRow, RegisterScale, device_rows, insert_device,
-    insert_register, last_device, last_register, point_rows, read_device, read_point, read_register,
-    register_count, register_of, register_rows, replace_points,
+    insert_register, last_device, last_register, point_rows, read_device, read_point,
+    read_register, register_count, register_of, register_rows, replace_points,
 };
 use store_tables::RowFault;
 
@@ -95,7 +95,10 @@ fn devices_and_registers_are_found(rt: HostRuntime) -> Result<(), Fail> {
     assert_eq!(rt; sound(last_device(&mut conn))?, Some(2));
     let registers = register_rows(&mut conn, "inv")?;
     assert_eq!(rt; registers.len(), 1);
-    assert_eq!(rt; sound(read_register(&registers[0]))?.row.scale, RegisterScale::At(40_096));
+    assert_eq!(rt;
+        sound(read_register(&registers[0]))?.row.scale,
+        RegisterScale::At(40_096)
+    );
     assert_eq!(rt; register_count(&mut conn, "pv")?, 1);
     assert_eq!(rt; sound(last_register(&mut conn))?, Some(2));
     assert!(rt; sound(register_of(&mut conn, "pv"))?.is_none());
