@@ -1,12 +1,12 @@
 -- Points that come one after the other.
-use Rattle.std.proofs.Common.{◌≡◌, ◌<◌, ◌+◌, ℕ, suc, List, [], ◌∷◌, ◌++◌, map, take, length, get_or, Result, Ok, refl, sym, ap, subst, ◌∙◌, arith, IsPermutation}
+use Rattle.std.proofs.Common.{◌≡◌, ◌<◌, ◌+◌, ℕ, suc, List, [], ◌∷◌, ◌++◌, map, take, length, get_or, Result, Ok, sym, ap, subst, ◌∙◌, arith, IsPermutation}
 use Rattle.std.proofs.lemmas.List.{append_assoc, map-append}
 use Rattle.std.proofs.Math.Seq.{take-suc}
-use Rattle.std.proofs.lemmas.List.Sorted.{IsPermutation-sym, IsPermutation-trans, IsPermutation-map, IsPermutation-middle}
+use Rattle.std.proofs.lemmas.List.Sorted.{IsPermutation-trans, IsPermutation-map, IsPermutation-middle}
 use Rattle.sqlite.specs.declared.error.Error.{Error}
 use Rattle.sqlite.specs.State.{State}
 use Rattle.store_tables.specs.Content.{Content, Edits, with_row, without_where}
-use Rattle.store_tables.specs.Steps.{StepsTo, Steps, Turns}
+use Rattle.store_tables.specs.Steps.{Steps, Turns}
 use Rattle.store_tables.proofs.StepLemmas.{steps_then, no_steps, answered, weaker}
 use Rattle.store_lists.specs.declared.rows.Point.{Point}
 use Rattle.store_lists.specs.Rows.{Listed, listed_at, point_columns, is_point_of, with_points, with_list}
