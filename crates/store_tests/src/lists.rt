@@ -140,8 +140,10 @@ fn registers_out_of_their_ranges_are_damaged(rt: HostRuntime) -> Result<(), Fail
     assert!(rt; matches!(register_of(&mut conn, "roof"), Err(RowFault::Damaged)));
     assert!(rt; matches!(register_of(&mut conn, "main"), Ok(Some(_))));
     let devices = device_rows(&mut conn)?;
+    assert_eq!(rt; devices.len(), 2);
     assert!(rt; matches!(read_device(&devices[0]), Err(RowFault::Damaged)));
     let points = point_rows(&mut conn, "pv")?;
+    assert_eq!(rt; points.len(), 1);
     assert!(rt; matches!(read_point(&points[0]), Err(RowFault::Damaged)));
     Ok(())
 }
