@@ -1,5 +1,5 @@
 -- An answer has as many rows as pass.
-use Rattle.std.proofs.Common.{◌≡◌, ℕ, Bool, List, length, filter, map, ap, ◌∙◌, IsPermutation}
+use Rattle.std.proofs.Common.{◌≡◌, Bool, List, length, filter, ap, ◌∙◌}
 use Rattle.std.proofs.lemmas.List.{length-map}
 use Rattle.std.proofs.lemmas.List.Sorted.{length_permutation}
 use Rattle.sqlite.specs.Order.{Row}

@@ -3,3 +3,4 @@ mod Writes
 mod Asks
 mod ReadRows
 mod Counts
+mod Replaced

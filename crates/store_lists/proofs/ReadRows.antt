@@ -1,20 +1,19 @@
 -- What is read of a row that the queries show.
-use Rattle.std.proofs.Common.{◌≡◌, ◌≤◌, ◌==◌, inl, inr, ℕ, ℤ, pos, zero-le, Option, Some, None, Ok, Err, Result, Bool, true, false, IsTrue, refl, sym, ap, subst, ◌∙◌, arith}
+use Rattle.std.proofs.Common.{◌≡◌, ◌==◌, inl, inr, ℕ, ℤ, Option, Some, None, Ok, Result, refl, subst}
 use Rattle.std.proofs.lemmas.Bool.{cases_Bool}
 use Rattle.sqlite.specs.declared.types.Value.{Value}
-use Rattle.sqlite.specs.declared.types.Value.TheVariants.{Int}
 use Rattle.sqlite.specs.Order.{Row, column}
 use Rattle.store_tables.specs.declared.faults.RowFault.{RowFault}
 use Rattle.store_tables.specs.Asking.{ReadsRow}
-use Rattle.store_tables.specs.Columns.{whole_in, within, is_within, function_in, or_damaged, and_then}
+use Rattle.store_tables.specs.Columns.{whole_in, within, function_in, or_damaged}
 use Rattle.store_tables.specs.Limits.{greatest_place}
-use Rattle.store_tables.proofs.ReadLemmas.{IsFair, fair_some, fair_whole, fair_within, reads_number, has_read, whole_bounds, within_bounds, ok_is, function_back}
+use Rattle.store_tables.proofs.ReadLemmas.{reads_number, has_read, whole_bounds, within_bounds, ok_is}
 use Rattle.store_lists.specs.declared.rows.DeviceRow.{DeviceRow}
 use Rattle.store_lists.specs.declared.rows.PointRow.{PointRow}
 use Rattle.store_lists.specs.declared.rows.RegisterRow.{RegisterRow}
 use Rattle.store_lists.specs.declared.rows.RegisterScale.{RegisterScale}
 use Rattle.store_lists.specs.declared.rows.RegisterScale.TheVariants.{Fixed, At}
-use Rattle.store_lists.specs.Rows.{Added, device_place, device_place_shown, HasDevicePlace, IsSoundAdded, IsSoundDevice, device_in, point_in, IsSoundPoint, Registered, register_place, register_place_shown, HasRegisterPlace, IsSoundRegister, IsSoundRegistered, IsSoundScale, register_in, scale_of, fixed_by, at_by}
+use Rattle.store_lists.specs.Rows.{device_place, device_place_shown, HasDevicePlace, IsSoundAdded, IsSoundDevice, device_in, point_in, IsSoundPoint, register_place, register_place_shown, HasRegisterPlace, IsSoundRegister, IsSoundRegistered, IsSoundScale, register_in, scale_of, fixed_by, at_by}
 
 -- ---- places
 

@@ -1,11 +1,12 @@
 -- Rows of the tables, their columns, and the ranges of their values.
-use Rattle.std.specs.Prelude.{◌≡◌, ℕ, ℤ, pos, ◌≤◌, List, [], ◌∷◌, length, filter, IsTrue, Bool, bytes_eq, ◌==◌, Option, Some, None, if◌then◌else◌, Result, Ok, IsUtf8, string_bytes}
+use Rattle.std.specs.Prelude.{◌≡◌, ℕ, ℤ, pos, ◌≤◌, List, [], ◌∷◌, ◌++◌, map, length, filter, IsTrue, Bool, bytes_eq, ◌==◌, Option, Some, None, if◌then◌else◌, Result, Ok, IsUtf8, string_bytes}
 use Rattle.sqlite.specs.declared.types.Value.{Value}
 use Rattle.sqlite.specs.declared.types.Value.TheVariants.{Null, Int, Text}
 use Rattle.sqlite.specs.Order.{Row, column}
 use Rattle.mb_wire.specs.Spans.{code_of}
 use Rattle.store_tables.specs.declared.faults.RowFault.{RowFault}
 use Rattle.store_tables.specs.Columns.{is_within, whole_in, within, function_in, or_damaged, and_then}
+use Rattle.store_tables.specs.Content.{without_where}
 use Rattle.store_tables.specs.Limits.{greatest_place, IsPlace}
 use Rattle.store_lists.specs.declared.rows.DeviceRow.{DeviceRow}
 use Rattle.store_lists.specs.declared.rows.Device.{Device}
@@ -104,6 +105,17 @@ pub record IsPoint (p : Listed) (a : Point) : Type 0 where
   pub kind : string_bytes a.kind ≡ p.kind
   pub scale : string_bytes a.scale ≡ p.scale
   pub row : a.row ≡ p.row
+
+-- a point as it stands in the list of a device
+abbrev pub listed_at : (device : List ℕ) → Point → Listed
+listed_at device p = record { device = device; name = string_bytes p.name; kind = string_bytes p.kind; scale = string_bytes p.scale; row = p.row }
+
+-- the points of a device come to the others, or stand in the place of those that it had
+abbrev pub with_points : (device : List ℕ) → List Point → List Listed → List Listed
+with_points device ps rows = map (listed_at device) ps ++ rows
+
+abbrev pub with_list : (device : List ℕ) → List Point → List Listed → List Listed
+with_list device ps rows = with_points device ps (without_where (is_point_of device) rows)
 
 -- the point that the columns of a row are, or damage
 abbrev pub point_in : Row → Result PointRow RowFault

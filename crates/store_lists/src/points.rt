@@ -1,19 +1,19 @@
 //! The table `points`.
-ghost use Rattle.std.specs.Prelude.{◌≡◌};
+ghost use Rattle.std.specs.Prelude.{◌≡◌, All};
 ghost use Rattle.sqlite.specs.Held.{state};
 ghost use Rattle.store_tables.specs.Content.{Edits, with_row, without_where};
 ghost use Rattle.store_tables.specs.Steps.{Steps};
 ghost use Rattle.store_tables.specs.Answer.{FirstFirst};
 ghost use Rattle.store_tables.specs.Asking.{Asks, Tells, Shows};
-ghost use Rattle.store_lists.specs.Rows.{point_columns, point_shown, point_place, is_point_of, IsSoundPoint};
-ghost use Rattle.store_lists.specs.Trees.{points};
+ghost use Rattle.store_lists.specs.Rows.{point_columns, point_shown, point_place, is_point_of, with_points, with_list, IsSoundPoint};
+ghost use Rattle.store_lists.specs.Trees as trees;
 
-use crate::rows::PointRow;
+use crate::rows::{Point, PointRow};
 use sqlite::{Alter, Connection, Error, Row, Transaction, params};
 use store_tables::number;
 
 /// Adds a point to the list of a device. Its type and its scale are texts, as in a list of comma-separated values.
-pub fn insert_point<'a, S: Alter>(
+fn insert_point<'a, S: Alter>(
     tx: &mut Transaction<'_, S>,
     device: &'a str,
     name: &'a str,
@@ -24,8 +24,13 @@ pub fn insert_point<'a, S: Alter>(
     requires sound { IsSoundPoint point }
     ensures same_reference { tx.new.conn.ghost_name ≡ tx.old.conn.ghost_name }
     ensures does { Steps (state S.Store tx.old.conn.now) (state S.Store tx.new.conn.now) result
-        (Edits points point_columns (with_row (record { device = device.now; name = name.now;
-        kind = kind.now; scale = scale.now; row = point }))) }
+        (Edits trees.points point_columns (with_row (record {
+          device = device.now;
+          name = name.now;
+          kind = kind.now;
+          scale = scale.now;
+          row = point;
+        }))) }
 {
     let place = number(point.place);
     tx.execute(
@@ -44,18 +49,57 @@ pub fn insert_point<'a, S: Alter>(
 }
 
 /// Takes away the points of a device's list.
-pub fn drop_points<S: Alter>(tx: &mut Transaction<'_, S>, device: &str) -> Result<usize, Error>
+fn drop_points<S: Alter>(tx: &mut Transaction<'_, S>, device: &str) -> Result<usize, Error>
     ensures same_reference { tx.new.conn.ghost_name ≡ tx.old.conn.ghost_name }
     ensures does { Steps (state S.Store tx.old.conn.now) (state S.Store tx.new.conn.now) result
-        (Edits points point_columns (without_where (is_point_of device.now))) }
+        (Edits trees.points point_columns (without_where (is_point_of device.now))) }
 {
     tx.execute("DELETE FROM points WHERE device = ?1", params![device])
+}
+
+/// Adds points to the list of a device.
+fn insert_points<S: Alter>(
+    tx: &mut Transaction<'_, S>,
+    device: &str,
+    points: &[Point],
+) -> Result<(), Error>
+    requires sound { All (λ p. IsSoundPoint p.row) points.now }
+    ensures same_reference { tx.new.conn.ghost_name ≡ tx.old.conn.ghost_name }
+    ensures does { Steps (state S.Store tx.old.conn.now) (state S.Store tx.new.conn.now) result
+        (Edits trees.points point_columns (with_points device.now points.now)) }
+{
+    for point in points {
+        insert_point(
+            tx,
+            device,
+            point.name.as_str(),
+            point.kind.as_str(),
+            point.scale.as_str(),
+            point.row,
+        )?;
+    }
+    Ok(())
+}
+
+/// Puts a list of points in the place of the one that a device has.
+pub fn replace_points<S: Alter>(
+    tx: &mut Transaction<'_, S>,
+    device: &str,
+    points: &[Point],
+) -> Result<(), Error>
+    requires sound { All (λ p. IsSoundPoint p.row) points.now }
+    ensures same_reference { tx.new.conn.ghost_name ≡ tx.old.conn.ghost_name }
+    ensures does { Steps (state S.Store tx.old.conn.now) (state S.Store tx.new.conn.now) result
+        (Edits trees.points point_columns (with_list device.now points.now)) }
+{
+    drop_points(tx, device)?;
+    insert_points(tx, device, points)
 }
 
 /// The points of a device's list in order; `read_point` reads each.
 pub fn point_rows<S: Alter>(conn: &mut Connection<S>, device: &str) -> Result<Vec<Row>, Error>
     ensures asks { Asks S.Store conn.old conn.new }
-    ensures shows { Tells S.Store conn.old conn.new points point_columns result
+    ensures shows { Tells S.Store conn.old conn.new trees.points point_columns result
         (λ rows answer.
         Shows (is_point_of device.now) (FirstFirst point_place) point_shown rows answer.items) }
 {

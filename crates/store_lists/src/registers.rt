@@ -139,7 +139,10 @@ fn last_rows<S: Alter>(conn: &mut Connection<S>) -> Result<Vec<Row>, Error>
         (λ rows answer.
         ShowsFirst every (LastFirst register_place) register_place_shown rows answer.items) }
 {
-    conn.query_all("SELECT place FROM registers ORDER BY place DESC LIMIT 1", &[])
+    conn.query_all(
+        "SELECT place FROM registers ORDER BY place DESC LIMIT 1",
+        &[],
+    )
 }
 
 /// The greatest place of a register, which counts them.

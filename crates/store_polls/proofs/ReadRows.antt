@@ -1,7 +1,7 @@
 -- What is read of a row that the queries show.
 use Rattle.std.proofs.lemmas.Bool.{cases_Bool}
-use Rattle.std.proofs.Common.{◌≡◌, ◌≢◌, ◌≤◌, ◌+◌, ◌-◌, ◌==◌, inl, inr, if◌then◌else◌, ℕ, List, pos, min, zero-le, Option, Some, None, Ok, Err, Result, Bool, true, false, bytes_eq, IfOk, IfErr, refl, sym, ap, subst, ◌∙◌, arith}
-use Rattle.sqlite.specs.declared.types.Value.TheVariants.{Int, Text}
+use Rattle.std.proofs.Common.{◌≡◌, ◌≢◌, ◌≤◌, ◌+◌, ◌==◌, inl, inr, if◌then◌else◌, ℕ, List, zero-le, Option, Some, None, Ok, Err, Result, Bool, true, false, bytes_eq, IfOk, refl, sym, ap, subst, ◌∙◌, arith}
+use Rattle.sqlite.specs.declared.types.Value.TheVariants.{Text}
 use Rattle.sqlite.specs.Order.{Row, column}
 use Rattle.poll_core.specs.declared.outcome.Outcome.{Outcome}
 use Rattle.poll_core.specs.declared.outcome.Outcome.TheVariants.{Answered, Exception, Silent, Malformed, Lost}
@@ -11,17 +11,16 @@ use Rattle.poll_core.specs.declared.outcome.Malformation.{Malformation}
 use Rattle.poll_core.specs.declared.outcome.LostCause.{LostCause}
 use Rattle.poll_core.specs.Outcomes.{outcome_number, outcome_code, malformation_number, cause_number}
 use Rattle.store_tables.specs.declared.faults.RowFault.{RowFault}
-use Rattle.store_tables.specs.declared.faults.RowFault.TheVariants.{Damaged}
 use Rattle.store_tables.specs.Asking.{ReadsRow}
 use Rattle.store_tables.specs.Columns.{whole_in, function_in, or_damaged, and_then}
 use Rattle.store_tables.specs.Limits.{greatest_place, latest_moment}
-use Rattle.store_tables.proofs.ReadLemmas.{IsFair, fair_some, fair_whole, reads_row, reads_number, has_read, whole_bounds, ok_is, function_back}
+use Rattle.store_tables.proofs.ReadLemmas.{IsFair, fair_some, fair_whole, reads_row, reads_number, has_read, whole_bounds, ok_is}
 use Rattle.store_polls.specs.declared.rows.PollRow.{PollRow}
 use Rattle.store_polls.specs.declared.rows.OutcomeRow.{OutcomeRow}
 use Rattle.store_polls.specs.declared.rows.ReplyKind.{ReplyKind}
 use Rattle.store_polls.specs.declared.rows.ReplyKind.TheVariants as kind
 use Rattle.store_polls.specs.declared.rows.Repeat.{Repeat}
-use Rattle.store_polls.specs.Rows.{Started, poll_shown, number_shown, poll_number, poll_in, HasNumber, IsSoundPoll, IsSoundStarted, greatest_count, outcome_shown, outcome_in, malformation_of, lost_of, malformed_of, lost_by, outcome_of, IsOutcome, IsSoundOutcome, hold_place_shown, hold_place, HasHoldPlace, IsSoundHeld, kind_word, kind_in, same_bytes, reply_shown, repeat_in, repeat_as, IsRepeat, IsSoundKept, start_of, start_shown, HasStart, outcome_moment, outcome_moment_shown, HasOutcomeMoment, hold_moment, hold_moment_shown, HasHoldMoment, reply_moment, reply_moment_shown, HasReplyMoment}
+use Rattle.store_polls.specs.Rows.{number_shown, poll_number, poll_in, HasNumber, IsSoundPoll, IsSoundStarted, greatest_count, outcome_shown, outcome_in, malformation_of, lost_of, malformed_of, lost_by, outcome_of, IsOutcome, IsSoundOutcome, hold_place_shown, hold_place, HasHoldPlace, IsSoundHeld, kind_word, kind_in, reply_shown, repeat_in, repeat_as, IsRepeat, IsSoundKept, start_of, start_shown, HasStart, outcome_moment, outcome_moment_shown, HasOutcomeMoment, hold_moment, hold_moment_shown, HasHoldMoment, reply_moment, reply_moment_shown, HasReplyMoment}
 
 -- ---- numbers
 

@@ -1,5 +1,5 @@
 -- The polls that the query of `pending_rows` shows.
-use Rattle.std.proofs.Common.{◌≡◌, inl, inr, ℕ, suc, ℤ, pos, min, length, List, [], ◌∷◌, map, filter, flat_map, Bool, true, false, cond, not, ◌&&◌, ◌==◌, is_gt, refl, sym, ap, ap₂, subst, ◌∙◌, arith, IsPermutation}
+use Rattle.std.proofs.Common.{◌≡◌, inl, inr, ℕ, suc, ℤ, pos, min, length, List, [], ◌∷◌, map, filter, flat_map, Bool, true, false, cond, not, ◌&&◌, ◌==◌, is_gt, refl, ap, subst, ◌∙◌, arith, IsPermutation}
 use Rattle.std.proofs.lemmas.Bool.{cases_Bool}
 use Rattle.std.specs.List.{list_all, list_any}
 use Rattle.std.proofs.lemmas.List.Sorted.{IsPermutation-sym, IsPermutation-trans, IsPermutation-map, list_any-IsPermutation}

@@ -1,5 +1,5 @@
 -- What the statements do.
-use Rattle.std.proofs.Common.{◌≡◌, ℕ, pos, List, [], ◌∷◌, drop, Result, OnOk, refl}
+use Rattle.std.proofs.Common.{◌≡◌, ℕ, pos, ◌∷◌, drop, Result, OnOk, refl}
 use Rattle.sqlite.specs.declared.types.Value.TheVariants.{Null}
 use Rattle.sqlite.specs.declared.error.Error.{Error}
 use Rattle.sqlite.specs.Cast.{cast_row}

@@ -1,5 +1,5 @@
 -- The polls that wait for their outcome.
-use Rattle.std.specs.Prelude.{◌≡◌, ℕ, Bool, not, List, Result, IfOk}
+use Rattle.std.specs.Prelude.{Bool, not, List, Result, IfOk}
 use Rattle.std.specs.List.{list_any}
 use Rattle.sqlite.specs.Order.{Row}
 use Rattle.sqlite.specs.Store.{Ghosts}

@@ -17,7 +17,10 @@ fn start_rows<S: Alter>(conn: &mut Connection<S>) -> Result<Vec<Row>, Error>
     ensures shows { Tells S.Store conn.old conn.new polls poll_columns result
         (λ rows answer. ShowsFirst every (LastFirst start_of) start_shown rows answer.items) }
 {
-    conn.query_all("SELECT started FROM polls ORDER BY started DESC LIMIT 1", &[])
+    conn.query_all(
+        "SELECT started FROM polls ORDER BY started DESC LIMIT 1",
+        &[],
+    )
 }
 
 /// The latest start of a poll.
@@ -39,7 +42,10 @@ fn outcome_rows<S: Alter>(conn: &mut Connection<S>) -> Result<Vec<Row>, Error>
     ensures shows { Tells S.Store conn.old conn.new outcomes outcome_columns result
         (λ rows answer. ShowsFirst every (LastFirst outcome_moment) outcome_moment_shown rows answer.items) }
 {
-    conn.query_all("SELECT moment FROM outcomes ORDER BY moment DESC LIMIT 1", &[])
+    conn.query_all(
+        "SELECT moment FROM outcomes ORDER BY moment DESC LIMIT 1",
+        &[],
+    )
 }
 
 /// The latest moment of an outcome.
@@ -83,7 +89,10 @@ fn reply_rows<S: Alter>(conn: &mut Connection<S>) -> Result<Vec<Row>, Error>
     ensures shows { Tells S.Store conn.old conn.new replies reply_columns result
         (λ rows answer. ShowsFirst every (LastFirst reply_moment) reply_moment_shown rows answer.items) }
 {
-    conn.query_all("SELECT moment FROM replies ORDER BY moment DESC LIMIT 1", &[])
+    conn.query_all(
+        "SELECT moment FROM replies ORDER BY moment DESC LIMIT 1",
+        &[],
+    )
 }
 
 /// The latest moment of a kept reply.

@@ -27,8 +27,13 @@ pub fn insert_reply<S: Alter>(
     requires moment { moment ≤ latest_moment }
     ensures same_reference { tx.new.conn.ghost_name ≡ tx.old.conn.ghost_name }
     ensures does { Steps (state S.Store tx.old.conn.now) (state S.Store tx.new.conn.now) result
-        (Edits replies reply_columns (with_row (record { caller = caller.now; number = number;
-        request = request.now; kind = kind; moment = moment }))) }
+        (Edits replies reply_columns (with_row (record {
+          caller = caller.now;
+          number = number;
+          request = request.now;
+          kind = kind;
+          moment = moment;
+        }))) }
 {
     let number = store_tables::number(number);
     let moment = store_tables::number(moment);
@@ -39,11 +44,7 @@ pub fn insert_reply<S: Alter>(
 }
 
 /// What is kept under a caller and a number, if something is.
-fn rows_of<S: Alter>(
-    conn: &mut Connection<S>,
-    caller: &str,
-    number: u64,
-) -> Result<Vec<Row>, Error>
+fn rows_of<S: Alter>(conn: &mut Connection<S>, caller: &str, number: u64) -> Result<Vec<Row>, Error>
     requires number { IsCallNumber number }
     ensures asks { Asks S.Store conn.old conn.new }
     ensures shows { Tells S.Store conn.old conn.new replies reply_columns result

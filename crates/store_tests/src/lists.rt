@@ -1,12 +1,15 @@
 //! Devices, points and registers, written and read back.
+ghost use Rattle.std.specs.Prelude.{◌≡◌, IfOk};
+
 use crate::given::{one_meter, sound};
 use mb_wire::ReadFunction;
 use sqlite::{Connection, Error, MemStore, Transaction};
+use std::alloc::{AllocError, Global};
 use std::test::Fail;
 use store_lists::{
-    DeviceRow, PointRow, RegisterRow, RegisterScale, device_rows, drop_points, insert_device,
-    insert_point, insert_register, last_device, last_register, point_rows, read_device, read_point,
-    read_register, register_count, register_of, register_rows,
+    DeviceRow, Point, PointRow, RegisterRow, RegisterScale, device_rows, insert_device,
+    insert_register, last_device, last_register, point_rows, read_device, read_point,
+    read_register, register_count, register_of, register_rows, replace_points,
 };
 use store_tables::RowFault;
 
@@ -37,32 +40,54 @@ const REGISTER: RegisterRow = RegisterRow {
     scale: RegisterScale::Fixed(-3),
 };
 
-fn put_list(tx: &mut Transaction<'_, MemStore>) -> Result<(), Error> {
-    insert_point(tx, "inv", "m2.WH_SF", "sunssf", "", SCALE)?;
-    insert_point(tx, "inv", "m2.WH", "acc32", "m2.WH_SF", ENERGY)?;
-    insert_point(tx, "pv", "wh", "acc32", "-3", ENERGY)?;
-    Ok(())
+fn point(
+    alloc: Global,
+    name: &str,
+    kind: &str,
+    scale: &str,
+    row: PointRow,
+) -> Result<Point, AllocError>
+    ensures { IfOk result (λ p. p.row ≡ row) }
+{
+    Ok(Point {
+        name: format!(in alloc; "{name}")?,
+        kind: format!(in alloc; "{kind}")?,
+        scale: format!(in alloc; "{scale}")?,
+        row,
+    })
 }
 
-fn add(tx: &mut Transaction<'_, MemStore>) -> Result<(), Error> {
+fn put_list(tx: &mut Transaction<'_, MemStore>, alloc: Global) -> Result<(), Error> {
+    let scale = point(alloc, "m2.WH_SF", "sunssf", "", SCALE)?;
+    let energy = point(alloc, "m2.WH", "acc32", "m2.WH_SF", ENERGY)?;
+    replace_points(tx, "inv", &vec![in alloc; scale, energy]?)
+}
+
+fn put_other_list(tx: &mut Transaction<'_, MemStore>, alloc: Global) -> Result<(), Error> {
+    let energy = point(alloc, "wh", "acc32", "-3", ENERGY)?;
+    replace_points(tx, "pv", &vec![in alloc; energy]?)
+}
+
+fn add(tx: &mut Transaction<'_, MemStore>, alloc: Global) -> Result<(), Error> {
     insert_device(tx, "pv", DEVICE)?;
     insert_register(tx, "roof", "pv", REGISTER)?;
-    put_list(tx)
+    put_list(tx, alloc)?;
+    put_other_list(tx, alloc)
 }
 
-fn two_devices(conn: &mut Connection<MemStore>) -> Result<(), Error> {
+fn two_devices(conn: &mut Connection<MemStore>, alloc: Global) -> Result<(), Error> {
     if !conn.is_autocommit() {
         return Err(Error::InvalidQuery);
     }
     let mut tx = conn.transaction();
-    add(&mut tx)?;
+    add(&mut tx, alloc)?;
     tx.commit()
 }
 
 #[test]
 fn devices_and_registers_are_found(rt: HostRuntime) -> Result<(), Fail> {
     let mut conn = one_meter(rt.alloc())?;
-    two_devices(&mut conn)?;
+    two_devices(&mut conn, rt.alloc())?;
     let devices = device_rows(&mut conn)?;
     assert_eq!(rt; devices.len(), 2);
     assert_eq!(rt; sound(read_device(&devices[0]))?.name.as_str(), "inv");
@@ -70,33 +95,36 @@ fn devices_and_registers_are_found(rt: HostRuntime) -> Result<(), Fail> {
     assert_eq!(rt; sound(last_device(&mut conn))?, Some(2));
     let registers = register_rows(&mut conn, "inv")?;
     assert_eq!(rt; registers.len(), 1);
-    assert_eq!(rt; sound(read_register(&registers[0]))?.row.scale, RegisterScale::At(40_096));
+    assert_eq!(rt;
+        sound(read_register(&registers[0]))?.row.scale,
+        RegisterScale::At(40_096)
+    );
     assert_eq!(rt; register_count(&mut conn, "pv")?, 1);
     assert_eq!(rt; sound(last_register(&mut conn))?, Some(2));
     assert!(rt; sound(register_of(&mut conn, "pv"))?.is_none());
     Ok(())
 }
 
-fn drop_list(conn: &mut Connection<MemStore>) -> Result<(), Error> {
+fn empty_list(conn: &mut Connection<MemStore>) -> Result<(), Error> {
     if !conn.is_autocommit() {
         return Err(Error::InvalidQuery);
     }
     let mut tx = conn.transaction();
-    drop_points(&mut tx, "inv")?;
+    replace_points(&mut tx, "inv", &[])?;
     tx.commit()
 }
 
 #[test]
 fn points_stand_in_the_order_of_their_list(rt: HostRuntime) -> Result<(), Fail> {
     let mut conn = one_meter(rt.alloc())?;
-    two_devices(&mut conn)?;
+    two_devices(&mut conn, rt.alloc())?;
     let points = point_rows(&mut conn, "inv")?;
     assert_eq!(rt; points.len(), 2);
     let energy = sound(read_point(&points[0]))?;
     assert_eq!(rt; energy.row, ENERGY);
     assert_eq!(rt; energy.kind.as_str(), "acc32");
     assert_eq!(rt; energy.scale.as_str(), "m2.WH_SF");
-    drop_list(&mut conn)?;
+    empty_list(&mut conn)?;
     assert_eq!(rt; point_rows(&mut conn, "inv")?.len(), 0);
     assert_eq!(rt; point_rows(&mut conn, "pv")?.len(), 1);
     Ok(())
@@ -105,15 +133,17 @@ fn points_stand_in_the_order_of_their_list(rt: HostRuntime) -> Result<(), Fail> 
 #[test]
 fn registers_out_of_their_ranges_are_damaged(rt: HostRuntime) -> Result<(), Fail> {
     let mut conn = one_meter(rt.alloc())?;
-    two_devices(&mut conn)?;
+    two_devices(&mut conn, rt.alloc())?;
     conn.execute_batch(
         "UPDATE registers SET scale = 4 WHERE name = 'roof'; UPDATE devices SET \"window\" = 17; UPDATE points SET function = 5",
     )?;
     assert!(rt; matches!(register_of(&mut conn, "roof"), Err(RowFault::Damaged)));
     assert!(rt; matches!(register_of(&mut conn, "main"), Ok(Some(_))));
     let devices = device_rows(&mut conn)?;
+    assert_eq!(rt; devices.len(), 2);
     assert!(rt; matches!(read_device(&devices[0]), Err(RowFault::Damaged)));
     let points = point_rows(&mut conn, "pv")?;
+    assert_eq!(rt; points.len(), 1);
     assert!(rt; matches!(read_point(&points[0]), Err(RowFault::Damaged)));
     Ok(())
 }

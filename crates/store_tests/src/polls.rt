@@ -91,7 +91,14 @@ fn keep(conn: &mut Connection<MemStore>) -> Result<Option<u64>, Error> {
     }
     let mut tx = conn.transaction();
     insert_hold(&mut tx, "m1", HELD)?;
-    insert_reply(&mut tx, "home", 7, b"exchange main", ReplyKind::Exchange, 1900)?;
+    insert_reply(
+        &mut tx,
+        "home",
+        7,
+        b"exchange main",
+        ReplyKind::Exchange,
+        1900,
+    )?;
     let rows = last_hold_rows(&mut tx)?;
     tx.commit()?;
     match rows.first() {
@@ -106,10 +113,22 @@ fn a_request_is_kept_with_its_bytes(rt: HostRuntime) -> Result<(), Fail> {
     started(&mut conn)?;
     assert_eq!(rt; keep(&mut conn)?, Some(1));
     let same = Repeat::Same(ReplyKind::Exchange);
-    assert_eq!(rt; sound(repeat_of(&mut conn, "home", 7, b"exchange main"))?, Some(same));
-    assert_eq!(rt; sound(repeat_of(&mut conn, "home", 7, b"exchange"))?, Some(Repeat::Other));
-    assert_eq!(rt; sound(repeat_of(&mut conn, "home", 8, b"exchange main"))?, None);
-    assert_eq!(rt; sound(repeat_of(&mut conn, "away", 7, b"exchange main"))?, None);
+    assert_eq!(rt;
+        sound(repeat_of(&mut conn, "home", 7, b"exchange main"))?,
+        Some(same)
+    );
+    assert_eq!(rt;
+        sound(repeat_of(&mut conn, "home", 7, b"exchange"))?,
+        Some(Repeat::Other)
+    );
+    assert_eq!(rt;
+        sound(repeat_of(&mut conn, "home", 8, b"exchange main"))?,
+        None
+    );
+    assert_eq!(rt;
+        sound(repeat_of(&mut conn, "away", 7, b"exchange main"))?,
+        None
+    );
     Ok(())
 }
 
@@ -124,6 +143,9 @@ fn polls_out_of_their_ranges_are_damaged(rt: HostRuntime) -> Result<(), Fail> {
     assert!(rt; matches!(poll_at(&mut conn, 1), Err(RowFault::Damaged)));
     assert!(rt; matches!(poll_at(&mut conn, 2), Ok(Some(_))));
     assert_eq!(rt; outcome_of(&mut conn, 2), Err(RowFault::Damaged));
-    assert_eq!(rt; repeat_of(&mut conn, "home", 7, b"x"), Err(RowFault::Damaged));
+    assert_eq!(rt;
+        repeat_of(&mut conn, "home", 7, b"x"),
+        Err(RowFault::Damaged)
+    );
     Ok(())
 }
