@@ -1,6 +1,6 @@
 -- The rows of the table, whatever their last column has, and how they stand for intervals.
-use Rattle.std.proofs.Common.{◌≡◌, ◌≢◌, ◌≤◌, ◌<◌, ◌^◌, ◌+◌, ◌-◌, ◌==◌, inl, inr, ℕ, pos, List, [], ◌∷◌, map, Bool, true, false, ◌&&◌, bytes_eq, IsTrue, Some, refl, sym, ap, ap₂, subst, ◌∙◌, arith, if◌then◌else◌, IsPermutation, ◌-ℤ◌}
-use Rattle.std.specs.List.{list_any, AllByRecursion}
+use Rattle.std.proofs.Common.{◌≡◌, ◌≤◌, ◌<◌, ◌^◌, ◌+◌, ◌-◌, ◌==◌, inl, inr, ℕ, pos, List, [], ◌∷◌, map, Bool, ◌&&◌, bytes_eq, Some, refl, sym, ap, ap₂, subst, ◌∙◌, arith, if◌then◌else◌, IsPermutation, ◌-ℤ◌}
+use Rattle.std.specs.List.{list_any}
 use Rattle.std.proofs.lemmas.Bool.{cases_Bool}
 use Rattle.std.proofs.lemmas.Bool.Decides.{nat_tests}
 use Rattle.std.proofs.lemmas.Int.{ints}

@@ -1,5 +1,5 @@
 -- Rows of the table `intervals`, their columns, and the ranges of their values.
-use Rattle.std.specs.Prelude.{◌≡◌, ℕ, pos, ◌≤◌, nat_le, List, [], ◌∷◌, Bool, bytes_eq, ◌&&◌, ◌==◌, Result, Ok}
+use Rattle.std.specs.Prelude.{ℕ, pos, ◌≤◌, nat_le, List, [], ◌∷◌, Bool, bytes_eq, ◌&&◌, ◌==◌, Result, Ok}
 use Rattle.sqlite.specs.declared.types.Value.TheVariants.{Int, Text}
 use Rattle.sqlite.specs.Order.{Row, column}
 use Rattle.interval_core.specs.declared.shares.Share.{Share}
