@@ -20,7 +20,9 @@ use Rattle.store_tables.specs.Asking.{Asks}
 use Rattle.store_tables.specs.Columns.{whole_in}
 use Rattle.store_tables.proofs.ReadLemmas.{has_read, whole_bounds}
 use Rattle.store_tables.proofs.StepLemmas.{asks}
-use Rattle.store_intervals.specs.Rows.{share_in, IsSoundShare, latest_moment, greatest_energy}
+use Rattle.store_meters.specs.Rows.{greatest_total}
+use Rattle.store_tables.specs.Limits.{latest_moment}
+use Rattle.store_intervals.specs.Rows.{share_in, IsSoundShare}
 use Rattle.store_intervals.specs.Handing.{AreShares, IsAsked, HandsOnQuery}
 
 takes_more : {K : Type 0} (takes : K → Share → K → Type 0) (before mid after : K) (shares : List Share) (share : Share) → TakesAll takes before shares mid → takes mid share after → TakesAll takes before (shares ++ share ∷ []) after
@@ -40,11 +42,11 @@ ok_is a b e = cc
 sound_share : (row : Row) (share : Share) → share_in row ≡ Ok share → IsSoundShare share
 sound_share row share is =
     let start = has_read (whole_in 0 latest_moment (column row 0)) _ share is in
-    let mwh = has_read (whole_in 0 greatest_energy (column row 1)) _ share start.rest in
+    let mwh = has_read (whole_in 0 greatest_total (column row 1)) _ share start.rest in
     let same = ok_is (record { start = start.value; mwh = mwh.value }) share mwh.rest in
     subst IsSoundShare same (record {
       start = (whole_bounds 0 latest_moment (column row 0) start.value start.is).1;
-      mwh = (whole_bounds 0 greatest_energy (column row 1) mwh.value mwh.is).1;
+      mwh = (whole_bounds 0 greatest_total (column row 1) mwh.value mwh.is).1;
     })
 
 -- a query that is refused commits nothing

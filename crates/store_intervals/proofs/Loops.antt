@@ -15,7 +15,9 @@ use Rattle.store_tables.specs.Content.{Content, HasRows, changed_where}
 use Rattle.store_tables.specs.Steps.{Steps}
 use Rattle.store_tables.proofs.StepLemmas.{no_steps, weaker}
 use Rattle.store_intervals.specs.Trees.{intervals}
-use Rattle.store_intervals.specs.Rows.{Interval, interval_columns, is_at, IsSoundShare, latest_moment, greatest_energy}
+use Rattle.store_meters.specs.Rows.{greatest_total}
+use Rattle.store_tables.specs.Limits.{latest_moment}
+use Rattle.store_intervals.specs.Rows.{Interval, interval_columns, is_at, IsSoundShare}
 use Rattle.store_intervals.specs.Booking.{raised, with_share, without_share, with_shares, without_shares, AreSmall, AreTherein, EditsIf, BooksShares, TakesShares}
 use Rattle.store_intervals.proofs.Kept.{turns_weaker}
 
@@ -32,7 +34,7 @@ all_starts : (shares : List Share) (till : ℕ) → ((start : ℕ) → Contains 
 all_starts shares till each =
     all_unmap (λ n. n < till) (λ (s : Share). s.start) shares (recursion_from_All (λ n. n < till) (starts_of shares) (λ i d low. each _ (All-contains_itself (starts_of shares) i d low)))
 
-pub sound_shares : SharesAddUp → (step : Step) → step.from < step.till → step.mwh ≤ greatest_energy → step.till ≤ latest_moment → AllByRecursion IsSoundShare (shares_of step)
+pub sound_shares : SharesAddUp → (step : Step) → step.from < step.till → step.mwh ≤ greatest_total → step.till ≤ latest_moment → AllByRecursion IsSoundShare (shares_of step)
 sound_shares law step forward energy till =
     let spread = law step forward in
     let starts = all_starts (shares_of step) step.till (λ start has. ((spread.touched start).0 has).1) in
