@@ -1,7 +1,9 @@
 -- The rows of a query, handed on one by one.
 use Rattle.std.proofs.Common.{◌≡◌, inl, inr, List, [], ◌∷◌, ◌++◌, ℕ, false, Ok, Err, Result, OnErr, IsErrAnd, refl, sym, ap, subst, arith, ◌∙◌}
 use Rattle.sqlite.specs.declared.error.Error.{Error}
-use Rattle.sqlite.specs.Order.{Row}
+use Rattle.std.specs.List.{AllByRecursion}
+use Rattle.sqlite_keyed.proofs.ListLemmas.{all-append}
+use Rattle.sqlite.specs.Order.{Row, column}
 use Rattle.sqlite.specs.Store.{Ghosts}
 use Rattle.sqlite.specs.Held.{Held, state}
 use Rattle.sqlite.specs.State.{HasCleanDisk, Survives, IsUnchanged, Shown, CommitsShowing}
@@ -15,8 +17,12 @@ use Rattle.store_tables.specs.declared.faults.RowFault.{RowFault}
 use Rattle.store_tables.specs.declared.faults.RowFault.TheVariants.{Sql, Damaged}
 use Rattle.store_tables.specs.Schema.{books_schema}
 use Rattle.store_tables.specs.Asking.{Asks}
+use Rattle.store_tables.specs.Columns.{whole_in}
+use Rattle.store_tables.proofs.ReadLemmas.{has_read, whole_bounds}
 use Rattle.store_tables.proofs.StepLemmas.{asks}
-use Rattle.store_intervals.specs.Rows.{share_in}
+use Rattle.store_meters.specs.Rows.{greatest_total}
+use Rattle.store_tables.specs.Limits.{latest_moment}
+use Rattle.store_intervals.specs.Rows.{share_in, IsSoundShare}
 use Rattle.store_intervals.specs.Handing.{AreShares, IsAsked, HandsOnQuery}
 
 takes_more : {K : Type 0} (takes : K → Share → K → Type 0) (before mid after : K) (shares : List Share) (share : Share) → TakesAll takes before shares mid → takes mid share after → TakesAll takes before (shares ++ share ∷ []) after
@@ -28,6 +34,20 @@ shares_more [] [] row share zip is = (is, tt)
 shares_more [] (s ∷ shares) row share zip is = absurd zip
 shares_more (r ∷ given) [] row share zip is = absurd zip
 shares_more (r ∷ given) (s ∷ shares) row share zip is = (zip.0, shares_more given shares row share zip.1 is)
+
+ok_is : (a b : Share) → ◌≡◌ {A = Result Share RowFault} (Ok a) (Ok b) → a ≡ b
+ok_is a b e = cc
+
+-- what is read is in its ranges
+sound_share : (row : Row) (share : Share) → share_in row ≡ Ok share → IsSoundShare share
+sound_share row share is =
+    let start = has_read (whole_in 0 latest_moment (column row 0)) _ share is in
+    let mwh = has_read (whole_in 0 greatest_total (column row 1)) _ share start.rest in
+    let same = ok_is (record { start = start.value; mwh = mwh.value }) share mwh.rest in
+    subst IsSoundShare same (record {
+      start = (whole_bounds 0 latest_moment (column row 0) start.value start.is).1;
+      mwh = (whole_bounds 0 greatest_total (column row 1) mwh.value mwh.is).1;
+    })
 
 -- a query that is refused commits nothing
 pub refused_asks : {S X : Type 0} (g : Ghosts S) (sql : List ℕ) (params : Row) (old new : Held S) (r : Result X Error) (e : Error) → r ≡ Err e → OnErr r (IsRefused g sql params old r new) → IsPlain (understood books_schema sql) → Asks g old new
@@ -41,6 +61,7 @@ module _ {S K : Type 0} (g : Ghosts S) (sql : List ℕ) (params : Row) (old : He
     pub mode : old.in_transaction ≡ false → now.in_transaction ≡ false
     pub survives : IsPlain (understood old.schema sql) → Survives (state g old) (state g now) (λ _. ⊥)
     pub shares : List Share
+    pub sound : AllByRecursion IsSoundShare shares
     pub taken : TakesAll takes before shares after
     pub reads : HasCleanDisk (state g now) → IsPlain (understood old.schema sql)
         → (given : List Row) × HasGiven g sql params now given × IsUnchanged (state g old) (state g now) × AreShares given shares
@@ -52,6 +73,7 @@ module _ {S K : Type 0} (g : Ghosts S) (sql : List ℕ) (params : Row) (old : He
     mode = mode;
     survives = λ plain. survives_weaker (state g old) (state g now) _ _ (λ _ db. never_commits sql params (state g old) db plain) survives;
     shares = [];
+    sound = tt;
     taken = refl;
     reads = λ clean plain. let it = begun_plain g sql params old now plain (starts clean) in ([], it.0, it.1, tt);
   }
@@ -65,6 +87,7 @@ module _ {S K : Type 0} (g : Ghosts S) (sql : List ℕ) (params : Row) (old : He
     mode = λ was. mode (h.mode was);
     survives = λ plain. survives_then (state g old) (state g now) (state g new) (λ _. ⊥) (λ _. ⊥) (λ _. ⊥) (λ _ db none. none) (λ _ db none. none) (h.survives plain) survives;
     shares = h.shares ++ share ∷ [];
+    sound = all-append IsSoundShare h.shares (share ∷ []) h.sound (sound_share row share is, tt);
     taken = takes_more takes before mid after h.shares share h.taken took;
     reads = λ clean plain.
         let early : HasCleanDisk (state g now) = omega (arith, survives.clean) in

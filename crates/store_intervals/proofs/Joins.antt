@@ -1,5 +1,5 @@
 -- What the queries find.
-use Rattle.std.proofs.Common.{◌≡◌, ◌<◌, ◌≤◌, ◌<ℤ◌, ◌⊎◌, inl, inr, pos, ℕ, ℤ, List, [], ◌∷◌, ◌++◌, map, filter, flat_map, Bool, true, false, ◌&&◌, bytes_eq, if◌then◌else◌, Ordering, Less, Equal, Greater, is_gt, refl, sym, ap, ap₂, subst, ◌∙◌, arith, IsPermutation}
+use Rattle.std.proofs.Common.{◌≡◌, ◌<◌, ◌≤◌, ◌<ℤ◌, ◌⊎◌, inl, inr, pos, ℕ, List, [], ◌∷◌, ◌++◌, map, filter, flat_map, Bool, true, false, bytes_eq, if◌then◌else◌, Ordering, Less, Equal, Greater, is_gt, refl, sym, ap, ap₂, subst, ◌∙◌, arith, IsPermutation}
 use Rattle.std.specs.List.{AllByRecursion, list_all}
 use Rattle.std.specs.Ordering.{ordering_then, int_cmp, MatchOrdering}
 use Rattle.std.specs.Cmp.{int_ranks}
@@ -7,29 +7,28 @@ use Rattle.std.proofs.lemmas.Int.{ints}
 use Rattle.std.proofs.lemmas.Bool.{cases_Bool}
 use Rattle.std.proofs.lemmas.List.{map-append}
 use Rattle.std.proofs.lemmas.List.Elements.{filter-append, All-from_recursion, recursion_from_All}
-use Rattle.std.proofs.lemmas.List.Sorted.{All-permutation, IsPermutation-sym, IsPermutation-trans, IsPermutation-map}
-use Rattle.sqlite.specs.declared.types.Value.TheVariants.{Int, Text, Null}
+use Rattle.std.proofs.lemmas.List.Sorted.{All-permutation, IsPermutation-refl, IsPermutation-sym, IsPermutation-trans, IsPermutation-map}
+use Rattle.sqlite.specs.declared.types.Value.TheVariants.{Int, Text}
 use Rattle.sqlite.specs.Order.{Row, value_cmp}
 use Rattle.sqlite.specs.Effect.{Database}
 use Rattle.sqlite.specs.Term.{Env, holds}
-use Rattle.sqlite.specs.Tree.{Trees, IsAscending}
-use Rattle.sqlite.specs.Query.{Query, IsAnswer, Output, output, output_cmp, matches_as, inner, end, page}
+use Rattle.sqlite.specs.Tree.{IsAscending}
+use Rattle.sqlite.specs.Query.{Query, IsAnswer, Output, output, output_cmp, page}
 use Rattle.sqlite.specs.Program.{overlay}
 use Rattle.sqlite_sql.proofs.QueryLemmas.{output_cmp_total}
 use Rattle.sqlite_value.proofs.OrderLemmas.{value_cmp-Int}
 use Rattle.sqlite_keyed.specs.Lists.{pairs}
-use Rattle.sqlite_keyed.proofs.ListLemmas.{all-filter, map-map, filter-map, ascending-map, ascending_from_map, ascending_weaker, IsPermutation-filter, IsPermutation-flat_map, IsPermutation-flat_map_each}
-use Rattle.interval_core.specs.declared.shares.Share.{Share}
+use Rattle.sqlite_keyed.proofs.ListLemmas.{all-filter, all-append, all_map, map-map, filter-map, ascending-map, ascending_from_map, ascending_weaker, IsPermutation-filter, IsPermutation-flat_map, IsPermutation-flat_map_each}
 use Rattle.store_tables.specs.Schema.{books_schema, intervals_table, installations_table}
 use Rattle.store_tables.specs.Content.{Content, AreTables}
 use Rattle.store_tables.specs.Answer.{AreFound, FirstFirst}
 use Rattle.store_tables.proofs.Frames.{tree_at}
 use Rattle.store_tables.proofs.Permuted.{unmapped}
-use Rattle.store_tables.proofs.Laid.{Numbered, laid, lay, IsLaid, laid_from}
-use Rattle.store_tables.proofs.Scans.{text_is, and_true, no_limit, overlay_none}
+use Rattle.store_tables.proofs.Laid.{Numbered, lay, laid_from}
+use Rattle.store_tables.proofs.Scans.{scan, text_is, and_true, no_limit, overlay_none}
 use Rattle.store_tables.proofs.Selects.{selected, in_order, ascends}
 use Rattle.store_meters.specs.Trees.{installations}
-use Rattle.store_meters.specs.Rows.{Installed, installed_columns, is_at}
+use Rattle.store_meters.specs.Rows.{Installed, installed_columns}
 use Rattle.store_intervals.specs.Trees.{intervals}
 use Rattle.store_intervals.specs.Rows.{Interval, interval_columns, share_shown, is_of, start_of, IsSoundInterval}
 use Rattle.store_intervals.specs.Handing.{HaveIntervals, AreSharesOfMeter, AreSoundIntervals, Lying, HaveLying, lies_at, ComesAfter, AreSharesAt, AreSoundLying}
@@ -41,7 +40,7 @@ all_found P p xs found same all = recursion_from_All P found (All-permutation P 
 -- ---- the rows of a meter
 
 pub of_meter : (meter : List ℕ) (db : Database) (held : Content) (is : List Interval) (rows : List Row) → AreTables db held → HaveIntervals is held
-    → IsAnswer (Rattle.store_tables.proofs.Scans.scan 14 text.meter_intervals_tests text.shares_project text.meter_intervals_order no_limit) (overlay db.trees []) (Text meter ∷ []) rows
+    → IsAnswer (scan 14 text.meter_intervals_tests text.shares_project text.meter_intervals_order no_limit) (overlay db.trees []) (Text meter ∷ []) rows
     → (found : List Interval) × (rows ≡ map share_shown found) × AreSharesOfMeter meter is (map (λ i. i.share) found) × (AreSoundIntervals is → AllByRecursion IsSoundInterval found)
 of_meter meter db held is rows has have a =
     let there = tree_at books_schema.tables 9 intervals_table refl in
@@ -135,7 +134,7 @@ module _ (register : List ℕ) where
 
   sound_pairs : (is : List Installed) (rows : List Interval) → AllByRecursion IsSoundInterval rows → AllByRecursion (λ (p : Installed × Interval). IsSoundInterval p.1) (pairs is rows)
   sound_pairs [] rows sound = tt
-  sound_pairs (i ∷ is) rows sound = Rattle.sqlite_keyed.proofs.ListLemmas.all-append (λ (p : Installed × Interval). IsSoundInterval p.1) (map (λ r. (i, r)) rows) (pairs is rows) (Rattle.sqlite_keyed.proofs.ListLemmas.all_map (λ (p : Installed × Interval). IsSoundInterval p.1) (λ r. (i, r)) rows sound) (sound_pairs is rows sound)
+  sound_pairs (i ∷ is) rows sound = all-append (λ (p : Installed × Interval). IsSoundInterval p.1) (map (λ r. (i, r)) rows) (pairs is rows) (all_map (λ (p : Installed × Interval). IsSoundInterval p.1) (λ r. (i, r)) rows sound) (sound_pairs is rows sound)
 
   pub at_register : (db : Database) (held : Content) (lying : Lying) (rows : List Row) → AreTables db held → HaveLying lying held → IsAnswer query (overlay db.trees []) params rows
       → (found : List (Installed × Interval)) × (rows ≡ map (λ p. share_shown p.1) found) × AreSharesAt register lying (map (λ p. p.1.share) found)
@@ -158,7 +157,7 @@ module _ (register : List ℕ) where
       let before : IsPermutation (filter (lies_at register) (pairs lying.installed lying.rows)) (map bare chosen) =
       IsPermutation-trans _ _ _ (IsPermutation-filter (lies_at register) _ _ (IsPermutation-sym _ _ whole))
       (subst (λ xs. IsPermutation (filter (lies_at register) (pairs (map (λ (z : Numbered Installed). z.1) one.all) (map (λ (z : Numbered Interval). z.1) two.all))) xs) (ap (filter (lies_at register)) (sym stripped) ∙ filter-map (lies_at register) bare (pairs one.all two.all))
-      (Rattle.std.proofs.lemmas.List.Sorted.IsPermutation-refl _)) in
+      (IsPermutation-refl _)) in
       let are : AreFound (lies_at register) ComesAfter (pairs lying.installed lying.rows) found = record {
         all = IsPermutation-trans _ _ _ before (IsPermutation-map bare _ _ moved.1);
         order = ascending-map ComesAfter bare moved.0 up;

@@ -1,6 +1,6 @@
 -- The rows of the table, whatever their last column has, and how they stand for intervals.
-use Rattle.std.proofs.Common.{◌≡◌, ◌≢◌, ◌≤◌, ◌<◌, ◌^◌, ◌+◌, ◌-◌, ◌==◌, inl, inr, ℕ, pos, List, [], ◌∷◌, map, Bool, true, false, ◌&&◌, bytes_eq, IsTrue, Some, refl, sym, ap, ap₂, subst, ◌∙◌, arith, if◌then◌else◌, IsPermutation, ◌-ℤ◌}
-use Rattle.std.specs.List.{list_any, AllByRecursion}
+use Rattle.std.proofs.Common.{◌≡◌, ◌≤◌, ◌<◌, ◌^◌, ◌+◌, ◌-◌, ◌==◌, inl, inr, ℕ, pos, List, [], ◌∷◌, map, Bool, ◌&&◌, bytes_eq, Some, refl, sym, ap, ap₂, subst, ◌∙◌, arith, if◌then◌else◌, IsPermutation, ◌-ℤ◌}
+use Rattle.std.specs.List.{list_any}
 use Rattle.std.proofs.lemmas.Bool.{cases_Bool}
 use Rattle.std.proofs.lemmas.Bool.Decides.{nat_tests}
 use Rattle.std.proofs.lemmas.Int.{ints}
@@ -19,7 +19,8 @@ use Rattle.store_tables.specs.Content.{Content, Edits, changed_where}
 use Rattle.store_tables.specs.Steps.{Turns}
 use Rattle.store_tables.proofs.Tables.{cast_int}
 use Rattle.store_intervals.specs.Trees.{intervals}
-use Rattle.store_intervals.specs.Rows.{Interval, interval_columns, is_at, greatest_energy}
+use Rattle.store_meters.specs.Rows.{greatest_total}
+use Rattle.store_intervals.specs.Rows.{Interval, interval_columns, is_at}
 use Rattle.store_intervals.specs.Booking.{raised, lowered, with_share, without_share, AreSmall, HasEnergy, EditsIf}
 
 pub record Kept : Type 0 where
@@ -73,10 +74,10 @@ any_kept meter start (i ∷ is) = elim (cases_Bool (is_at meter start i)) [
   | inr off ↦ rw off (any_kept meter start is)
 ]
 
-one_added : (mwh : ℕ) (i : Interval) → i.share.mwh + mwh ≤ greatest_energy → adds mwh (kept_of i) ≡ kept_of (raised mwh i)
+one_added : (mwh : ℕ) (i : Interval) → i.share.mwh + mwh ≤ greatest_total → adds mwh (kept_of i) ≡ kept_of (raised mwh i)
 one_added mwh i small = ap (λ v. record { meter = i.meter; start = i.share.start; energy = cast Integer v }) (sum_is i.share.mwh mwh (omega (arith, small))) ∙ ap (λ v. record { meter = i.meter; start = i.share.start; energy = v }) (cast_int (pos (i.share.mwh + mwh)))
 
-one_taken : (mwh : ℕ) (i : Interval) → mwh ≤ i.share.mwh → i.share.mwh ≤ greatest_energy → takes mwh (kept_of i) ≡ kept_of (lowered mwh i)
+one_taken : (mwh : ℕ) (i : Interval) → mwh ≤ i.share.mwh → i.share.mwh ≤ greatest_total → takes mwh (kept_of i) ≡ kept_of (lowered mwh i)
 one_taken mwh i low small = ap (λ v. record { meter = i.meter; start = i.share.start; energy = cast Integer v }) (difference_is i.share.mwh mwh low (omega (arith, small))) ∙ ap (λ v. record { meter = i.meter; start = i.share.start; energy = v }) (cast_int (pos (i.share.mwh - mwh)))
 
 all_added : (meter : List ℕ) (start mwh : ℕ) (is : List Interval) → AreSmall (changed_where (is_at meter start) (raised mwh) is)

@@ -1,22 +1,24 @@
 -- Shares booked and taken out one after the other.
-use Rattle.std.proofs.Common.{◌≡◌, ◌≤◌, ◌<◌, ◌+◌, ◌*◌, ◌/◌, ◌-◌, inl, inr, ℕ, List, [], ◌∷◌, ◌++◌, map, true, false, IsTrue, Ok, All, Contains, refl, sym, ap, subst, ◌∙◌, arith, if◌then◌else◌}
-use Rattle.std.specs.List.{list_any, AllByRecursion, range_with_len}
+use Rattle.std.proofs.Common.{◌≡◌, ◌≤◌, ◌<◌, ◌+◌, inl, inr, ℕ, List, [], ◌∷◌, ◌++◌, Ok, Contains, refl, sym, ap, subst, ◌∙◌, arith}
+use Rattle.std.specs.List.{list_any, AllByRecursion}
 use Rattle.std.proofs.lemmas.Bool.{cases_Bool}
 use Rattle.std.proofs.lemmas.List.Sums.{sum_by-cons}
-use Rattle.std.proofs.lemmas.List.Elements.{All-contains, All-contains_itself, recursion_from_All}
+use Rattle.std.proofs.lemmas.List.Elements.{All-contains_itself, recursion_from_All}
 use Rattle.sqlite_keyed.proofs.ListLemmas.{all_both, all_unmap}
 use Rattle.energy_core.specs.declared.entries.Step.{Step}
 use Rattle.interval_core.specs.declared.shares.Share.{Share}
 use Rattle.interval_core.specs.Share.{shares_of}
-use Rattle.interval_core.specs.Account.{SharesAddUp, IsSpread, Touches, starts_of, energy_of}
+use Rattle.interval_core.specs.Account.{SharesAddUp, starts_of, energy_of}
 use Rattle.sqlite.specs.declared.error.Error.{Error}
 use Rattle.sqlite.specs.State.{State}
 use Rattle.store_tables.specs.Content.{Content, HasRows, changed_where}
 use Rattle.store_tables.specs.Steps.{Steps}
 use Rattle.store_tables.proofs.StepLemmas.{no_steps, weaker}
 use Rattle.store_intervals.specs.Trees.{intervals}
-use Rattle.store_intervals.specs.Rows.{Interval, interval_columns, is_at, IsSoundShare, latest_moment, greatest_energy}
-use Rattle.store_intervals.specs.Booking.{raised, lowered, with_share, without_share, with_shares, without_shares, AreSmall, HasEnergy, AreTherein, EditsIf, BooksShares, TakesShares}
+use Rattle.store_meters.specs.Rows.{greatest_total}
+use Rattle.store_tables.specs.Limits.{latest_moment}
+use Rattle.store_intervals.specs.Rows.{Interval, interval_columns, is_at, IsSoundShare}
+use Rattle.store_intervals.specs.Booking.{raised, with_share, without_share, with_shares, without_shares, AreSmall, AreTherein, EditsIf, BooksShares, TakesShares}
 use Rattle.store_intervals.proofs.Kept.{turns_weaker}
 
 -- ---- each share is in its ranges
@@ -32,7 +34,7 @@ all_starts : (shares : List Share) (till : ℕ) → ((start : ℕ) → Contains 
 all_starts shares till each =
     all_unmap (λ n. n < till) (λ (s : Share). s.start) shares (recursion_from_All (λ n. n < till) (starts_of shares) (λ i d low. each _ (All-contains_itself (starts_of shares) i d low)))
 
-pub sound_shares : SharesAddUp → (step : Step) → step.from < step.till → step.mwh ≤ greatest_energy → step.till ≤ latest_moment → AllByRecursion IsSoundShare (shares_of step)
+pub sound_shares : SharesAddUp → (step : Step) → step.from < step.till → step.mwh ≤ greatest_total → step.till ≤ latest_moment → AllByRecursion IsSoundShare (shares_of step)
 sound_shares law step forward energy till =
     let spread = law step forward in
     let starts = all_starts (shares_of step) step.till (λ start has. ((spread.touched start).0 has).1) in
@@ -80,8 +82,8 @@ booked_then meter shares share =
     edits_then (λ is. AreSmall (with_shares meter (shares ++ share ∷ []) is)) (λ is. AreSmall (with_shares meter shares is)) (λ is. AreSmall (with_share meter share is))
     (with_shares meter (shares ++ share ∷ [])) (with_shares meter shares) (with_share meter share)
     (λ is small.
-        let last = subst AreSmall (sym (with_one_more meter shares share is)) small in
-        (small_before meter share (with_shares meter shares is) last, last, with_one_more meter shares share is))
+    let last = subst AreSmall (sym (with_one_more meter shares share is)) small in
+    (small_before meter share (with_shares meter shares is) last, last, with_one_more meter shares share is))
 
 -- ---- taking out
 
@@ -109,8 +111,8 @@ taken_then meter shares share =
     edits_then (λ is. AreSmall is × AreTherein meter (shares ++ share ∷ []) is) (λ is. AreSmall is × AreTherein meter shares is) (λ is. AreSmall is × AreTherein meter (share ∷ []) is)
     (without_shares meter (shares ++ share ∷ [])) (without_shares meter shares) (without_share meter share)
     (λ is may.
-        let parts = there_before meter shares share is may.1 in
-        ((may.0, parts.0), (all_small meter shares is may.0, parts.1), without_one_more meter shares share is))
+    let parts = there_before meter shares share is may.1 in
+    ((may.0, parts.0), (all_small meter shares is may.0, parts.1), without_one_more meter shares share is))
 
 -- ---- before the first share
 

@@ -1,11 +1,11 @@
 -- From the rows of a query to the shares that a sink took.
-use Rattle.std.proofs.Common.{◌≡◌, ◌≢◌, ◌≤◌, ◌⊎◌, inl, inr, zero-le, List, [], ◌∷◌, ◌++◌, length, take, map, ℕ, false, Ok, Err, Result, OnOk, IfOk, IfErr, pos, refl, sym, ap, ap₂, subst, ◌∙◌, append-nil, append_assoc}
+use Rattle.std.proofs.Common.{◌≡◌, ◌≢◌, inl, inr, zero-le, List, [], ◌∷◌, ◌++◌, length, take, map, ℕ, false, Ok, Err, Result, IfOk, IfErr, refl, sym, ap, ap₂, subst, ◌∙◌}
 use Rattle.std.specs.List.{AllByRecursion}
-use Rattle.sqlite.specs.declared.types.Value.TheVariants.{Null, Int}
+use Rattle.sqlite.specs.declared.types.Value.TheVariants.{Null}
 use Rattle.sqlite.specs.Order.{Row}
 use Rattle.sqlite.specs.Store.{Ghosts}
 use Rattle.sqlite.specs.Held.{Held, state}
-use Rattle.sqlite.specs.State.{HasCleanDisk, IsUnchanged, Begins, Shown}
+use Rattle.sqlite.specs.State.{HasCleanDisk, IsUnchanged, Shown}
 use Rattle.sqlite.specs.Effect.{Database}
 use Rattle.sqlite.specs.Query.{Query, IsAnswer}
 use Rattle.sqlite.specs.Program.{overlay}
@@ -17,14 +17,13 @@ use Rattle.interval_core.specs.declared.shares.Share.{Share}
 use Rattle.office_books.specs.Rows.{TakesAll}
 use Rattle.store_tables.specs.declared.faults.RowFault.{RowFault}
 use Rattle.store_tables.specs.declared.faults.RowFault.TheVariants.{Damaged}
-use Rattle.store_tables.specs.Columns.{or_damaged}
 use Rattle.store_tables.specs.Schema.{books_schema}
 use Rattle.store_tables.specs.Content.{Content, AreTables}
 use Rattle.store_tables.specs.Asking.{Asks}
 use Rattle.store_tables.proofs.ReadLemmas.{IsFair, fair_whole}
 use Rattle.store_tables.proofs.StepLemmas.{on_ok, plain_in}
-use Rattle.store_intervals.specs.Rows.{Interval, share_in, share_shown, latest_moment, greatest_energy, IsSoundInterval}
-use Rattle.store_intervals.specs.Handing.{AreShares, IsAsked, HandsOn, HandsOnQuery}
+use Rattle.store_intervals.specs.Rows.{Interval, share_in, share_shown, IsSoundInterval}
+use Rattle.store_intervals.specs.Handing.{TookSome, AreShares, IsAsked, HandsOn, HandsOnQuery}
 
 -- ---- one row
 
@@ -117,7 +116,7 @@ module _ {S K X Tables : Type 0} (g : Ghosts S) (sql : List ℕ) (params : Row) 
       let read = reads_as sql params (state g asked) (state g end) books_schema here.schema _ is plain unlisted given shown in
       finds (state g asked).now held t given here have (read.answer Null)
 
-  pub hands_on : (IsPlain (understood books_schema sql) → Asks g old new) → (shares : List Share) × TakesAll takes before shares after
+  pub hands_on : (IsPlain (understood books_schema sql) → Asks g old new) → TookSome takes before after
       → (HasCleanDisk (state g new) → IsPlain (understood old.schema sql) → HandsOnQuery g sql params old takes before after result) → HandsOn g old new takes before after result Have Are AreSound
   hands_on asks some reads = record {
     asks = asks plain;
@@ -126,10 +125,10 @@ module _ {S K X Tables : Type 0} (g : Ghosts S) (sql : List ℕ) (params : Row) 
         elim it.begun [
           | inl none ↦ inl (nothing takes before after it.given it.shares none it.read it.taken)
           | inr on ↦ (
-            let found = begins_with on.0 it.given held t has have on.1 in
-            let first = first_shares of it.given found.0 it.shares found.1.0 it.read found.1.1 in
-            inr (map (λ x. (of x).share) found.1.0, found.1.2, (length it.shares, subst (λ ss. TakesAll takes before ss after) (sym first) it.taken))
-          )
+              let found = begins_with on.0 it.given held t has have on.1 in
+              let first = first_shares of it.given found.0 it.shares found.1.0 it.read found.1.1 in
+              inr (map (λ x. (of x).share) found.1.0, found.1.2, (length it.shares, subst (λ ss. TakesAll takes before ss after) (sym first) it.taken))
+              )
         ];
     whole = λ clean held has t have.
         let it = reads clean (plain_in books_schema sql (state g old).now has.schema plain) in

@@ -1,5 +1,5 @@
 -- What the texts mean.
-use Rattle.std.proofs.Common.{◌≡◌, List, [], ◌∷◌, codes, ℕ, pos, negsuc, true, false, Some, None, refl}
+use Rattle.std.proofs.Common.{◌≡◌, List, [], ◌∷◌, codes, ℕ, pos, negsuc, false, Some, None, refl}
 use Rattle.sqlite.specs.declared.types.Value.TheVariants.{Null, Int}
 use Rattle.sqlite.specs.Term.{Term, lit, col}
 use Rattle.sqlite.specs.Query.{Query, inner, end}
@@ -17,11 +17,7 @@ use Rattle.sqlite_value.specs.declared.keys.Key.{Key}
 use Rattle.sqlite.specs.Listing.{understood, reads_listing}
 use Rattle.sqlite.proofs.Callers.{IsPlain, command_of}
 use Rattle.store_tables.specs.Schema.{books_schema}
-use Rattle.store_tables.proofs.Scans.{scan, no_limit}
-
--- a column is a parameter
-abbrev pub is_param : (column param : ℕ) → Term
-is_param column param = op2 (Compare Eq Binary) (col 1 column) (col 0 param)
+use Rattle.store_tables.proofs.Scans.{scan, no_limit, is_param, rising}
 
 -- ---- add_share
 
@@ -88,9 +84,6 @@ unfolding understood everything
 drop_from_plain = (refl, refl)
 
 -- ---- meter_intervals
-
-abbrev pub rising : Key
-rising = record { collation = Binary; descending = false }
 
 abbrev pub meter_intervals : List ℕ
 meter_intervals = codes "SELECT start, mwh FROM intervals WHERE meter = ?1 ORDER BY start"

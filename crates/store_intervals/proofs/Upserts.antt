@@ -1,6 +1,6 @@
 -- What the upsert does.
-use Rattle.std.proofs.Common.{◌≡◌, ◌≢◌, inl, inr, ℕ, ◌==◌, ℤ, pos, List, [], ◌∷◌, map, Bool, true, false, not, ◌&&◌, ◌||◌, bytes_eq, Option, Some, None, Ok, Err, Result, OnOk, refl, sym, ap, subst, ◌∙◌, IsPermutation, eq-eqb, eqb-true}
-use Rattle.std.specs.List.{list_any, AllByRecursion, IsDistinct}
+use Rattle.std.proofs.Common.{◌≡◌, ◌≢◌, inl, inr, ℕ, ◌==◌, ℤ, pos, List, [], ◌∷◌, map, filter, drop, Bool, true, false, not, ◌&&◌, ◌||◌, bytes_eq, Option, Some, None, Ok, Err, Result, OnOk, refl, sym, ap, subst, ◌∙◌, IsPermutation, eqb-true}
+use Rattle.std.specs.List.{list_any, AllByRecursion}
 use Rattle.std.specs.Ordering.{is_eq, is_ne}
 use Rattle.std.specs.declared.cmp.Ordering.{Ordering}
 use Rattle.std.specs.declared.cmp.Ordering.TheVariants.{Less, Equal, Greater}
@@ -10,9 +10,10 @@ use Rattle.std.proofs.lemmas.List.Sorted.{IsPermutation-map, list_any-IsPermutat
 use Rattle.std.proofs.lemmas.Map.Keys.{IsDistinct-head, IsDistinct-tail}
 use Rattle.sqlite.specs.declared.types.Value.TheVariants.{Null, Int, Text}
 use Rattle.sqlite.specs.declared.error.Error.{Error}
-use Rattle.sqlite.specs.Order.{Row, column}
+use Rattle.sqlite.specs.Order.{Row}
 use Rattle.sqlite.specs.Ops.{binary, is_true, from_truth}
-use Rattle.sqlite.specs.Tree.{Trees, rowid}
+use Rattle.sqlite.specs.Term.{col}
+use Rattle.sqlite.specs.Tree.{Trees, rowid, put_row}
 use Rattle.sqlite.specs.Command.TheVariants.{InsertOr}
 use Rattle.sqlite.specs.Source.TheVariants.{Values}
 use Rattle.sqlite.specs.Collation.TheVariants.{Binary}
@@ -37,17 +38,17 @@ use Rattle.sqlite_schema.specs.declared.command.Conflict.TheVariants.{Abort}
 use Rattle.sqlite_schema.specs.declared.schema.Keys.TheVariants.{Enforced}
 use Rattle.sqlite_rules.specs.declared.error.Refusal.{Refusal}
 use Rattle.sqlite_rules.specs.Lists.{Has}
-use Rattle.sqlite_rules.proofs.ListLemmas.{all_has, all_from, some_has, some_from}
+use Rattle.sqlite_rules.proofs.ListLemmas.{all_has, all_from, some_from}
 use Rattle.sqlite_rules.specs.Keys.{conflicts, AreConflicts}
 use Rattle.sqlite_rules.specs.Calls.{ids_of}
 use Rattle.sqlite_rules.specs.Edit.{taken_by}
 use Rattle.sqlite_keyed.proofs.ListLemmas.{all_unmap, none_from_any}
 use Rattle.store_tables.specs.Schema.{books_schema, intervals_table}
-use Rattle.store_tables.specs.Content.{AreApart, Edits, id_of, same_id, changed_where}
+use Rattle.store_tables.specs.Content.{AreApart, Edits, id_of, same_id}
 use Rattle.store_tables.specs.Steps.{Turns}
 use Rattle.store_tables.proofs.Fresh.{put_fresh}
 use Rattle.store_tables.proofs.Frames.{frame, tree_at}
-use Rattle.store_tables.proofs.Apart.{apart_permutation, apart_more, changed_apart, int_is}
+use Rattle.store_tables.proofs.Apart.{apart_permutation, apart_more, changed_apart}
 use Rattle.store_tables.proofs.Edits.{changed, edited_rows, given_are, same_id-flips}
 use Rattle.store_tables.proofs.Laid.{Numbered, laid, lay, IsLaid, laid_changed, laid_more, laid_permuted}
 use Rattle.store_tables.proofs.Scans.{passes, shows, asked, text_is, number_is, and_true}
@@ -180,10 +181,10 @@ module _ (meter : List ℕ) (start mwh : ℕ) where
       chosen = passes (given k) text.add_share_tests
 
       abbrev out : Row → Row
-      out = shows (given k) (Rattle.sqlite.specs.Term.col 1 0 ∷ text.add_share_news)
+      out = shows (given k) (col 1 0 ∷ text.add_share_news)
 
       abbrev made : Row → Row
-      made r = cast_row intervals_table (Rattle.std.proofs.Common.drop 1 (out r))
+      made r = cast_row intervals_table (drop 1 (out r))
 
       chosen_is : (r : Row) → rowid r ≡ Int (id_of r) → chosen r ≡ same_id (id_of r) k
       chosen_is r keyed = and_true _ ∙ (ap (λ v. is_true (binary (Compare Eq Binary) v (Int k))) keyed ∙ int_is_int (id_of r) k)
@@ -195,7 +196,7 @@ module _ (meter : List ℕ) (start mwh : ℕ) where
       ids_are [] = refl
       ids_are (r ∷ rows) = ap (λ ids. id_of r ∷ ids) (ids_are rows)
 
-      news_are : (rows : List Row) → map (λ s. cast_row intervals_table (Rattle.std.proofs.Common.drop 1 s)) (map out rows) ≡ map made rows
+      news_are : (rows : List Row) → map (λ s. cast_row intervals_table (drop 1 s)) (map out rows) ≡ map made rows
       news_are [] = refl
       news_are (r ∷ rows) = ap (λ rs. made r ∷ rs) (news_are rows)
 
@@ -220,7 +221,7 @@ module _ (meter : List ℕ) (start mwh : ℕ) where
           let step = one_step books_schema Enforced db wrote.0 edit_is (nothing_acts intervals (taken_by db edit_is) edit_is.news) wrote.1 in
           let trees = ap (λ (v : Written). v.trees) (same_value wrote.2) in
           let free = none_but (is_taken (db intervals) new) (subst (λ r. not (is_taken (db intervals) r) && true ≡ true) (row_cast fresh) step.fresh) in
-          let rows : w.trees intervals ≡ Rattle.sqlite.specs.Tree.put_row new (db intervals) = ap (λ (f : Trees). f intervals) trees ∙ (step.rows ∙ ap (λ (r : Row). Rattle.sqlite.specs.Tree.put_row r (db intervals)) (row_cast fresh)) in
+          let rows : w.trees intervals ≡ put_row new (db intervals) = ap (λ (f : Trees). f intervals) trees ∙ (step.rows ∙ ap (λ (r : Row). put_row r (db intervals)) (row_cast fresh)) in
           let put = subst (IsPermutation (new ∷ db intervals)) (sym rows) (put_fresh new (db intervals) free) in
           record {
             keeps = apart_permutation _ _ put (apart_more new (db intervals) refl apart free);
@@ -278,11 +279,11 @@ module _ (meter : List ℕ) (start mwh : ℕ) where
             let edit_is = edit_of db intervals_table (ids_of rows) Given 1 rows in
             let step = one_step books_schema Enforced db wrote.0 edit_is (nothing_acts intervals (taken_by db edit_is) edit_is.news) wrote.1 in
             let trees = ap (λ (v : Written). v.trees) (same_value wrote.2) in
-            let answer = asked (given k) intervals text.add_share_tests (Rattle.sqlite.specs.Term.col 1 0 ∷ text.add_share_news) db rows (found.1.answer Null) in
-            let picked = Rattle.std.proofs.Common.filter (chosen k) (db intervals) in
+            let answer = asked (given k) intervals text.add_share_tests (col 1 0 ∷ text.add_share_news) db rows (found.1.answer Null) in
+            let picked = filter (chosen k) (db intervals) in
             let ids = subst (λ ids. IsPermutation ids (ids_of rows)) (ids_are k picked) (IsPermutation-map id_of _ rows answer) in
-            let news = subst (λ xs. IsPermutation xs (map (λ s. cast_row intervals_table (Rattle.std.proofs.Common.drop 1 s)) rows)) (news_are k picked) (IsPermutation-map (λ s. cast_row intervals_table (Rattle.std.proofs.Common.drop 1 s)) _ rows answer) in
-            let numbers = given_are (without_all (db intervals) (ids_of rows)) (map (λ s. cast_row intervals_table (Rattle.std.proofs.Common.drop 1 s)) rows) in
+            let news = subst (λ xs. IsPermutation xs (map (λ s. cast_row intervals_table (drop 1 s)) rows)) (news_are k picked) (IsPermutation-map (λ s. cast_row intervals_table (drop 1 s)) _ rows answer) in
+            let numbers = given_are (without_all (db intervals) (ids_of rows)) (map (λ s. cast_row intervals_table (drop 1 s)) rows) in
             let put = edited_rows (chosen k) (made k) (db intervals) _ (ids_of rows) apart ids (subst (IsPermutation (map (made k) picked)) (sym numbers) news) step.fresh in
             let stored = subst (λ xs. IsPermutation (map (changed (chosen k) (made k)) (db intervals)) xs) (sym (ap (λ (f : Trees). f intervals) trees ∙ step.rows)) put in
             record {
@@ -318,14 +319,14 @@ module _ (meter : List ℕ) (start mwh : ℕ) where
       tries w (inl h) = absurd (let e = h.1 in cc)
       tries w (inr h) = let it = judged w h.0 h.2 in meets w it.0 it.1 it.2
 
-  pub upserts : (old new : State) (r : Result ℕ Error) → Executes text.add_share columns old new r → OnOk r (Turns (Edits intervals kept_columns edit) old.now new.now)
-  upserts old new (Err why) h = tt
-  upserts old new (Ok count) h = λ held has.
+  pub upserts : (old after : State) (r : Result ℕ Error) → Executes text.add_share columns old after r → OnOk r (Turns (Edits intervals kept_columns edit) old.now after.now)
+  upserts old after (Err why) h = tt
+  upserts old after (Ok count) h = λ held has.
       let db = old.now.trees in
       let command = InsertOr 9 Abort (Values text.add_share_terms 4) (text.add_share_clause ∷ []) in
-      let w = runs_as text.add_share columns old new books_schema has.schema command text.add_share_is text.add_share_plain count h in
+      let w = runs_as text.add_share columns old after books_schema has.schema command text.add_share_is text.add_share_plain count h in
       let says = statement_of text.add_share (understood books_schema text.add_share) in
-      let done = went (subst (λ s. Does old.step_limit (mode_of old) columns (record old.now { schema = s }) says None command (Ok (w.tally, new.now))) has.schema w.changed) in
+      let done = went (subst (λ s. Does old.step_limit (mode_of old) columns (record old.now { schema = s }) says None command (Ok (w.tally, after.now))) has.schema w.changed) in
       let now = ap (λ (p : Tally × Database). p.1) (same_value (went (went done.2).2).2) in
       let fresh = next_rowid (db intervals) in
       let given = went done.1 in
@@ -338,12 +339,12 @@ module _ (meter : List ℕ) (start mwh : ℕ) where
       let source : with_rowid Chosen (db intervals) (cast_row intervals_table (Null ∷ columns)) ≡ Int fresh ∷ columns = ap (with_rowid Chosen (db intervals)) fresh_cast in
       let it = tries fresh old.step_limit db sound apart each.0 (subst (λ x. Tries (task fresh old.step_limit db sound apart) Abort (text.add_share_clause ∷ []) x db (Ok each.0)) source each.1) in
       let written : done.0.trees ≡ each.0.trees = ap (λ (it : Written). it.trees) (same_value ended.2) ∙ (same_value ended.1 ∙ ap (λ (it : Written × ℤ). it.0.trees) (same_value each.2)) in
-      let all : new.now.trees ≡ each.0.trees = ap (λ (d : Database). d.trees) now ∙ written in
-      let rewrites : Rewrites books_schema intervals old.now new.now = record {
+      let all : after.now.trees ≡ each.0.trees = ap (λ (d : Database). d.trees) now ∙ written in
+      let rewrites : Rewrites books_schema intervals old.now after.now = record {
         schema = ap (λ (d : Database). d.schema) now;
         sound = w.sound;
         apart = λ _. subst AreApart (sym (ap (λ (f : Trees). f intervals) all)) it.keeps;
         others = λ t there off. ap (λ (f : Trees). f t) all ∙ frame books_schema.tables intervals db each.0.trees it.others t there off;
       } in
-      turns books_schema intervals kept_columns edit old.now new.now (tree_at books_schema.tables 9 intervals_table refl) rewrites
+      turns books_schema intervals kept_columns edit old.now after.now (tree_at books_schema.tables 9 intervals_table refl) rewrites
       (λ _ ks lies. subst (λ rs. IsLaid false kept_columns rs (edit ks)) (sym (ap (λ (f : Trees). f intervals) all)) (it.lays ks lies)) held has

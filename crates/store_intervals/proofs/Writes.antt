@@ -1,5 +1,5 @@
 -- What the statements do.
-use Rattle.std.proofs.Common.{◌≡◌, ap, ℕ, pos, ◌≤◌, ◌==◌, ◌&&◌, true, false, nat_le, bytes_eq, List, [], ◌∷◌, Ok, Err, Result, OnOk, refl, sym, subst, ◌∙◌, arith, ◌<◌, ◌<ℤ◌, Ordering, Less, Equal, Greater, Bool, Some, map, IsPermutation}
+use Rattle.std.proofs.Common.{◌≡◌, ap, ℕ, pos, ◌==◌, true, false, nat_le, List, [], ◌∷◌, Result, OnOk, refl, sym, ◌∙◌, arith, ◌<◌, ◌<ℤ◌, Ordering, Less, Equal, Greater, Bool, Some}
 use Rattle.std.specs.Ordering.{is_ge, int_cmp, MatchOrdering}
 use Rattle.std.specs.Cmp.{int_ranks}
 use Rattle.std.proofs.lemmas.Int.{ints}
@@ -22,9 +22,9 @@ use Rattle.store_tables.proofs.StepLemmas.{on_ok}
 use Rattle.store_tables.proofs.Updates.{updates, deletes}
 use Rattle.store_tables.proofs.Tables.{cast_int, rowid_stays}
 use Rattle.store_intervals.specs.Trees.{intervals}
-use Rattle.store_intervals.specs.Rows.{Interval, interval_columns, is_from}
+use Rattle.store_intervals.specs.Rows.{interval_columns, is_from}
 use Rattle.store_intervals.specs.Booking.{BooksShares, TakesShares, DropsFrom, AreSmall, AreTherein, with_shares, without_shares}
-use Rattle.store_intervals.proofs.Kept.{Kept, kept_columns, is_kept, takes, added_share, taken_share, upserted, of_intervals, turns_weaker}
+use Rattle.store_intervals.proofs.Kept.{kept_columns, is_kept, takes, added_share, taken_share, upserted, of_intervals, turns_weaker}
 use Rattle.store_intervals.proofs.Upserts.{columns, upserts}
 use Rattle.store_intervals.proofs.Texts as text
 

@@ -4,7 +4,8 @@ use Rattle.std.specs.List.{list_any, AllByRecursion}
 use Rattle.interval_core.specs.declared.shares.Share.{Share}
 use Rattle.store_tables.specs.Content.{Content, HasRows, Edits, changed_where, without_where}
 use Rattle.store_intervals.specs.Trees.{intervals}
-use Rattle.store_intervals.specs.Rows.{Interval, interval_columns, is_at, is_from, greatest_energy}
+use Rattle.store_meters.specs.Rows.{greatest_total}
+use Rattle.store_intervals.specs.Rows.{Interval, interval_columns, is_at, is_from}
 
 -- a row with more energy, and with less
 abbrev pub raised : (mwh : ℕ) → Interval → Interval
@@ -35,7 +36,7 @@ without_shares meter (share ∷ shares) rows = without_shares meter shares (with
 
 -- no row has more energy than a meter can have
 abbrev pub AreSmall : List Interval → Type 0
-AreSmall = AllByRecursion (λ i. i.share.mwh ≤ greatest_energy)
+AreSmall = AllByRecursion (λ i. i.share.mwh ≤ greatest_total)
 
 -- the row of the share's interval has its energy
 abbrev pub HasEnergy : (meter : List ℕ) → Share → List Interval → Type 0

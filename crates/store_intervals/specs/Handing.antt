@@ -16,10 +16,14 @@ use Rattle.store_tables.specs.Asking.{Asks}
 use Rattle.store_meters.specs.Trees.{installations}
 use Rattle.store_meters.specs.Rows.{Installed, installed_columns, installed_place, is_at}
 use Rattle.store_intervals.specs.Trees.{intervals}
-use Rattle.store_intervals.specs.Rows.{Interval, interval_columns, is_of, start_of, share_in, IsSoundInterval}
+use Rattle.store_intervals.specs.Rows.{Interval, interval_columns, is_of, start_of, share_in, IsSoundShare, IsSoundInterval}
 
--- What the sink took begins the shares that the rows of some tables have, in order, and at Ok is all of them. It took
--- nothing but shares, whatever the tables hold. Damage is told only where some row is out of its ranges.
+-- The sink took shares in their ranges, and nothing else.
+abbrev pub TookSome : {K : Type 0} → (takes : K → Share → K → Type 0) → (before after : K) → Type 0
+TookSome takes before after = (shares : List Share) × AllByRecursion IsSoundShare shares × TakesAll takes before shares after
+
+-- What the sink took begins the shares that the rows of some tables have, in order, and at Ok is all of them. Whatever the
+-- tables hold, it took nothing but shares in their ranges. Damage is told only where some row is out of them.
 pub record HandsOn {S K Tables : Type 0} (g : Ghosts S) (old new : Held S) (takes : K → Share → K → Type 0) (before after : K)
     (result : Result (Unit {0}) RowFault) (Have : Tables → Content → Type 0) (AreSharesOf : Tables → List Share → Type 0)
     (AreSound : Tables → Type 0) : Type 0 where
@@ -30,7 +34,7 @@ pub record HandsOn {S K Tables : Type 0} (g : Ghosts S) (old new : Held S) (take
   pub whole : HasCleanDisk (state g new) → (held : Content) → AreTables (state g old).now held
       → (rows : Tables) → Have rows held
       → OnOk result ((all : List Share) × AreSharesOf rows all × TakesAll takes before all after)
-  pub some : (shares : List Share) × TakesAll takes before shares after
+  pub some : TookSome takes before after
   pub fault : HasCleanDisk (state g new) → (held : Content) → AreTables (state g old).now held
       → (rows : Tables) → Have rows held → AreSound rows → IfErr result (λ e. e ≢ Damaged)
 

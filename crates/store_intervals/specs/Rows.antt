@@ -1,17 +1,12 @@
 -- Rows of the table `intervals`, their columns, and the ranges of their values.
-use Rattle.std.specs.Prelude.{◌≡◌, ℕ, pos, ◌≤◌, nat_le, List, [], ◌∷◌, Bool, bytes_eq, ◌&&◌, ◌==◌, Result, Ok}
+use Rattle.std.specs.Prelude.{ℕ, pos, ◌≤◌, nat_le, List, [], ◌∷◌, Bool, bytes_eq, ◌&&◌, ◌==◌, Result, Ok}
 use Rattle.sqlite.specs.declared.types.Value.TheVariants.{Int, Text}
 use Rattle.sqlite.specs.Order.{Row, column}
 use Rattle.interval_core.specs.declared.shares.Share.{Share}
 use Rattle.store_tables.specs.declared.faults.RowFault.{RowFault}
+use Rattle.store_tables.specs.Limits.{latest_moment}
+use Rattle.store_meters.specs.Rows.{greatest_total}
 use Rattle.store_tables.specs.Columns.{whole_in, or_damaged, and_then}
-
--- the latest moment of the books, in seconds since 1970-01-01 UTC, and the greatest energy of a meter, in mWh
-abbrev pub latest_moment : ℕ
-latest_moment = 4102444800
-
-abbrev pub greatest_energy : ℕ
-greatest_energy = 4000000000000000000
 
 -- the energy of a meter in an interval
 pub record Interval : Type 0 where
@@ -41,7 +36,7 @@ start_of i = i.share.start
 -- its values are in their ranges
 pub record IsSoundShare (share : Share) : Type 0 where
   pub start : share.start ≤ latest_moment
-  pub mwh : share.mwh ≤ greatest_energy
+  pub mwh : share.mwh ≤ greatest_total
 
 abbrev pub IsSoundInterval : Interval → Type 0
 IsSoundInterval i = IsSoundShare i.share
@@ -50,5 +45,5 @@ IsSoundInterval i = IsSoundShare i.share
 abbrev pub share_in : Row → Result Share RowFault
 share_in row =
     and_then (or_damaged (whole_in 0 latest_moment (column row 0))) (λ start.
-    and_then (or_damaged (whole_in 0 greatest_energy (column row 1))) (λ mwh.
+    and_then (or_damaged (whole_in 0 greatest_total (column row 1))) (λ mwh.
     Ok (record { start = start; mwh = mwh })))

@@ -3,7 +3,9 @@ ghost use Rattle.std.specs.Prelude.{◌≡◌, ◌<◌, ◌≤◌, [], ◌∷◌
 ghost use Rattle.sqlite.specs.Held.{state};
 ghost use Rattle.store_tables.specs.Steps.{Steps};
 ghost use Rattle.interval_core.specs.Share.{interval_count, shares_of};
-ghost use Rattle.store_intervals.specs.Rows.{IsSoundShare, latest_moment};
+ghost use Rattle.store_tables.specs.Limits.{latest_moment};
+ghost use Rattle.store_meters.specs.Rows.{greatest_total};
+ghost use Rattle.store_intervals.specs.Rows.{IsSoundShare};
 ghost use Rattle.store_intervals.specs.Booking.{BooksShares, TakesShares, DropsFrom};
 
 use energy_core::Step;
@@ -76,7 +78,7 @@ pub fn book_step<S: Alter>(
 ) -> Result<(), Error>
     requires forward { step.now.from < step.now.till }
     requires intervals { interval_count step.now ≤ 3000 }
-    requires energy { step.now.mwh ≤ 4000000000000000000 }
+    requires energy { step.now.mwh ≤ greatest_total }
     requires till { step.now.till ≤ latest_moment }
     ensures same_reference { tx.new.conn.ghost_name ≡ tx.old.conn.ghost_name }
     ensures does { Steps (state S.Store tx.old.conn.now) (state S.Store tx.new.conn.now) result
@@ -98,7 +100,7 @@ pub fn take_step<S: Alter>(
 ) -> Result<(), Error>
     requires forward { step.now.from < step.now.till }
     requires intervals { interval_count step.now ≤ 3000 }
-    requires energy { step.now.mwh ≤ 4000000000000000000 }
+    requires energy { step.now.mwh ≤ greatest_total }
     requires till { step.now.till ≤ latest_moment }
     ensures same_reference { tx.new.conn.ghost_name ≡ tx.old.conn.ghost_name }
     ensures does { Steps (state S.Store tx.old.conn.now) (state S.Store tx.new.conn.now) result

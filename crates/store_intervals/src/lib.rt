@@ -6,5 +6,4 @@ mod reading;
 mod streams;
 
 pub use booking::{book_step, drop_from, take_step};
-pub use reading::{GREATEST_ENERGY, LATEST_MOMENT};
 pub use streams::{meter_intervals, register_intervals};

@@ -4,19 +4,14 @@ ghost use Rattle.store_intervals.specs.Rows.{share_in};
 
 use interval_core::Share;
 use sqlite::Row;
-use store_tables::{RowFault, whole};
-
-/// The latest moment of the books, in seconds since 1970-01-01 UTC.
-pub const LATEST_MOMENT: u64 = 4_102_444_800;
-
-/// The greatest energy of a meter, in mWh.
-pub const GREATEST_ENERGY: u64 = 4_000_000_000_000_000_000;
+use store_meters::GREATEST_TOTAL;
+use store_tables::{LATEST_MOMENT, RowFault, whole};
 
 /// The share of a row that the queries show.
 pub(crate) fn read_share(row: &Row) -> Result<Share, RowFault>
     ensures { result ≡ share_in row.now }
 {
     let start = whole(row, 0, 0, LATEST_MOMENT)?;
-    let mwh = whole(row, 1, 0, GREATEST_ENERGY)?;
+    let mwh = whole(row, 1, 0, GREATEST_TOTAL)?;
     Ok(Share { start, mwh })
 }

@@ -1,15 +1,13 @@
 //! Rows of the table `intervals`, handed on as they come.
-ghost use Rattle.std.specs.Prelude.{◌≡◌, List};
+ghost use Rattle.std.specs.Prelude.{◌≡◌};
 ghost use Rattle.sqlite.specs.Given.{IsPlain};
 ghost use Rattle.sqlite.specs.Held.{state};
 ghost use Rattle.sqlite.specs.Listing.{understood};
 ghost use Rattle.sqlite.specs.State.{HasCleanDisk};
 ghost use Rattle.sqlite.specs.Values.{bound};
-ghost use Rattle.interval_core.specs.declared.shares.Share.{Share};
-ghost use Rattle.office_books.specs.Rows.{TakesAll};
 ghost use Rattle.store_tables.specs.Schema.{books_schema};
 ghost use Rattle.store_tables.specs.Asking.{Asks};
-ghost use Rattle.store_intervals.specs.Handing.{HandsOn, HandsOnQuery, HaveIntervals, AreSharesOfMeter, AreSoundIntervals, HaveLying, AreSharesAt, AreSoundLying};
+ghost use Rattle.store_intervals.specs.Handing.{TookSome, HandsOn, HandsOnQuery, HaveIntervals, AreSharesOfMeter, AreSoundIntervals, HaveLying, AreSharesAt, AreSoundLying};
 
 use crate::reading::read_share;
 use interval_core::Share;
@@ -26,7 +24,7 @@ fn hand_on<S: Alter, K: RowSink<Share>>(
     sink: &mut K,
 ) -> Result<(), RowFault>
     ensures asks { IsPlain (understood books_schema sql.now) → Asks S.Store conn.old conn.new }
-    ensures some { (shares : List Share) × TakesAll K.takes sink.old shares sink.new }
+    ensures some { TookSome K.takes sink.old sink.new }
     ensures reads { HasCleanDisk (state S.Store conn.new)
         → IsPlain (understood conn.old.schema sql.now)
         → HandsOnQuery S.Store sql.now (bound params.now) conn.old

@@ -3,37 +3,16 @@ use Rattle.std.proofs.Common.{ℕ, ◌==◌, pos, bytes_eq, List, [], ◌∷◌,
 use Rattle.sqlite.specs.declared.types.Value.TheVariants.{Int, Text}
 use Rattle.sqlite.specs.Order.{Row}
 use Rattle.sqlite.specs.State.{State, Shown}
-use Rattle.store_tables.specs.Schema.{books_schema, installations_table, entries_table, ranges_table, voids_table}
+use Rattle.store_tables.specs.Schema.{books_schema, installations_table, ranges_table}
 use Rattle.store_tables.specs.Content.{Content, AreTables, HasRows}
 use Rattle.store_tables.specs.Answer.{AnyOrder, LastFirst, FirstFirst}
 use Rattle.store_tables.specs.Asking.{Shows, ShowsFirst}
 use Rattle.store_tables.proofs.Frames.{tree_at}
-use Rattle.store_tables.proofs.Scans.{text_is, number_is, and_true, no_limit, one}
+use Rattle.store_tables.proofs.Scans.{falling, rising, text_is, number_is, and_true, no_limit, one}
 use Rattle.store_tables.proofs.Selects.{selects, in_order}
-use Rattle.store_meters.specs.Rows.{Entered, entry_columns, entry_shown, place_shown, entry_place, is_entry, is_of, Installed, installed_columns, installed_shown, installed_place_shown, installed_place, is_meter, is_at, every, Ranged, ranged_columns, range_shown, is_range_of, Voided, voided_columns, voided_shown, voided_place, is_void_of}
-use Rattle.store_meters.specs.Trees.{installations, entries, ranges, voids}
+use Rattle.store_meters.specs.Rows.{Installed, installed_columns, installed_shown, installed_place_shown, installed_place, is_meter, is_at, every, Ranged, ranged_columns, range_shown, is_range_of}
+use Rattle.store_meters.specs.Trees.{installations, ranges}
 use Rattle.store_meters.proofs.Texts as text
-
-pub entry_at : (meter : List ℕ) (place : ℕ) (old new : State) (held : Content) (xs : List Entered) (rows : List Row) → AreTables old.now held → HasRows entries entry_columns xs held
-    → Shown text.entry_at (Text meter ∷ Int (pos place) ∷ []) old new rows → ShowsFirst (is_entry meter place) (AnyOrder) entry_shown xs rows
-entry_at meter place old new held xs rows has are h =
-    selects entries text.entry_at_tests text.entry_at_project [] one (Text meter ∷ Int (pos place) ∷ []) entry_columns (is_entry meter place) entry_shown (AnyOrder)
-    (λ n x. rw (text_is x.meter meter, number_is x.entry.place place, and_true (x.entry.place == place)) refl) (λ n x. refl) (λ m n x y le. tt)
-    old new text.entry_at text.entry_at_names held xs rows (tree_at books_schema.tables 5 entries_table refl) has are text.entry_at_is text.entry_at_unlisted text.entry_at_plain h
-
-pub last_place : (meter : List ℕ) (old new : State) (held : Content) (xs : List Entered) (rows : List Row) → AreTables old.now held → HasRows entries entry_columns xs held
-    → Shown text.last_place (Text meter ∷ []) old new rows → ShowsFirst (is_of meter) (LastFirst entry_place) place_shown xs rows
-last_place meter old new held xs rows has are h =
-    selects entries text.last_place_tests text.last_place_project ((Rattle.sqlite.specs.Term.col 1 2, text.falling) ∷ []) one (Text meter ∷ []) entry_columns (is_of meter) place_shown (LastFirst entry_place)
-    (λ n x. rw (text_is x.meter meter, and_true (bytes_eq x.meter meter)) refl) (λ n x. refl) (λ m n x y le. in_order y.entry.place x.entry.place le)
-    old new text.last_place text.last_place_names held xs rows (tree_at books_schema.tables 5 entries_table refl) has are text.last_place_is text.last_place_unlisted text.last_place_plain h
-
-pub entry_rows : (meter : List ℕ) (old new : State) (held : Content) (xs : List Entered) (rows : List Row) → AreTables old.now held → HasRows entries entry_columns xs held
-    → Shown text.entry_rows (Text meter ∷ []) old new rows → Shows (is_of meter) (FirstFirst entry_place) entry_shown xs rows
-entry_rows meter old new held xs rows has are h =
-    selects entries text.entry_rows_tests text.entry_rows_project ((Rattle.sqlite.specs.Term.col 1 2, text.rising) ∷ []) no_limit (Text meter ∷ []) entry_columns (is_of meter) entry_shown (FirstFirst entry_place)
-    (λ n x. rw (text_is x.meter meter, and_true (bytes_eq x.meter meter)) refl) (λ n x. refl) (λ m n x y le. in_order x.entry.place y.entry.place le)
-    old new text.entry_rows text.entry_rows_names held xs rows (tree_at books_schema.tables 5 entries_table refl) has are text.entry_rows_is text.entry_rows_unlisted text.entry_rows_plain h
 
 pub installation_of : (meter : List ℕ) (old new : State) (held : Content) (xs : List Installed) (rows : List Row) → AreTables old.now held → HasRows installations installed_columns xs held
     → Shown text.installation_of (Text meter ∷ []) old new rows → ShowsFirst (is_meter meter) (AnyOrder) installed_shown xs rows
@@ -45,14 +24,14 @@ installation_of meter old new held xs rows has are h =
 pub installation_at : (register : List ℕ) (old new : State) (held : Content) (xs : List Installed) (rows : List Row) → AreTables old.now held → HasRows installations installed_columns xs held
     → Shown text.installation_at (Text register ∷ []) old new rows → ShowsFirst (is_at register) (LastFirst installed_place) installed_shown xs rows
 installation_at register old new held xs rows has are h =
-    selects installations text.installation_at_tests text.installation_at_project ((Rattle.sqlite.specs.Term.col 1 0, text.falling) ∷ []) one (Text register ∷ []) installed_columns (is_at register) installed_shown (LastFirst installed_place)
+    selects installations text.installation_at_tests text.installation_at_project ((Rattle.sqlite.specs.Term.col 1 0, falling) ∷ []) one (Text register ∷ []) installed_columns (is_at register) installed_shown (LastFirst installed_place)
     (λ n x. rw (text_is x.register register, and_true (bytes_eq x.register register)) refl) (λ n x. refl) (λ m n x y le. in_order y.row.place x.row.place le)
     old new text.installation_at text.installation_at_names held xs rows (tree_at books_schema.tables 4 installations_table refl) has are text.installation_at_is text.installation_at_unlisted text.installation_at_plain h
 
 pub last_installation : (old new : State) (held : Content) (xs : List Installed) (rows : List Row) → AreTables old.now held → HasRows installations installed_columns xs held
     → Shown text.last_installation ([]) old new rows → ShowsFirst (every) (LastFirst installed_place) installed_place_shown xs rows
 last_installation old new held xs rows has are h =
-    selects installations text.last_installation_tests text.last_installation_project ((Rattle.sqlite.specs.Term.col 1 0, text.falling) ∷ []) one ([]) installed_columns (every) installed_place_shown (LastFirst installed_place)
+    selects installations text.last_installation_tests text.last_installation_project ((Rattle.sqlite.specs.Term.col 1 0, falling) ∷ []) one ([]) installed_columns (every) installed_place_shown (LastFirst installed_place)
     (λ n x. refl) (λ n x. refl) (λ m n x y le. in_order y.row.place x.row.place le)
     old new text.last_installation text.last_installation_names held xs rows (tree_at books_schema.tables 4 installations_table refl) has are text.last_installation_is text.last_installation_unlisted text.last_installation_plain h
 
@@ -62,10 +41,3 @@ range_of meter old new held xs rows has are h =
     selects ranges text.range_of_tests text.range_of_project [] one (Text meter ∷ []) ranged_columns (is_range_of meter) range_shown (AnyOrder)
     (λ n x. rw (text_is x.meter meter, and_true (bytes_eq x.meter meter)) refl) (λ n x. refl) (λ m n x y le. tt)
     old new text.range_of text.range_of_names held xs rows (tree_at books_schema.tables 11 ranges_table refl) has are text.range_of_is text.range_of_unlisted text.range_of_plain h
-
-pub void_rows : (meter : List ℕ) (old new : State) (held : Content) (xs : List Voided) (rows : List Row) → AreTables old.now held → HasRows voids voided_columns xs held
-    → Shown text.void_rows (Text meter ∷ []) old new rows → Shows (is_void_of meter) (FirstFirst voided_place) voided_shown xs rows
-void_rows meter old new held xs rows has are h =
-    selects voids text.void_rows_tests text.void_rows_project ((Rattle.sqlite.specs.Term.col 1 2, text.rising) ∷ []) no_limit (Text meter ∷ []) voided_columns (is_void_of meter) voided_shown (FirstFirst voided_place)
-    (λ n x. rw (text_is x.meter meter, and_true (bytes_eq x.meter meter)) refl) (λ n x. refl) (λ m n x y le. in_order x.place y.place le)
-    old new text.void_rows text.void_rows_names held xs rows (tree_at books_schema.tables 12 voids_table refl) has are text.void_rows_is text.void_rows_unlisted text.void_rows_plain h

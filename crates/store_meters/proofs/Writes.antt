@@ -5,7 +5,7 @@ use Rattle.sqlite.specs.declared.error.Error.{Error}
 use Rattle.sqlite.specs.Order.{Row}
 use Rattle.sqlite.specs.Cast.{cast_row}
 use Rattle.sqlite.specs.State.{State, Executes}
-use Rattle.store_tables.specs.Schema.{entries_table, installations_table, ranges_table, voids_table}
+use Rattle.store_tables.specs.Schema.{installations_table, ranges_table}
 use Rattle.store_tables.specs.Content.{Edits, with_row, changed_where}
 use Rattle.store_tables.specs.Steps.{Turns}
 use Rattle.store_tables.proofs.Scans.{text_is, number_is, and_true}
@@ -13,28 +13,9 @@ use Rattle.store_tables.proofs.Updates.{updates}
 use Rattle.store_tables.proofs.Tables.{cast_int, cast_null, rowid_stays}
 use Rattle.store_tables.proofs.Inserts.{plainly, inserts, chosen_rowid, given_rowid}
 use Rattle.store_meters.specs.declared.rows.LastRow.{LastRow}
-use Rattle.store_meters.specs.Rows.{Entered, entry_columns, is_entry, rolled, Installed, installed_columns, installed_shown, is_meter, moved, ended, Ranged, ranged_columns, Voided, voided_columns}
-use Rattle.store_meters.specs.Trees.{entries, installations, ranges, voids}
+use Rattle.store_meters.specs.Rows.{Installed, installed_columns, installed_shown, is_meter, moved, ended, Ranged, ranged_columns}
+use Rattle.store_meters.specs.Trees.{installations, ranges}
 use Rattle.store_meters.proofs.Texts as text
-
--- ---- entries
-
-entry_cast : (e : Entered) → cast_row (plainly entries_table) (Null ∷ entry_columns e) ≡ Null ∷ entry_columns e
-entry_cast e = simp (cast_null, cast_int)
-
-pub insert_entry : (old new : State) (e : Entered) (r : Result ℕ Error) → Executes text.insert_entry (entry_columns e) old new r → OnOk r (Turns (Edits entries entry_columns (with_row e)) old.now new.now)
-insert_entry old new e r h =
-    inserts entries_table 5 refl entry_columns e (Null ∷ entry_columns e) (chosen_rowid _ _ (entry_cast e)) old new text.insert_entry_terms 9 text.insert_entry (entry_columns e) r text.insert_entry_is text.insert_entry_plain (λ rows s. s.1) h
-
-module _ (meter : List ℕ) (place rolls : ℕ) where
-  abbrev pub roll_params : Row
-  roll_params = Text meter ∷ Int (pos place) ∷ Int (pos rolls) ∷ []
-
-  pub roll_entry : (old new : State) (r : Result ℕ Error) → Executes text.roll_entry roll_params old new r → OnOk r (Turns (Edits entries entry_columns (changed_where (is_entry meter place) (rolled rolls))) old.now new.now)
-  roll_entry old new r h =
-      updates entries_table 5 refl roll_params text.roll_entry_tests text.roll_entry_news entry_columns (is_entry meter place) (rolled rolls)
-      (λ n e. rw (text_is e.meter meter, number_is e.entry.place place, and_true (e.entry.place == place)) refl) (λ n e. simp cast_int) rowid_stays
-      old new text.roll_entry r text.roll_entry_is text.roll_entry_plain h
 
 -- ---- installations
 
@@ -62,7 +43,7 @@ end_installation meter old new r h =
     (λ n i. rw (text_is i.meter meter, and_true (bytes_eq i.meter meter)) refl) (λ n i. simp (cast_int, cast_null)) rowid_stays
     old new text.end_installation r text.end_installation_is text.end_installation_plain h
 
--- ---- ranges and voids
+-- ---- ranges
 
 range_cast : (x : Ranged) → cast_row (plainly ranges_table) (Null ∷ ranged_columns x) ≡ Null ∷ ranged_columns x
 range_cast x = simp (cast_null, cast_int)
@@ -70,10 +51,3 @@ range_cast x = simp (cast_null, cast_int)
 pub insert_range : (old new : State) (x : Ranged) (r : Result ℕ Error) → Executes text.insert_range (ranged_columns x) old new r → OnOk r (Turns (Edits ranges ranged_columns (with_row x)) old.now new.now)
 insert_range old new x r h =
     inserts ranges_table 11 refl ranged_columns x (Null ∷ ranged_columns x) (chosen_rowid _ _ (range_cast x)) old new text.insert_range_terms 3 text.insert_range (ranged_columns x) r text.insert_range_is text.insert_range_plain (λ rows s. s.1) h
-
-void_cast : (v : Voided) → cast_row (plainly voids_table) (Null ∷ voided_columns v) ≡ Null ∷ voided_columns v
-void_cast v = simp (cast_null, cast_int)
-
-pub insert_void : (old new : State) (v : Voided) (r : Result ℕ Error) → Executes text.insert_void (voided_columns v) old new r → OnOk r (Turns (Edits voids voided_columns (with_row v)) old.now new.now)
-insert_void old new v r h =
-    inserts voids_table 12 refl voided_columns v (Null ∷ voided_columns v) (chosen_rowid _ _ (void_cast v)) old new text.insert_void_terms 4 text.insert_void (voided_columns v) r text.insert_void_is text.insert_void_plain (λ rows s. s.1) h

@@ -4,11 +4,5 @@ use Rattle.std.specs.Prelude.{ℕ}
 abbrev pub installations : ℕ
 installations = 7
 
-abbrev pub entries : ℕ
-entries = 9
-
 abbrev pub ranges : ℕ
 ranges = 18
-
-abbrev pub voids : ℕ
-voids = 20

@@ -1,7 +1,8 @@
 //! Rows that are out of their ranges.
 use crate::given::one_meter;
 use std::test::Fail;
-use store_meters::{entry_at, installation_of, range_of};
+use store_entries::entry_at;
+use store_meters::{installation_of, range_of};
 use store_tables::{RowFault, touch};
 
 #[test]

@@ -1,9 +1,8 @@
 //! A database with the tables of the books and a meter.
 use sqlite::{Connection, Error, MemStore, Transaction};
 use std::alloc::Global;
-use store_meters::{
-    EntryKind, EntryRow, InstallationRow, LastRow, insert_entry, insert_installation, insert_range,
-};
+use store_entries::{EntryKind, EntryRow, insert_entry};
+use store_meters::{InstallationRow, LastRow, insert_installation, insert_range};
 use store_tables::RowFault;
 
 const TABLES: &str =

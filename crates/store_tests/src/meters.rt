@@ -2,11 +2,13 @@
 use crate::given::{INSTALLED, OPENED, OPENING, READ, READING, one_meter, sound};
 use sqlite::{Connection, Error, MemStore, Row, Transaction};
 use std::test::Fail;
+use store_entries::{
+    EntryRow, entry_at, entry_rows, insert_entry, insert_void, last_entry_rows, last_place,
+    read_entry, read_place, read_void, roll_entry, void_rows,
+};
 use store_meters::{
-    EntryRow, Installation, InstallationRow, end_installation, entry_at, entry_rows, insert_entry,
-    insert_void, installation_at, installation_of, installation_rows, last_entry_rows,
-    last_installation, last_place, move_installation, range_of, read_entry, read_installation,
-    read_place, read_void, roll_entry, void_rows,
+    Installation, InstallationRow, end_installation, installation_at, installation_of,
+    installation_rows, last_installation, move_installation, range_of, read_installation,
 };
 
 fn is_installed(found: &Option<Installation>, row: InstallationRow) -> bool {

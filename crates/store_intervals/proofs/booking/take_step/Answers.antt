@@ -1,11 +1,11 @@
-use Rattle.std.proofs.Common.{◌≡◌, List, [], ◌∷◌, ◌++◌, Ok, refl, sym, ap, subst, ◌∙◌, append-nil, append_assoc}
+use Rattle.std.proofs.Common.{◌≡◌, ℕ, List, [], ◌∷◌, ◌++◌, Ok, refl, sym, ap, subst, ◌∙◌, append-nil, append_assoc}
 use Rattle.std.specs.List.{AllByRecursion}
 use Rattle.sqlite.specs.declared.error.Error.{Error}
 use Rattle.sqlite.specs.Held.{state}
 use Rattle.interval_core.specs.declared.shares.Share.{Share}
 use Rattle.interval_core.specs.Share.{shares_of}
 use Rattle.store_tables.specs.Steps.{Steps}
-use Rattle.store_tables.proofs.StepLemmas.{no_steps, steps_then, answered}
+use Rattle.store_tables.proofs.StepLemmas.{steps_then, answered}
 use Rattle.store_intervals.specs.Rows.{IsSoundShare}
 use Rattle.store_intervals.specs.Booking.{TakesShares}
 use Rattle.store_intervals.proofs.Loops.{sound_shares, nothing_taken, taken_then}
@@ -27,7 +27,7 @@ loop-share-preserved g c =
     let share : Share = c.in-Some.share in
     let rest : List Share = c.next.new.self in
     let front : List Share = c.loop-share.invariant.front in
-    let meter : List Rattle.std.proofs.Common.ℕ = c.args.meter.now in
+    let meter : List ℕ = c.args.meter.now in
     let left : c.loop-share.shares ≡ share ∷ rest = c.in-Some.ensures.steps in
     let old = state g.S.Store c.args.tx.now.conn.now in
     let new = state g.S.Store c.take_share.new.tx.conn.now in

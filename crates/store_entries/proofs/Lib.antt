@@ -1,0 +1,4 @@
+mod Texts
+mod Writes
+mod Asks
+mod ReadRows

@@ -1,0 +1,12 @@
+//! The entries of meters in the tables of the books, and which of them were voided.
+#![tactic(auto)]
+
+mod entries;
+mod reading;
+mod rows;
+mod voids;
+
+pub use entries::{entry_at, entry_rows, insert_entry, last_entry_rows, last_place, roll_entry};
+pub use reading::{read_entry, read_place, read_void};
+pub use rows::{EntryKind, EntryRow};
+pub use voids::{insert_void, void_rows};

@@ -1,0 +1,48 @@
+//! The table `voids`.
+ghost use Rattle.std.specs.Prelude.{◌≡◌, ◌≤◌};
+ghost use Rattle.sqlite.specs.Held.{state};
+ghost use Rattle.store_tables.specs.Content.{Edits, with_row};
+ghost use Rattle.store_tables.specs.Steps.{Steps};
+ghost use Rattle.store_tables.specs.Answer.{FirstFirst};
+ghost use Rattle.store_tables.specs.Asking.{Asks, Tells, Shows};
+ghost use Rattle.store_tables.specs.Limits.{IsPlace, latest_moment};
+ghost use Rattle.store_entries.specs.Rows.{voided_columns, voided_shown, voided_place, is_void_of};
+ghost use Rattle.store_entries.specs.Trees.{voids};
+
+use sqlite::{Alter, Connection, Error, Row, Transaction, params};
+use store_tables::number;
+
+/// Says that the entry of a meter at a place was voided at a moment.
+pub fn insert_void<S: Alter>(
+    tx: &mut Transaction<'_, S>,
+    meter: &str,
+    place: u64,
+    moment: u64,
+) -> Result<usize, Error>
+    requires place { IsPlace place }
+    requires moment { moment ≤ latest_moment }
+    ensures same_reference { tx.new.conn.ghost_name ≡ tx.old.conn.ghost_name }
+    ensures does { Steps (state S.Store tx.old.conn.now) (state S.Store tx.new.conn.now) result
+        (Edits voids voided_columns
+        (with_row (record { meter = meter.now; place = place; moment = moment }))) }
+{
+    let place = number(place);
+    let moment = number(moment);
+    tx.execute(
+        "INSERT INTO voids (meter, place, moment) VALUES (?1, ?2, ?3)",
+        params![meter, &place, &moment],
+    )
+}
+
+/// The voided entries of a meter in order of place; `read_void` reads each.
+pub fn void_rows<S: Alter>(conn: &mut Connection<S>, meter: &str) -> Result<Vec<Row>, Error>
+    ensures asks { Asks S.Store conn.old conn.new }
+    ensures shows { Tells S.Store conn.old conn.new voids voided_columns result
+        (λ rows answer.
+        Shows (is_void_of meter.now) (FirstFirst voided_place) voided_shown rows answer.items) }
+{
+    conn.query_all(
+        "SELECT place FROM voids WHERE meter = ?1 ORDER BY place",
+        params![meter],
+    )
+}
