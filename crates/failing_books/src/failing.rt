@@ -25,7 +25,7 @@ impl FailingBooks {
     ghost use Rattle.office_events.specs.declared.facts.Fact.{Fact};
     ghost use Rattle.office_lists.specs.Listed.{ledger_of};
 
-    /// Nothing was called yet. From 1 on all calls are counted but those that can't fail, and that which books nothing.
+    /// Nothing was called yet. Calls are counted from 1, but for those that can't fail and for the booking of no facts.
     pub fn new(books: ListBooks, failing: u64) -> FailingBooks
         ensures holds { (held : List Fact) → (ledger_of books).holds held
             → (⟦<FailingBooks as Books>⟧.ledger result).holds held }

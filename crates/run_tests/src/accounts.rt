@@ -14,7 +14,8 @@ pub(crate) enum By {
     Closing,
 }
 
-/// An entry that was accepted: the counter went on to `raw`. An opening or a change set it to `after`, at the scale `sf`.
+/// An entry that was accepted: the counter went on to `raw`; an opening or a change set it to `after`, at the scale
+/// `sf`.
 #[derive(Clone, Copy)]
 pub(crate) struct Made {
     pub(crate) meter: u64,
@@ -61,7 +62,8 @@ impl Account {
         Ok(())
     }
 
-    /// Spreads energy evenly from the last entry up to a moment: by each moment as much as has passed of it, rounded down.
+    /// Spreads energy evenly from the last entry up to a moment: at the end of each quarter hour it has reached so much,
+    /// rounded down.
     fn spread(&mut self, till: u64, mwh: u64) -> Result<(), AllocError> {
         let seconds = till.saturating_sub(self.at);
         let mut before = 0;

@@ -106,7 +106,9 @@ meter m1 last 30 sf 0 at 3700 total 280000 open
     },
     // A step of 1000 mWh over twenty minutes of three intervals.
     Case {
-        before: "800 device inv 1 5 1\n800 register main inv 3 0 0\n800 install main m1 1 0 100000",
+        before: "800 device inv 1 5 1
+800 register main inv 3 0 0
+800 install main m1 1 0 100000",
         script: "2000 manual main 2 0\nintervals m1",
         printed: "ok\n0 83\n900 750\n1800 167\nend 3\n",
     },
@@ -151,5 +153,10 @@ end 2
 fn entries_are_booked(rt: HostRuntime) -> Result<(), Fail> {
     check(&rt, rt.alloc(), "UTC0", &ENTRIES)?;
     check(&rt, rt.alloc(), "CET-1CEST,M3.5.0,M10.5.0/3", &DAYS)?;
-    check(&rt, rt.alloc(), "AAA0BBB,M3.2.0/0:30,M11.1.0/0:30", &MIDNIGHT)
+    check(
+        &rt,
+        rt.alloc(),
+        "AAA0BBB,M3.2.0/0:30,M11.1.0/0:30",
+        &MIDNIGHT,
+    )
 }

@@ -225,7 +225,10 @@ fn opened(
         Ok(office) => return Ok(office),
         Err(refused) => refused,
     };
-    assert_eq!(rt; (why, books.faults()), (Refusal::Store(StoreCause::Refused), 1));
+    assert_eq!(rt;
+        (why, books.faults()),
+        (Refusal::Store(StoreCause::Refused), 1)
+    );
     match Office::open(alloc, books, moment) {
         Ok(office) => Ok(office),
         Err(_) => Err(Fail::from("not opened again")),

@@ -1,5 +1,5 @@
-//! Tests of the office over books in memory: what is printed of events, line by line of scripts, and of requests that are
-//! sent again, and what becomes of them where the books fail.
+//! Tests of the office over books in memory: what is printed of events, line by line of scripts; requests that are sent
+//! again; commands by chance, after each of which all rows are computed anew; and books that fail at each of their calls.
 #![tactic(auto)]
 
 #[cfg(test)]

@@ -16,14 +16,14 @@ const REGISTERS: &str = "0 device inv 1 60 16
 0 register r1 inv 3 10 @12
 0 connect inv";
 
-/// What is done next, and when.
-fn next_act(alloc: Global, chances: &mut Chances, seen: &Seen, at: u64) -> Result<Act, Fail> {
+/// What is done next.
+fn next_act(alloc: Global, chances: &mut Chances, seen: &mut Seen) -> Result<Act, Fail> {
     let register = chances.below(2);
     let meter = seen.meter_at(register);
     let account = account_of(alloc, &seen.made, meter)?;
     let doing = next_doing(chances);
     let mut act = act_on(chances, doing, &account);
-    act.at = at;
+    act.at = seen.later(chances.below(1200));
     act.register = register;
     act.meter = meter;
     act.next = seen.meters;
@@ -36,8 +36,9 @@ fn is_read(alloc: Global, office: &mut Office<ListBooks>, act: &Act) -> Result<b
     let [high, low, ..] = office.outgoing() else {
         return Err(Fail::from("nothing was sent"));
     };
-    let reply =
-        format!(in alloc; "{at} bytes inv {high:02x}{low:02x}00000009010306{raw:08x}{sf:04x}")?;
+    let reply = format!(in alloc;
+        "{at} bytes inv {high:02x}{low:02x}00000009010306{raw:08x}{sf:04x}"
+    )?;
     let printed = print(alloc, office, &reply)?;
     Ok(str::from_utf8(&printed)?.contains("\nreading "))
 }
@@ -63,8 +64,9 @@ fn carry_out(
 fn rows(alloc: Global, meter: u64, account: &Account) -> Result<String, Fail> {
     let (raw, sf, at, total) = (account.raw, account.sf, account.at, account.total);
     let word = if account.ended { "ended" } else { "open" };
-    let mut text =
-        format!(in alloc; "meter m{meter} last {raw} sf {sf} at {at} total {total} {word}\n")?;
+    let mut text = format!(in alloc;
+        "meter m{meter} last {raw} sf {sf} at {at} total {total} {word}\n"
+    )?;
     for (start, mwh) in &account.rows {
         writeln!(text, "{start} {mwh}")?;
     }
@@ -89,15 +91,13 @@ fn compare(
     Ok(())
 }
 
-/// How many entries came so, and whether there are some of which this holds.
-fn count(seen: &Seen, by: By, stands: bool) -> usize {
-    let mut count = 0;
-    for one in &seen.made {
-        if one.by == by && one.stands == stands {
-            count += 1;
-        }
-    }
-    count
+/// How many entries came so.
+fn count(seen: &Seen, by: By) -> usize {
+    seen.made.iter().filter(|one| one.by == by).count()
+}
+
+fn voided(seen: &Seen) -> usize {
+    seen.made.iter().filter(|one| !one.stands).count()
 }
 
 #[test]
@@ -105,13 +105,14 @@ fn rows_are_those_of_entries_that_stand(rt: HostRuntime) -> Result<(), Fail> {
     let mut office = opened(rt.alloc(), "UTC0")?;
     let _ = print(rt.alloc(), &mut office, REGISTERS)?;
     let (mut seen, mut chances) = (Seen::new(rt.alloc()), Chances::new(7));
-    let mut at = 1000;
     for _ in 0..200 {
-        at += chances.below(1200);
-        let act = next_act(rt.alloc(), &mut chances, &seen, at)?;
+        let act = next_act(rt.alloc(), &mut chances, &mut seen)?;
         carry_out(rt.alloc(), &mut office, &mut seen, &act)?;
         compare(&rt, rt.alloc(), &mut office, &seen)?;
     }
-    assert_eq!(rt; (count(&seen, By::Reading, true), count(&seen, By::Reading, false), count(&seen, By::Hand, true), count(&seen, By::Change, true), count(&seen, By::Closing, true), seen.meters), (0, 0, 0, 0, 0, 0));
+    for by in [By::Opening, By::Reading, By::Hand, By::Change, By::Closing] {
+        assert!(rt; count(&seen, by) > 9);
+    }
+    assert!(rt; voided(&seen) > 9);
     Ok(())
 }

@@ -79,7 +79,11 @@ refused 1
     },
     Case {
         before: STARTED,
-        script: "1900 failed inv\n1900 failed inv\n1900 connect none\n1900 connect inv\n1900 connect inv",
+        script: "1900 failed inv
+1900 failed inv
+1900 connect none
+1900 connect inv
+1900 connect inv",
         printed: "poll 1 lost 3\nok\nrefused 10\nrefused 1\nok\nrefused 10\n",
     },
     Case {
@@ -97,7 +101,10 @@ ok
 ",
     },
     Case {
-        before: "1000 device inv 1 5 2\n1000 connect inv\n1000 start inv 3 0 1\n1000 start inv 3 1 1",
+        before: "1000 device inv 1 5 2
+1000 connect inv
+1000 start inv 3 0 1
+1000 start inv 3 1 1",
         script: "1005 tick",
         printed: "poll 1 silent\npoll 2 silent\nok\n",
     },

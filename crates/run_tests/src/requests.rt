@@ -167,7 +167,11 @@ fn requests_act_once(rt: HostRuntime) -> Result<(), Fail> {
     let _ = print(rt.alloc(), &mut office, READ)?;
     for (place, request) in REQUESTS.iter().enumerate() {
         let (at, event) = asked(rt.alloc(), request)?;
-        assert_eq!(rt; answer(&mut office, at, &event), request.answer, "at {place}");
+        assert_eq!(rt;
+            answer(&mut office, at, &event),
+            request.answer,
+            "at {place}"
+        );
         let is_start = matches!(request.answer, Ok(Answer::Started { .. }));
         assert_eq!(rt; office.outgoing().is_empty(), !is_start, "at {place}");
     }

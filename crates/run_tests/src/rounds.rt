@@ -50,9 +50,23 @@ fn put_list(alloc: Global, text: &str) -> Result<Event, Fail> {
 #[test]
 fn a_round_sends_what_fits(rt: HostRuntime) -> Result<(), Fail> {
     let mut office = opened(rt.alloc(), "UTC0")?;
-    let mut printed = print(rt.alloc(), &mut office, "1000 device inv 1 5 1\n1000 round inv 0")?;
-    feed(&mut office, 1000, &put_list(rt.alloc(), EMPTY)?, &mut printed)?;
-    feed(&mut office, 1000, &put_list(rt.alloc(), LIST)?, &mut printed)?;
+    let mut printed = print(
+        rt.alloc(),
+        &mut office,
+        "1000 device inv 1 5 1\n1000 round inv 0",
+    )?;
+    feed(
+        &mut office,
+        1000,
+        &put_list(rt.alloc(), EMPTY)?,
+        &mut printed,
+    )?;
+    feed(
+        &mut office,
+        1000,
+        &put_list(rt.alloc(), LIST)?,
+        &mut printed,
+    )?;
     assert_eq!(rt; str::from_utf8(&printed)?, "ok\nrefused 1\nok\nok\n");
     let printed = print(rt.alloc(), &mut office, SCRIPT)?;
     assert_eq!(rt; str::from_utf8(&printed)?, PRINTED);

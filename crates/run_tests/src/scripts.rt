@@ -122,7 +122,12 @@ pub(crate) fn print<B: Books>(
 }
 
 /// Each case stands by itself.
-pub(crate) fn check(rt: &impl Abort, alloc: Global, zone: &str, cases: &[Case]) -> Result<(), Fail> {
+pub(crate) fn check(
+    rt: &impl Abort,
+    alloc: Global,
+    zone: &str,
+    cases: &[Case],
+) -> Result<(), Fail> {
     for case in cases {
         let mut office = opened(alloc, zone)?;
         let _ = print(alloc, &mut office, case.before)?;

@@ -10,6 +10,7 @@ pub(crate) struct Seen {
     pub(crate) meters: u64,
     first: u64,
     second: u64,
+    moment: u64,
 }
 
 /// The entry that an act makes.
@@ -33,7 +34,14 @@ impl Seen {
             meters: 0,
             first: 0,
             second: 0,
+            moment: 0,
         }
+    }
+
+    /// The moment so many seconds later.
+    pub(crate) fn later(&mut self, seconds: u64) -> u64 {
+        self.moment = self.moment.saturating_add(seconds);
+        self.moment
     }
 
     /// The meter that was installed at a register last.
@@ -62,13 +70,11 @@ impl Seen {
     }
 
     fn strike(&mut self, act: &Act) {
-        let mut place = 0;
+        let mut left = act.place;
         for one in self.made.iter_mut() {
             if one.meter == act.meter {
-                place += 1;
-                if place == act.place {
-                    one.stands = false;
-                }
+                left = left.wrapping_sub(1);
+                one.stands = one.stands && left != 0;
             }
         }
     }
