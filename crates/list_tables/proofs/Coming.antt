@@ -5,7 +5,7 @@ use Rattle.office_events.specs.declared.facts.Fact.{Fact}
 use Rattle.office_rules.specs.Lawful.{AreLawful}
 use Rattle.office_laws.proofs.Lists.{reverse_more}
 use Rattle.list_tables.specs.declared.table.Kept.{Kept}
-use Rattle.list_tables.specs.Tables.{HasCome, latest_first}
+use Rattle.list_tables.specs.Growing.{HasCome, latest_first}
 
 lawful_before : (later held : List Fact) → AreLawful (later ++ held) → AreLawful held
 lawful_before [] held h = h

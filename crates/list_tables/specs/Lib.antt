@@ -1,2 +1,3 @@
-pub mod Tables
+pub mod Growing
 pub mod Polls
+pub mod Whole

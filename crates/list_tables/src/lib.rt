@@ -3,6 +3,6 @@
 
 mod polls;
 mod table;
+mod tables;
 
-pub use polls::{Pending, Polls};
-pub use table::{Kept, Table};
+pub use tables::Tables;

@@ -11,7 +11,7 @@ use std::alloc::{AllocError, Global};
 
 /// The polls, each with its end.
 #[derive(Drop)]
-pub struct Polls {
+pub(crate) struct Polls {
     rows: Vec<PollRow>,
 }
 
@@ -87,7 +87,7 @@ impl Table for Polls {
 
 /// The polls that have no outcome.
 #[derive(Drop)]
-pub struct Pending {
+pub(crate) struct Pending {
     polls: Vec<Poll>,
 }
 

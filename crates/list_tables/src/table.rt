@@ -2,13 +2,13 @@
 ghost use Rattle.std.specs.Prelude.{◌≡◌, List, [], length, IfOk, OnOk};
 ghost use Rattle.office_events.specs.declared.facts.Fact.{Fact};
 ghost use Rattle.office_rules.specs.Lawful.{AreLawful};
-ghost use Rattle.list_tables.specs.Tables.{HasCome, latest_first};
+ghost use Rattle.list_tables.specs.Growing.{HasCome, latest_first};
 
 use office_events::Fact;
 use std::alloc::AllocError;
 
 /// A table of what facts say.
-pub trait Table: Drop {
+pub(crate) trait Table: Drop {
     ghost use Rattle.std.specs.Prelude.{◌≡◌, List, ◌∷◌, length, OnOk, OnErr};
     ghost use Rattle.office_events.specs.declared.facts.Fact.{Fact};
     ghost use Rattle.office_rules.specs.Lawful.{AreLawful};
@@ -25,7 +25,7 @@ pub trait Table: Drop {
 
 /// A table, and how many facts it has.
 #[derive(Drop)]
-pub struct Kept<T> {
+pub(crate) struct Kept<T> {
     pub table: T,
     pub count: usize,
 }

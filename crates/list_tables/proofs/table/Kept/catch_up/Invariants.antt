@@ -1,6 +1,6 @@
 use Rattle.std.proofs.Common.{length, ◌-◌}
 use Rattle.office_rules.specs.Lawful.{AreLawful}
-use Rattle.list_tables.specs.Tables.{HasCome, latest_first}
+use Rattle.list_tables.specs.Growing.{HasCome, latest_first}
 use Rattle.list_tables.proofs.table.Kept.catch_up.Given as goal
 
 abbrev pub invariant-loop-self : goal.invariant-loop-self
