@@ -1,6 +1,6 @@
 -- One more fact for a table.
 use Rattle.std.proofs.Common.{◌≡◌, ℕ, ◌+◌, ◌<◌, ◌≤◌, List, [], ◌∷◌, ◌++◌, reverse, take, drop, length, get_or, refl, sym, ap, subst, ◌∙◌, arith}
-use Rattle.std.proofs.lemmas.List.{reverse-append, length-reverse, length-take-le, take-append-drop, take_all}
+use Rattle.std.proofs.lemmas.List.{reverse-append, length-reverse, length-take-le, take-append-drop, take-append-le, take_all, length-append}
 use Rattle.office_events.specs.declared.facts.Fact.{Fact}
 use Rattle.office_rules.specs.Lawful.{AreLawful}
 use Rattle.office_laws.proofs.Lists.{reverse_more}
@@ -37,3 +37,10 @@ pub come_whole : {T : Type 0} (says : T → List Fact → Type 0) (kept : Kept T
     → length facts ≤ kept.count → says kept.table (latest_first facts)
 come_whole says kept facts come all =
     subst (λ (xs : List Fact). says kept.table (reverse xs)) (take_all kept.count facts all) come.said
+
+-- more facts take nothing from a table
+pub come_with : {T : Type 0} (says : T → List Fact → Type 0) (kept : Kept T) (facts more : List Fact) → HasCome says kept facts → HasCome says kept (facts ++ more)
+come_with says kept facts more come = record {
+  few = omega (arith, come.few, length-append facts more);
+  said = subst (λ (xs : List Fact). says kept.table (reverse xs)) (sym (take-append-le kept.count facts more come.few)) come.said;
+}
