@@ -1,9 +1,12 @@
 -- Facts that are added behind the others.
-use Rattle.std.proofs.Common.{◌≡◌, true, false, List, [], ◌∷◌, ◌++◌, reverse, inl, inr, refl, sym, ap, ◌∙◌, Result, Ok, Err, OnOk, OnErr, IfErr}
+use Rattle.std.proofs.Common.{◌≡◌, true, false, List, [], ◌∷◌, ◌++◌, reverse, inl, inr, refl, sym, ap, subst, ◌∙◌, Result, Ok, Err, OnOk, OnErr, IfErr}
 use Rattle.std.specs.Prelude.{IsOk}
 use Rattle.std.proofs.lemmas.List.{append-nil, reverse-append, reverse-reverse}
 use Rattle.office_events.specs.declared.facts.Fact.{Fact}
 use Rattle.office_rules.specs.Lawful.{AreLawful}
+use Rattle.list_tables.specs.declared.tables.Tables.{Tables}
+use Rattle.list_tables.specs.Whole.{HaveCome}
+use Rattle.list_tables.proofs.Wholes.{have_come_with}
 use Rattle.office_books.specs.declared.faults.BooksFault.{BooksFault}
 use Rattle.office_books.specs.declared.faults.BooksFault.TheVariants.{Store, Memory}
 use Rattle.office_books.specs.Ledgers.{Books, with_facts}
@@ -13,20 +16,27 @@ use Rattle.office_lists.specs.Listed.{AreListed, HasOne, ledger_of}
 behind : (held facts : List Fact) → reverse held ++ facts ≡ reverse (with_facts facts held)
 behind held facts = sym (reverse-append (reverse facts) held ∙ ap (λ (xs : List Fact). reverse held ++ xs) (reverse-reverse facts))
 
-listed_on : (old new : ListBooks) (held facts : List Fact) → new.facts.items ≡ old.facts.items ++ facts → AreListed old held
+listed_on : (old new : ListBooks) (held facts : List Fact) → new.facts.items ≡ old.facts.items ++ facts → new.tables ≡ old.tables → AreListed old held
     → AreLawful (with_facts facts held) → AreListed new (with_facts facts held)
-listed_on old new held facts is listed lawful = record {
+listed_on old new held facts is tables listed lawful = record {
   lawful = lawful;
   facts = is ∙ ap (λ (xs : List Fact). xs ++ facts) listed.facts ∙ behind held facts;
+  tables = subst (λ (t : Tables). HaveCome t new.facts.items) (sym tables)
+      (subst (HaveCome old.tables) (sym is) (have_come_with old.tables old.facts.items facts listed.tables));
 }
 
-listed_still : (old new : ListBooks) (held : List Fact) → new.facts.items ≡ old.facts.items → AreListed old held → AreListed new held
-listed_still old new held same listed = record { lawful = listed.lawful; facts = same ∙ listed.facts }
+listed_still : (old new : ListBooks) (held : List Fact) → new.facts.items ≡ old.facts.items → new.tables ≡ old.tables → AreListed old held → AreListed new held
+listed_still old new held same tables listed = record {
+  lawful = listed.lawful;
+  facts = same ∙ listed.facts;
+  tables = subst (λ (t : Tables). HaveCome t new.facts.items) (sym tables) (subst (HaveCome old.tables) (sym same) listed.tables);
+}
 
-one_still : (old new : ListBooks) → new.facts.items ≡ old.facts.items → (left : List (List Fact)) → HasOne old left → HasOne new left
-one_still old new same [] may = may
-one_still old new same (held ∷ left) (inl listed) = inl (listed_still old new held same listed)
-one_still old new same (held ∷ left) (inr may) = inr (one_still old new same left may)
+-- books that hold what others held
+pub one_still : (old new : ListBooks) → ((held : List Fact) → AreListed old held → AreListed new held) → (left : List (List Fact)) → HasOne old left → HasOne new left
+one_still old new still [] may = may
+one_still old new still (held ∷ left) (inl listed) = inl (still held listed)
+one_still old new still (held ∷ left) (inr may) = inr (one_still old new still left may)
 
 one_among : (books : ListBooks) (left more : List (List Fact)) → HasOne books left → HasOne books (left ++ more)
 one_among books [] more may = absurd may
@@ -34,29 +44,29 @@ one_among books (held ∷ left) more (inl listed) = inl listed
 one_among books (held ∷ left) more (inr may) = inr (one_among books left more may)
 
 pub added : (old new : ListBooks) (facts : List Fact) (result : Result (Unit {0}) BooksFault)
-    → OnOk result (new.facts.items ≡ old.facts.items ++ facts) → OnErr result (new.facts.items ≡ old.facts.items) → new.zone ≡ old.zone
+    → OnOk result (new.facts.items ≡ old.facts.items ++ facts) → OnErr result (new.facts.items ≡ old.facts.items) → new.zone ≡ old.zone → new.tables ≡ old.tables
     → IfErr result (λ e. e ≡ Memory) → (facts ≡ [] → IsOk result) → Books (ledger_of old) (ledger_of new) facts result
-added old new facts (Ok done) ok err zone memory nothing = record {
-  booked = λ held listed lawful. listed_on old new held facts ok listed lawful;
-  settled = λ held listed lawful. inl (listed_on old new held facts ok listed lawful);
+added old new facts (Ok done) ok err zone tables memory nothing = record {
+  booked = λ held listed lawful. listed_on old new held facts ok tables listed lawful;
+  settled = λ held listed lawful. inl (listed_on old new held facts ok tables listed lawful);
   refused = λ held listed. tt;
   under_way = λ held left listed lawful may. tt;
   nothing = λ none.
       let same : new.facts.items ≡ old.facts.items = ok ∙ ap (λ (xs : List Fact). old.facts.items ++ xs) none ∙ append-nil old.facts.items in (
         nothing none,
         record {
-          facts = λ held listed. listed_still old new held same listed;
-          left = λ left may. one_still old new same left may;
+          facts = λ held listed. listed_still old new held same tables listed;
+          left = λ left may. one_still old new (λ held listed. listed_still old new held same tables listed) left may;
         },
       );
   goes = record { clean = λ c. c; faults = refl; zone = zone };
 }
-added old new facts (Err (Store fault)) ok err zone memory nothing = absurd (let never : Store fault ≡ Memory = memory in cc)
-added old new facts (Err Memory) ok err zone memory nothing = record {
+added old new facts (Err (Store fault)) ok err zone tables memory nothing = absurd (let never : Store fault ≡ Memory = memory in cc)
+added old new facts (Err Memory) ok err zone tables memory nothing = record {
   booked = λ held listed lawful. tt;
   settled = λ held listed lawful. tt;
-  refused = λ held listed. listed_still old new held err listed;
-  under_way = λ held left listed lawful may. one_among new left _ (one_still old new err left may);
+  refused = λ held listed. listed_still old new held err tables listed;
+  under_way = λ held left listed lawful may. one_among new left _ (one_still old new (λ held listed. listed_still old new held err tables listed) left may);
   nothing = λ none. absurd (let never : false ≡ true = nothing none in cc);
   goes = record { clean = λ c. c; faults = refl; zone = zone };
 }

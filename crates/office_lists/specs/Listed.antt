@@ -1,14 +1,16 @@
 -- What books of a list hold.
 use Rattle.std.specs.Prelude.{◌≡◌, ◌⊎◌, List, [], ◌∷◌, reverse}
+use Rattle.list_tables.specs.Whole.{HaveCome}
 use Rattle.office_books.specs.Ledgers.{Ledger}
 use Rattle.office_events.specs.declared.facts.Fact.{Fact}
 use Rattle.office_lists.specs.declared.list_books.ListBooks.{ListBooks}
 use Rattle.office_rules.specs.Lawful.{AreLawful}
 
--- The facts are lawful, and the list has them, the earliest first.
+-- The facts are lawful, the list has them, the earliest first, and the tables say what they say, as far as they have come.
 pub record AreListed (books : ListBooks) (held : List Fact) : Type 0 where
   pub lawful : AreLawful held
   pub facts : books.facts.items ≡ reverse held
+  pub tables : HaveCome books.tables books.facts.items
 
 -- one of these lists of facts is held
 abbrev pub HasOne : ListBooks → List (List Fact) → Type 0

@@ -1,9 +1,9 @@
 //! Each kind of fact.
 ghost use Rattle.std.specs.Prelude.{◌≡◌};
-ghost use Rattle.office_rules.specs.Facts.{as_device, as_register, as_opening, as_poll, as_ended, moment_in};
+ghost use Rattle.office_rules.specs.Facts.{as_device, as_register, as_opening, moment_in};
 
 use energy_core::Entry;
-use office_events::{Device, EndedPoll, Fact, Opening, Poll, Register};
+use office_events::{Device, Fact, Opening, Register};
 
 pub(crate) fn device_in(fact: &Fact) -> Option<Device>
     ensures { result ≡ as_device fact.now }
@@ -52,40 +52,6 @@ pub(crate) fn opening_in(fact: &Fact) -> Option<Opening>
         | Fact::Void(_)
         | Fact::Poll(_)
         | Fact::Outcome(_)
-        | Fact::Reply(_) => None,
-    }
-}
-
-pub(crate) fn poll_in(fact: &Fact) -> Option<Poll>
-    ensures { result ≡ as_poll fact.now }
-{
-    match fact {
-        Fact::Poll(poll) => Some(*poll),
-        Fact::Device(_)
-        | Fact::List(_)
-        | Fact::Register(_)
-        | Fact::Opening(_)
-        | Fact::Entry(_)
-        | Fact::Hold(_)
-        | Fact::Void(_)
-        | Fact::Outcome(_)
-        | Fact::Reply(_) => None,
-    }
-}
-
-pub(crate) fn end_in(fact: &Fact) -> Option<EndedPoll>
-    ensures { result ≡ as_ended fact.now }
-{
-    match fact {
-        Fact::Outcome(ended) => Some(*ended),
-        Fact::Device(_)
-        | Fact::List(_)
-        | Fact::Register(_)
-        | Fact::Opening(_)
-        | Fact::Entry(_)
-        | Fact::Hold(_)
-        | Fact::Void(_)
-        | Fact::Poll(_)
         | Fact::Reply(_) => None,
     }
 }

@@ -1,11 +1,14 @@
 //! Books in memory.
-ghost use Rattle.std.specs.Prelude.{◌≡◌, [], ◌++◌, OnOk, OnErr, IfErr, IsOk};
+ghost use Rattle.std.specs.Prelude.{◌≡◌, List, [], ◌++◌, OnOk, OnErr, IfErr, IsOk};
 ghost use Rattle.office_books.specs.declared.faults.BooksFault.TheVariants.{Memory};
+ghost use Rattle.office_events.specs.declared.facts.Fact.{Fact};
+ghost use Rattle.list_tables.specs.Whole.{AreWhole};
 ghost use Rattle.office_lists.specs.Listed.{AreListed};
 
 use crate::handing::hand_on;
 use crate::{lookups, meters};
 use interval_core::{Share, Zone};
+use list_tables::Tables;
 use office_books::{Books, BooksFault, Repeat, RowSink};
 use office_events::{
     Device, EntryPlace, Fact, Installation, Name, PlannedList, Poll, PollRow, Register,
@@ -18,9 +21,13 @@ use std::alloc::Global;
 pub struct ListBooks {
     facts: Vec<Fact>,
     zone: Zone,
+    tables: Tables,
 }
 
 impl ListBooks {
+    ghost use Rattle.office_books.specs.Ledgers.{KeepsFacts};
+    ghost use Rattle.office_lists.specs.Listed.{ledger_of};
+
     /// Books that hold nothing yet.
     pub fn new(alloc: Global, zone: Zone) -> ListBooks
         ensures empty { AreListed result [] }
@@ -29,7 +36,19 @@ impl ListBooks {
         ListBooks {
             facts: Vec::new(alloc),
             zone,
+            tables: Tables::new(alloc),
         }
+    }
+
+    /// Adds to the tables what they lack. For want of memory they lack some yet.
+    fn catch_up(&mut self) -> Result<(), BooksFault>
+        ensures keeps { KeepsFacts (ledger_of self.old) (ledger_of self.new) }
+        ensures whole { (held : List Fact) → AreListed self.old held → OnOk result (AreWhole self.new.tables held) }
+        ensures zone { self.new.zone ≡ self.old.zone }
+        ensures memory { IfErr result (λ e. e ≡ Memory) }
+    {
+        self.tables.catch_up(&self.facts)?;
+        Ok(())
     }
 
     /// Adds facts behind the others: all of them or, where memory is wanting, none.
@@ -37,6 +56,7 @@ impl ListBooks {
         ensures ok { OnOk result (self.new.facts.items ≡ self.old.facts.items ++ facts.items) }
         ensures err { OnErr result (self.new.facts.items ≡ self.old.facts.items) }
         ensures zone { self.new.zone ≡ self.old.zone }
+        ensures tables { self.new.tables ≡ self.old.tables }
         ensures memory { IfErr result (λ e. e ≡ Memory) }
         ensures nothing { facts.items ≡ [] → IsOk result }
     {
@@ -107,18 +127,19 @@ impl Books for ListBooks {
     }
 
     fn poll(&mut self, number: u64) -> Result<Option<PollRow>, BooksFault> {
-        Ok(lookups::poll(&self.facts, number))
+        self.catch_up()?;
+        Ok(self.tables.poll(number))
     }
 
     fn poll_count(&mut self) -> Result<u64, BooksFault> {
-        let alloc = *self.facts.allocator();
-        let polls = lookups::all_polls(alloc, &self.facts)?;
-        Ok(polls.len() as u64)
+        self.catch_up()?;
+        Ok(self.tables.poll_count())
     }
 
     fn pending(&mut self) -> Result<Vec<Poll>, BooksFault> {
+        self.catch_up()?;
         let alloc = *self.facts.allocator();
-        Ok(lookups::pending(alloc, &self.facts)?)
+        Ok(self.tables.pending(alloc)?)
     }
 
     fn latest(&mut self) -> Result<u64, BooksFault> {

@@ -1,17 +1,15 @@
 //! What stands in a list of facts, the earliest first.
-ghost use Rattle.std.specs.Prelude.{◌≡◌, ◌==◌, reverse, length, IfOk};
+ghost use Rattle.std.specs.Prelude.{◌≡◌, reverse, IfOk};
 ghost use Rattle.std.specs.List.{filter, filter_map};
-ghost use Rattle.std.specs.Option.{is_none};
-ghost use Rattle.office_rules.specs.Facts.{same, as_device, as_register, as_opening, as_poll, devices_in, register_of, ends_of, pending_in, registers_of, opening_of, installed_at, poll_of, end_of, latest_in, list_of};
-ghost use Rattle.office_rules.specs.Readings.{poll_row_of};
+ghost use Rattle.office_rules.specs.Facts.{same, as_device, as_register, as_opening, devices_in, register_of, registers_of, opening_of, installed_at, latest_in, list_of};
 ghost use Rattle.office_rules.specs.Intervals.{installations_at};
 ghost use Rattle.office_lists.specs.Looking.{latest_first, list_past_fact, repeat_past_fact};
 ghost use Rattle.office_books.specs.Repeats.{as_repeat, repeat_of};
 
-use crate::kinds::{device_in, end_in, moment, opening_in, poll_in, register_in};
+use crate::kinds::{device_in, moment, opening_in, register_in};
 use office_books::Repeat;
 use office_events::{
-    Device, EndedPoll, Fact, Name, Opening, PlannedList, Poll, PollRow, Register, Reply,
+    Device, Fact, Name, Opening, PlannedList, Register, Reply,
 };
 use std::alloc::{AllocError, Global};
 
@@ -144,41 +142,6 @@ pub(crate) fn openings_at(
     Ok(openings)
 }
 
-/// The poll of a number.
-fn poll_numbered(facts: &[Fact], number: u64) -> Option<Poll>
-    ensures { result ≡ poll_of (latest_first facts.now) number }
-{
-    facts
-        .iter()
-        .rev()
-        .filter_map(|fact| poll_in(fact))
-        .find(|poll| poll.number == number)
-}
-
-/// How the poll of a number ended.
-fn end(facts: &[Fact], number: u64) -> Option<EndedPoll>
-    ensures { result ≡ end_of (latest_first facts.now) number }
-{
-    facts
-        .iter()
-        .rev()
-        .filter_map(|fact| end_in(fact))
-        .find(|ended| ended.poll == number)
-}
-
-/// The poll of a number, and how it ended.
-pub(crate) fn poll(facts: &[Fact], number: u64) -> Option<PollRow>
-    ensures { result ≡ poll_row_of (latest_first facts.now) number }
-{
-    match poll_numbered(facts, number) {
-        Some(poll) => Some(PollRow {
-            poll,
-            ended: end(facts, poll.number),
-        }),
-        None => None,
-    }
-}
-
 /// The greatest moment.
 pub(crate) fn latest(facts: &[Fact]) -> u64
     ensures { result ≡ latest_in (latest_first facts.now) }
@@ -188,51 +151,6 @@ pub(crate) fn latest(facts: &[Fact]) -> u64
         latest = moment(fact).max(latest);
     }
     latest
-}
-
-/// Whether the poll of a number has no end.
-fn has_no_end(facts: &[Fact], number: u64) -> bool
-    ensures { result ≡ is_none (end_of (latest_first facts.now) number) }
-{
-    match end(facts, number) {
-        None => true,
-        Some(_) => false,
-    }
-}
-
-/// Whether the poll of a number has not ended.
-fn is_pending(facts: &[Fact], number: u64) -> bool
-    ensures { result ≡ (length (ends_of (latest_first facts.now) number) == 0) }
-{
-    has_no_end(facts, number)
-}
-
-/// All polls of these facts, in the order in which they were started.
-pub(crate) fn all_polls(alloc: Global, facts: &[Fact]) -> Result<Vec<Poll>, AllocError>
-    ensures { IfOk result (λ v. v.items ≡ filter_map as_poll facts.now) }
-{
-    facts.iter().filter_map(|fact| poll_in(fact)).collect(alloc)
-}
-
-/// The polls of these that have no outcome.
-fn still_pending(alloc: Global, facts: &[Fact], polls: &[Poll]) -> Result<Vec<Poll>, AllocError>
-    ensures { IfOk result (λ v. v.items
-        ≡ filter (λ poll. length (ends_of (latest_first facts.now) poll.number) == 0) polls.now) }
-{
-    polls
-        .iter()
-        .filter(|poll| is_pending(facts, poll.number))
-        .copied()
-        .collect(alloc)
-}
-
-/// The polls that have no outcome, in the order in which they were started.
-pub(crate) fn pending(alloc: Global, facts: &[Fact]) -> Result<Vec<Poll>, AllocError>
-    ensures { IfOk result (λ v. v.items ≡ pending_in (latest_first facts.now)) }
-{
-    let all = all_polls(alloc, facts)?;
-    let polls = still_pending(alloc, facts, &all)?;
-    Ok(polls)
 }
 
 /// The latest list of a device, past one more fact.

@@ -1,0 +1,24 @@
+use Rattle.std.proofs.Common.{◌∷◌, ◌∙◌, List, ℕ, reverse, sym, ap}
+use Rattle.std.specs.BTreeMap.{get}
+use Rattle.list_tables.specs.declared.keys.Key.{Key}
+use Rattle.list_tables.specs.declared.places.Kind.{Kind}
+use Rattle.list_tables.specs.Keys.{key_cmp}
+use Rattle.list_tables.specs.Places.{has_key, places_of, under}
+use Rattle.list_tables.proofs.PlacesComing.{place_comes, on_ok_then, on_err_then}
+use Rattle.list_tables.proofs.places.PlacesTable.put.Goals as goal
+
+pub returns-in-Some-clause-ok : goal.returns-in-Some-clause-ok
+returns-in-Some-clause-ok c = λ held lawful long says.
+    let before : Key → List ℕ = λ key. under (get key_cmp c.args.self.now.places key) in
+    let after : Key → List ℕ = λ key. under (get key_cmp c.add.new.self.places key) in
+    on_ok_then c.add.result
+    (λ adds key.
+        place_comes c.args.self.now.kind held c.args.fact.now c.in-Some.key c.args.place before after long (sym c.in-Some.ensures) says adds key
+        ∙ ap (λ (kind : Kind). reverse (places_of (has_key kind key) (c.args.fact.now ∷ held))) (sym c.add.ensures.kind))
+    c.add.ensures.ok
+
+pub returns-in-Some-clause-err : goal.returns-in-Some-clause-err
+returns-in-Some-clause-err c = λ held says.
+    on_err_then c.add.result
+    (λ same key. same key ∙ says key ∙ ap (λ (kind : Kind). reverse (places_of (has_key kind key) held)) (sym c.add.ensures.kind))
+    c.add.ensures.err

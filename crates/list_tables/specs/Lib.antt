@@ -1,0 +1,5 @@
+pub mod Growing
+pub mod Keys
+pub mod Places
+pub mod Polls
+pub mod Whole

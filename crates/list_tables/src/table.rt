@@ -1,0 +1,55 @@
+//! Tables that grow with the facts.
+ghost use Rattle.std.specs.Prelude.{◌≡◌, List, [], length, IfOk, OnOk};
+ghost use Rattle.office_events.specs.declared.facts.Fact.{Fact};
+ghost use Rattle.office_rules.specs.Lawful.{AreLawful};
+ghost use Rattle.list_tables.specs.Growing.{HasCome, latest_first};
+
+use office_events::Fact;
+use std::alloc::AllocError;
+
+/// A table of what facts say.
+pub(crate) trait Table: Drop {
+    ghost use Rattle.std.specs.Prelude.{◌≡◌, List, ◌∷◌, length, OnOk, OnErr};
+    ghost use Rattle.office_events.specs.declared.facts.Fact.{Fact};
+    ghost use Rattle.office_rules.specs.Lawful.{AreLawful};
+
+    /// It says what these facts say, the latest first.
+    ghost says: { Self → List Fact → Type 0 };
+
+    /// Adds the fact at this place, from 0 on, behind those before it. For want of memory nothing changes.
+    fn put(&mut self, place: usize, fact: &Fact) -> Result<(), AllocError>
+        ensures ok { (held : List Fact) → AreLawful (fact.now ∷ held) → length held ≡ place → says self.old held
+            → OnOk result (says self.new (fact.now ∷ held)) }
+        ensures err { (held : List Fact) → says self.old held → OnErr result (says self.new held) };
+}
+
+/// A table, and how many facts it has.
+#[derive(Drop)]
+pub(crate) struct Kept<T> {
+    pub table: T,
+    pub count: usize,
+}
+
+impl<T: Table> Kept<T> {
+    /// A table that has none of the facts yet.
+    pub fn new(table: T) -> Kept<T>
+        ensures table { result.table ≡ table }
+        ensures count { result.count ≡ 0 }
+    {
+        Kept { table, count: 0 }
+    }
+
+    /// Adds the facts that the table doesn't have. For want of memory it has some of them.
+    pub fn catch_up(&mut self, facts: &[Fact]) -> Result<(), AllocError>
+        ensures kept { AreLawful (latest_first facts.now) → HasCome T.says self.old facts.now
+            → HasCome T.says self.new facts.now }
+        ensures whole { AreLawful (latest_first facts.now) → HasCome T.says self.old facts.now
+            → OnOk result (T.says self.new.table (latest_first facts.now)) }
+    {
+        while self.count < facts.len() {
+            self.table.put(self.count, &facts[self.count])?;
+            self.count += 1;
+        }
+        Ok(())
+    }
+}

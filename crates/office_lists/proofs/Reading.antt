@@ -1,0 +1,27 @@
+-- Tables that are brought up to date.
+use Rattle.std.proofs.Common.{◌≡◌, List, reverse, sym, ap, subst, ◌∙◌}
+use Rattle.std.proofs.lemmas.List.{reverse-reverse}
+use Rattle.office_events.specs.declared.facts.Fact.{Fact}
+use Rattle.office_rules.specs.Lawful.{AreLawful}
+use Rattle.office_books.specs.Ledgers.{KeepsFacts}
+use Rattle.list_tables.specs.Whole.{HaveCome}
+use Rattle.office_lists.specs.declared.list_books.ListBooks.{ListBooks}
+use Rattle.office_lists.specs.Listed.{AreListed, ledger_of}
+use Rattle.office_lists.proofs.Adding.{one_still}
+
+-- the facts in the order in which the list has them
+in_turn : (books : ListBooks) (facts held : List Fact) → facts ≡ books.facts.items → AreListed books held → reverse facts ≡ held
+in_turn books facts held is listed = ap reverse (is ∙ listed.facts) ∙ reverse-reverse held
+
+-- books whose tables alone have come further hold what they held
+pub keeps_facts : (old new : ListBooks) (facts : List Fact) → new.facts.items ≡ old.facts.items → facts ≡ old.facts.items
+    → (AreLawful (reverse facts) → HaveCome old.tables facts → HaveCome new.tables facts) → KeepsFacts (ledger_of old) (ledger_of new)
+keeps_facts old new facts same is further = record { facts = still; left = one_still old new still }
+  where
+    still : (held : List Fact) → AreListed old held → AreListed new held
+    still held listed = record {
+      lawful = listed.lawful;
+      facts = same ∙ listed.facts;
+      tables = subst (HaveCome new.tables) (is ∙ sym same)
+          (further (subst AreLawful (sym (in_turn old facts held is listed)) listed.lawful) (subst (HaveCome old.tables) (sym is) listed.tables));
+    }
