@@ -5,3 +5,5 @@ pub mod Deciding
 pub mod Standing
 pub mod Taking
 pub mod Reopening
+pub mod Asking
+pub mod DaySums

@@ -1,8 +1,10 @@
 //! The office: it takes events, polls devices, and books what their meters tell.
 #![tactic(auto)]
 
+mod day_sink;
 mod deciding;
 mod office;
 mod opening;
+mod questions;
 
 pub use office::Office;
