@@ -18,8 +18,8 @@ use Rattle.http_answer.specs.Offices.{Office}
 use Rattle.http_answer.specs.Replies.{asked_of, fault, fault_said, question_reply, reply_bytes, row_reply}
 use Rattle.http_answer.specs.Requests.{name_asked}
 use Rattle.http_answer.specs.Whole.{IsCommand, IsReply}
-use Rattle.http_wants.specs.declared.want.Want.{Want}
-use Rattle.http_wants.specs.declared.want.Want.TheVariants as want
+use Rattle.http_wants.specs.declared.kinds.Want.{Want}
+use Rattle.http_wants.specs.declared.kinds.Want.TheVariants as want
 
 -- The bytes hold a request that asks this of the office: all tests of its head pass, and its body gives a command.
 pub record AsksOffice (table : Table) (bytes : List ℕ) (asked : Asked) : Type 0 where
@@ -37,9 +37,9 @@ abbrev pub AsksNothing : Table → (bytes : List ℕ) → Type 0
 AsksNothing table bytes = (asked : Asked) → AsksOffice table bytes asked → ⊥
 
 -- whatever the office answers, this is the reply, and the office is asked to change nothing
-pub record IsToldOff (table : Table) (bytes reply : List ℕ) : Type 0 where
+pub record IsToldOff (table : Table) (bytes text : List ℕ) : Type 0 where
   pub nothing : AsksNothing table bytes
-  pub reply : (office : Office) → IsReply office table bytes reply
+  pub reply : (office : Office) → IsReply office table bytes text
 
 -- the office is asked a question, and what it answers is the reply
 pub record IsQuestion (table : Table) (bytes : List ℕ) (found : Found) : Type 0 where

@@ -1,10 +1,10 @@
 //! What a request wants of an office, with the reply as far as no office is asked.
 #![tactic(auto)]
 
+mod kinds;
 mod laws;
-mod want;
-mod wanted;
+mod requests;
 
+pub use kinds::Want;
 pub use laws::bodies_give_one_command;
-pub use want::Want;
-pub use wanted::wanted;
+pub use requests::wanted;

@@ -7,7 +7,8 @@ ghost use Rattle.http_request.specs.declared.ask.Ask.TheVariants.{Command as Ask
 ghost use Rattle.http_whole.specs.Whole.{Holds, IsWhole};
 ghost use Rattle.http_wants.specs.Wanting.{HasFewFaults, Wants};
 
-use crate::want::Want;
+use crate::kinds::Want;
+use crate::laws::bodies_give_one_command;
 use http_answer::{
     asked, commands_are_replied_to, faults_are_replied_to, kept_request, name_asked,
     questions_are_replied_to,
@@ -16,7 +17,7 @@ use http_commands::{CommandFault, command_in};
 use http_head::{Head, Look};
 use http_request::{Ask, Posted};
 use http_route::{Found, Route};
-use http_whole::{a_look_finds_the_request, ask_in, body_in};
+use http_whole::{ask_in, body_in};
 use matchit::Router;
 use std::alloc::Global;
 
@@ -35,6 +36,7 @@ fn wanted_command<'b>(
     ensures wants { Wants router.now bytes.now result }
     ensures few { HasFewFaults result }
 {
+    bodies_give_one_command();
     let body = body_in(router, bytes, head);
     let given = command_in(alloc, found.route, name_asked(found.name), body);
     if matches!(given, Err(CommandFault::Memory)) {
