@@ -1,3 +1,5 @@
 pub mod Left
 pub mod Taken
 pub mod Reopened
+pub mod Asked
+pub mod Summing

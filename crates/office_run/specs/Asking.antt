@@ -16,7 +16,8 @@ use Rattle.office_rules.specs.Facts.{opening_of, register_of}
 use Rattle.office_rules.specs.History.{History, facts_of}
 use Rattle.office_rules.specs.Intervals.{rows_of_opening, AreDaysOf}
 use Rattle.office_rules.specs.Lawful.{AreLawful}
-use Rattle.office_books.specs.Faults.{one_more}
+use Rattle.office_books.specs.declared.faults.BooksFault.{BooksFault}
+use Rattle.office_books.specs.Faults.{as_refusal, one_more}
 use Rattle.office_books.specs.Ledgers.{Ledger, KeepsFacts}
 use Rattle.office_books.specs.Rows.{TakesAll, TakesFirst}
 use Rattle.office_run.specs.declared.office.Office.{Office}
@@ -28,6 +29,11 @@ use Rattle.office_run.specs.Taking.{failures_of, IsNotStopped}
 abbrev pub or_not_found : {T : Type 0} → Option T → Result T Refusal
 or_not_found None = Err refusal.NotFound
 or_not_found (Some found) = Ok found
+
+-- what is answered where a look-up gave this
+abbrev pub answered : {T : Type 0} → Result (Option T) BooksFault → Result T Refusal
+answered (Ok found) = or_not_found found
+answered (Err why) = Err (as_refusal why)
 
 -- So a question is answered, and the count of the books' failures stays; or it failed outside.
 abbrev pub IsFound : {T : Type 0} → Option T → (before after : ℕ) → Result T Refusal → Type 0

@@ -1,10 +1,14 @@
 -- A sink that adds interval rows up to civil days.
-use Rattle.std.specs.Prelude.{◌≡◌, ℕ, ◌+◌, ◌≤◌, ◌<◌, ◌^◌, List, [], ◌∷◌, ◌++◌, Option, Some, None, MatchOption, All}
+use Rattle.std.specs.Prelude.{◌≡◌, ℕ, ◌+◌, ◌≤◌, ◌<◌, ◌^◌, List, [], ◌∷◌, ◌++◌, map, Option, Some, None, MatchOption, Result, Ok, Err, All}
+use Rattle.std.specs.declared.alloc.Global.{Global}
+use Rattle.std.specs.declared.vec.Vec.{Vec}
 use Rattle.interval_core.specs.Account.{energy_of}
+use Rattle.interval_core.specs.Days.{DayAccount, account_of}
 use Rattle.interval_core.specs.Fold.{HasTaken}
 use Rattle.interval_core.specs.declared.day.DayFault.{DayFault}
 use Rattle.interval_core.specs.declared.day.DayFault.TheVariants as fault
 use Rattle.interval_core.specs.declared.shares.Share.{Share}
+use Rattle.interval_core.specs.declared.totals.DayTotal.{DayTotal}
 use Rattle.office_events.specs.declared.refusals.Refusal.{Refusal}
 use Rattle.office_events.specs.declared.refusals.Refusal.TheVariants as refusal
 use Rattle.office_events.specs.declared.refusals.StoreCause.TheVariants as store
@@ -41,3 +45,10 @@ TakesShare old row new = MatchOption old.fault (AddsRow old row new) (λ fault. 
 abbrev pub as_refusal : DayFault → Refusal
 as_refusal fault.Zone = refusal.Store store.NoDay
 as_refusal fault.Memory = refusal.Memory
+
+-- What the sink has at the end: the days of these accounts, or its failure.
+abbrev pub EndsAs : Option DayFault → List DayAccount → Result (Vec DayTotal Global) Refusal → Type 0
+EndsAs None accounts (Ok days) = map account_of days.items ≡ accounts
+EndsAs None accounts (Err why) = ⊥
+EndsAs (Some fault) accounts (Ok days) = ⊥
+EndsAs (Some fault) accounts (Err why) = why ≡ as_refusal fault

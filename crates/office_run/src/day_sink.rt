@@ -18,10 +18,9 @@ pub struct DaySink {
 }
 
 impl DaySink {
-    ghost use Rattle.std.specs.Prelude.{[], ◌≡◌, ◌≤◌, map, None, Some, MatchResult, IfOk, IfErr};
-    ghost use Rattle.interval_core.specs.Days.{account_of};
+    ghost use Rattle.std.specs.Prelude.{◌≡◌, [], None};
     ghost use Rattle.interval_core.specs.Fold.{HasTaken};
-    ghost use Rattle.office_run.specs.DaySums.{AddsRow, HasAdded, as_refusal};
+    ghost use Rattle.office_run.specs.DaySums.{AddsRow, EndsAs};
 
     /// No rows yet. No memory is taken.
     pub fn new(alloc: Global, zone: Zone) -> DaySink
@@ -39,6 +38,7 @@ impl DaySink {
 
     /// Adds a row up. One that starts before another, or past the last moment, has no day.
     fn add(&mut self, row: Share)
+        requires works { self.old.fault ≡ None }
         ensures { AddsRow self.old row self.new }
     {
         if row.start < self.latest.unwrap_or(0) || 4_102_444_800 < row.start {
@@ -53,9 +53,7 @@ impl DaySink {
 
     /// The days, in order, or what failed first.
     pub fn into_days(self) -> Result<Vec<DayTotal>, Refusal>
-        ensures ok { IfOk result (λ days.
-            (self.fault ≡ None) × (map account_of days.items ≡ self.fold.accounts)) }
-        ensures err { IfErr result (λ why. IfSome self.fault (λ fault. why ≡ as_refusal fault)) }
+        ensures { EndsAs self.fault self.fold.accounts result }
     {
         match self.fault {
             None => Ok(self.fold.into_rows()),

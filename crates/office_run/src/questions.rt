@@ -1,18 +1,29 @@
 //! Questions, asked of the books.
-ghost use Rattle.std.specs.Prelude.{IfErr};
+ghost use Rattle.std.specs.Prelude.{◌≡◌, IfErr};
 ghost use Rattle.std.specs.Option.{option_and_then};
 ghost use Rattle.office_rules.specs.Meters.{meter_of};
 ghost use Rattle.office_rules.specs.Readings.{poll_row_of};
 ghost use Rattle.office_books.specs.Rows.{TakesAll};
-ghost use Rattle.office_run.specs.Asking.{Asks, FoundIn, NeedsNoDay, RowsIn, TakesRows, intervals_of};
-ghost use Rattle.office_run.specs.Asking.{AddsUp, DaysIn};
+ghost use Rattle.office_run.specs.Asking.{AddsUp, Asks, DaysIn, FoundIn, RowsIn, TakesRows};
+ghost use Rattle.office_run.specs.Asking.{NeedsNoDay, answered, intervals_of};
 
 use crate::day_sink::DaySink;
 use interval_core::{DayTotal, Share};
-use office_books::{Books, RowSink};
+use office_books::{Books, BooksFault, RowSink};
 use office_events::{Installation, Name, PollRow, Refusal};
 use office_laws::registers_are_in_turn;
 use std::alloc::Global;
+
+/// What a look-up is answered as.
+fn found<T: Drop>(answer: Result<Option<T>, BooksFault>) -> Result<T, Refusal>
+    ensures { result ≡ answered answer }
+{
+    match answer {
+        Ok(Some(row)) => Ok(row),
+        Ok(None) => Err(Refusal::NotFound),
+        Err(fault) => Err(Refusal::from(fault)),
+    }
+}
 
 /// The installation of a meter, as it stands.
 pub fn meter<B: Books>(books: &mut B, name: &Option<Name>) -> Result<Installation, Refusal>
@@ -24,10 +35,7 @@ pub fn meter<B: Books>(books: &mut B, name: &Option<Name>) -> Result<Installatio
     let Some(name) = name else {
         return Err(Refusal::NotFound);
     };
-    match books.meter(name)? {
-        None => Err(Refusal::NotFound),
-        Some(row) => Ok(row),
-    }
+    found(books.meter(name))
 }
 
 /// The poll of a number, and how it ended, if it has.
@@ -37,10 +45,7 @@ pub fn poll<B: Books>(books: &mut B, number: u64) -> Result<PollRow, Refusal>
     ensures asks { Asks (B.ledger books.old) (B.ledger books.new) result }
     ensures no_day { IfErr result NeedsNoDay }
 {
-    match books.poll(number)? {
-        None => Err(Refusal::NotFound),
-        Some(row) => Ok(row),
-    }
+    found(books.poll(number))
 }
 
 /// Hands on the energy of a meter by quarter hours, in order of their starts.
@@ -58,9 +63,7 @@ pub fn intervals<B: Books, K: RowSink<Share>>(
     let Some(name) = meter else {
         return Err(Refusal::NotFound);
     };
-    if books.meter(name)?.is_none() {
-        return Err(Refusal::NotFound);
-    }
+    found(books.meter(name))?;
     books.intervals(name, sink)?;
     Ok(())
 }
@@ -104,9 +107,7 @@ pub fn days<B: Books, K: RowSink<DayTotal>>(
     let Some(name) = register else {
         return Err(Refusal::NotFound);
     };
-    if books.register(name)?.is_none() {
-        return Err(Refusal::NotFound);
-    }
+    found(books.register(name))?;
     let days = days_of(alloc, books, name)?;
     hand_on(&days, sink);
     Ok(())
