@@ -56,6 +56,12 @@ in_a_question table bytes (look.Whole at) found holds tests = λ asked asks.
     let question : is_question asks.route ≡ true = ap is_question is ∙ tests.1.1 in
     cc (question, asks.leads.changes)
 
+pub asks_a_question : (table : Table) (bytes : List ℕ) (seen : Look) (found : Found) → Holds table bytes seen → TestsRequest table bytes seen (Ok (Question found)) → is_question found.route ≡ true
+asks_a_question table bytes look.Open found holds tests = absurd holds
+asks_a_question table bytes look.TooLarge found holds tests = cc tests
+asks_a_question table bytes look.NoHead found holds tests = cc tests
+asks_a_question table bytes (look.Whole at) found holds tests = tests.1.1
+
 -- the body of the request that was found gives what the one that is asked gives
 gives_again : (table : Table) (bytes : List ℕ) (at : Head) (found : Found) (posted : Posted) (asked : Asked) → IsWhole table bytes at
     → TestsHead table (start_at bytes at) (Ok (AskedCommand found posted)) → (asks : AsksOffice table bytes asked)

@@ -1,12 +1,12 @@
 -- What the bytes that were read want of an office.
-use Rattle.std.specs.Prelude.{◌≡◌, ◌⊎◌, ℕ, List, Ok, Err}
+use Rattle.std.specs.Prelude.{◌≡◌, ◌⊎◌, ℕ, true, List, Ok, Err}
 use Rattle.http_commands.specs.Given.{Gives}
 use Rattle.http_commands.specs.Few.{HasFewRows}
 use Rattle.http_commands.specs.declared.fault.CommandFault.{CommandFault}
 use Rattle.http_commands.specs.declared.fault.CommandFault.TheVariants.{Memory}
 use Rattle.http_request.specs.HeadTests.{Start}
 use Rattle.http_route.specs.Routes.{Table}
-use Rattle.http_route.specs.Targets.{name_in, name_of}
+use Rattle.http_route.specs.Targets.{is_question, name_in, name_of}
 use Rattle.http_route.specs.declared.routes.Route.{Route}
 use Rattle.http_route.specs.declared.targets.Found.{Found}
 use Rattle.http_status.specs.declared.Status.{Status}
@@ -43,6 +43,7 @@ pub record IsToldOff (table : Table) (bytes text : List ℕ) : Type 0 where
 
 -- the office is asked a question, and what it answers is the reply
 pub record IsQuestion (table : Table) (bytes : List ℕ) (found : Found) : Type 0 where
+  pub asks : is_question found.route ≡ true
   pub nothing : AsksNothing table bytes
   pub reply : (office : Office) → IsReply office table bytes (reply_bytes (question_reply office found.route (name_of found)))
 

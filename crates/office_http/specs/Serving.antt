@@ -8,13 +8,14 @@ use Rattle.office_rules.specs.History.{History}
 use Rattle.office_rules.specs.Refusals.{response_of, with_answer}
 use Rattle.office_books.specs.Ledgers.{Ledger}
 use Rattle.office_run.specs.Failing.{IsOutside}
-use Rattle.office_run.specs.Standing.{Stands, books_in}
+use Rattle.office_run.specs.Standing.{After, Stands, books_in, is_stopped}
 use Rattle.office_run.specs.Taking.{failures_of}
-use Rattle.office_run.specs.declared.office.Office as run
-use Rattle.http_reply.specs.Sending.{Outgoing, Puts}
+use Rattle.office_run.specs.declared.office.Office.{Office as Run}
+use Rattle.http_reply.specs.Sending as sending
+use Rattle.http_reply.specs.Sending.{OnlyGives, Outgoing}
 use Rattle.http_route.specs.Routes.{routes}
 use Rattle.http_answer.specs.Offices.{Office}
-use Rattle.http_answer.specs.Replies.{refused, reply_bytes}
+use Rattle.http_answer.specs.Replies.{poll_reply, refused, reply_bytes}
 use Rattle.http_answer.specs.Whole.{IsReply}
 use Rattle.http_wants.specs.Wanting.{AsksNothing, AsksOffice}
 use Rattle.office_http.specs.Answering.{AnswersAt}
@@ -57,13 +58,37 @@ abbrev pub IsPut : (cut : Option Refusal) → (put reply : List ℕ) → Type 0
 IsPut None put reply = reply ≡ put
 IsPut (Some why) put reply = (missing : List ℕ) × (reply ≡ put ++ missing)
 
--- A reply was put to an outlet, and the office stands after what it has accepted then.
-pub record Serves {B : Type 0} (ledger : B → Ledger) (past : History) (at : ℕ) (read : List ℕ) (old new : run.Office B)
-    (from to : Outgoing) (cut : Option Refusal) : Type 0 where
+-- A reply is answered to the bytes that were read, or what was put of it, and the office stands after what it has accepted.
+pub record Serves {B : Type 0} (ledger : B → Ledger) (past : History) (at : ℕ) (read : List ℕ) (old new : Run B)
+    (cut : Option Refusal) (put : List ℕ) : Type 0 where
   pub reply : List ℕ
+  pub is_put : IsPut cut put reply
   pub later : History
   pub served : IsServed (ledger (books_in old)).zone past at read (failures_of ledger old) (failures_of ledger new) cut reply later
   pub stands : Stands ledger later new
+
+-- it was put to an outlet
+pub record Puts {B : Type 0} (ledger : B → Ledger) (past : History) (at : ℕ) (read : List ℕ) (old new : Run B)
+    (from to : Outgoing) (cut : Option Refusal) : Type 0 where
   pub put : List ℕ
-  pub is_put : IsPut cut put reply
-  pub puts : Puts from to put
+  pub serves : Serves ledger past at read old new cut put
+  pub puts : sending.Puts from to put
+
+-- Whatever the books hold, no request stops the office, a wrong answer of a store that was taken as true stays one, and the
+-- zone stays.
+pub record Lasts {B : Type 0} (ledger : B → Ledger) (old new : Run B) : Type 0 where
+  pub stopped : is_stopped new ≡ is_stopped old
+  pub clean : (ledger (books_in new)).is_clean → (ledger (books_in old)).is_clean
+  pub zone : (ledger (books_in new)).zone ≡ (ledger (books_in old)).zone
+
+-- So a call serves what was read: by a reply that it puts to the outlet, and gives nothing else to its link.
+pub record PutsReply {B : Type 0} (ledger : B → Ledger) (at : ℕ) (read : List ℕ) (old new : Run B) (from to : Outgoing)
+    (cut : Option Refusal) : Type 0 where
+  pub serves : After ledger old new (λ past. Puts ledger past at read old new from to cut)
+  pub gives : OnlyGives from to
+  pub lasts : Lasts ledger old new
+
+-- The poll of a number is asked for, or of none, and what the office answers is the reply.
+pub record IsPollAsked (read : List ℕ) (number : Option ℕ) : Type 0 where
+  pub nothing : AsksNothing routes read
+  pub replies : (office : Office) → IsReply office routes read (reply_bytes (poll_reply office number))

@@ -1,24 +1,24 @@
 //! What an office answers, put as the reply.
 ghost use Rattle.std.specs.Prelude.{◌≡◌};
-ghost use Rattle.http_reply.specs.Sending.{OnlyGives};
 ghost use Rattle.http_route.specs.Routes.{routes};
-ghost use Rattle.http_wants.specs.Wanting.{IsAskedFor, IsQuestion};
-ghost use Rattle.office_run.specs.Standing.{After};
+ghost use Rattle.http_wants.specs.Wanting.{IsAskedFor, IsQuestion, Wants, HasFewFaults};
 ghost use Rattle.office_http.specs.Answering as answering;
-ghost use Rattle.office_http.specs.Handling.{Lasts};
-ghost use Rattle.office_http.specs.Serving.{Serves, ServesFound};
+ghost use Rattle.office_http.specs.Serving.{IsPollAsked, PutsReply};
 
-use http_answer::{kind_answered, name_asked, number_asked, put_done, put_fault, put_meter, put_poll};
+use http_answer::{
+    kind_answered, name_asked, number_asked, put_command_fault, put_done, put_fault, put_meter,
+    put_poll, put_refusal,
+};
 use http_reply::Outlet;
 use http_route::{Found, Route};
 use http_rows::{Replied, RowLines};
-use http_status::Status;
+use http_wants::Want;
 use mb_wire::Link;
 use office_books::Books;
-use office_events::{Answer, Asked, CommandKind, Event, Name, Refusal, StoreCause};
+use office_events::{Answer, Asked, CommandKind, Event, Refusal, StoreCause};
 use office_run::Office;
 
-/// What a command is told of its answer. No command is answered that it is noted.
+// What a command is told of its answer. No command is answered that it is noted.
 fn told(answer: Result<Answer, Refusal>) -> Result<CommandKind, Refusal>
     ensures { result ≡ answering.told answer }
 {
@@ -28,8 +28,8 @@ fn told(answer: Result<Answer, Refusal>) -> Result<CommandKind, Refusal>
     }
 }
 
-/// Asks a command of the office, and puts what it answers.
-pub fn put_asked<'l, L: Link, B: Books>(
+// Asks a command of the office.
+fn put_asked<'l, L: Link, B: Books>(
     bytes: &[u8],
     asked: Asked,
     office: &mut Office<B>,
@@ -37,32 +37,97 @@ pub fn put_asked<'l, L: Link, B: Books>(
     mut outlet: Outlet<'l, L>,
 ) -> Replied<'l, L>
     requires { IsAskedFor routes bytes.now asked }
-    ensures serves { After B.ledger office.old office.new (λ past. Serves B.ledger past moment bytes.now
-        office.old office.new outlet.entry result.outlet result.cut) }
-    ensures gives { OnlyGives outlet.entry result.outlet }
-    ensures lasts { Lasts B.ledger office.old office.new }
+    ensures { PutsReply B.ledger moment bytes.now office.old office.new
+        outlet.entry result.outlet result.cut }
 {
     let answer = office.feed(moment, &Event::Asked(asked));
     put_done(told(answer), &mut outlet);
     Replied { outlet, cut: None }
 }
 
-/// Asks for a meter, and puts what the office answers.
-fn put_meter_asked<'l, L: Link, B: Books>(
+// Asks for the poll of a number.
+fn put_poll_asked<'l, L: Link, B: Books>(
+    bytes: &[u8],
+    number: Option<u64>,
+    office: &mut Office<B>,
+    moment: u64,
+    mut outlet: Outlet<'l, L>,
+) -> Replied<'l, L>
+    requires { IsPollAsked bytes.now number }
+    ensures { PutsReply B.ledger moment bytes.now office.old office.new
+        outlet.entry result.outlet result.cut }
+{
+    match number {
+        None => put_refusal(Refusal::NotFound, &mut outlet),
+        Some(number) => put_poll(&office.poll(number), &mut outlet),
+    }
+    Replied { outlet, cut: None }
+}
+
+// Asks a question of the office.
+fn put_question<'l, L: Link, B: Books>(
     bytes: &[u8],
     found: &Found<'_>,
     office: &mut Office<B>,
     moment: u64,
     mut outlet: Outlet<'l, L>,
 ) -> Replied<'l, L>
-    requires question { IsQuestion routes bytes.now found.now }
-    requires route { found.now.route ≡ Route.Meter }
-    ensures serves { After B.ledger office.old office.new (λ past. Serves B.ledger past moment bytes.now
-        office.old office.new outlet.entry result.outlet result.cut) }
-    ensures gives { OnlyGives outlet.entry result.outlet }
-    ensures lasts { Lasts B.ledger office.old office.new }
+    requires { IsQuestion routes bytes.now found.now }
+    ensures { PutsReply B.ledger moment bytes.now office.old office.new
+        outlet.entry result.outlet result.cut }
 {
-    let answer = office.meter(&name_asked(found.name));
-    put_meter(&answer, &mut outlet);
-    Replied { outlet, cut: None }
+    match found.route {
+        Route::Meter => {
+            put_meter(&office.meter(&name_asked(found.name)), &mut outlet);
+            Replied { outlet, cut: None }
+        }
+        Route::Poll => put_poll_asked(bytes, number_asked(found.name), office, moment, outlet),
+        Route::Intervals => {
+            let mut lines = RowLines::new(outlet);
+            let answer = office.intervals(&name_asked(found.name), &mut lines);
+            lines.end(answer)
+        }
+        Route::Days => {
+            let mut lines = RowLines::new(outlet);
+            let answer = office.days(&name_asked(found.name), &mut lines);
+            lines.end(answer)
+        }
+        Route::Devices
+        | Route::List
+        | Route::Registers
+        | Route::Install
+        | Route::Exchange
+        | Route::Reset
+        | Route::Rescale
+        | Route::Manual
+        | Route::Close
+        | Route::Void => unreachable!(),
+    }
+}
+
+/// Puts the reply to what was read, for which the office is asked what is wanted of it.
+pub fn put_reply<'l, L: Link, B: Books>(
+    bytes: &[u8],
+    want: Want<'_>,
+    office: &mut Office<B>,
+    moment: u64,
+    mut outlet: Outlet<'l, L>,
+) -> Replied<'l, L>
+    requires wants { Wants routes bytes.now want.entry }
+    requires few { HasFewFaults want.entry }
+    ensures { PutsReply B.ledger moment bytes.now office.old office.new
+        outlet.entry result.outlet result.cut }
+{
+    match want {
+        Want::Nothing(status) => {
+            put_fault(status, &mut outlet);
+            Replied { outlet, cut: None }
+        }
+        Want::Refused(why) => {
+            put_command_fault(&why, &mut outlet);
+            Replied { outlet, cut: None }
+        }
+        Want::Answer(found) => put_question(bytes, &found, office, moment, outlet),
+        Want::Command(asked) => put_asked(bytes, asked, office, moment, outlet),
+    }
 }
