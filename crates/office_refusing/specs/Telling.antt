@@ -16,7 +16,8 @@ TellsWhy old new kept latest at e result = (past : History) → latest ≡ lates
     → old.holds (facts_of past) → new.is_clean → IfOk result (λ r. r ≡ refusal_of past at e)
 
 -- Why an event of a device is refused lies in the devices alone, whatever the books hold.
-pub record TellsAlone (kept : List Line) (latest at : ℕ) (e : Event) (result : Result (Option Refusal) BooksFault) : Type 0 where
+pub record TellsAlone (kept : List Line) (latest at : ℕ) (e : Event)
+    (result : Result (Option Refusal) BooksFault) : Type 0 where
   pub why : (past : History) → latest ≡ latest_of past → KeepsLines kept (lines_of past)
       → IfOk result (λ r. r ≡ refusal_of past at e)
   pub reason : IfOk result (λ r. IfSome r IsOfSession)

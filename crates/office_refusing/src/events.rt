@@ -12,9 +12,9 @@ use office_books::{Books, BooksFault};
 use office_events::{Event, Refusal};
 use office_lines::{Line, has_device, is_connected};
 
-/// Why an event is refused that comes at a moment after what was accepted, the latest of it at `latest`; `None` where nothing
-/// speaks against it. Of the reasons that apply it is the first. Books are asked no more than it takes to find it, each
-/// question once; where they fail, the event is not decided. Moments are seconds since 1970-01-01 UTC.
+/// Why an event is refused that comes at a moment after what was accepted, the latest of it at `latest`; `None` where
+/// nothing speaks against it. Of the reasons that apply it is the first. Books are asked no more than it takes to find
+/// it, each question once; where they fail, the event is not decided. Moments are seconds since 1970-01-01 UTC.
 pub fn refusal<B: Books>(
     books: &mut B,
     lines: &[Line],

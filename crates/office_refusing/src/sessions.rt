@@ -6,8 +6,8 @@ ghost use Rattle.office_refusing.specs.Reasons.{session_refusal};
 use crate::arrivals::Arrival;
 use office_events::Refusal;
 
-/// Why an event of a device is refused that comes so: whether its device is unknown, and whether the device is connected where
-/// it should not be, or is not where it should.
+/// Why an event of a device is refused that comes so: whether its device is unknown, and whether the device is
+/// connected where it should not be, or is not where it should.
 pub fn refusal_of_session(arrival: &Arrival, is_unknown: bool, is_busy: bool) -> Option<Refusal>
     ensures value { result ≡ session_refusal arrival.now is_unknown is_busy }
     ensures reason { IfSome result IsOfSession }

@@ -1,5 +1,4 @@
 pub mod Left
 pub mod Taken
 pub mod Reopened
-pub mod Asked
 pub mod Summing

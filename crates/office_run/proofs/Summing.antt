@@ -1,9 +1,8 @@
 -- Rows that a sink adds up to days, one after the other.
 use Rattle.std.proofs.Common.{◌≡◌, ℕ, ◌+◌, ◌≤◌, ◌<◌, List, [], ◌∷◌, ◌++◌, length, get_or, Option, Some, None, refl, sym, ap, subst, ◌∙◌, arith, append_assoc, length-append}
-use Rattle.std.specs.Prelude.{MatchOption, MatchResult, Result, Ok, Err, map, unwrap_or, sum_by}
+use Rattle.std.specs.Prelude.{MatchOption, MatchResult, Result, Ok, Err, map, unwrap_or}
 use Rattle.std.specs.declared.alloc.Global.{Global}
 use Rattle.std.specs.declared.vec.Vec.{Vec}
-use Rattle.std.specs.List.{All, Contains}
 use Rattle.std.proofs.Math.ListN.{get_or-append}
 use Rattle.std.proofs.Math.Seq.{get_or-append_seam}
 use Rattle.std.proofs.lemmas.List.{append-nil}
@@ -24,7 +23,7 @@ use Rattle.office_books.specs.Ledgers.{Ledger, OnlyReads}
 use Rattle.office_books.specs.Rows.{TakesAll, HandsOn}
 use Rattle.office_run.specs.declared.day_sink.DaySink.{DaySink}
 use Rattle.office_run.specs.Asking.{AddsUp}
-use Rattle.office_run.specs.DaySums.{MayFollow, UnlessFailed, HasAdded, AddsRow, TakesShare, EndsAs, as_refusal}
+use Rattle.office_run.specs.DaySums.{MayFollow, UnlessFailed, HasAdded, AddsRow, TakesShare, EndsAs}
 use Rattle.office_run.specs.Failing.{IsOutside}
 
 -- a row of a list may follow those before it there

@@ -152,8 +152,8 @@ abbrev pub NeedsNoDay : Refusal → Type 0
 NeedsNoDay (refusal.Store cause) = IsOfStore cause
 NeedsNoDay _ = Unit {0}
 
--- A question leaves the books as they were, whatever they hold: the facts, what a stop may leave, the zone, and that a wrong
--- answer of a store was taken as true.
+-- A question leaves the books as they were, whatever they hold: the facts, what a stop may leave, the zone, and that a
+-- wrong answer of a store was taken as true.
 pub record Asks {T : Type 0} (old new : Ledger) (result : Result T Refusal) : Type 0 where
   pub keeps : KeepsFacts old new
   pub counts : CountsAsked old.fault_count new.fault_count result

@@ -1,5 +1,5 @@
 -- A sink that adds interval rows up to civil days.
-use Rattle.std.specs.Prelude.{◌≡◌, ℕ, ◌+◌, ◌≤◌, ◌<◌, ◌^◌, List, [], ◌∷◌, ◌++◌, map, Option, Some, None, MatchOption, Result, Ok, Err, All}
+use Rattle.std.specs.Prelude.{◌≡◌, ◌+◌, ◌≤◌, ◌<◌, ◌^◌, List, [], ◌∷◌, ◌++◌, map, Option, Some, None, MatchOption, Result, Ok, Err, All}
 use Rattle.std.specs.declared.alloc.Global.{Global}
 use Rattle.std.specs.declared.vec.Vec.{Vec}
 use Rattle.interval_core.specs.Account.{energy_of}
@@ -15,8 +15,8 @@ use Rattle.office_events.specs.declared.refusals.StoreCause.TheVariants as store
 use Rattle.office_rules.specs.Facts.{moment_limit}
 use Rattle.office_run.specs.declared.day_sink.DaySink.{DaySink}
 
--- A row may follow these: none of them starts later, it isn't past the last moment, and the sum of all their energy has a
--- number of 128 bits.
+-- A row may follow these: none of them starts later, it isn't past the last moment, and the sum of all their energy has
+-- a number of 128 bits.
 pub record MayFollow (rows : List Share) (row : Share) : Type 0 where
   pub in_turn : All (λ earlier. earlier.start ≤ row.start) rows
   pub moment : row.start ≤ moment_limit
@@ -35,7 +35,8 @@ HasAdded sink rows = UnlessFailed sink.fault (HasTaken sink.zone rows sink.fold)
 -- One row more is added up, where it may follow.
 pub record AddsRow (old : DaySink) (row : Share) (new : DaySink) : Type 0 where
   pub zone : new.zone ≡ old.zone
-  pub added : (rows : List Share) → HasTaken old.zone rows old.fold → MayFollow rows row → HasAdded new (rows ++ row ∷ [])
+  pub added : (rows : List Share) → HasTaken old.zone rows old.fold → MayFollow rows row
+      → HasAdded new (rows ++ row ∷ [])
 
 -- The sink takes a row: it is added up, or dropped, where something failed before.
 abbrev pub TakesShare : DaySink → Share → DaySink → Type 0

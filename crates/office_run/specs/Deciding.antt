@@ -24,8 +24,8 @@ abbrev pub Decided : (old new : Ledger) → List Line → (latest at : ℕ) → 
 Decided old new kept latest at e result = (past : History) → latest ≡ latest_of past → KeepsLines kept (lines_of past)
     → old.holds (facts_of past) → new.is_clean → IfOk result (Decides past at e)
 
--- An event of a device is decided without the books: it is accepted where nothing speaks against it, whatever they hold,
--- and what else it is answered is no failure.
+-- An event of a device is decided without the books: it is accepted where nothing speaks against it, whatever they
+-- hold, and what else it is answered is no failure.
 pub record DecidesAlone {B : Type 0} (old new : B) (kept : List Line) (latest at : ℕ) (e : Event)
     (result : Result (Option (Result Answer Refusal)) BooksFault) : Type 0 where
   pub books : new ≡ old

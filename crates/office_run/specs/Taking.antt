@@ -27,13 +27,16 @@ IsAnswer past at e before after result =
     ((result ≡ response_of past at e) × (after ≡ before)) ⊎ FailsOutside before after result
 
 -- What the office tells is of this event alone: its outcomes and readings, and the frames that it wants sent.
-pub record IsTold {B : Type 0} (past : History) (at : ℕ) (e : Event) (result : Result Answer Refusal) (office : Office B) : Type 0 where
+pub record IsTold {B : Type 0} (past : History) (at : ℕ) (e : Event) (result : Result Answer Refusal)
+    (office : Office B) : Type 0 where
   pub notes : notes_in office ≡ notes_after past at e result
   pub outgoing : outgoing_in office ≡ outgoing_after past at e result
 
--- Whatever the books hold, the office refuses since it stopped exactly where it had; it stops where an event of a device
--- fails; the books' count of failures rises by those alone; and a wrong answer of a store that was taken as true stays one.
-pub record Ends {B : Type 0} (ledger : B → Ledger) (old new : Office B) (e : Event) (result : Result Answer Refusal) : Type 0 where
+-- Whatever the books hold, the office refuses since it stopped exactly where it had; it stops where an event of a
+-- device fails; the books' count of failures rises by those alone; and a wrong answer of a store that was taken as true
+-- stays one.
+pub record Ends {B : Type 0} (ledger : B → Ledger) (old new : Office B) (e : Event)
+    (result : Result Answer Refusal) : Type 0 where
   pub stopped : (result ≡ Err refusal.Stopped) ↔ (is_stopped old ≡ true)
   pub stops : is_stopped new ≡ (is_stopped old || stops e result)
   pub counts : Counts (ledger (books_in old)).fault_count (ledger (books_in new)).fault_count result
@@ -67,11 +70,14 @@ pub record Takes {B : Type 0} (ledger : B → Ledger) (past : History) (at : ℕ
   pub told : IsTold past at e result new
 
 -- So it is after every past after which it may be taken, or may be taken and is accepted.
-abbrev pub TakesAny : {B : Type 0} → (B → Ledger) → (at : ℕ) → Event → (old new : Office B) → Result Answer Refusal → Type 0
+abbrev pub TakesAny : {B : Type 0} → (B → Ledger) → (at : ℕ) → Event → (old new : Office B)
+    → Result Answer Refusal → Type 0
 TakesAny ledger at e old new result =
-    (past : History) → MayTake ledger past e old → (ledger (books_in new)).is_clean → Takes ledger past at e old new result
+    (past : History) → MayTake ledger past e old → (ledger (books_in new)).is_clean
+    → Takes ledger past at e old new result
 
-abbrev pub TakesAccepted : {B : Type 0} → (B → Ledger) → (at : ℕ) → Event → (old new : Office B) → Result Answer Refusal → Type 0
+abbrev pub TakesAccepted : {B : Type 0} → (B → Ledger) → (at : ℕ) → Event → (old new : Office B)
+    → Result Answer Refusal → Type 0
 TakesAccepted ledger at e old new result =
     (past : History) → MayTake ledger past e old → IsAccepted past at e → (ledger (books_in new)).is_clean
     → Takes ledger past at e old new result
@@ -81,9 +87,10 @@ abbrev pub IsNotStopped : Refusal → Type 0
 IsNotStopped refusal.Stopped = ⊥
 IsNotStopped _ = Unit {0}
 
--- The count of the books' failures rises by those alone, whatever they hold; a wrong answer of a store that was taken as
--- true stays one, and so do the zone and that the office goes on.
-pub record Passes {B : Type 0} (ledger : B → Ledger) (old new : Office B) (result : Result Answer Refusal) : Type 0 where
+-- The count of the books' failures rises by those alone, whatever they hold; a wrong answer of a store that was taken
+-- as true stays one, and so do the zone and that the office goes on.
+pub record Passes {B : Type 0} (ledger : B → Ledger) (old new : Office B)
+    (result : Result Answer Refusal) : Type 0 where
   pub counts : Counts (ledger (books_in old)).fault_count (ledger (books_in new)).fault_count result
   pub clean : (ledger (books_in new)).is_clean → (ledger (books_in old)).is_clean
   pub zone : (ledger (books_in new)).zone ≡ (ledger (books_in old)).zone

@@ -1,5 +1,6 @@
 //! The office.
-ghost use Rattle.std.specs.Prelude.{◌≡◌, ◌≤◌, ◌∷◌, true, false, None, Ok, Err, IfOk, IfErr, MatchResult};
+ghost use Rattle.std.specs.Prelude.{◌≡◌, ◌≤◌, ◌∷◌, true, false, None, Ok, Err};
+ghost use Rattle.std.specs.Prelude.{IfOk, IfErr, MatchResult};
 ghost use Rattle.std.specs.Option.{option_and_then};
 ghost use Rattle.office_rules.specs.Facts.{moment_limit};
 ghost use Rattle.office_rules.specs.History.{History, Opened};
@@ -141,8 +142,9 @@ impl<B: Books> Office<B> {
             Stands B.ledger (with_answer past moment event.now result) self.new) }
         ensures told { After B.ledger self.old self.new (λ past.
             IsTold past moment event.now result self.new) }
-        ensures quiet { (past : History) → Stands B.ledger past self.old → is_stopped self.old ≡ false
-            → SettlesNothing past moment event.now → IsQuiet self.old self.new result }
+        ensures quiet { (past : History) → Stands B.ledger past self.old
+            → is_stopped self.old ≡ false → SettlesNothing past moment event.now
+            → IsQuiet self.old self.new result }
         ensures ends { Ends B.ledger self.old self.new event.now result }
     {
         self.outgoing = Outgoing::none();

@@ -1,4 +1,4 @@
-use Rattle.std.proofs.Common.{List, [], ◌∷◌, ◌++◌, Option, refl, sym, subst, arith}
+use Rattle.std.proofs.Common.{[], ◌∷◌, ◌++◌, Option, refl, sym, subst, arith}
 use Rattle.interval_core.specs.Fold.{HasTaken}
 use Rattle.interval_core.specs.declared.day.DayFault.{DayFault}
 use Rattle.office_run.specs.DaySums.{UnlessFailed}
@@ -13,7 +13,7 @@ returns-then-row-unwrap_or c = record {
       let sink = c.args.self.now in
       let turn = no_earlier sink.zone rows sink.fold sink.latest c.args.row sink.in_step taken may in
       elim c.then-row-unwrap_or.branch [
-        then-row-unwrap_or-via-then-row-unwrap_or w ↦ omega (arith, turn, c.unwrap_or.ensures, w.if-row-unwrap_or.true)
+        | then-row-unwrap_or-via-then-row-unwrap_or w ↦ omega (arith, turn, c.unwrap_or.ensures, w.if-row-unwrap_or.true)
         | then-row-unwrap_or-via-else-row-unwrap_or+then-row-gt4102444800 w ↦ omega (arith, may.moment, w.if-row-gt4102444800.true)
       ];
 }
