@@ -11,11 +11,12 @@ use Rattle.office_run.specs.Failing.{IsOutside}
 use Rattle.office_run.specs.Standing.{After, Stands, books_in, is_stopped}
 use Rattle.office_run.specs.Taking.{failures_of}
 use Rattle.office_run.specs.declared.office.Office.{Office as Run}
+use Rattle.report_lines.specs.Lines.{days_text, intervals_text}
 use Rattle.http_reply.specs.Sending as sending
 use Rattle.http_reply.specs.Sending.{OnlyGives, Outgoing}
 use Rattle.http_route.specs.Routes.{routes}
 use Rattle.http_answer.specs.Offices.{Office}
-use Rattle.http_answer.specs.Replies.{poll_reply, refused, reply_bytes}
+use Rattle.http_answer.specs.Replies.{lines_reply, poll_reply, refused, reply_bytes}
 use Rattle.http_answer.specs.Whole.{IsReply}
 use Rattle.http_wants.specs.Wanting.{AsksNothing, AsksOffice}
 use Rattle.office_http.specs.Answering.{AnswersAt}
@@ -92,3 +93,12 @@ pub record PutsReply {B : Type 0} (ledger : B → Ledger) (at : ℕ) (read : Lis
 pub record IsPollAsked (read : List ℕ) (number : Option ℕ) : Type 0 where
   pub nothing : AsksNothing routes read
   pub replies : (office : Office) → IsReply office routes read (reply_bytes (poll_reply office number))
+
+-- So it is with the interval rows of a meter, and the days of a register.
+pub record AreIntervalsAsked (read : List ℕ) (meter : Option (List ℕ)) : Type 0 where
+  pub nothing : AsksNothing routes read
+  pub replies : (office : Office) → IsReply office routes read (reply_bytes (lines_reply intervals_text (office.intervals meter)))
+
+pub record AreDaysAsked (read : List ℕ) (register : Option (List ℕ)) : Type 0 where
+  pub nothing : AsksNothing routes read
+  pub replies : (office : Office) → IsReply office routes read (reply_bytes (lines_reply days_text (office.days register)))

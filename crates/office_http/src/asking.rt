@@ -3,7 +3,7 @@ ghost use Rattle.std.specs.Prelude.{◌≡◌};
 ghost use Rattle.http_route.specs.Routes.{routes};
 ghost use Rattle.http_wants.specs.Wanting.{IsAskedFor, IsQuestion, Wants, HasFewFaults};
 ghost use Rattle.office_http.specs.Answering as answering;
-ghost use Rattle.office_http.specs.Serving.{IsPollAsked, PutsReply};
+ghost use Rattle.office_http.specs.Serving.{AreDaysAsked, AreIntervalsAsked, IsPollAsked, PutsReply};
 
 use http_answer::{
     kind_answered, name_asked, number_asked, put_command_fault, put_done, put_fault, put_meter,
@@ -14,8 +14,10 @@ use http_route::{Found, Route};
 use http_rows::{Replied, RowLines};
 use http_wants::Want;
 use mb_wire::Link;
+use meter_journal::{interval_rows_are_accounts, rows_lie_within, voids_go_no_further};
 use office_books::Books;
-use office_events::{Answer, Asked, CommandKind, Event, Refusal, StoreCause};
+use office_events::{Answer, Asked, CommandKind, Event, Name, Refusal, StoreCause};
+use office_lawful::facts_are_lawful;
 use office_run::Office;
 
 // What a command is told of its answer. No command is answered that it is noted.
@@ -64,6 +66,44 @@ fn put_poll_asked<'l, L: Link, B: Books>(
     Replied { outlet, cut: None }
 }
 
+// Asks for the interval rows of a meter.
+fn put_intervals<'l, L: Link, B: Books>(
+    bytes: &[u8],
+    meter: &Option<Name>,
+    office: &mut Office<B>,
+    moment: u64,
+    outlet: Outlet<'l, L>,
+) -> Replied<'l, L>
+    requires { AreIntervalsAsked bytes.now meter.now }
+    ensures { PutsReply B.ledger moment bytes.now office.old office.new
+        outlet.entry result.outlet result.cut }
+{
+    facts_are_lawful();
+    interval_rows_are_accounts();
+    rows_lie_within();
+    voids_go_no_further();
+    let mut lines = RowLines::new(outlet);
+    let answer = office.intervals(meter, &mut lines);
+    lines.end(answer)
+}
+
+// Asks for the days of a register.
+fn put_days<'l, L: Link, B: Books>(
+    bytes: &[u8],
+    register: &Option<Name>,
+    office: &mut Office<B>,
+    moment: u64,
+    outlet: Outlet<'l, L>,
+) -> Replied<'l, L>
+    requires { AreDaysAsked bytes.now register.now }
+    ensures { PutsReply B.ledger moment bytes.now office.old office.new
+        outlet.entry result.outlet result.cut }
+{
+    let mut lines = RowLines::new(outlet);
+    let answer = office.days(register, &mut lines);
+    lines.end(answer)
+}
+
 // Asks a question of the office.
 fn put_question<'l, L: Link, B: Books>(
     bytes: &[u8],
@@ -82,16 +122,8 @@ fn put_question<'l, L: Link, B: Books>(
             Replied { outlet, cut: None }
         }
         Route::Poll => put_poll_asked(bytes, number_asked(found.name), office, moment, outlet),
-        Route::Intervals => {
-            let mut lines = RowLines::new(outlet);
-            let answer = office.intervals(&name_asked(found.name), &mut lines);
-            lines.end(answer)
-        }
-        Route::Days => {
-            let mut lines = RowLines::new(outlet);
-            let answer = office.days(&name_asked(found.name), &mut lines);
-            lines.end(answer)
-        }
+        Route::Intervals => put_intervals(bytes, &name_asked(found.name), office, moment, outlet),
+        Route::Days => put_days(bytes, &name_asked(found.name), office, moment, outlet),
         Route::Devices
         | Route::List
         | Route::Registers
