@@ -9,19 +9,20 @@ use Rattle.office_events.specs.declared.refusals.Refusal.TheVariants as refusal
 use Rattle.office_rules.specs.History.{History}
 use Rattle.office_rules.specs.Refusals.{response_of, with_answer}
 use Rattle.office_books.specs.Ledgers.{Ledger}
-use Rattle.office_run.specs.Asking.{IsFound, or_not_found}
+use Rattle.office_run.specs.Asking.{IsFound, OnlyAsks, or_not_found}
 use Rattle.office_run.specs.Failing.{FailsOutside}
-use Rattle.office_run.specs.Standing.{Stands, books_in}
-use Rattle.office_run.specs.Taking.{IsAnswer, failures_of}
+use Rattle.office_run.specs.Standing.{Stands, books_in, is_stopped}
+use Rattle.office_run.specs.Taking.{Ends, IsAnswer, failures_of}
 use Rattle.office_run.specs.declared.office.Office.{Office as Run}
+use Rattle.http_commands.specs.declared.fault.CommandFault.{CommandFault}
 use Rattle.http_route.specs.Routes.{routes}
 use Rattle.http_answer.specs.Kinds.{done_text}
 use Rattle.http_answer.specs.Offices.{Office}
-use Rattle.http_answer.specs.Replies.{refused, reply_bytes, row_reply}
+use Rattle.http_answer.specs.Replies.{fault_said, refused, reply_bytes, row_reply}
 use Rattle.http_answer.specs.Whole.{IsReply}
-use Rattle.http_wants.specs.Wanting.{AsksNothing, IsAskedFor}
+use Rattle.http_wants.specs.Wanting.{AsksNothing, IsAskedFor, IsNoCommand}
 use Rattle.office_http.specs.Answering.{AnswersAt, told}
-use Rattle.office_http.specs.Serving.{Serves}
+use Rattle.office_http.specs.Serving.{Lasts, Serves}
 
 -- a reply that no office is asked for
 pub told_off : {B : Type 0} (ledger : B → Ledger) (past : History) (at : ℕ) (read : List ℕ) (old new : Run B) (text : List ℕ)
@@ -99,3 +100,26 @@ command_told ledger past at read old new asked (Err why) wanted (inr fails) stan
   served = inr record { why = why; outside = fails; tells = refl; unchanged = refl };
   stands = stands;
 }
+
+or_none : (b : Bool) → (b || false) ≡ b
+or_none true = refl
+or_none false = refl
+
+-- a command stops no office
+pub lasts_fed : {B : Type 0} (ledger : B → Ledger) (old new : Run B) (asked : Asked) (answer : Result Answer Refusal)
+    → Ends ledger old new (event.Asked asked) answer → Lasts ledger old new
+lasts_fed ledger old new asked answer ends = record { stopped = ends.stops ∙ or_none (is_stopped old); clean = ends.clean; zone = ends.zone }
+
+-- nor does a question
+pub lasts_asked : {B T : Type 0} (ledger : B → Ledger) (old new : Run B) (answer : Result T Refusal) → OnlyAsks ledger old new answer → Lasts ledger old new
+lasts_asked ledger old new answer asks = record { stopped = asks.stays; clean = asks.clean; zone = asks.zone }
+
+pub lasts_same : {B : Type 0} (ledger : B → Ledger) (office : Run B) → Lasts ledger office office
+lasts_same ledger office = record { stopped = refl; clean = λ x. x; zone = refl }
+
+-- a body that gives no command
+pub no_command_told : {B : Type 0} (ledger : B → Ledger) (past : History) (at : ℕ) (read : List ℕ) (office : Run B) (why : CommandFault)
+    → IsNoCommand routes read why → Stands ledger past office → Serves ledger past at read office office None (reply_bytes (fault_said why))
+no_command_told ledger past at read office why (inl memory) stands =
+    subst (λ w. Serves ledger past at read office office None (reply_bytes (fault_said w))) (sym memory) (no_memory ledger past at read office office refl stands)
+no_command_told ledger past at read office why (inr off) stands = told_off ledger past at read office office _ refl off.nothing off.reply stands

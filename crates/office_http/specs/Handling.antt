@@ -1,5 +1,5 @@
 -- What one call of `handle` does.
-use Rattle.std.specs.Prelude.{◌≡◌, ◌+◌, ◌-◌, ◌^◌, ℕ, min, Bool, true, false, List, [], Option, Some, None, Result, Ok, Err}
+use Rattle.std.specs.Prelude.{◌≡◌, ◌⊎◌, ◌+◌, ◌-◌, ◌^◌, ℕ, min, Bool, true, false, List, [], Option, Some, None, Result, Ok, Err}
 use Rattle.std.specs.Io.KnownBytes.{Consumes, IsAtEnd, Keeps}
 use Rattle.mb_wire.specs.Links.{risen}
 use Rattle.mb_wire.specs.declared.link.LastTake.{LastTake}
@@ -50,6 +50,15 @@ ended (Err failed) cut = Err Write
 ended (Ok x) None = Ok x
 ended (Ok x) (Some why) = Err Cut
 
+-- it ends so only where a reply was put
+abbrev pub IsEnd : Result (Unit {0}) HandleFault → Type 0
+IsEnd (Ok x) = Unit {0}
+IsEnd (Err Write) = Unit {0}
+IsEnd (Err Cut) = Unit {0}
+IsEnd (Err Read) = ⊥
+IsEnd (Err Short) = ⊥
+IsEnd (Err TurnsUsed) = ⊥
+
 -- What a contract sees of a link before and after a call.
 pub record Passage : Type 0 where
   pub remaining : Option (List ℕ)
@@ -67,21 +76,25 @@ passage remaining later_remaining given later_given last = record {
   last = last;
 }
 
+-- Nothing more was taken once what was read held a request, or a bad head: before the last take it went on.
+abbrev pub StopsReading : (read : List ℕ) → Option LastTake → Type 0
+StopsReading read last = (read ≡ []) ⊎ TakesWhatLacks (GoesOn routes) [] read last
+
 -- A reply is answered to what was read. Of what was put of it all was given, or at Write a beginning.
-pub record GivesReply {B : Type 0} (ledger : B → Ledger) (past : History) (at : ℕ) (old new : Office B) (link : Passage)
-    (read : List ℕ) (result : Result (Unit {0}) HandleFault) : Type 0 where
+pub record GivesReply {B : Type 0} (ledger : B → Ledger) (past : History) (at : ℕ) (old new : Office B)
+    (given later_given : Option (List ℕ)) (read : List ℕ) (result : Result (Unit {0}) HandleFault) : Type 0 where
   pub cut : Option Refusal
   pub sent : Result (Unit {0}) LinkFailed
   pub ends : result ≡ ended sent cut
   pub put : List ℕ
   pub serves : Serves ledger past at read old new cut put
-  pub gives : Gives sent link.given link.later_given put
+  pub gives : Gives sent given later_given put
 
 -- What was read holds a request, or a bad head; nothing more was taken once it did, and a reply was given.
 pub record Replies {B : Type 0} (ledger : B → Ledger) (at : ℕ) (old new : Office B) (link : Passage)
     (read : List ℕ) (result : Result (Unit {0}) HandleFault) : Type 0 where
-  pub stops : TakesWhatLacks (GoesOn routes) [] read link.last
-  pub replies : After ledger old new (λ past. GivesReply ledger past at old new link read result)
+  pub stops : StopsReading read link.last
+  pub replies : After ledger old new (λ past. GivesReply ledger past at old new link.given link.later_given read result)
 
 -- What was read holds no request and no bad head: nothing was given, and the office is as it was.
 pub record ReadsOn {B : Type 0} (old new : Office B) (link : Passage) (read : List ℕ) : Type 0 where
@@ -109,13 +122,13 @@ pub record Handles {B : Type 0} (ledger : B → Ledger) (at : ℕ) (old new : Of
 -- where there were 100,000 of them. The counts stay at 2^64 - 1.
 pub record CountsLink (result : Result (Unit {0}) HandleFault) (failed later_failed taken later_taken : ℕ) : Type 0 where
   pub failures : later_failed ≡ risen (is_link_fault result) failed
-  pub turns : result ≡ Err TurnsUsed → later_taken ≡ min (taken + 100000) (2 ^ 64 - 1)
+  pub turns : result ≡ Err TurnsUsed → (count : ℕ) → taken ≡ min count (2 ^ 64 - 1) → later_taken ≡ min (count + 100000) (2 ^ 64 - 1)
 
 -- There was no memory for a request: once a head was read, or a bad one, that is replied, and no office is asked.
 pub record RepliesBare (link : Passage) (read : List ℕ) (result : Result (Unit {0}) HandleFault) : Type 0 where
   pub sent : Result (Unit {0}) LinkFailed
   pub ends : result ≡ ended sent None
-  pub stops : TakesWhatLacks (GoesOn routes) [] read link.last
+  pub stops : StopsReading read link.last
   pub gives : Gives sent link.given link.later_given (reply_bytes (refused refusal.Memory))
 
 pub record ReadsOnBare (link : Passage) (read : List ℕ) : Type 0 where

@@ -60,10 +60,16 @@ fn put_poll_asked<'l, L: Link, B: Books>(
         outlet.entry result.outlet result.cut }
 {
     match number {
-        None => put_refusal(Refusal::NotFound, &mut outlet),
-        Some(number) => put_poll(&office.poll(number), &mut outlet),
+        None => {
+            put_refusal(Refusal::NotFound, &mut outlet);
+            Replied { outlet, cut: None }
+        }
+        Some(number) => {
+            let answer = office.poll(number);
+            put_poll(&answer, &mut outlet);
+            Replied { outlet, cut: None }
+        }
     }
-    Replied { outlet, cut: None }
 }
 
 // Asks for the interval rows of a meter.
@@ -118,7 +124,8 @@ fn put_question<'l, L: Link, B: Books>(
 {
     match found.route {
         Route::Meter => {
-            put_meter(&office.meter(&name_asked(found.name)), &mut outlet);
+            let answer = office.meter(&name_asked(found.name));
+            put_meter(&answer, &mut outlet);
             Replied { outlet, cut: None }
         }
         Route::Poll => put_poll_asked(bytes, number_asked(found.name), office, moment, outlet),
@@ -145,8 +152,8 @@ pub fn put_reply<'l, L: Link, B: Books>(
     moment: u64,
     mut outlet: Outlet<'l, L>,
 ) -> Replied<'l, L>
-    requires wants { Wants routes bytes.now want.entry }
-    requires few { HasFewFaults want.entry }
+    requires wants { Wants routes bytes.now want }
+    requires few { HasFewFaults want }
     ensures { PutsReply B.ledger moment bytes.now office.old office.new
         outlet.entry result.outlet result.cut }
 {

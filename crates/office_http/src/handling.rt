@@ -1,7 +1,11 @@
 //! One request in, one reply out.
-ghost use Rattle.std.specs.Prelude.{◌≡◌, ◌≤◌, length, IfOk, vec_len};
+ghost use Rattle.std.specs.Prelude.{◌≡◌, ◌≤◌, length};
+ghost use Rattle.std.specs.Io.KnownBytes.{Keeps};
+ghost use Rattle.mb_wire.specs.Links.{risen};
 ghost use Rattle.http_route.specs.Routes.{routes};
-ghost use Rattle.office_http.specs.Handling.{CountsLink, Handles, HandlesBare, ended, passage};
+ghost use Rattle.http_wants.specs.Wanting.{HasFewFaults, Wants};
+ghost use Rattle.office_run.specs.Standing.{After};
+ghost use Rattle.office_http.specs.Handling.{CountsLink, GivesReply, Handles, HandlesBare, IsEnd, ended, is_link_fault, passage};
 ghost use Rattle.office_http.specs.Serving.{Lasts};
 
 use crate::asking::put_reply;
@@ -11,14 +15,14 @@ use http_read::{Inbox, read_head};
 use http_reply::Outlet;
 use http_route::{Route, router};
 use http_rows::Replied;
-use http_wants::wanted;
-use http_whole::{MOST_ROOM, read_request};
+use http_wants::{Want, wanted};
+use http_whole::read_request;
 use matchit::Router;
 use mb_wire::{Link, LinkFailed};
 use office_books::Books;
 use office_events::Refusal;
 use office_run::Office;
-use std::alloc::{AllocError, Global};
+use std::alloc::Global;
 
 // How a request ends to which a reply was put.
 fn ended(sent: Result<(), LinkFailed>, cut: Option<Refusal>) -> Result<(), HandleFault>
@@ -48,6 +52,31 @@ fn refuse<L: Link>(link: &mut L) -> Result<(), HandleFault>
     ended(sent, None)
 }
 
+// Replies to a request that was read.
+fn reply<L: Link, B: Books>(
+    bytes: &[u8],
+    want: Want<'_>,
+    link: &mut L,
+    office: &mut Office<B>,
+    moment: u64,
+) -> Result<(), HandleFault>
+    requires wants { Wants routes bytes.now want }
+    requires few { HasFewFaults want }
+    ensures gives { After B.ledger office.old office.new (λ past. GivesReply B.ledger past moment
+        office.old office.new (L.given link.old) (L.given link.new) bytes.now result) }
+    ensures ends { IsEnd result }
+    ensures remaining { Keeps (L.remaining link.old) (L.remaining link.new) }
+    ensures last { L.last link.new ≡ L.last link.old }
+    ensures failures { L.failed link.new ≡ risen (is_link_fault result) (L.failed link.old) }
+    ensures lasts { Lasts B.ledger office.old office.new }
+{
+    let outlet = Outlet::new(link);
+    let Replied { mut outlet, cut } = put_reply(bytes, want, office, moment, outlet);
+    let sent = outlet.finish();
+    outlet.into_link();
+    ended(sent, cut)
+}
+
 // Reads a request, and replies to it.
 fn serve<L: Link, B: Books>(
     alloc: Global,
@@ -67,12 +96,8 @@ fn serve<L: Link, B: Books>(
 {
     let mut inbox = Inbox::new(room);
     let look = read_request(router, &mut inbox, link)?;
-    let bytes = inbox.bytes();
-    let want = wanted(alloc, router, bytes, &look);
-    let Replied { mut outlet, cut } = put_reply(bytes, want, office, moment, Outlet::new(link));
-    let sent = outlet.finish();
-    outlet.into_link();
-    ended(sent, cut)
+    let want = wanted(alloc, router, inbox.bytes(), &look);
+    reply(inbox.bytes(), want, link, office, moment)
 }
 
 /// Serves one request by HTTP/1.1: reads it from the link, asks the office, and replies. Moments are seconds since

@@ -4,7 +4,6 @@
 mod asking;
 mod fault;
 mod handling;
-mod serving;
 
 pub use fault::HandleFault;
 pub use handling::handle;
