@@ -1,7 +1,7 @@
 -- Bytes that are given in parts.
 use Rattle.std.proofs.Common.{◌≡◌, ◌∙◌, ℕ, ◌-◌, Bool, true, false, List, [], ◌++◌, length, take, drop, Option, Result, Ok, Err, refl, sym, ap, subst, append_assoc, is_err, not, ◌&&◌}
 use Rattle.std.specs.Io.KnownBytes.{Appends}
-use Rattle.std.proofs.KnownBytes.{Appends-trans, Keeps-trans}
+use Rattle.std.proofs.KnownBytes.{Appends-nil, Appends-trans, Keeps-refl, Keeps-trans}
 use Rattle.std.proofs.lemmas.List.{append-nil, take-append-drop, take_rest}
 use Rattle.http_reply.specs.Giving.{Gives}
 use Rattle.mb_wire.specs.Links.{risen}
@@ -84,8 +84,13 @@ risen_twice false true true count ab bc = refl
 risen_twice false true false count ab bc = let e = bc refl in cc e
 risen_twice false false c count ab bc = refl
 
+risen_none : (failed : Bool) (count : ℕ) → count ≡ risen (failed && not failed) count
+risen_none true count = refl
+risen_none false count = refl
+
 OnlyGives-then : {x y z : Outgoing} → OnlyGives x y → OnlyGives y z → OnlyGives x z
 OnlyGives-then {x = x} {y = y} {z = z} first next = record {
+  link = next.link ∙ first.link;
   stays = λ failed. next.stays (first.stays failed);
   failures = next.failures ∙ ap (risen (z.failed && not y.failed)) first.failures ∙ risen_twice x.failed y.failed z.failed x.failures first.stays next.stays;
   remaining = Keeps-trans x.remaining y.remaining z.remaining first.remaining next.remaining;
@@ -105,3 +110,30 @@ pub Sends-all : (base given : Option (List ℕ)) (held : List ℕ) (failed : Boo
 Sends-all base given held failed all works none sends =
     let order : all ≡ sends.sent = sends.in_order ∙ ap (λ l. sends.sent ++ l) (sends.whole works ∙ none) ∙ append-nil sends.sent in
     subst (Appends base given) (sym order) sends.came
+
+-- nothing was put yet
+pub HasPut-none : (base given : Option (List ℕ)) (held : List ℕ) (failed : Bool) → given ≡ base → held ≡ [] → Sends base given held failed []
+HasPut-none base given held failed same none = record {
+  sent = [];
+  left = [];
+  in_order = refl;
+  came = subst (λ b. Appends base b []) (sym same) (Appends-nil base);
+  whole = λ _. sym none;
+}
+
+-- a call that puts nothing
+OnlyGives-none : (x : Outgoing) → OnlyGives x x
+OnlyGives-none x = record {
+  link = refl;
+  stays = λ failed. failed;
+  failures = risen_none x.failed x.failures;
+  remaining = Keeps-refl x.remaining;
+  takes = refl;
+  last = refl;
+}
+
+pub Puts-none : (x : Outgoing) → Puts x x []
+Puts-none x = record {
+  put = λ base all so_far. subst (Sends base x.given x.held x.failed) (sym (append-nil all)) so_far;
+  link = OnlyGives-none x;
+}

@@ -1,6 +1,7 @@
 -- What of the bytes that were put has come to the peer.
 use Rattle.std.specs.Prelude.{◌≡◌, ℕ, Bool, true, false, not, ◌&&◌, List, ◌++◌, Option}
 use Rattle.std.specs.Io.KnownBytes.{Appends, Keeps}
+use base.Fml.{GName}
 use Rattle.mb_wire.specs.Links.{risen}
 use Rattle.mb_wire.specs.declared.link.LastTake.{LastTake}
 
@@ -13,9 +14,10 @@ pub record Sends (base given : Option (List ℕ)) (held : List ℕ) (failed : Bo
   pub came : Appends base given sent
   pub whole : failed ≡ false → left ≡ held
 
--- What a contract sees of an outlet: what its link tells of itself, which bytes are held back, and whether a
--- give has failed.
+-- What a contract sees of an outlet: which link it is to, what that tells of itself, which bytes are held back, and
+-- whether a give has failed.
 pub record Outgoing : Type 0 where
+  pub link : GName
   pub given : Option (List ℕ)
   pub remaining : Option (List ℕ)
   pub failures : ℕ
@@ -28,9 +30,10 @@ pub record Outgoing : Type 0 where
 abbrev pub HasPut : Option (List ℕ) → Outgoing → List ℕ → Type 0
 HasPut base out all = Sends base out.given out.held out.failed all
 
--- Nothing was taken from the link, whose count of failures rises exactly where a give fails; once one has
--- failed no more is given.
+-- The outlet is to the same link. Nothing was taken from it, and its count of failures rises exactly where a give
+-- fails; once one has failed no more is given.
 pub record OnlyGives (old new : Outgoing) : Type 0 where
+  pub link : new.link ≡ old.link
   pub stays : old.failed ≡ true → new.failed ≡ true
   pub failures : new.failures ≡ risen (new.failed && not old.failed) old.failures
   pub remaining : Keeps old.remaining new.remaining

@@ -18,6 +18,7 @@ impl<'l, L: Link> Model for Outlet<'l, L> {
     ghost Value = { Outgoing };
 
     ghost view = { λ outlet. record {
+      link = outlet.link.ghost_name;
       given = L.given outlet.link.now;
       remaining = L.remaining outlet.link.now;
       failures = L.failed outlet.link.now;
@@ -31,6 +32,7 @@ impl<'l, L: Link> Model for Outlet<'l, L> {
 impl<'l, L: Link> Outlet<'l, L> {
     /// An outlet to this link, to which nothing was put.
     pub fn new(link: &'l mut L) -> Outlet<'l, L>
+        ensures link { result.link ≡ link.entry.ghost_name }
         ensures given { result.given ≡ L.given link.entry.now }
         ensures failures { result.failures ≡ L.failed link.entry.now }
         ensures takes { result.takes ≡ L.taken link.entry.now }
@@ -65,5 +67,18 @@ impl<'l, L: Link> Outlet<'l, L> {
         } else {
             Ok(())
         }
+    }
+
+    /// Hands the link back.
+    pub fn into_link(self) -> &'l mut L
+        ensures link { result.ghost_name ≡ self.entry.link }
+        ensures given { L.given result.now ≡ self.entry.given }
+        ensures remaining { L.remaining result.now ≡ self.entry.remaining }
+        ensures failures { L.failed result.now ≡ self.entry.failures }
+        ensures takes { L.taken result.now ≡ self.entry.takes }
+        ensures last { L.last result.now ≡ self.entry.last }
+    {
+        let Outlet { link, outbox: _ } = self;
+        link
     }
 }

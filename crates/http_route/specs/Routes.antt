@@ -1,9 +1,9 @@
 -- The table of routes.
-use Rattle.std.specs.Prelude.{ℕ, List, [], ◌∷◌, Option, Some, None, Result, Ok, Err, codes}
+use Rattle.std.specs.Prelude.{◌≡◌, ℕ, List, [], ◌∷◌, Option, Some, None, Result, Ok, Err, codes}
 use Rattle.matchit.specs.Params.{walk}
 use Rattle.matchit.specs.Order.{placed}
 use Rattle.matchit.specs.Route.{Scan, parse_route}
-use Rattle.matchit.specs.Router.{RouteOf, route_from}
+use Rattle.matchit.specs.Router.{RouteOf, nearest, route_from}
 use Rattle.matchit.specs.Rows.{RowsOf}
 use Rattle.matchit.specs.declared.error.InsertError.{InsertError}
 use Rattle.http_route.specs.declared.routes.Route.{Route}
@@ -21,6 +21,14 @@ with_route (Err e) value rows = rows
 -- rows with one more route, by its text
 abbrev pub add : List ℕ → Route → Table → Table
 add text value rows = with_route (parse_route text) value rows
+
+-- a route's text reads well, and conflicts with none of the rows
+abbrev pub FitsRead : Result Scan InsertError → Table → Type 0
+FitsRead (Ok s) rows = nearest s.pattern rows ≡ None
+FitsRead (Err e) rows = ⊥
+
+abbrev pub Fits : List ℕ → Table → Type 0
+Fits text rows = FitsRead (parse_route text) rows
 
 -- the routes, each with what it asks for
 abbrev pub routes : Table

@@ -1,9 +1,9 @@
 // The routes, and their router.
-ghost use Rattle.std.specs.Prelude.{◌≡◌, IfOk};
-ghost use Rattle.http_route.specs.Routes.{routes};
+ghost use Rattle.std.specs.Prelude.{◌≡◌, IfOk, OnOk};
+ghost use Rattle.http_route.specs.Routes.{Fits, add, routes};
 
 use matchit::{InsertError, Router};
-use std::alloc::Global;
+use std::alloc::{AllocError, Global};
 
 /// What a target asks for.
 #[derive(Clone, Copy, Debug, PartialEq, Eq, Drop)]
@@ -45,24 +45,39 @@ impl Route {
     }
 }
 
-/// The router of the table. An `Err` is want of memory, since the routes fit one another; no clause says so.
-pub fn router(alloc: Global) -> Result<Router<Route>, InsertError>
+// Adds a route whose text reads well, and which fits those before it.
+fn add(router: &mut Router<Route>, text: &str, route: Route) -> Result<(), AllocError>
+    requires { Fits text.now router.old }
+    ensures { OnOk result (router.new ≡ add text.now route router.old) }
+{
+    match router.insert(text, route) {
+        Ok(()) => Ok(()),
+        Err(InsertError::OutOfMemory) => Err(AllocError),
+        Err(InsertError::Conflict { .. }) => unreachable!(),
+        Err(InsertError::InvalidParamSegment) => unreachable!(),
+        Err(InsertError::InvalidParam) => unreachable!(),
+        Err(InsertError::InvalidCatchAll) => unreachable!(),
+    }
+}
+
+/// The router of the table.
+pub fn router(alloc: Global) -> Result<Router<Route>, AllocError>
     ensures { IfOk result (λ r. r ≡ routes) }
 {
     let mut router = Router::new(alloc);
-    router.insert("/devices", Route::Devices)?;
-    router.insert("/devices/{name}/list", Route::List)?;
-    router.insert("/registers", Route::Registers)?;
-    router.insert("/registers/{name}/install", Route::Install)?;
-    router.insert("/registers/{name}/exchange", Route::Exchange)?;
-    router.insert("/registers/{name}/reset", Route::Reset)?;
-    router.insert("/registers/{name}/rescale", Route::Rescale)?;
-    router.insert("/registers/{name}/manual", Route::Manual)?;
-    router.insert("/registers/{name}/close", Route::Close)?;
-    router.insert("/registers/{name}/days", Route::Days)?;
-    router.insert("/meters/{name}", Route::Meter)?;
-    router.insert("/meters/{name}/intervals", Route::Intervals)?;
-    router.insert("/meters/{name}/void", Route::Void)?;
-    router.insert("/polls/{number}", Route::Poll)?;
+    add(&mut router, "/devices", Route::Devices)?;
+    add(&mut router, "/devices/{name}/list", Route::List)?;
+    add(&mut router, "/registers", Route::Registers)?;
+    add(&mut router, "/registers/{name}/install", Route::Install)?;
+    add(&mut router, "/registers/{name}/exchange", Route::Exchange)?;
+    add(&mut router, "/registers/{name}/reset", Route::Reset)?;
+    add(&mut router, "/registers/{name}/rescale", Route::Rescale)?;
+    add(&mut router, "/registers/{name}/manual", Route::Manual)?;
+    add(&mut router, "/registers/{name}/close", Route::Close)?;
+    add(&mut router, "/registers/{name}/days", Route::Days)?;
+    add(&mut router, "/meters/{name}", Route::Meter)?;
+    add(&mut router, "/meters/{name}/intervals", Route::Intervals)?;
+    add(&mut router, "/meters/{name}/void", Route::Void)?;
+    add(&mut router, "/polls/{number}", Route::Poll)?;
     Ok(router)
 }

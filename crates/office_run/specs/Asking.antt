@@ -1,5 +1,5 @@
 -- How questions are answered, and what they leave.
-use Rattle.std.specs.Prelude.{◌≡◌, ◌⊎◌, ◌↔◌, ℕ, true, List, [], map, Option, Some, None, Result, Ok, Err, MatchResult, IfErr, OnOk, OnErr}
+use Rattle.std.specs.Prelude.{◌≡◌, ◌⊎◌, ◌↔◌, ℕ, ◌<◌, ◌^◌, length, true, List, [], map, Option, Some, None, Result, Ok, Err, MatchResult, IfErr, OnOk, OnErr}
 use Rattle.std.specs.Option.{option_map, option_and_then}
 use Rattle.std.specs.declared.alloc.Global.{Global}
 use Rattle.std.specs.declared.vec.Vec.{Vec}
@@ -65,11 +65,13 @@ abbrev pub AreDaysNamed : Zone → List Fact → (register : Option (List ℕ)) 
 AreDaysNamed zone facts None days = ⊥
 AreDaysNamed zone facts (Some register) days = AreDaysOf zone facts register days
 
--- The sink took the days of a register, one for each civil day on which one of its interval rows begins, in order.
+-- The sink took the days of a register, one for each civil day on which one of its interval rows begins, in order. A number
+-- of 64 bits counts them.
 pub record TakesDays {S : Type 0} (takes : S → DayTotal → S → Type 0) (zone : Zone) (facts : List Fact)
     (register : Option (List ℕ)) (from to : S) : Type 0 where
   pub days : List DayTotal
   pub are : AreDaysNamed zone facts register (map account_of days)
+  pub few : length days < 2 ^ 64
   pub took : TakesAll takes from days to
 
 -- Days are asked for. The sink took all of them at Ok, and else none.

@@ -1,5 +1,5 @@
 //! Questions, asked of the books.
-ghost use Rattle.std.specs.Prelude.{◌≡◌, IfErr};
+ghost use Rattle.std.specs.Prelude.{◌≡◌, ◌<◌, ◌^◌, length, IfErr};
 ghost use Rattle.std.specs.Option.{option_and_then};
 ghost use Rattle.office_rules.specs.Meters.{meter_of};
 ghost use Rattle.office_rules.specs.Readings.{poll_row_of};
@@ -70,7 +70,8 @@ pub fn intervals<B: Books, K: RowSink<Share>>(
 
 /// Hands on all days, in their order.
 fn hand_on<K: RowSink<DayTotal>>(days: &[DayTotal], sink: &mut K)
-    ensures { TakesAll K.takes sink.old days.now sink.new }
+    ensures took { TakesAll K.takes sink.old days.now sink.new }
+    ensures few { length days.now < 2 ^ 64 }
 {
     for day in days {
         sink.put(*day);

@@ -1,0 +1,38 @@
+-- A report that is put to an outlet row by row.
+use Rattle.std.specs.Prelude.{◌≡◌, ◌<◌, ◌+◌, ◌++◌, ◌==◌, ℕ, min, if◌then◌else◌, List, [], ◌∷◌, flat_map, Option, Some, None, Result, Ok, Err}
+use Rattle.http_reply.specs.Replies.{text_head}
+use Rattle.http_reply.specs.Sending.{Outgoing, Puts}
+use Rattle.office_events.specs.declared.refusals.Refusal.{Refusal}
+use Rattle.report_lines.specs.Lines.{end_line}
+use Rattle.http_answer.specs.Replies.{refused, reply_bytes}
+
+-- What a contract sees of a report: the outlet to which it is put, and how many rows were put.
+pub record Report : Type 0 where
+  pub out : Outgoing
+  pub count : ℕ
+
+-- the count stays at 2^64 - 1
+abbrev pub counted : ℕ → ℕ
+counted count = min count 18446744073709551615
+
+-- The head of the reply comes before the first line.
+abbrev pub head_before : (count : ℕ) → List ℕ
+head_before count = if count == 0 then text_head else []
+
+-- one line more
+pub record PutsLine (line : List ℕ) (old new : Report) : Type 0 where
+  pub puts : Puts old.out new.out (head_before old.count ++ line)
+  pub count : new.count ≡ counted (old.count + 1)
+
+-- the head and the lines of rows; where there are none, nothing yet
+abbrev pub rows_begun : {T : Type 0} → (line : T → List ℕ) → List T → List ℕ
+rows_begun line [] = []
+rows_begun line (row ∷ rows) = text_head ++ flat_map line (row ∷ rows)
+
+-- A report ends with the count of its rows. A refusal is the whole reply where no row was put before; else it cuts the
+-- report off there.
+abbrev pub EndsReport : Report → Result (Unit {0}) Refusal → Outgoing → Option Refusal → Type 0
+EndsReport report (Ok x) out cut = Puts report.out out (head_before report.count ++ end_line report.count) × (cut ≡ None)
+EndsReport report (Err why) out cut =
+    (report.count ≡ 0 → Puts report.out out (reply_bytes (refused why)) × (cut ≡ None))
+    × (0 < report.count → (out ≡ report.out) × (cut ≡ Some why))

@@ -1,0 +1,12 @@
+-- What a body gives is one.
+use Rattle.std.specs.Prelude.{◌≡◌, ◌≢◌, ℕ, List, Option, Result, Err}
+use Rattle.http_commands.specs.Given.{Gives}
+use Rattle.http_commands.specs.declared.fault.CommandFault.{CommandFault}
+use Rattle.http_commands.specs.declared.fault.CommandFault.TheVariants.{Memory}
+use Rattle.http_route.specs.declared.routes.Route.{Route}
+use Rattle.office_events.specs.declared.commands.Command.{Command}
+
+-- Where memory is not wanting, the body of a route's request gives one command, or one fault.
+abbrev pub BodiesGiveOne : Type 0
+BodiesGiveOne = (at : Route) (name : Option (List ℕ)) (body : List ℕ) (one other : Result Command CommandFault)
+    → Gives at name body one → Gives at name body other → one ≢ Err Memory → other ≢ Err Memory → one ≡ other

@@ -1,0 +1,4 @@
+pub mod Served
+pub mod Few
+pub mod Reported
+pub mod Handled

@@ -1,0 +1,292 @@
+-- Reports that are answered to what was read.
+use Rattle.std.proofs.Common.{◌≡◌, ◌∙◌, ◌⊎◌, ℕ, zero, suc, ◌+◌, ◌<◌, ◌≤◌, List, [], ◌∷◌, ◌++◌, length, take, drop, Option, Some, None, Result, Ok, Err, inl, inr, refl, sym, ap, subst, arith, append_assoc}
+use Rattle.std.specs.Prelude.{flat_map, map}
+use Rattle.std.specs.Option.{option_and_then}
+use Rattle.std.proofs.lemmas.Bool.Decides.{nat_tests}
+use Rattle.std.proofs.lemmas.Grind.{flat_map-append}
+use Rattle.std.proofs.lemmas.List.{take-append-drop}
+use Rattle.interval_core.specs.Report.{day_line}
+use Rattle.interval_core.specs.declared.totals.DayTotal.{DayTotal}
+use Rattle.office_events.specs.declared.refusals.Refusal.{Refusal}
+use Rattle.office_events.specs.declared.refusals.Refusal.TheVariants as refusal
+use Rattle.office_events.specs.declared.facts.Register.{Register}
+use Rattle.office_rules.specs.Facts.{register_of}
+use Rattle.office_rules.specs.History.{History, facts_of}
+use Rattle.office_books.specs.Ledgers.{Ledger}
+use Rattle.office_books.specs.Rows.{TakesAll}
+use Rattle.office_run.specs.Asking.{HandsDays, HandsRows, IsFound, is_there, or_not_found, rows_in}
+use Rattle.office_run.specs.Failing.{IsOutside}
+use Rattle.office_run.specs.Standing.{Stands, books_in}
+use Rattle.office_run.specs.Taking.{failures_of}
+use Rattle.office_run.specs.declared.office.Office.{Office as Run}
+use Rattle.report_lines.specs.Lines.{days_text, end_line}
+use Rattle.http_reply.specs.Replies.{text_head}
+use Rattle.http_reply.specs.Sending as sending
+use Rattle.http_reply.specs.Sending.{OnlyGives, Outgoing}
+use Rattle.http_reply.proofs.Giving.{Puts-none, Puts-then}
+use Rattle.http_route.specs.Routes.{routes}
+use Rattle.http_answer.specs.Offices.{Office}
+use Rattle.http_answer.specs.Replies.{lines_reply, refused, reply_bytes}
+use Rattle.http_answer.specs.Whole.{IsReply}
+use Rattle.http_rows.specs.Reports.{EndsReport, PutsLine, Report, counted, head_before, rows_begun}
+use Rattle.http_rows.proofs.Reports.{first_put}
+use Rattle.http_wants.specs.Wanting.{AsksNothing}
+use Rattle.office_http.specs.Answering.{AnswersAt, IsRegister}
+use Rattle.office_http.specs.Serving.{Puts}
+
+abbrev most : ℕ
+most = 18446744073709551615
+
+-- the lines of rows, and how many there are
+abbrev pub report_text : {T : Type 0} → (line : T → List ℕ) → List T → List ℕ
+report_text line rows = flat_map line rows ++ end_line (length rows)
+
+-- how a sink takes rows as lines
+abbrev pub takes_lines : {T : Type 0} → (line : T → List ℕ) → Report → T → Report → Type 0
+takes_lines line old row new = PutsLine (line row) old new
+
+counted_is : (n count : ℕ) → count ≡ counted (0 + n) → n ≤ most → count ≡ n
+counted_is n count is few = grind (arith, nat_tests)
+
+head_later : (count : ℕ) → 0 < count → head_before count ≡ []
+head_later count h = grind (arith, nat_tests)
+
+count_from : (start n : ℕ) (count : ℕ) → start ≡ 0 → count ≡ counted (start + n) → count ≡ counted (0 + n)
+count_from start n count none is = is ∙ ap (λ s. counted (s + n)) none
+
+whole_at : {T : Type 0} (line : T → List ℕ) (rows : List T)
+    → rows_begun line rows ++ (head_before (length rows) ++ end_line (length rows)) ≡ text_head ++ report_text line rows
+whole_at line [] = refl
+whole_at line (row ∷ rows) =
+    let lines = flat_map line (row ∷ rows) in
+    let end = end_line (length (row ∷ rows)) in
+    ap (λ head. (text_head ++ lines) ++ (head ++ end)) (head_later (length (row ∷ rows)) (omega arith)) ∙ append_assoc text_head lines end
+
+-- a report that was ended
+ended_whole : {T : Type 0} (line : T → List ℕ) (rows : List T) (start lines : Report) (out : Outgoing) (cut : Option Refusal)
+    → TakesAll (takes_lines line) start rows lines → start.count ≡ 0 → length rows ≤ most → EndsReport lines (Ok tt) out cut
+    → sending.Puts start.out out (text_head ++ report_text line rows) × (cut ≡ None)
+ended_whole line rows start lines out cut took none few ends =
+    let first = first_put line start lines rows none took in
+    let count = counted_is (length rows) lines.count (count_from start.count (length rows) lines.count none first.counts) few in
+    let end = subst (λ n. sending.Puts lines.out out (head_before n ++ end_line n)) count ends.0 in
+    (subst (sending.Puts start.out out) (whole_at line rows) (Puts-then first.puts end), ends.1)
+
+-- one that was refused before its first row
+ended_refused : (start lines : Report) (why : Refusal) (out : Outgoing) (cut : Option Refusal) → lines ≡ start → start.count ≡ 0
+    → EndsReport lines (Err why) out cut → sending.Puts start.out out (reply_bytes (refused why)) × (cut ≡ None)
+ended_refused start lines why out cut same none ends =
+    let end = ends.0 (ap (λ (r : Report). r.count) same ∙ none) in
+    (subst (λ (r : Report). sending.Puts r.out out (reply_bytes (refused why))) same end.0, end.1)
+
+-- what of the reply comes later
+missing_is : {T : Type 0} (line : T → List ℕ) (rows first : List T) (n : ℕ) (row : T) (rest : List T) → first ≡ take n rows → first ≡ row ∷ rest
+    → text_head ++ report_text line rows ≡ (text_head ++ flat_map line first) ++ (flat_map line (drop n rows) ++ end_line (length rows))
+missing_is line rows first n row rest is some =
+    let end = end_line (length rows) in
+    let all : flat_map line rows ≡ flat_map line first ++ flat_map line (drop n rows) =
+    ap (flat_map line) (sym (take-append-drop n rows)) ∙ flat_map-append line (take n rows) (drop n rows)
+    ∙ ap (λ f. flat_map line f ++ flat_map line (drop n rows)) (sym is) in
+    ap (λ t. text_head ++ (t ++ end)) all
+    ∙ ap (λ t. text_head ++ t) (append_assoc (flat_map line first) (flat_map line (drop n rows)) end)
+    ∙ sym (append_assoc text_head (flat_map line first) (flat_map line (drop n rows) ++ end))
+
+some_rows : (n count : ℕ) → count ≡ counted (0 + suc n) → 0 < count
+some_rows n count is = grind (arith, nat_tests)
+
+below : {n : ℕ} → n < 18446744073709551616 → n ≤ most
+below h = omega (arith, h)
+
+-- what is found is not unknown, and the other way round
+abbrev whole_answer : Unit {0} → Result (Unit {0}) Refusal
+whole_answer x = Ok x
+
+abbrev refused_answer : Refusal → Result (Unit {0}) Refusal
+refused_answer why = Err why
+
+not_found : (x : Unit {0}) → whole_answer x ≡ or_not_found None → ⊥
+not_found x is = cc is
+
+found_not : (why : Refusal) → refused_answer why ≡ or_not_found (Some tt) → ⊥
+found_not why is = cc is
+
+unknown : (why : Refusal) → refused_answer why ≡ or_not_found None → refusal.NotFound ≡ why
+unknown why is = cc is
+
+there : (u : Unit {0}) → Some u ≡ None → ⊥
+there u is = cc is
+
+abbrev no_rows : (T : Type 0) → List T
+no_rows T = []
+
+nil_take : {T : Type 0} (n : ℕ) → take n (no_rows T) ≡ []
+nil_take zero = refl
+nil_take (suc n) = refl
+
+module _ {B : Type 0} (ledger : B → Ledger) (past : History) (at : ℕ) (read : List ℕ) (old new : Run B) where
+  -- a report that is whole
+  whole_served : (text : List ℕ) (from out : Outgoing) (cut : Option Refusal) → failures_of ledger new ≡ failures_of ledger old → AsksNothing routes read
+      → ((office : Office) → AnswersAt (ledger (books_in old)).zone past at office → IsReply office routes read (text_head ++ text))
+      → Stands ledger past new → sending.Puts from out (text_head ++ text) × (cut ≡ None) → Puts ledger past at read old new from out cut
+  whole_served text from out cut count nothing replies stands put =
+      subst (Puts ledger past at read old new from out) (sym put.1) (record {
+        put = text_head ++ text;
+        serves = record {
+          reply = text_head ++ text;
+          is_put = refl;
+          later = past;
+          served = inl (record { replies = replies; asked = None; asks = nothing; accepts = refl }, count);
+          stands = stands;
+        };
+        puts = put.0;
+      })
+
+  -- one whose name is unknown
+  unknown_served : (why : Refusal) (from out : Outgoing) (cut : Option Refusal) → failures_of ledger new ≡ failures_of ledger old → AsksNothing routes read
+      → ((office : Office) → AnswersAt (ledger (books_in old)).zone past at office → IsReply office routes read (reply_bytes (refused why)))
+      → Stands ledger past new → sending.Puts from out (reply_bytes (refused why)) × (cut ≡ None) → Puts ledger past at read old new from out cut
+  unknown_served why from out cut count nothing replies stands put =
+      subst (Puts ledger past at read old new from out) (sym put.1) (record {
+        put = reply_bytes (refused why);
+        serves = record {
+          reply = reply_bytes (refused why);
+          is_put = refl;
+          later = past;
+          served = inl (record { replies = replies; asked = None; asks = nothing; accepts = refl }, count);
+          stands = stands;
+        };
+        puts = put.0;
+      })
+
+  -- one for which the books failed before the first row
+  failed_served : (why : Refusal) (from out : Outgoing) (cut : Option Refusal) → IsOutside (failures_of ledger old) (failures_of ledger new) why
+      → Stands ledger past new → sending.Puts from out (reply_bytes (refused why)) × (cut ≡ None) → Puts ledger past at read old new from out cut
+  failed_served why from out cut outside stands put =
+      subst (Puts ledger past at read old new from out) (sym put.1) (record {
+        put = reply_bytes (refused why);
+        serves = record {
+          reply = reply_bytes (refused why);
+          is_put = refl;
+          later = past;
+          served = inr record { why = why; outside = outside; tells = refl; unchanged = refl };
+          stands = stands;
+        };
+        puts = put.0;
+      })
+
+  -- one for which they failed later
+  cut_served : (why : Refusal) (text put missing : List ℕ) (from to out : Outgoing) (cut : Option Refusal) → IsOutside (failures_of ledger old) (failures_of ledger new) why
+      → AsksNothing routes read
+      → ((office : Office) → AnswersAt (ledger (books_in old)).zone past at office → IsReply office routes read text)
+      → Stands ledger past new → text ≡ put ++ missing → sending.Puts from to put → (out ≡ to) × (cut ≡ Some why) → Puts ledger past at read old new from out cut
+  cut_served why text put missing from to out cut outside nothing replies stands is puts ends =
+      subst (Puts ledger past at read old new from out) (sym ends.1) (record {
+        put = put;
+        serves = record {
+          reply = text;
+          is_put = (missing, is);
+          later = past;
+          served = (record { replies = replies; asked = None; asks = nothing; accepts = refl }, outside);
+          stands = stands;
+        };
+        puts = subst (λ o. sending.Puts from o put) (sym ends.0) puts;
+      })
+
+  -- the books failed after these rows
+  after_rows : {T : Type 0} (line : T → List ℕ) (rows first : List T) (n : ℕ) (start lines : Report) (why : Refusal) (out : Outgoing) (cut : Option Refusal)
+      → first ≡ take n rows → TakesAll (takes_lines line) start first lines → start.count ≡ 0 → EndsReport lines (Err why) out cut
+      → IsOutside (failures_of ledger old) (failures_of ledger new) why → AsksNothing routes read
+      → ((office : Office) → AnswersAt (ledger (books_in old)).zone past at office → IsReply office routes read (text_head ++ report_text line rows))
+      → Stands ledger past new → Puts ledger past at read old new start.out out cut
+  after_rows line rows [] n start lines why out cut is took none ends outside nothing replies stands =
+      failed_served why start.out out cut outside stands (ended_refused start lines why out cut took none ends)
+  after_rows line rows (row ∷ rest) n start lines why out cut is took none ends outside nothing replies stands =
+      let first = row ∷ rest in
+      let begun = first_put line start lines first none took in
+      let some : 0 < lines.count = some_rows (length rest) lines.count (count_from start.count (length first) lines.count none begun.counts) in
+      cut_served why (text_head ++ report_text line rows) (text_head ++ flat_map line first) (flat_map line (drop n rows) ++ end_line (length rows))
+      start.out lines.out out cut outside nothing replies stands (missing_is line rows first n row rest is refl) begun.puts (ends.1 some)
+
+  -- the rows of a meter
+  pub rows_told : {T : Type 0} (line : T → List ℕ) (rows : Option (List T)) (start lines : Report) (answer : Result (Unit {0}) Refusal) (out : Outgoing) (cut : Option Refusal)
+      → HandsRows (takes_lines line) rows (failures_of ledger old) (failures_of ledger new) start lines answer → start.count ≡ 0 → EndsReport lines answer out cut
+      → length (rows_in rows) ≤ most → AsksNothing routes read
+      → ((office : Office) → AnswersAt (ledger (books_in old)).zone past at office → IsReply office routes read (reply_bytes (lines_reply (report_text line) (or_not_found rows))))
+      → Stands ledger past new → Puts ledger past at read old new start.out out cut
+  rows_told line None start lines (Ok x) out cut hands none ends few nothing replies stands = elim hands.answer [
+    | inl is ↦ absurd (not_found x is.0)
+    | inr fails ↦ absurd fails
+  ]
+  rows_told line (Some rows) start lines (Ok x) out cut hands none ends few nothing replies stands = elim hands.answer [
+    | inl is ↦ whole_served (report_text line rows) start.out out cut is.1 nothing replies stands (ended_whole line rows start lines out cut hands.whole none few ends)
+    | inr fails ↦ absurd fails
+  ]
+  rows_told line None start lines (Err why) out cut hands none ends few nothing replies stands =
+      let same : lines ≡ start = subst (λ rs. TakesAll (takes_lines line) start rs lines) (nil_take hands.begun.0) hands.begun.1 in
+      let put = ended_refused start lines why out cut same none ends in
+      elim hands.answer [
+        | inl is ↦ unknown_served why start.out out cut is.1 nothing (λ office answers. subst (λ w. IsReply office routes read (reply_bytes (refused w))) (unknown why is.0) (replies office answers)) stands put
+        | inr fails ↦ failed_served why start.out out cut fails stands put
+      ]
+  rows_told line (Some rows) start lines (Err why) out cut hands none ends few nothing replies stands = elim hands.answer [
+    | inl is ↦ absurd (found_not why is.0)
+    | inr fails ↦ after_rows line rows (take hands.begun.0 rows) hands.begun.0 start lines why out cut refl hands.begun.1 none ends fails nothing replies stands
+  ]
+
+  -- the days of a register that is known
+  days_whole : (name : Option (List ℕ)) (start lines : Report) (x : Unit {0}) (out : Outgoing) (cut : Option Refusal)
+      → HandsDays (takes_lines day_line) (ledger (books_in old)).zone (facts_of past) name (failures_of ledger old) (failures_of ledger new) start lines (Ok x)
+      → start.count ≡ 0 → EndsReport lines (Ok x) out cut → AsksNothing routes read
+      → ((office : Office) → IsReply office routes read (reply_bytes (lines_reply days_text (office.days name))))
+      → Stands ledger past new → (found : Option (Unit {0})) → is_there (option_and_then (register_of (facts_of past)) name) ≡ found
+      → IsFound found (failures_of ledger old) (failures_of ledger new) (Ok x) → Puts ledger past at read old new start.out out cut
+  days_whole name start lines x out cut hands none ends nothing replies stands found is (inr fails) = absurd fails
+  days_whole name start lines x out cut hands none ends nothing replies stands None is (inl so) = absurd (not_found x so.0)
+  days_whole name start lines x out cut hands none ends nothing replies stands (Some u) is (inl so) =
+      let told = hands.whole in
+      let known : IsRegister (facts_of past) name = λ lacks. there u (sym is ∙ ap is_there lacks) in
+      whole_served (report_text day_line told.days) start.out out cut so.1 nothing
+      (λ office answers. subst (λ a. IsReply office routes read (reply_bytes (lines_reply days_text a))) (answers.days.known name told.days known told.are) (replies office)) stands
+      (ended_whole day_line told.days start lines out cut told.took none (below told.few) ends)
+
+  days_refused : (name : Option (List ℕ)) (start lines : Report) (why : Refusal) (out : Outgoing) (cut : Option Refusal)
+      → lines ≡ start → start.count ≡ 0 → EndsReport lines (Err why) out cut → AsksNothing routes read
+      → ((office : Office) → IsReply office routes read (reply_bytes (lines_reply days_text (office.days name))))
+      → Stands ledger past new → (found : Option Register) → option_and_then (register_of (facts_of past)) name ≡ found
+      → IsFound (is_there found) (failures_of ledger old) (failures_of ledger new) (Err why) → Puts ledger past at read old new start.out out cut
+  days_refused name start lines why out cut same none ends nothing replies stands found is (inr fails) =
+      failed_served why start.out out cut fails stands (ended_refused start lines why out cut same none ends)
+  days_refused name start lines why out cut same none ends nothing replies stands (Some r) is (inl so) = absurd (found_not why so.0)
+  days_refused name start lines why out cut same none ends nothing replies stands None is (inl so) =
+      unknown_served why start.out out cut so.1 nothing
+      (λ office answers. subst (λ w. IsReply office routes read (reply_bytes (refused w))) (unknown why so.0)
+      (subst (λ a. IsReply office routes read (reply_bytes (lines_reply days_text a))) (answers.days.unknown name is) (replies office))) stands
+      (ended_refused start lines why out cut same none ends)
+
+  pub days_told : (name : Option (List ℕ)) (start lines : Report) (answer : Result (Unit {0}) Refusal) (out : Outgoing) (cut : Option Refusal)
+      → HandsDays (takes_lines day_line) (ledger (books_in old)).zone (facts_of past) name (failures_of ledger old) (failures_of ledger new) start lines answer
+      → start.count ≡ 0 → EndsReport lines answer out cut → AsksNothing routes read
+      → ((office : Office) → IsReply office routes read (reply_bytes (lines_reply days_text (office.days name))))
+      → Stands ledger past new → Puts ledger past at read old new start.out out cut
+  days_told name start lines (Ok x) out cut hands none ends nothing replies stands =
+      days_whole name start lines x out cut hands none ends nothing replies stands (is_there (option_and_then (register_of (facts_of past)) name)) refl hands.answer
+  days_told name start lines (Err why) out cut hands none ends nothing replies stands =
+      days_refused name start lines why out cut hands.none none ends nothing replies stands (option_and_then (register_of (facts_of past)) name) refl hands.answer
+
+zero_or_more : (n : ℕ) → (n ≡ 0) ⊎ (0 < n)
+zero_or_more zero = inl refl
+zero_or_more (suc n) = inr (omega arith)
+
+-- whatever the books hold, nothing but a reply was given
+ended_gives : (lines : Report) (answer : Result (Unit {0}) Refusal) (out : Outgoing) (cut : Option Refusal) → EndsReport lines answer out cut
+    → (text : List ℕ) × sending.Puts lines.out out text
+ended_gives lines (Ok x) out cut ends = (_, ends.0)
+ended_gives lines (Err why) out cut ends = elim (zero_or_more lines.count) [
+  | inl none ↦ (_, (ends.0 none).0)
+  | inr some ↦ ([], subst (λ o. sending.Puts lines.out o []) (sym (ends.1 some).0) (Puts-none lines.out))
+]
+
+pub lines_give : {T : Type 0} (line : T → List ℕ) (rows : List T) (start lines : Report) (answer : Result (Unit {0}) Refusal) (out : Outgoing) (cut : Option Refusal)
+    → TakesAll (takes_lines line) start rows lines → start.count ≡ 0 → EndsReport lines answer out cut → OnlyGives start.out out
+lines_give line rows start lines answer out cut took none ends =
+    (Puts-then (first_put line start lines rows none took).puts (ended_gives lines answer out cut ends).1).link

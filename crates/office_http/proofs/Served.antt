@@ -1,0 +1,125 @@
+-- Replies that are answered to what was read.
+use Rattle.std.proofs.Common.{◌≡◌, ◌∙◌, ◌⊎◌, ℕ, Bool, true, false, not, ◌&&◌, List, Option, Some, None, Result, Ok, Err, inl, inr, refl, sym, ap, subst}
+use Rattle.std.specs.Prelude.{◌||◌}
+use Rattle.office_events.specs.declared.answers.Answer.{Answer}
+use Rattle.office_events.specs.declared.events.Asked.{Asked}
+use Rattle.office_events.specs.declared.events.Event.TheVariants as event
+use Rattle.office_events.specs.declared.refusals.Refusal.{Refusal}
+use Rattle.office_events.specs.declared.refusals.Refusal.TheVariants as refusal
+use Rattle.office_rules.specs.History.{History}
+use Rattle.office_rules.specs.Refusals.{response_of, with_answer}
+use Rattle.office_books.specs.Ledgers.{Ledger}
+use Rattle.office_run.specs.Asking.{IsFound, OnlyAsks, or_not_found}
+use Rattle.office_run.specs.Failing.{FailsOutside}
+use Rattle.office_run.specs.Standing.{Stands, books_in, is_stopped}
+use Rattle.office_run.specs.Taking.{Ends, IsAnswer, failures_of}
+use Rattle.office_run.specs.declared.office.Office.{Office as Run}
+use Rattle.http_commands.specs.declared.fault.CommandFault.{CommandFault}
+use Rattle.http_route.specs.Routes.{routes}
+use Rattle.http_answer.specs.Kinds.{done_text}
+use Rattle.http_answer.specs.Offices.{Office}
+use Rattle.http_answer.specs.Replies.{fault_said, refused, reply_bytes, row_reply}
+use Rattle.http_answer.specs.Whole.{IsReply}
+use Rattle.http_wants.specs.Wanting.{AsksNothing, IsAskedFor, IsNoCommand}
+use Rattle.office_http.specs.Answering.{AnswersAt, told}
+use Rattle.office_http.specs.Serving.{Lasts, Serves}
+
+-- a reply that no office is asked for
+pub told_off : {B : Type 0} (ledger : B → Ledger) (past : History) (at : ℕ) (read : List ℕ) (old new : Run B) (text : List ℕ)
+    → new ≡ old → AsksNothing routes read → ((office : Office) → IsReply office routes read text) → Stands ledger past old
+    → Serves ledger past at read old new None text
+told_off ledger past at read old new text same nothing reply stands = record {
+  reply = text;
+  is_put = refl;
+  later = past;
+  served = inl (record { replies = λ office answers. reply office; asked = None; asks = nothing; accepts = refl }, ap (failures_of ledger) same);
+  stands = subst (Stands ledger past) (sym same) stands;
+}
+
+-- want of memory before the office was asked
+pub no_memory : {B : Type 0} (ledger : B → Ledger) (past : History) (at : ℕ) (read : List ℕ) (old new : Run B)
+    → new ≡ old → Stands ledger past old → Serves ledger past at read old new None (reply_bytes (refused refusal.Memory))
+no_memory ledger past at read old new same stands = record {
+  reply = reply_bytes (refused refusal.Memory);
+  is_put = refl;
+  later = past;
+  served = inr record { why = refusal.Memory; outside = ap (failures_of ledger) same; tells = refl; unchanged = refl };
+  stands = subst (Stands ledger past) (sym same) stands;
+}
+
+-- the answer to a question for one row
+pub row_told : {B T : Type 0} (ledger : B → Ledger) (past : History) (at : ℕ) (read : List ℕ) (old new : Run B) (text : T → List ℕ)
+    (found : Option T) (answer : Result T Refusal) → IsFound found (failures_of ledger old) (failures_of ledger new) answer
+    → AsksNothing routes read → ((office : Office) → AnswersAt (ledger (books_in old)).zone past at office → IsReply office routes read (reply_bytes (row_reply text (or_not_found found))))
+    → Stands ledger past new → Serves ledger past at read old new None (reply_bytes (row_reply text answer))
+row_told ledger past at read old new text found answer (inl is) nothing reply stands = record {
+  reply = reply_bytes (row_reply text answer);
+  is_put = refl;
+  later = past;
+  served = inl (record {
+    replies = λ office answers. subst (λ a. IsReply office routes read (reply_bytes (row_reply text a))) (sym is.0) (reply office answers);
+    asked = None;
+    asks = nothing;
+    accepts = refl;
+  }, is.1);
+  stands = stands;
+}
+row_told ledger past at read old new text found (Ok x) (inr fails) nothing reply stands = absurd fails
+row_told ledger past at read old new text found (Err why) (inr fails) nothing reply stands = record {
+  reply = reply_bytes (refused why);
+  is_put = refl;
+  later = past;
+  served = inr record { why = why; outside = fails; tells = refl; unchanged = refl };
+  stands = stands;
+}
+
+-- the answer to a command
+pub command_told : {B : Type 0} (ledger : B → Ledger) (past : History) (at : ℕ) (read : List ℕ) (old new : Run B) (asked : Asked)
+    (answer : Result Answer Refusal) → IsAskedFor routes read asked
+    → IsAnswer past at (event.Asked asked) (failures_of ledger old) (failures_of ledger new) answer
+    → Stands ledger (with_answer past at (event.Asked asked) answer) new
+    → Serves ledger past at read old new None (reply_bytes (row_reply done_text (told answer)))
+command_told ledger past at read old new asked answer wanted (inl is) stands = record {
+  reply = reply_bytes (row_reply done_text (told answer));
+  is_put = refl;
+  later = with_answer past at (event.Asked asked) answer;
+  served = inl (record {
+    replies = λ office answers.
+        subst (λ a. IsReply office routes read (reply_bytes (row_reply done_text a))) (answers.asked asked ∙ ap told (sym is.0)) (wanted.reply office);
+    asked = Some asked;
+    asks = wanted.asks;
+    accepts = ap (with_answer past at (event.Asked asked)) is.0;
+  }, is.1);
+  stands = stands;
+}
+command_told ledger past at read old new asked (Ok answer) wanted (inr fails) stands = absurd fails
+command_told ledger past at read old new asked (Err why) wanted (inr fails) stands = record {
+  reply = reply_bytes (refused why);
+  is_put = refl;
+  later = past;
+  served = inr record { why = why; outside = fails; tells = refl; unchanged = refl };
+  stands = stands;
+}
+
+or_none : (b : Bool) → (b || false) ≡ b
+or_none true = refl
+or_none false = refl
+
+-- a command stops no office
+pub lasts_fed : {B : Type 0} (ledger : B → Ledger) (old new : Run B) (asked : Asked) (answer : Result Answer Refusal)
+    → Ends ledger old new (event.Asked asked) answer → Lasts ledger old new
+lasts_fed ledger old new asked answer ends = record { stopped = ends.stops ∙ or_none (is_stopped old); clean = ends.clean; zone = ends.zone }
+
+-- nor does a question
+pub lasts_asked : {B T : Type 0} (ledger : B → Ledger) (old new : Run B) (answer : Result T Refusal) → OnlyAsks ledger old new answer → Lasts ledger old new
+lasts_asked ledger old new answer asks = record { stopped = asks.stays; clean = asks.clean; zone = asks.zone }
+
+pub lasts_same : {B : Type 0} (ledger : B → Ledger) (office : Run B) → Lasts ledger office office
+lasts_same ledger office = record { stopped = refl; clean = λ x. x; zone = refl }
+
+-- a body that gives no command
+pub no_command_told : {B : Type 0} (ledger : B → Ledger) (past : History) (at : ℕ) (read : List ℕ) (office : Run B) (why : CommandFault)
+    → IsNoCommand routes read why → Stands ledger past office → Serves ledger past at read office office None (reply_bytes (fault_said why))
+no_command_told ledger past at read office why (inl memory) stands =
+    subst (λ w. Serves ledger past at read office office None (reply_bytes (fault_said w))) (sym memory) (no_memory ledger past at read office office refl stands)
+no_command_told ledger past at read office why (inr off) stands = told_off ledger past at read office office _ refl off.nothing off.reply stands

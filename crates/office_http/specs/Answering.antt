@@ -1,0 +1,50 @@
+-- What an office answers that stands after what it accepted, where neither its books nor memory fail.
+use Rattle.std.specs.Prelude.{◌≡◌, ℕ, List, map, Option, Some, None, Result, Ok, Err}
+use Rattle.std.specs.Option.{option_and_then}
+use Rattle.interval_core.specs.Days.{account_of}
+use Rattle.interval_core.specs.declared.totals.DayTotal.{DayTotal}
+use Rattle.interval_core.specs.declared.zone.Zone.{Zone}
+use Rattle.office_events.specs.declared.answers.Answer.{Answer}
+use Rattle.office_events.specs.declared.answers.CommandKind.{CommandKind}
+use Rattle.office_events.specs.declared.events.Asked.{Asked}
+use Rattle.office_events.specs.declared.events.Event.TheVariants as event
+use Rattle.office_events.specs.declared.facts.Fact.{Fact}
+use Rattle.office_events.specs.declared.refusals.Refusal.{Refusal}
+use Rattle.office_events.specs.declared.refusals.Refusal.TheVariants as refusal
+use Rattle.office_events.specs.declared.refusals.StoreCause.TheVariants as store
+use Rattle.office_rules.specs.Facts.{register_of}
+use Rattle.office_rules.specs.History.{History, facts_of}
+use Rattle.office_rules.specs.Meters.{meter_of}
+use Rattle.office_rules.specs.Readings.{poll_row_of}
+use Rattle.office_rules.specs.Refusals.{response_of}
+use Rattle.office_run.specs.Asking.{AreDaysNamed, intervals_of, or_not_found}
+use Rattle.http_answer.specs.Kinds.{kind_answered}
+use Rattle.http_answer.specs.Offices.{Office}
+
+-- What a command is told of its answer: the kind that was carried out, now or when it was asked before. No command is
+-- answered that it is noted, unless a wrong answer of the store was taken as true.
+abbrev pub or_damaged : Option CommandKind → Result CommandKind Refusal
+or_damaged None = Err (refusal.Store store.Damaged)
+or_damaged (Some kind) = Ok kind
+
+abbrev pub told : Result Answer Refusal → Result CommandKind Refusal
+told (Ok answer) = or_damaged (kind_answered answer)
+told (Err why) = Err why
+
+-- the register of a name, which may be none
+abbrev pub IsRegister : List Fact → (name : Option (List ℕ)) → Type 0
+IsRegister facts name = option_and_then (register_of facts) name ≡ None → ⊥
+
+-- Days are those of a register, by the clocks of the zone; of a name that is no register there are none.
+pub record AnswersDays (zone : Zone) (facts : List Fact) (answer : Option (List ℕ) → Result (List DayTotal) Refusal) : Type 0 where
+  pub known : (name : Option (List ℕ)) (days : List DayTotal) → IsRegister facts name
+      → AreDaysNamed zone facts name (map account_of days) → answer name ≡ Ok days
+  pub unknown : (name : Option (List ℕ)) → option_and_then (register_of facts) name ≡ None → answer name ≡ Err refusal.NotFound
+
+-- Each question is answered by the facts of what was accepted, and a command as its definition says.
+pub record AnswersAt (zone : Zone) (past : History) (at : ℕ) (office : Office) : Type 0 where
+  pub meter : (name : Option (List ℕ)) → office.meter name ≡ or_not_found (option_and_then (meter_of (facts_of past)) name)
+  pub poll : (number : ℕ) → office.poll number ≡ or_not_found (poll_row_of (facts_of past) number)
+  pub intervals : (name : Option (List ℕ)) → office.intervals name ≡ or_not_found (intervals_of (facts_of past) name)
+  pub days : AnswersDays zone (facts_of past) office.days
+  pub asked : (asked : Asked) → office.asked asked ≡ told (response_of past at (event.Asked asked))

@@ -1,0 +1,172 @@
+//! What an office answers, put as the reply.
+ghost use Rattle.std.specs.Prelude.{◌≡◌};
+ghost use Rattle.http_route.specs.Routes.{routes};
+ghost use Rattle.http_wants.specs.Wanting.{IsAskedFor, IsQuestion, Wants, HasFewFaults};
+ghost use Rattle.office_http.specs.Answering as answering;
+ghost use Rattle.office_http.specs.Serving.{AreDaysAsked, AreIntervalsAsked, IsPollAsked, PutsReply};
+
+use http_answer::{
+    kind_answered, name_asked, number_asked, put_command_fault, put_done, put_fault, put_meter,
+    put_poll, put_refusal,
+};
+use http_reply::Outlet;
+use http_route::{Found, Route};
+use http_rows::{Replied, RowLines};
+use http_wants::Want;
+use mb_wire::Link;
+use meter_journal::{interval_rows_are_accounts, rows_lie_within, voids_go_no_further};
+use office_books::Books;
+use office_events::{Answer, Asked, CommandKind, Event, Name, Refusal, StoreCause};
+use office_lawful::facts_are_lawful;
+use office_run::Office;
+
+// What a command is told of its answer. No command is answered that it is noted.
+fn told(answer: Result<Answer, Refusal>) -> Result<CommandKind, Refusal>
+    ensures { result ≡ answering.told answer }
+{
+    match kind_answered(answer?) {
+        Some(kind) => Ok(kind),
+        None => Err(Refusal::Store(StoreCause::Damaged)),
+    }
+}
+
+// Asks a command of the office.
+fn put_asked<'l, L: Link, B: Books>(
+    bytes: &[u8],
+    asked: Asked,
+    office: &mut Office<B>,
+    moment: u64,
+    mut outlet: Outlet<'l, L>,
+) -> Replied<'l, L>
+    requires { IsAskedFor routes bytes.now asked }
+    ensures { PutsReply B.ledger moment bytes.now office.old office.new
+        outlet.entry result.outlet result.cut }
+{
+    let answer = office.feed(moment, &Event::Asked(asked));
+    put_done(told(answer), &mut outlet);
+    Replied { outlet, cut: None }
+}
+
+// Asks for the poll of a number.
+fn put_poll_asked<'l, L: Link, B: Books>(
+    bytes: &[u8],
+    number: Option<u64>,
+    office: &mut Office<B>,
+    moment: u64,
+    mut outlet: Outlet<'l, L>,
+) -> Replied<'l, L>
+    requires { IsPollAsked bytes.now number }
+    ensures { PutsReply B.ledger moment bytes.now office.old office.new
+        outlet.entry result.outlet result.cut }
+{
+    match number {
+        None => {
+            put_refusal(Refusal::NotFound, &mut outlet);
+            Replied { outlet, cut: None }
+        }
+        Some(number) => {
+            let answer = office.poll(number);
+            put_poll(&answer, &mut outlet);
+            Replied { outlet, cut: None }
+        }
+    }
+}
+
+// Asks for the interval rows of a meter.
+fn put_intervals<'l, L: Link, B: Books>(
+    bytes: &[u8],
+    meter: &Option<Name>,
+    office: &mut Office<B>,
+    moment: u64,
+    outlet: Outlet<'l, L>,
+) -> Replied<'l, L>
+    requires { AreIntervalsAsked bytes.now meter.now }
+    ensures { PutsReply B.ledger moment bytes.now office.old office.new
+        outlet.entry result.outlet result.cut }
+{
+    facts_are_lawful();
+    interval_rows_are_accounts();
+    rows_lie_within();
+    voids_go_no_further();
+    let mut lines = RowLines::new(outlet);
+    let answer = office.intervals(meter, &mut lines);
+    lines.end(answer)
+}
+
+// Asks for the days of a register.
+fn put_days<'l, L: Link, B: Books>(
+    bytes: &[u8],
+    register: &Option<Name>,
+    office: &mut Office<B>,
+    moment: u64,
+    outlet: Outlet<'l, L>,
+) -> Replied<'l, L>
+    requires { AreDaysAsked bytes.now register.now }
+    ensures { PutsReply B.ledger moment bytes.now office.old office.new
+        outlet.entry result.outlet result.cut }
+{
+    let mut lines = RowLines::new(outlet);
+    let answer = office.days(register, &mut lines);
+    lines.end(answer)
+}
+
+// Asks a question of the office.
+fn put_question<'l, L: Link, B: Books>(
+    bytes: &[u8],
+    found: &Found<'_>,
+    office: &mut Office<B>,
+    moment: u64,
+    mut outlet: Outlet<'l, L>,
+) -> Replied<'l, L>
+    requires { IsQuestion routes bytes.now found.now }
+    ensures { PutsReply B.ledger moment bytes.now office.old office.new
+        outlet.entry result.outlet result.cut }
+{
+    match found.route {
+        Route::Meter => {
+            let answer = office.meter(&name_asked(found.name));
+            put_meter(&answer, &mut outlet);
+            Replied { outlet, cut: None }
+        }
+        Route::Poll => put_poll_asked(bytes, number_asked(found.name), office, moment, outlet),
+        Route::Intervals => put_intervals(bytes, &name_asked(found.name), office, moment, outlet),
+        Route::Days => put_days(bytes, &name_asked(found.name), office, moment, outlet),
+        Route::Devices
+        | Route::List
+        | Route::Registers
+        | Route::Install
+        | Route::Exchange
+        | Route::Reset
+        | Route::Rescale
+        | Route::Manual
+        | Route::Close
+        | Route::Void => unreachable!(),
+    }
+}
+
+/// Puts the reply to what was read, for which the office is asked what is wanted of it.
+pub fn put_reply<'l, L: Link, B: Books>(
+    bytes: &[u8],
+    want: Want<'_>,
+    office: &mut Office<B>,
+    moment: u64,
+    mut outlet: Outlet<'l, L>,
+) -> Replied<'l, L>
+    requires wants { Wants routes bytes.now want }
+    requires few { HasFewFaults want }
+    ensures { PutsReply B.ledger moment bytes.now office.old office.new
+        outlet.entry result.outlet result.cut }
+{
+    match want {
+        Want::Nothing(status) => {
+            put_fault(status, &mut outlet);
+            Replied { outlet, cut: None }
+        }
+        Want::Refused(why) => {
+            put_command_fault(&why, &mut outlet);
+            Replied { outlet, cut: None }
+        }
+        Want::Answer(found) => put_question(bytes, &found, office, moment, outlet),
+        Want::Command(asked) => put_asked(bytes, asked, office, moment, outlet),
+    }
+}
