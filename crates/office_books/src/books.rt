@@ -131,7 +131,7 @@ pub trait Books: Drop {
 
     /// Hands on the energy of a meter by quarter hours, in order of their starts.
     fn intervals<K: RowSink<Share>>(&mut self, meter: &Name, sink: &mut K) -> Result<(), BooksFault>
-        ensures rows { HandsOn (ledger self.old) (ledger self.new) (K.taken sink.old) (K.taken sink.new) result
+        ensures rows { HandsOn K.takes (ledger self.old) (ledger self.new) sink.old sink.new result
             (λ held. rows_of_meter held meter.now) }
         ensures reads { OnlyReads (ledger self.old) (ledger self.new) result };
 
@@ -141,7 +141,7 @@ pub trait Books: Drop {
         register: &Name,
         sink: &mut K,
     ) -> Result<(), BooksFault>
-        ensures rows { HandsOn (ledger self.old) (ledger self.new) (K.taken sink.old) (K.taken sink.new) result
+        ensures rows { HandsOn K.takes (ledger self.old) (ledger self.new) sink.old sink.new result
             (λ held. rows_of_register held register.now) }
         ensures reads { OnlyReads (ledger self.old) (ledger self.new) result };
 

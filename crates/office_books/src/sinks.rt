@@ -2,12 +2,10 @@
 
 /// What takes rows one by one. To take one can't fail: a sink that writes them somewhere keeps its own failure.
 pub trait RowSink<T> {
-    ghost use Rattle.std.specs.Prelude.{◌≡◌, List, [], ◌∷◌, ◌++◌};
-
-    /// The rows so far.
-    ghost taken: { Self → List T };
+    /// By taking a row the sink may go from here to there.
+    ghost takes: { Self → T → Self → Type 0 };
 
     /// One row more.
     fn put(&mut self, row: T)
-        ensures { taken self.new ≡ taken self.old ++ row ∷ [] };
+        ensures { takes self.old row self.new };
 }

@@ -23,7 +23,8 @@ pub record MayOpen (past : History) (at : ℕ) : Type 0 where
   pub accepted : opening_refusal_of (facts_of past) at ≡ None
 
 -- Each poll that has no outcome is booked as lost, all at once, and there is a line for each device, with no session.
-pub record Opens (past : History) (at : ℕ) (old new : Ledger) (result : Result (Vec Line Global) BooksFault) : Type 0 where
+pub record Opens (past : History) (at : ℕ) (old new : Ledger)
+    (result : Result (Vec Line Global) BooksFault) : Type 0 where
   pub books : Moves old new (facts_of past) (facts_of (Opened at ∷ past)) result
   pub lines : old.holds (facts_of past) → new.is_clean
       → IfOk result (λ lines. KeepsLines lines.items (lines_of (Opened at ∷ past)))

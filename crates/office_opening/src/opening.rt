@@ -78,8 +78,8 @@ fn book_lost<B: Books>(alloc: Global, books: &mut B, moment: u64) -> Result<(), 
     books.book(facts)
 }
 
-/// Why the opening of an office is refused over these books: it comes before what is recorded, or past the limit. `None`
-/// where nothing speaks against it. Moments are seconds since 1970-01-01 UTC.
+/// Why the opening of an office is refused over these books: it comes before what is recorded, or past the limit.
+/// `None` where nothing speaks against it. Moments are seconds since 1970-01-01 UTC.
 pub fn opening_refusal<B: Books>(books: &mut B, moment: u64) -> Result<Option<Refusal>, BooksFault>
     ensures found { Finds (B.ledger books.old) (B.ledger books.new) result
         (λ held why. why ≡ refusals.opening_refusal_of held moment) }
@@ -96,8 +96,9 @@ pub fn opening_refusal<B: Books>(books: &mut B, moment: u64) -> Result<Option<Re
     Ok(None)
 }
 
-/// Books the opening of an office that is not refused: that each poll is lost that has no outcome, all at once; where there
-/// is none, nothing is written. Answers a line for each device, in the order in which they were added; none is connected.
+/// Books the opening of an office that is not refused: that each poll is lost that has no outcome, all at once; where
+/// there is none, nothing is written. Answers a line for each device, in the order in which they were added; none is
+/// connected.
 pub fn book_opening<B: Books>(
     alloc: Global,
     books: &mut B,

@@ -23,6 +23,22 @@ AsksNoBooks (event.Gone given closing) = Unit {0}
 AsksNoBooks (event.Command c) = IsOfDevices c
 AsksNoBooks (event.Asked asked) = IsOfDevices asked.command
 
+-- An event of a device, or a tick of all of them; and why such an event may be refused.
+abbrev pub IsOfDevice : Event → Type 0
+IsOfDevice (event.Connected given) = Unit {0}
+IsOfDevice (event.Bytes given piece) = Unit {0}
+IsOfDevice event.Tick = Unit {0}
+IsOfDevice (event.Gone given closing) = Unit {0}
+IsOfDevice (event.Command c) = ⊥
+IsOfDevice (event.Asked asked) = ⊥
+
+abbrev pub IsOfSession : Refusal → Type 0
+IsOfSession refusal.NotFound = Unit {0}
+IsOfSession refusal.ClockBack = Unit {0}
+IsOfSession refusal.Busy = Unit {0}
+IsOfSession refusal.Limit = Unit {0}
+IsOfSession _ = ⊥
+
 -- A reason that lies in the event, and not in a failure: of the store's, that it can number no more polls.
 abbrev pub IsFull : StoreCause → Type 0
 IsFull store.Refused = Unit {0}

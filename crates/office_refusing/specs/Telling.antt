@@ -1,5 +1,5 @@
 -- What is told of an event after what was accepted.
-use Rattle.std.specs.Prelude.{◌≡◌, ℕ, List, Option, Result, IfOk}
+use Rattle.std.specs.Prelude.{◌≡◌, ℕ, List, Option, Result, IfOk, IfSome}
 use Rattle.office_events.specs.declared.events.Event.{Event}
 use Rattle.office_events.specs.declared.refusals.Refusal.{Refusal}
 use Rattle.office_rules.specs.History.{History, facts_of, lines_of, latest_of}
@@ -8,8 +8,16 @@ use Rattle.office_lines.specs.declared.lines.Line.{Line}
 use Rattle.office_lines.specs.Keeping.{KeepsLines}
 use Rattle.office_books.specs.declared.faults.BooksFault.{BooksFault}
 use Rattle.office_books.specs.Ledgers.{Ledger}
+use Rattle.office_refusing.specs.Asking.{IsOfSession}
 
 -- It is why the event is refused after whatever was accepted, if that left these lines and facts.
 abbrev pub TellsWhy : (old new : Ledger) → List Line → (latest at : ℕ) → Event → Result (Option Refusal) BooksFault → Type 0
 TellsWhy old new kept latest at e result = (past : History) → latest ≡ latest_of past → KeepsLines kept (lines_of past)
     → old.holds (facts_of past) → new.is_clean → IfOk result (λ r. r ≡ refusal_of past at e)
+
+-- Why an event of a device is refused lies in the devices alone, whatever the books hold.
+pub record TellsAlone (kept : List Line) (latest at : ℕ) (e : Event)
+    (result : Result (Option Refusal) BooksFault) : Type 0 where
+  pub why : (past : History) → latest ≡ latest_of past → KeepsLines kept (lines_of past)
+      → IfOk result (λ r. r ≡ refusal_of past at e)
+  pub reason : IfOk result (λ r. IfSome r IsOfSession)

@@ -1,9 +1,9 @@
 //! Why an event is refused.
 ghost use Rattle.std.specs.Prelude.{◌≡◌, IfOk, IfSome, IsOk, None};
 ghost use Rattle.office_books.specs.Ledgers.{OnlyReads};
-ghost use Rattle.office_refusing.specs.Asking.{AsksNoBooks, IsOfEvent};
+ghost use Rattle.office_refusing.specs.Asking.{AsksNoBooks, IsOfDevice, IsOfEvent};
 ghost use Rattle.office_lines.specs.Ranges.{IsInRange};
-ghost use Rattle.office_refusing.specs.Telling.{TellsWhy};
+ghost use Rattle.office_refusing.specs.Telling.{TellsAlone, TellsWhy};
 
 use crate::arrivals::Arrival;
 use crate::commands::refusal_of_command;
@@ -12,9 +12,9 @@ use office_books::{Books, BooksFault};
 use office_events::{Event, Refusal};
 use office_lines::{Line, has_device, is_connected};
 
-/// Why an event is refused that comes at a moment after what was accepted, the latest of it at `latest`; `None` where nothing
-/// speaks against it. Of the reasons that apply it is the first. Books are asked no more than it takes to find it, each
-/// question once; where they fail, the event is not decided. Moments are seconds since 1970-01-01 UTC.
+/// Why an event is refused that comes at a moment after what was accepted, the latest of it at `latest`; `None` where
+/// nothing speaks against it. Of the reasons that apply it is the first. Books are asked no more than it takes to find
+/// it, each question once; where they fail, the event is not decided. Moments are seconds since 1970-01-01 UTC.
 pub fn refusal<B: Books>(
     books: &mut B,
     lines: &[Line],
@@ -28,6 +28,7 @@ pub fn refusal<B: Books>(
     ensures of_event { IfOk result (λ r. IfSome r IsOfEvent) }
     ensures in_range { IfOk result (λ r. r ≡ None → IsInRange latest moment event.now) }
     ensures quiet { AsksNoBooks event.now → (books.new ≡ books.old) × IsOk result }
+    ensures alone { IsOfDevice event.now → TellsAlone lines.now latest moment event.now result }
 {
     let arrival = Arrival::new(latest, moment);
     match event {

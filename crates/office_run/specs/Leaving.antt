@@ -5,8 +5,8 @@ use Rattle.office_rules.specs.History.{History, Accepted, facts_of}
 use Rattle.office_lawful.specs.Laws.{IsPast}
 use Rattle.office_books.specs.Ledgers.{Ledger}
 
--- The facts are those behind one event, or one opening, more. It may follow what was accepted, but for later events that
--- recorded nothing.
+-- The facts are those behind one event, or one opening, more. It may follow what was accepted, but for later events
+-- that recorded nothing.
 pub record IsOneMore (past : History) (facts : List Fact) : Type 0 where
   pub next : Accepted
   pub earlier : History

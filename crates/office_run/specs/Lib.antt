@@ -5,3 +5,7 @@ pub mod Deciding
 pub mod Standing
 pub mod Taking
 pub mod Reopening
+pub mod Asking
+pub mod DaySums
+pub mod Headline
+pub mod Running

@@ -26,8 +26,8 @@ abbrev pub Reopens : History → (at : ℕ) → (old new : Ledger) → Result (V
 Reopens past at old new (Ok lines) = IsReopened past at new lines.items
 Reopens past at old new (Err why) = IsNotOpened past at old new why
 
--- Whatever the books hold: the count of their failures, that a wrong answer of a store that was taken as true stays one,
--- and the zone.
+-- Whatever the books hold: the count of their failures, that a wrong answer of a store that was taken as true stays
+-- one, and the zone.
 pub record Passed {T : Type 0} (old new : Ledger) (result : Result T Refusal) : Type 0 where
   pub counts : Counts old.fault_count new.fault_count result
   pub clean : new.is_clean → old.is_clean

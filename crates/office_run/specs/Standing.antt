@@ -35,3 +35,8 @@ pub record IsFresh {B : Type 0} (office : Office B) : Type 0 where
   pub goes : is_stopped office ≡ false
   pub notes : notes_in office ≡ []
   pub outgoing : outgoing_in office ≡ []
+
+-- So it is after every past after which the office stood, if no wrong answer of a store was taken as true until now.
+abbrev pub After : {B : Type 0} → (B → Ledger) → (old new : Office B) → (History → Type 0) → Type 0
+After ledger old new so =
+    (past : History) → Stands ledger past old → (ledger (books_in new)).is_clean → so past

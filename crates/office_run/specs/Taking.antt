@@ -4,13 +4,15 @@ use Rattle.office_events.specs.declared.answers.Answer.{Answer}
 use Rattle.office_events.specs.declared.events.Event.{Event}
 use Rattle.office_events.specs.declared.refusals.Refusal.{Refusal}
 use Rattle.office_events.specs.declared.refusals.Refusal.TheVariants as refusal
-use Rattle.office_rules.specs.History.{History}
-use Rattle.office_rules.specs.Refusals.{response_of, with_answer}
+use Rattle.office_rules.specs.History.{History, facts_of, lines_of, next_poll}
+use Rattle.office_rules.specs.Refusals.{IsAccepted, response_of, with_answer}
 use Rattle.office_rules.specs.Notes.{notes_after, outgoing_after}
 use Rattle.office_rules.specs.Sessions.{command_in}
 use Rattle.office_lawful.specs.Laws.{PutsPlanned}
 use Rattle.office_books.specs.Ledgers.{Ledger}
+use Rattle.office_settling.specs.Settling.{SettleNothing}
 use Rattle.office_run.specs.declared.office.Office.{Office}
+use Rattle.office_run.specs.Events.{is_command}
 use Rattle.office_run.specs.Failing.{Counts, FailsOutside, is_failure, stops}
 use Rattle.office_run.specs.Leaving.{BooksStand}
 use Rattle.office_run.specs.Standing.{Goes, books_in, is_stopped, notes_in, outgoing_in}
@@ -25,20 +27,28 @@ IsAnswer past at e before after result =
     ((result ≡ response_of past at e) × (after ≡ before)) ⊎ FailsOutside before after result
 
 -- What the office tells is of this event alone: its outcomes and readings, and the frames that it wants sent.
-pub record IsTold {B : Type 0} (past : History) (at : ℕ) (e : Event) (result : Result Answer Refusal) (office : Office B) : Type 0 where
+pub record IsTold {B : Type 0} (past : History) (at : ℕ) (e : Event) (result : Result Answer Refusal)
+    (office : Office B) : Type 0 where
   pub notes : notes_in office ≡ notes_after past at e result
   pub outgoing : outgoing_in office ≡ outgoing_after past at e result
 
--- Whatever the books hold, the office refuses since it stopped exactly where it had; it stops where an event of a device
--- fails; the books' count of failures rises by those alone; and a wrong answer of a store that was taken as true stays one.
-pub record Ends {B : Type 0} (ledger : B → Ledger) (old new : Office B) (e : Event) (result : Result Answer Refusal) : Type 0 where
+-- Whatever the books hold, the office refuses since it stopped exactly where it had; it stops where an event of a
+-- device fails; the books' count of failures rises by those alone; and a wrong answer of a store that was taken as true
+-- stays one.
+pub record Ends {B : Type 0} (ledger : B → Ledger) (old new : Office B) (e : Event)
+    (result : Result Answer Refusal) : Type 0 where
   pub stopped : (result ≡ Err refusal.Stopped) ↔ (is_stopped old ≡ true)
   pub stops : is_stopped new ≡ (is_stopped old || stops e result)
   pub counts : Counts (ledger (books_in old)).fault_count (ledger (books_in new)).fault_count result
   pub clean : (ledger (books_in new)).is_clean → (ledger (books_in old)).is_clean
   pub zone : (ledger (books_in new)).zone ≡ (ledger (books_in old)).zone
 
--- The event fails neither for the store nor for memory, and asks no books.
+-- The event is of a device, and settles no poll.
+pub record SettlesNothing (past : History) (at : ℕ) (e : Event) : Type 0 where
+  pub device : is_command e ≡ false
+  pub nothing : SettleNothing (next_poll (facts_of past)) at e (lines_of past)
+
+-- Neither the store nor memory fails, and no books are asked.
 pub record IsQuiet {B : Type 0} (old new : Office B) (result : Result Answer Refusal) : Type 0 where
   pub answer : is_failure result ≡ false
   pub books : books_in new ≡ books_in old
@@ -59,14 +69,28 @@ pub record Takes {B : Type 0} (ledger : B → Ledger) (past : History) (at : ℕ
   pub goes : stops e result ≡ false → Goes (with_answer past at e result) new
   pub told : IsTold past at e result new
 
+-- So it is after every past after which it may be taken, or may be taken and is accepted.
+abbrev pub TakesAny : {B : Type 0} → (B → Ledger) → (at : ℕ) → Event → (old new : Office B)
+    → Result Answer Refusal → Type 0
+TakesAny ledger at e old new result =
+    (past : History) → MayTake ledger past e old → (ledger (books_in new)).is_clean
+    → Takes ledger past at e old new result
+
+abbrev pub TakesAccepted : {B : Type 0} → (B → Ledger) → (at : ℕ) → Event → (old new : Office B)
+    → Result Answer Refusal → Type 0
+TakesAccepted ledger at e old new result =
+    (past : History) → MayTake ledger past e old → IsAccepted past at e → (ledger (books_in new)).is_clean
+    → Takes ledger past at e old new result
+
 -- A reason other than that the office had stopped.
 abbrev pub IsNotStopped : Refusal → Type 0
 IsNotStopped refusal.Stopped = ⊥
 IsNotStopped _ = Unit {0}
 
--- The count of the books' failures rises by those alone, whatever they hold; a wrong answer of a store that was taken as
--- true stays one, and so do the zone and that the office goes on.
-pub record Passes {B : Type 0} (ledger : B → Ledger) (old new : Office B) (result : Result Answer Refusal) : Type 0 where
+-- The count of the books' failures rises by those alone, whatever they hold; a wrong answer of a store that was taken
+-- as true stays one, and so do the zone and that the office goes on.
+pub record Passes {B : Type 0} (ledger : B → Ledger) (old new : Office B)
+    (result : Result Answer Refusal) : Type 0 where
   pub counts : Counts (ledger (books_in old)).fault_count (ledger (books_in new)).fault_count result
   pub clean : (ledger (books_in new)).is_clean → (ledger (books_in old)).is_clean
   pub zone : (ledger (books_in new)).zone ≡ (ledger (books_in old)).zone

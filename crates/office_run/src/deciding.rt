@@ -1,12 +1,12 @@
 //! How an event is decided before anything is done.
-ghost use Rattle.std.specs.Prelude.{◌≡◌, None, Some, false, IfOk, IfSome, IsOk};
+ghost use Rattle.std.specs.Prelude.{◌≡◌, None, Some, false, IfOk, IfSome};
 ghost use Rattle.office_rules.specs.Sessions.{command_in};
 ghost use Rattle.office_lines.specs.Ranges.{IsInRange};
 ghost use Rattle.office_lawful.specs.Laws.{PutsPlanned};
 ghost use Rattle.office_books.specs.Ledgers.{OnlyReads};
 ghost use Rattle.office_run.specs.Events as events;
 ghost use Rattle.office_run.specs.Failing as failing;
-ghost use Rattle.office_run.specs.Deciding.{Decided, IsNoChange};
+ghost use Rattle.office_run.specs.Deciding.{Decided, DecidesAlone, IsNoChange};
 
 use office_books::{Books, BooksFault};
 use office_events::{Answer, Command, Event, Refusal};
@@ -78,11 +78,13 @@ pub fn decide<B: Books>(
     moment: u64,
     event: &Event,
 ) -> Result<Option<Result<Answer, Refusal>>, BooksFault>
-    ensures found { Decided (B.ledger books.old) (B.ledger books.new) lines.now latest moment event.now result }
+    ensures found { Decided (B.ledger books.old) (B.ledger books.new) lines.now latest moment
+        event.now result }
     ensures reads { OnlyReads (B.ledger books.old) (B.ledger books.new) result }
     ensures in_range { IfOk result (λ given. given ≡ None → IsInRange latest moment event.now) }
     ensures unchanged { IfOk result (λ given. IfSome given IsNoChange) }
-    ensures quiet { events.is_command event.now ≡ false → (books.new ≡ books.old) × IsOk result }
+    ensures alone { events.is_command event.now ≡ false
+        → DecidesAlone books.old books.new lines.now latest moment event.now result }
 {
     if let Some(given) = kept(books, event)? {
         return Ok(Some(given.map(|kind| Answer::Again(kind))));

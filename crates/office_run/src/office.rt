@@ -1,21 +1,32 @@
 //! The office.
-ghost use Rattle.std.specs.Prelude.{◌≡◌, ◌≤◌, ◌∷◌, true, false, Ok, Err, IfOk, IfErr, MatchResult};
+ghost use Rattle.std.specs.Prelude.{◌≡◌, ◌≤◌, ◌∷◌, true, false, None, Ok, Err};
+ghost use Rattle.std.specs.Prelude.{IfOk, IfErr, MatchResult};
+ghost use Rattle.std.specs.Option.{option_and_then};
 ghost use Rattle.office_rules.specs.Facts.{moment_limit};
-ghost use Rattle.office_rules.specs.Sessions.{command_in};
 ghost use Rattle.office_rules.specs.History.{History, Opened};
+ghost use Rattle.office_rules.specs.Meters.{meter_of};
+ghost use Rattle.office_rules.specs.Readings.{poll_row_of};
+ghost use Rattle.office_rules.specs.Refusals.{refusal_of, with_answer};
+ghost use Rattle.office_rules.specs.Sessions.{command_in};
+ghost use Rattle.office_lines.specs.Ranges.{AsksInRange};
+ghost use Rattle.office_run.specs.Asking.{NeedsNoDay, OnlyAsks, TakesRows, intervals_of};
+ghost use Rattle.office_run.specs.Asking.{Tells, TellsDays, TellsRows};
+ghost use Rattle.office_run.specs.Events as events;
 ghost use Rattle.office_run.specs.Leaving.{BooksStand};
 ghost use Rattle.office_run.specs.Reopening.{IsNotOpened, Passed};
-ghost use Rattle.office_rules.specs.Refusals.{IsAccepted, with_answer};
-ghost use Rattle.office_lines.specs.Ranges.{AsksInRange};
-ghost use Rattle.office_run.specs.Events as events;
-ghost use Rattle.office_run.specs.Standing.{IsFresh, Stands, books_in, notes_in, outgoing_in};
-ghost use Rattle.office_run.specs.Taking.{MayTake, Takes, Passes, IsAnswer, IsTold, Ends, failures_of};
+ghost use Rattle.office_run.specs.Standing.{After, IsFresh, Stands};
+ghost use Rattle.office_run.specs.Standing.{books_in, is_stopped, notes_in, outgoing_in};
+ghost use Rattle.office_run.specs.Taking.{Ends, IsAnswer, IsQuiet, IsTold, SettlesNothing};
+ghost use Rattle.office_run.specs.Taking.{MayTake, Passes, TakesAccepted, TakesAny, failures_of};
 
 use crate::deciding::{decide, is_command, is_failure, puts_planned};
 use crate::opening::reopen;
-use office_books::Books;
+use crate::questions;
+use interval_core::{DayTotal, Share};
+use office_books::{Books, RowSink};
 use office_commands::carry_out;
-use office_events::{Answer, Event, Note, Refusal};
+use office_events::{Answer, Event, Installation, Name, Note, PollRow, Refusal};
+use office_lawful::facts_are_lawful;
 use office_lines::Line;
 use office_settling::settle_event;
 use office_starting::Outgoing;
@@ -34,14 +45,16 @@ pub struct Office<B: Books> {
 }
 
 impl<B: Books> Office<B> {
-    /// Opens an office over books; each poll that has no outcome is lost, and no device is connected. A refusal hands the
-    /// books back. Moments are seconds since 1970-01-01 UTC.
+    /// Opens an office over books; each poll that has no outcome is lost, and no device is connected. A refusal hands
+    /// the books back. Moments are seconds since 1970-01-01 UTC.
     pub fn open(alloc: Global, mut books: B, moment: u64) -> Result<Office<B>, (B, Refusal)>
-        ensures opened { (past : History) → BooksStand (B.ledger books) past → IfOk result (λ office.
-            (B.ledger (books_in office)).is_clean → Stands B.ledger (Opened moment ∷ past) office) }
+        ensures opened { (past : History) → BooksStand (B.ledger books) past
+            → IfOk result (λ office. (B.ledger (books_in office)).is_clean
+            → Stands B.ledger (Opened moment ∷ past) office) }
         ensures fresh { IfOk result (λ office. IsFresh office) }
-        ensures refused { (past : History) → BooksStand (B.ledger books) past → IfErr result (λ e.
-            (B.ledger e.0).is_clean → IsNotOpened past moment (B.ledger books) (B.ledger e.0) e.1) }
+        ensures refused { (past : History) → BooksStand (B.ledger books) past
+            → IfErr result (λ e. (B.ledger e.0).is_clean
+            → IsNotOpened past moment (B.ledger books) (B.ledger e.0) e.1) }
         ensures passed { MatchResult result
             (λ office. Passed (B.ledger books) (B.ledger (books_in office)) (Ok office))
             (λ e. Passed {T = B} (B.ledger books) (B.ledger e.0) (Err e.1)) }
@@ -64,8 +77,10 @@ impl<B: Books> Office<B> {
     fn settle(&mut self, moment: u64, event: &Event) -> Result<Answer, Refusal>
         requires settling { events.is_command event.now ≡ false }
         requires limit { moment ≤ moment_limit }
-        ensures takes { (past : History) → MayTake B.ledger past event.now self.old → IsAccepted past moment event.now
-            → (B.ledger (books_in self.new)).is_clean → Takes B.ledger past moment event.now self.old self.new result }
+        ensures takes { TakesAccepted B.ledger moment event.now self.old self.new result }
+        ensures quiet { (past : History) → MayTake B.ledger past event.now self.old
+            → refusal_of past moment event.now ≡ None → SettlesNothing past moment event.now
+            → IsQuiet self.old self.new result }
         ensures passes { Passes B.ledger self.old self.new result }
     {
         match settle_event(self.alloc, &mut self.lines, &mut self.books, moment, event) {
@@ -83,8 +98,7 @@ impl<B: Books> Office<B> {
         requires asks { events.is_command event.now ≡ true }
         requires range { AsksInRange moment (command_in event.now) }
         requires limit { moment ≤ moment_limit }
-        ensures takes { (past : History) → MayTake B.ledger past event.now self.old → IsAccepted past moment event.now
-            → (B.ledger (books_in self.new)).is_clean → Takes B.ledger past moment event.now self.old self.new result }
+        ensures takes { TakesAccepted B.ledger moment event.now self.old self.new result }
         ensures passes { Passes B.ledger self.old self.new result }
     {
         match carry_out(self.alloc, &mut self.lines, &mut self.books, moment, event) {
@@ -99,8 +113,9 @@ impl<B: Books> Office<B> {
 
     /// Takes an event while the office goes on: it is answered by what was kept, refused, settled or carried out.
     fn take(&mut self, moment: u64, event: &Event) -> Result<Answer, Refusal>
-        ensures takes { (past : History) → MayTake B.ledger past event.now self.old
-            → (B.ledger (books_in self.new)).is_clean → Takes B.ledger past moment event.now self.old self.new result }
+        ensures takes { TakesAny B.ledger moment event.now self.old self.new result }
+        ensures quiet { (past : History) → MayTake B.ledger past event.now self.old
+            → SettlesNothing past moment event.now → IsQuiet self.old self.new result }
         ensures passes { Passes B.ledger self.old self.new result }
     {
         match decide(&mut self.books, &self.lines, self.latest, moment, event) {
@@ -118,14 +133,18 @@ impl<B: Books> Office<B> {
 
     /// Takes an event. A refused one changes nothing, save that nothing is told and nothing wants to be sent; so does a
     /// request that was asked before. Where the books or memory fail while an event of a device is settled, the office
-    /// stops, and refuses whatever comes until it is opened again. Moments are seconds since 1970-01-01 UTC.
+    /// stops, and refuses whatever comes until it is opened again. An event of a device that settles no poll takes no
+    /// memory. Moments are seconds since 1970-01-01 UTC.
     pub fn feed(&mut self, moment: u64, event: &Event) -> Result<Answer, Refusal>
-        ensures answers { (past : History) → Stands B.ledger past self.old → (B.ledger (books_in self.new)).is_clean
-            → IsAnswer past moment event.now (failures_of B.ledger self.old) (failures_of B.ledger self.new) result }
-        ensures stands { (past : History) → Stands B.ledger past self.old → (B.ledger (books_in self.new)).is_clean
-            → Stands B.ledger (with_answer past moment event.now result) self.new }
-        ensures told { (past : History) → Stands B.ledger past self.old → (B.ledger (books_in self.new)).is_clean
-            → IsTold past moment event.now result self.new }
+        ensures answers { After B.ledger self.old self.new (λ past. IsAnswer past moment event.now
+            (failures_of B.ledger self.old) (failures_of B.ledger self.new) result) }
+        ensures stands { After B.ledger self.old self.new (λ past.
+            Stands B.ledger (with_answer past moment event.now result) self.new) }
+        ensures told { After B.ledger self.old self.new (λ past.
+            IsTold past moment event.now result self.new) }
+        ensures quiet { (past : History) → Stands B.ledger past self.old
+            → is_stopped self.old ≡ false → SettlesNothing past moment event.now
+            → IsQuiet self.old self.new result }
         ensures ends { Ends B.ledger self.old self.new event.now result }
     {
         self.outgoing = Outgoing::none();
@@ -137,6 +156,69 @@ impl<B: Books> Office<B> {
         let answer = self.take(moment, event);
         self.stopped = !is_command(event) && is_failure(&answer);
         answer
+    }
+
+    /// The installation of a meter, as it stands. `None` is a name that no meter can have.
+    pub fn meter(&mut self, name: &Option<Name>) -> Result<Installation, Refusal>
+        ensures found { Tells B.ledger self.old self.new result
+            (λ facts. option_and_then (meter_of facts) name.now) }
+        ensures asks { OnlyAsks B.ledger self.old self.new result }
+        ensures no_day { IfErr result NeedsNoDay }
+    {
+        if self.stopped {
+            return Err(Refusal::Stopped);
+        }
+        questions::meter(&mut self.books, name)
+    }
+
+    /// The poll of a number, and how it ended, if it has.
+    pub fn poll(&mut self, number: u64) -> Result<PollRow, Refusal>
+        ensures found { Tells B.ledger self.old self.new result
+            (λ facts. poll_row_of facts number) }
+        ensures asks { OnlyAsks B.ledger self.old self.new result }
+        ensures no_day { IfErr result NeedsNoDay }
+    {
+        if self.stopped {
+            return Err(Refusal::Stopped);
+        }
+        questions::poll(&mut self.books, number)
+    }
+
+    /// Hands on the energy of a meter by quarter hours, in mWh, in order of their starts.
+    pub fn intervals<K: RowSink<Share>>(
+        &mut self,
+        meter: &Option<Name>,
+        sink: &mut K,
+    ) -> Result<(), Refusal>
+        ensures rows { TellsRows K.takes B.ledger self.old self.new sink.old sink.new result
+            (λ facts. intervals_of facts meter.now) }
+        ensures puts { TakesRows K.takes sink.old sink.new }
+        ensures asks { OnlyAsks B.ledger self.old self.new result }
+        ensures no_day { IfErr result NeedsNoDay }
+    {
+        if self.stopped {
+            return Err(Refusal::Stopped);
+        }
+        questions::intervals(&mut self.books, meter, sink)
+    }
+
+    /// Hands on the energy of a register by civil days of the books' zone, in mWh, in order, once all are added up. A
+    /// register at which no meter was ever installed has no days.
+    pub fn days<K: RowSink<DayTotal>>(
+        &mut self,
+        register: &Option<Name>,
+        sink: &mut K,
+    ) -> Result<(), Refusal>
+        ensures days { TellsDays K.takes B.ledger self.old self.new sink.old sink.new result
+            register.now }
+        ensures puts { TakesRows K.takes sink.old sink.new }
+        ensures asks { OnlyAsks B.ledger self.old self.new result }
+    {
+        if self.stopped {
+            return Err(Refusal::Stopped);
+        }
+        facts_are_lawful();
+        questions::days(self.alloc, &mut self.books, register, sink)
     }
 
     /// The bytes that the last event wants sent: the frames of its polls, where it started some.

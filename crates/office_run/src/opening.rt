@@ -11,7 +11,8 @@ use std::alloc::Global;
 
 /// Books the opening of an office, where it is not refused, and answers the lines of its devices.
 pub fn reopen<B: Books>(alloc: Global, books: &mut B, moment: u64) -> Result<Vec<Line>, Refusal>
-    ensures reopens { (past : History) → BooksStand (B.ledger books.old) past → (B.ledger books.new).is_clean
+    ensures reopens { (past : History) → BooksStand (B.ledger books.old) past
+        → (B.ledger books.new).is_clean
         → Reopens past moment (B.ledger books.old) (B.ledger books.new) result }
     ensures passed { Passed (B.ledger books.old) (B.ledger books.new) result }
 {

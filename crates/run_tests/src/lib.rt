@@ -1,7 +1,34 @@
-//! Tests of the office over books in memory.
+//! Tests of the office over books in memory: what is printed of events, line by line of scripts, and of requests that are
+//! sent again, and what becomes of them where the books fail.
 #![tactic(auto)]
 
 #[cfg(test)]
-mod events;
+mod accounts;
+#[cfg(test)]
+mod acts;
+#[cfg(test)]
+mod chances;
+#[cfg(test)]
+mod entries;
+#[cfg(test)]
+mod failures;
+#[cfg(test)]
+mod kept_rows;
+#[cfg(test)]
+mod mixed;
+#[cfg(test)]
+mod polls;
+#[cfg(test)]
+mod questions;
 #[cfg(test)]
 mod readings;
+#[cfg(test)]
+mod requests;
+#[cfg(test)]
+mod rounds;
+#[cfg(test)]
+mod scripts;
+#[cfg(test)]
+mod seen;
+#[cfg(test)]
+mod voids;

@@ -1,5 +1,5 @@
 pub mod Permuted
-mod Fresh
+pub mod Fresh
 pub mod Frames
 pub mod Edits
 pub mod Laid
@@ -8,7 +8,7 @@ pub mod Inserts
 pub mod Scans
 pub mod Updates
 pub mod Selects
-mod Apart
+pub mod Apart
 pub mod StepLemmas
 pub mod LookUps
 pub mod ReadLemmas

@@ -1,12 +1,15 @@
 -- Reading a row column by column.
 use Rattle.std.proofs.Common.{◌≡◌, ◌≢◌, ◌≤◌, inl, inr, ℕ, ℤ, pos, nat_le, Bool, true, false, ◌&&◌, if◌then◌else◌, Option, Some, None, Ok, Err, Result, IfOk, IfErr, IsTrue, refl, sym, ap, subst, ◌∙◌}
 use Rattle.std.proofs.lemmas.Bool.{le-leb, leb-true, and_parts}
+use Rattle.mb_wire.specs.declared.span.ReadFunction.{ReadFunction}
+use Rattle.mb_wire.specs.declared.span.ReadFunction.TheVariants.{HoldingRegisters, InputRegisters}
+use Rattle.mb_wire.specs.Spans.{code_of}
 use Rattle.sqlite.specs.declared.types.Value.{Value}
 use Rattle.sqlite.specs.declared.types.Value.TheVariants.{Null, Int, Real, Text, Blob}
-use Rattle.sqlite.specs.Order.{Row}
+use Rattle.sqlite.specs.Order.{Row, column}
 use Rattle.store_tables.specs.declared.faults.RowFault.{RowFault}
 use Rattle.store_tables.specs.declared.faults.RowFault.TheVariants.{Damaged}
-use Rattle.store_tables.specs.Columns.{whole_in, within, is_within, or_damaged, and_then}
+use Rattle.store_tables.specs.Columns.{whole_in, within, is_within, function_in, or_damaged, and_then}
 use Rattle.store_tables.specs.Asking.{ReadsRow}
 
 -- It reads as this, and is damaged only where it is unsound.
@@ -94,3 +97,27 @@ within_bounds bound (Blob b) n e = absurd (let f = e in cc)
 pub reads_row : {A X : Type 0} (row : Row) (shown : X → Row) (IsSeen : X → A → Type 0) (IsSound : X → Type 0) (result : Result A RowFault) → ((x : X) → row ≡ shown x → IsFair (IsSound x) (IsSeen x) result)
     → ReadsRow row shown IsSeen IsSound result
 reads_row row shown IsSeen IsSound result fair = record { read = λ x is. (fair x is).read; fault = λ x is. (fair x is).fault }
+
+pub ok_is : {A : Type 0} {a b : A} → ◌≡◌ {A = Result A RowFault} (Ok a) (Ok b) → a ≡ b
+ok_is e = cc
+
+pub or_is : {A : Type 0} (o : Option A) (a : A) → or_damaged o ≡ Ok a → o ≡ Some a
+or_is (Some b) a e = ap Some (ok_is e)
+or_is None a e = absurd (let f = e in cc)
+
+-- ---- a number in the first column
+
+pub number_bounds : (low high : ℕ) (row : Row) (r : Result ℕ RowFault) → r ≡ or_damaged (whole_in low high (column row 0)) → IfOk r (λ n. (low ≤ n) × (n ≤ high))
+number_bounds low high row (Err f) is = tt
+number_bounds low high row (Ok n) is = whole_bounds low high (column row 0) n (or_is _ n (sym is))
+
+pub reads_number : {X : Type 0} (low high : ℕ) (shown : X → Row) (of : X → ℕ) (Sound : X → Type 0) → ((x : X) → column (shown x) 0 ≡ Int (pos (of x))) → ((x : X) → Sound x → (low ≤ of x) × (of x ≤ high))
+    → (row : Row) (r : Result ℕ RowFault) → r ≡ or_damaged (whole_in low high (column row 0)) → ReadsRow row shown (λ x n. n ≡ of x) Sound r
+reads_number low high shown of Sound first bounds row r is = reads_row row shown (λ x n. n ≡ of x) Sound r (λ x seen.
+    subst (IsFair (Sound x) (λ n. n ≡ of x)) (sym (is ∙ ap (λ v. or_damaged (whole_in low high v)) (ap (λ r. column r 0) seen ∙ first x))) (fair_last (Sound x) (λ m. m ≡ of x) low high (of x) (bounds x) refl))
+
+-- ---- functions
+
+pub function_back : (f : ReadFunction) → function_in (Int (pos (code_of f))) ≡ Some f
+function_back HoldingRegisters = refl
+function_back InputRegisters = refl

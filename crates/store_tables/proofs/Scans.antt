@@ -15,7 +15,8 @@ use Rattle.sqlite_sql.specs.declared.ops.CompareOp.TheVariants.{Eq}
 use Rattle.sqlite_value.specs.declared.keys.Key.{Key}
 use Rattle.sqlite.specs.Collation.TheVariants.{Binary}
 use Rattle.sqlite_value.proofs.OrderLemmas.{value_cmp-Int, value_cmp-Text}
-use Rattle.sqlite.specs.Term.{Term, Env, lit, holds, eval_all}
+use Rattle.sqlite.specs.Term.{Term, Env, lit, col, holds, eval_all}
+use Rattle.sqlite_sql.specs.Term.{op2}
 use Rattle.sqlite.specs.Query.{Query, inner, end, IsAnswer, Output, output}
 use Rattle.sqlite.specs.Program.{overlay}
 use Rattle.sqlite.specs.Tree.{Trees}
@@ -27,6 +28,16 @@ no_limit = lit (Int (negsuc 0))
 
 abbrev pub one : Term
 one = lit (Int (pos 1))
+
+-- a column is a parameter, and the orders of ORDER BY
+abbrev pub is_param : (column param : ℕ) → Term
+is_param column param = op2 (Compare Eq Binary) (col 1 column) (col 0 param)
+
+abbrev pub falling : Key
+falling = record { collation = Binary; descending = true }
+
+abbrev pub rising : Key
+rising = record { collation = Binary; descending = false }
 
 -- SELECT .. FROM one table WHERE .. ORDER BY .. LIMIT ..
 abbrev pub scan : (tree : ℕ) → (tests project : List Term) → List (Term × Key) → (limit : Term) → Query
@@ -43,7 +54,7 @@ scan tree tests project order limit = record {
 }
 
 -- no table is computed first
-overlay_none : (db : Trees) (tree : ℕ) → overlay db [] tree ≡ db tree
+pub overlay_none : (db : Trees) (tree : ℕ) → overlay db [] tree ≡ db tree
 overlay_none db tree = elim (cases_Bool (nat_le (2 ^ 31) tree)) [
   | inl high ↦ rw high refl
   | inr low ↦ rw low refl

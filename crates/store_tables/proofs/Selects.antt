@@ -73,7 +73,7 @@ module _ {X : Type 0} (tree : ℕ) (tests project : List Term) (order : List (Te
   shown_all [] = refl
   shown_all (z ∷ all) = ap (λ r. r ∷ map (λ (o : Output). o.1) (map out all)) (tells_columns z.0 z.1) ∙ ap (λ rs. shown z.1 ∷ rs) (shown_all all)
 
-  selected : (db : Trees) (rows : List Row) (xs : List X) → IsLaid (is_numbered tree) columns (db tree) xs → IsAnswer query (overlay db []) params rows
+  pub selected : (db : Trees) (rows : List Row) (xs : List X) → IsLaid (is_numbered tree) columns (db tree) xs → IsAnswer query (overlay db []) params rows
       → (found : List X) × AreFound p R xs found × (rows ≡ page query params (map shown found))
   selected db rows xs lies a =
       let chosen = laid_chosen (is_numbered tree) columns (passes params tests) p tells (db tree) xs lies in

@@ -1,5 +1,5 @@
 -- What a question answers of the rows of a table.
-use Rattle.std.specs.Prelude.{⊤, ◌≡◌, ◌≤◌, ℕ, Bool, List, [], ◌∷◌, filter, Option, Some, None}
+use Rattle.std.specs.Prelude.{⊤, ◌≡◌, ◌≤◌, ℕ, Bool, true, List, [], ◌∷◌, filter, Option, Some, None}
 use Rattle.std.specs.List.{AllByRecursion}
 use Rattle.std.specs.List.Sorted.{IsPermutation}
 use Rattle.sqlite.specs.Tree.{IsAscending}
@@ -30,3 +30,7 @@ LastFirst key x y = key y ≤ key x
 
 abbrev pub FirstFirst : {X : Type 0} → (key : X → ℕ) → X → X → Type 0
 FirstFirst key x y = key x ≤ key y
+
+-- every row passes
+abbrev pub every : {X : Type 0} → X → Bool
+every x = true

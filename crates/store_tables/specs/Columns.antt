@@ -1,5 +1,8 @@
 -- A value of a row as a number or a text within its bounds.
-use Rattle.std.specs.Prelude.{ℕ, suc, ℤ, pos, negsuc, Bool, nat_le, ◌&&◌, if◌then◌else◌, Option, Some, None, Result, Ok, Err}
+use Rattle.std.specs.Prelude.{ℕ, suc, ℤ, pos, negsuc, Bool, nat_le, ◌&&◌, ◌==◌, if◌then◌else◌, Option, Some, None, Result, Ok, Err}
+use Rattle.std.specs.Option.{option_and_then}
+use Rattle.mb_wire.specs.declared.span.ReadFunction.{ReadFunction}
+use Rattle.mb_wire.specs.declared.span.ReadFunction.TheVariants.{HoldingRegisters, InputRegisters}
 use Rattle.sqlite.specs.declared.types.Value.{Value}
 use Rattle.sqlite.specs.declared.types.Value.TheVariants.{Null, Int, Real, Text, Blob}
 use Rattle.store_tables.specs.declared.faults.RowFault.{RowFault}
@@ -26,6 +29,13 @@ within bound Null = None
 within bound (Real x) = None
 within bound (Text t) = None
 within bound (Blob b) = None
+
+-- a function by which registers are read
+abbrev pub function_of : ℕ → Option ReadFunction
+function_of code = if code == 3 then Some HoldingRegisters else if code == 4 then Some InputRegisters else None
+
+abbrev pub function_in : Value → Option ReadFunction
+function_in v = option_and_then function_of (whole_in 3 4 v)
 
 abbrev pub or_damaged : {X : Type 0} → Option X → Result X RowFault
 or_damaged None = Err Damaged

@@ -4,3 +4,4 @@ pub mod Steps
 pub mod Answer
 pub mod Columns
 pub mod Asking
+pub mod Limits

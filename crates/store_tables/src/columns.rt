@@ -5,9 +5,10 @@ ghost use Rattle.sqlite.specs.declared.error.ErrorCode.TheVariants.{OutOfMemory}
 ghost use Rattle.sqlite.specs.declared.error.Error.TheVariants.{SqliteFailure};
 ghost use Rattle.sqlite.specs.Order.{column};
 ghost use Rattle.store_tables.specs.declared.faults.RowFault.TheVariants.{Sql};
-ghost use Rattle.store_tables.specs.Columns.{whole_in, within, or_damaged};
+ghost use Rattle.store_tables.specs.Columns.{whole_in, within, function_in, or_damaged};
 
 use crate::faults::RowFault;
+use mb_wire::ReadFunction;
 use sqlite::types::ValueRef;
 use sqlite::{Error, ErrorCode, Row};
 
@@ -44,6 +45,17 @@ pub fn scale(row: &Row, at: usize) -> Result<i16, RowFault>
                 Err(RowFault::Damaged)
             }
         }
+        _ => Err(RowFault::Damaged),
+    }
+}
+
+/// A column that is a function by which registers are read, 3 or 4.
+pub fn function(row: &Row, at: usize) -> Result<ReadFunction, RowFault>
+    ensures { result ≡ or_damaged (function_in (column row.now at)) }
+{
+    match whole(row, at, 3, 4)? {
+        3 => Ok(ReadFunction::HoldingRegisters),
+        4 => Ok(ReadFunction::InputRegisters),
         _ => Err(RowFault::Damaged),
     }
 }

@@ -3,10 +3,12 @@
 
 mod columns;
 mod faults;
+mod limits;
 mod numbers;
 mod opened;
 
-pub use columns::{scale, text, whole};
+pub use columns::{function, scale, text, whole};
 pub use faults::RowFault;
+pub use limits::{GREATEST_PLACE, LATEST_MOMENT};
 pub use numbers::{number, signed};
 pub use opened::touch;

@@ -8,4 +8,8 @@ mod damage;
 #[cfg(test)]
 mod given;
 #[cfg(test)]
+mod lists;
+#[cfg(test)]
 mod meters;
+#[cfg(test)]
+mod polls;

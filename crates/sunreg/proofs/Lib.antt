@@ -1,11 +1,3 @@
 pub mod Appending
-pub mod Breaks
-pub mod FormsRead
-pub mod FormsSaid
-pub mod HexText
-pub mod HexWords
 pub mod PlanLines
 pub mod Puts
-pub mod ScriptExamples
-pub mod ScriptLines
-pub mod Scripts

@@ -11,10 +11,10 @@ use Rattle.sun_chain.specs.declared.model.Model.{Model}
 use Rattle.sun_chain.specs.declared.fault.ChainFault.{ChainFault}
 use Rattle.sun_chain.specs.declared.fault.ChainFault.TheVariants.{NoMark, Unreadable, PastEnd, TooMany, Memory}
 use Rattle.sunreg.specs.ImageLines.{nothing_read, words_told}
-use Rattle.sunreg.specs.Input.{most_bytes}
-use Rattle.sunreg.specs.Lines.{speaking_lines}
-use Rattle.sunreg.specs.declared.status.Status.{Status}
-use Rattle.sunreg.specs.declared.status.Status.TheVariants.{Fine, Refused, Failed}
+use Rattle.command_io.specs.Input.{most_bytes}
+use Rattle.command_io.specs.Lines.{speaking_lines}
+use Rattle.command_io.specs.declared.status.Status.{Status}
+use Rattle.command_io.specs.declared.status.Status.TheVariants.{Fine, Refused, Failed}
 
 abbrev pub point_line : Named → List ℕ
 point_line point = codes "point " ++ point.name ++ codes " " ++ value_text point.value point.scale ++ codes "\n"

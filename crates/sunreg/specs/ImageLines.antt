@@ -3,8 +3,9 @@ use Rattle.std.specs.Prelude.{ℕ, ◌+◌, ◌*◌, ◌%◌, ◌==◌, nat_le, 
 use Rattle.std.specs.declared.option.Option.{Option}
 use Rattle.std.specs.declared.result.Result.{Result}
 use Rattle.sun_chain.specs.Image.{Words, put_words}
-use Rattle.sunreg.specs.Lines.{Line, words_of}
-use Rattle.sunreg.specs.Values.{bytes_of, number_of}
+use Rattle.command_io.specs.Lines.{Line}
+use Rattle.script_words.specs.Words.{words_of}
+use Rattle.script_words.specs.Values.{bytes_of, number_of}
 
 -- words that are put at an address
 pub record Put : Type 0 where

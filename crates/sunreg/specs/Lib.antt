@@ -1,17 +1,5 @@
-pub mod AnswerText
 pub mod ChainText
 pub mod ImageLines
-pub mod Input
-pub mod LineFaults
-pub mod Lines
 pub mod ListText
 pub mod PlanText
-pub mod ReplayText
-pub mod Replaying
-pub mod ScriptForms
-pub mod ScriptReading
-pub mod ScriptSeen
-pub mod ScriptWords
 pub mod Seen
-pub mod Statuses
-pub mod Values

@@ -5,10 +5,10 @@ use Rattle.point_list.specs.declared.fault.FaultyRow.{FaultyRow}
 use Rattle.point_list.specs.declared.point.ListedPoint.{ListedPoint}
 use Rattle.point_list.specs.Faults.{fault_number}
 use Rattle.point_list.specs.Lists.{SpellsList, list_faults, rows_read}
-use Rattle.sunreg.specs.Input.{most_bytes}
+use Rattle.command_io.specs.Input.{most_bytes}
 use Rattle.sunreg.specs.PlanText.{PlanPrints}
-use Rattle.sunreg.specs.declared.status.Status.{Status}
-use Rattle.sunreg.specs.declared.status.Status.TheVariants.{Fine, Refused, Failed}
+use Rattle.command_io.specs.declared.status.Status.{Status}
+use Rattle.command_io.specs.declared.status.Status.TheVariants.{Fine, Refused, Failed}
 
 abbrev pub fault_line : FaultyRow → List ℕ
 fault_line faulty = codes "row " ++ decimal faulty.row ++ codes " fault " ++ decimal (fault_number faulty.fault) ++ codes "\n"

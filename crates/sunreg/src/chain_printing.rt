@@ -6,11 +6,10 @@ ghost use Rattle.sun_chain.specs.Image.{word_in};
 ghost use Rattle.sun_chain.specs.Points.{seen};
 ghost use Rattle.sunreg.specs.ChainText.{ChainPrints, LinesPrint, WordsPrint, bad_line, chain_lines, fault_line, model_line, model_lines, point_line};
 ghost use Rattle.sunreg.specs.ImageLines.{nothing_read, words_told};
-ghost use Rattle.sunreg.specs.Lines.{speaking_lines};
+ghost use Rattle.command_io.specs.Lines.{speaking_lines};
 
 use crate::image_lines::{LoadFault, load};
-use crate::reading::{ReadFault, read_whole};
-use crate::status::Status;
+use command_io::{ReadFault, Status, read_whole};
 use std::alloc::Global;
 use std::io::{self, Read, Write};
 use sun_chain::{Chain, ChainFault, Image, Model, NamedPoint, walk};

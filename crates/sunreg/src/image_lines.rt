@@ -2,13 +2,12 @@
 ghost use Rattle.std.specs.Prelude.{◌≡◌, ◌%◌, ◌++◌, ◌==◌, ℕ, IfOk, IfErr, OnOk, Ok, Err, Some, None, length, option_map};
 ghost use Rattle.sun_chain.specs.Image.{word_in};
 ghost use Rattle.sunreg.specs.ImageLines.{address_of, nothing_read, put_of, words_after, words_of_bytes, words_of_hex, words_spelled, words_told};
-ghost use Rattle.sunreg.specs.Lines.{speaking_lines};
+ghost use Rattle.command_io.specs.Lines.{speaking_lines};
 ghost use Rattle.sunreg.specs.Seen.{Explains, seen_put};
 
-use crate::line_fault::LineFault;
-use crate::lines::InputLines;
-use crate::values::{hex_bytes, number};
-use crate::words::Words;
+use command_io::InputLines;
+use script_lines::LineFault;
+use script_words::{Words, hex_bytes, number};
 use std::alloc::{AllocError, Global};
 use sun_chain::{Image, ImageFault};
 

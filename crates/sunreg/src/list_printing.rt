@@ -4,8 +4,7 @@ ghost use Rattle.std.specs.Io.KnownBytes.{Appends};
 ghost use Rattle.sunreg.specs.ListText.{ListPrints, TextPrints, fault_line};
 
 use crate::plan_printing::print_plan;
-use crate::reading::{ReadFault, read_whole};
-use crate::status::Status;
+use command_io::{ReadFault, Status, read_whole};
 use point_list::{FaultyRow, ListFault, read_list};
 use std::alloc::Global;
 use std::io::{self, Read, Write};

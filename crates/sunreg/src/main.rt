@@ -1,40 +1,21 @@
 //! The program: it keeps point lists, polls devices and books energy.
 #![tactic(auto)]
 
-mod answer_printing;
 mod chain_printing;
-mod fields;
-mod forms;
 mod image_lines;
-mod line_fault;
-mod lines;
 mod list_printing;
 mod plan_printing;
-mod reading;
-mod replaying;
-mod script;
-mod status;
-mod values;
-mod words;
 
-pub use answer_printing::{
-    print_accepted, print_bad_line, print_meter, print_note, print_poll, print_refusal,
-};
 pub use chain_printing::chain_text;
-pub use line_fault::LineFault;
-pub use lines::{InputLine, InputLines};
 pub use list_printing::plan_text;
 pub use plan_printing::print_plan;
-pub use reading::{MOST_BYTES, ReadFault, read_whole};
-pub use replaying::replay;
-pub use script::{GivenStart, ScriptLine};
-pub use status::Status;
-pub use values::{hex_bytes, number};
-pub use words::Words;
 
 #[cfg(test)]
 mod tests;
 
+use command_io::Status;
+use interval_core::Zone;
+use script_replay::replay;
 use std::io::{ErrorKind, Write};
 use std::process::ExitCode;
 use std::{env, io};
@@ -52,10 +33,12 @@ fn main(rt: HostRuntime) -> ExitCode {
     if args.next().is_some() {
         return ExitCode::from(WRONG_WORDS);
     }
+    let Ok(zone) = Zone::read("UTC0") else {
+        return ended(&rt, Status::Failed);
+    };
     let mut input = rt.stdin();
-    let mut output = io::writer(&rt);
-    let status = replay(rt.alloc(), &mut input, &mut output);
-    ended(&rt, status)
+    let run = replay(rt.alloc(), zone, &mut input, io::writer(&rt));
+    ended(&rt, run.status)
 }
 
 // The exit status of the process; a failure is told on standard error.

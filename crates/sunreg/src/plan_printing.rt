@@ -4,7 +4,7 @@ ghost use Rattle.std.specs.Io.KnownBytes.{Appends};
 ghost use Rattle.read_plan.specs.Items.{items_of};
 ghost use Rattle.sunreg.specs.PlanText.{LinesPrint, PlacedPoint, PlanPrints, PointsPrint, point_line, read_head, read_line, read_lines, registers_text, span_line};
 
-use crate::status::Status;
+use command_io::Status;
 use point_list::{ListedPoint, PointList};
 use read_plan::{Place, Plan, PlannedRead, plan};
 use std::alloc::Global;

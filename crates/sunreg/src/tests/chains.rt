@@ -1,6 +1,6 @@
 //! Register images, and what is printed of their chains.
 use super::streams::{Task, end_at_each_read, end_at_each_write, print_all};
-use crate::Status;
+use command_io::Status;
 
 const METER: (&str, &str) = (
     "40000 53756e5300010042\n40070 00670032\n40094 000f42400000\n40122 00cb0069\n40229 ffff\n",

@@ -1,6 +1,7 @@
 //! Point lists, and what is printed of their plans.
 use super::streams::{Kept, Task, end_at_each_read, end_at_each_write, print_all};
-use crate::{Status, print_plan};
+use crate::print_plan;
+use command_io::Status;
 use point_list::read_list;
 use std::test::Fail;
 

@@ -1,5 +1,6 @@
 //! Commands over texts, and over streams that fail at one of their calls.
-use crate::{Status, chain_text, plan_text, replay};
+use crate::{chain_text, plan_text};
+use command_io::Status;
 use std::alloc::Global;
 use std::io::{self, ErrorKind, Read, Write};
 use std::process::Abort;
@@ -9,7 +10,6 @@ use std::process::Abort;
 pub(crate) enum Task {
     Chain,
     Plan,
-    Script,
 }
 
 impl Task {
@@ -17,7 +17,6 @@ impl Task {
         match self {
             Task::Chain => chain_text(alloc, input, output),
             Task::Plan => plan_text(alloc, input, output),
-            Task::Script => replay(alloc, input, output),
         }
     }
 }

@@ -1,7 +1,7 @@
 use Rattle.std.proofs.Common.{◌≡◌, length}
 use Rattle.sun_chain.specs.Image.{word_in}
 use Rattle.sunreg.specs.ImageLines.{nothing_read, words_told}
-use Rattle.sunreg.specs.Lines.{speaking_lines}
+use Rattle.command_io.specs.Lines.{speaking_lines}
 use Rattle.sunreg.proofs.image_lines.load.Given as goal
 
 abbrev pub invariant-loop-line : goal.invariant-loop-line

@@ -1,0 +1,9 @@
+-- The numbers of the exit statuses.
+use Rattle.std.specs.Prelude.{ℕ}
+use Rattle.command_io.specs.declared.status.Status.{Status}
+use Rattle.command_io.specs.declared.status.Status.TheVariants.{Fine, Refused, Failed}
+
+abbrev pub status_number : Status → ℕ
+status_number Fine = 0
+status_number Refused = 1
+status_number Failed = 3

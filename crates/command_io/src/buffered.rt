@@ -1,0 +1,157 @@
+//! A writer that holds bytes back.
+ghost use Rattle.std.specs.Prelude.{◌≡◌, ◌≢◌, ◌≤◌, ◌<◌, ◌+◌, ◌-◌, ◌⊎◌, ◌++◌, [], length, take, drop, slice_index};
+
+use std::io::{self, ErrorKind, Write};
+
+/// How many bytes are held back at most.
+const ROOM: usize = 8192;
+
+/// A writer that holds bytes back, at most 8,192, and gives them out once there is no room for more: up to the last line's
+/// end among them, where there is one. `flush` gives out all. No byte is lost by a write that fails: what was not
+/// written is still held back. But for one that was interrupted, no write is made after it.
+#[derive(Drop)]
+pub struct Buffered<W> {
+    pub(crate) output: W,
+    pub(crate) held: [u8; 8192],
+    pub(crate) filled: usize,
+    pub(crate) failed: bool,
+    ghost room: { filled ≤ 8192 },
+}
+
+// How many bytes there are up to the last line feed; all, where there is none.
+fn lines_len(bytes: &[u8]) -> usize
+    ensures within { result ≤ length bytes.now }
+    ensures some { 0 < length bytes.now → 0 < result }
+    ensures line { (result ≡ length bytes.now) ⊎ (slice_index bytes.now (result - 1) ≡ 10) }
+{
+    let mut end = bytes.len();
+    while end > 0 {
+        if bytes[end - 1] == b'\n' {
+            return end;
+        }
+        end -= 1;
+    }
+    bytes.len()
+}
+
+impl<W: Write> Buffered<W> {
+    ghost use Rattle.std.specs.Prelude.{true, IsErr, OnOk, IfErr};
+    ghost use Rattle.std.specs.IoError.{error_kind};
+    ghost use Rattle.std.specs.Io.KnownBytes.{Keeps};
+    ghost use Rattle.command_io.specs.Holding.{contents_of, held_back, output_of};
+
+    /// Nothing is held back yet.
+    pub fn new(output: W) -> Buffered<W>
+        ensures output { output_of result ≡ output }
+        ensures empty { held_back result ≡ [] }
+    {
+        Buffered {
+            output,
+            held: [0; ROOM],
+            filled: 0,
+            failed: false,
+        }
+    }
+
+    /// The writer, without what is still held back.
+    pub fn into_output(self) -> W
+        ensures { result ≡ output_of self }
+    {
+        let Buffered { output, .. } = self;
+        output
+    }
+
+    // Some of the first so many bytes that are held back are given out, by one write.
+    fn give(&mut self, end: usize) -> io::Result<()>
+        requires some { 0 < end }
+        requires within { end ≤ self.old.filled }
+        ensures less { OnOk result (self.new.filled < self.old.filled) }
+        ensures bytes { Keeps (contents_of W.contents self.old) (contents_of W.contents self.new) }
+        ensures stuck { self.old.failed ≡ true → IsErr result × (self.new ≡ self.old) }
+        ensures failed { IfErr result (λ error. error_kind error ≢ ErrorKind.Interrupted → self.new.failed ≡ true) }
+    {
+        if self.failed {
+            return Err(io::Error::from(ErrorKind::BrokenPipe));
+        }
+        match self.output.write(&self.held[..end]) {
+            Ok(0) => {
+                self.failed = true;
+                Err(io::Error::from(ErrorKind::WriteZero))
+            }
+            Ok(count) => {
+                self.drop_front(count);
+                Ok(())
+            }
+            Err(error) => {
+                self.failed = error.kind() != ErrorKind::Interrupted;
+                Err(error)
+            }
+        }
+    }
+
+    // Holds back all but the first so many.
+    fn drop_front(&mut self, count: usize)
+        requires { count ≤ self.old.filled }
+        ensures output { output_of self.new ≡ output_of self.old }
+        ensures rest { held_back self.new ≡ drop count (held_back self.old) }
+        ensures filled { self.new.filled ≡ self.old.filled - count }
+    {
+        self.held.copy_within(count..self.filled, 0);
+        self.filled -= count;
+    }
+
+    // Holds bytes back, for which there is room.
+    fn hold(&mut self, bytes: &[u8])
+        requires { self.old.filled + length bytes.now ≤ 8192 }
+        ensures output { output_of self.new ≡ output_of self.old }
+        ensures more { held_back self.new ≡ held_back self.old ++ bytes.now }
+    {
+        let end = self.filled + bytes.len();
+        self.held[self.filled..end].copy_from_slice(bytes);
+        self.filled = end;
+    }
+
+    // Makes room for one byte more, where there is not room for so many.
+    fn make_room(&mut self, count: usize) -> io::Result<()>
+        ensures room { OnOk result (self.new.filled < 8192 ⊎ (count ≡ 0)) }
+        ensures bytes { Keeps (contents_of W.contents self.old) (contents_of W.contents self.new) }
+    {
+        if count > ROOM - self.filled && self.filled > 0 {
+            let end = lines_len(&self.held[..self.filled]);
+            self.give(end)?;
+        }
+        Ok(())
+    }
+}
+
+impl<W: Write> Write for Buffered<W> {
+    ghost use Rattle.std.specs.Prelude.{OnOk};
+    ghost use Rattle.std.specs.Io.KnownBytes.{Keeps};
+    ghost use Rattle.command_io.specs.Holding.{contents_of, held_back};
+
+    ghost contents = { contents_of W.contents };
+
+    fn write(&mut self, buf: &[u8]) -> io::Result<usize> {
+        self.make_room(buf.len())?;
+        let count = buf.len().min(ROOM - self.filled);
+        self.hold(&buf[..count]);
+        Ok(count)
+    }
+
+    fn flush(&mut self) -> io::Result<()>
+        ensures bytes { Keeps (contents_of W.contents self.old) (contents_of W.contents self.new) }
+        ensures given { OnOk result (held_back self.new ≡ []) }
+    {
+        for _ in 0..u64::MAX {
+            if self.filled == 0 {
+                return self.output.flush();
+            }
+            match self.give(self.filled) {
+                Ok(()) => {}
+                Err(error) if error.kind() == ErrorKind::Interrupted => {}
+                Err(error) => return Err(error),
+            }
+        }
+        Err(io::Error::from(ErrorKind::TimedOut))
+    }
+}

@@ -1,0 +1,69 @@
+//! The lines of an input that say something.
+ghost use Rattle.std.specs.Prelude.{◌≡◌};
+ghost use Rattle.command_io.specs.Lines.{is_silent};
+
+use bstr::ByteSlice;
+use std::marker::Model;
+
+/// A line, without its end, and its number among all lines, the first being 1.
+#[derive(Clone, Copy, Debug)]
+pub struct InputLine<'a> {
+    pub number: u64,
+    pub text: &'a [u8],
+}
+
+/// The lines of a text that say something, one at a time: all but empty ones and those that begin with `#`.
+#[derive(Drop)]
+pub struct InputLines<'a> {
+    lines: bstr::Lines<'a>,
+    // The number of the next line.
+    number: u64,
+}
+
+impl<'a> Model for InputLines<'a> {
+    ghost use Rattle.std.specs.Prelude.{◌+◌, ◌<◌, ◌^◌, List, length};
+    ghost use Rattle.command_io.specs.Lines.{Line, speaking_from};
+
+    ghost Value = { List Line };
+
+    ghost view = { λ s. speaking_from s.number s.lines };
+
+    ghost invariant = { λ s. s.number + length s.lines < 2 ^ 64 };
+}
+
+impl<'a> InputLines<'a> {
+    ghost use Rattle.std.specs.Prelude.{[], ◌∷◌, MatchOption};
+    ghost use Rattle.command_io.specs.Lines.{seen_line, speaking_lines};
+
+    pub fn of(text: &'a [u8]) -> Self
+        ensures { result ≡ speaking_lines text.now }
+    {
+        InputLines {
+            lines: text.lines(),
+            number: 1,
+        }
+    }
+
+    /// The next line that says something.
+    pub fn next_line(&mut self) -> Option<InputLine<'a>>
+        ensures { MatchOption result ((self.old ≡ []) × (self.new ≡ [])) (λ line. self.old ≡ seen_line line ∷ self.new) }
+    {
+        while let Some(text) = self.lines.next() {
+            let number = self.number;
+            self.number += 1;
+            if !is_silent(text) {
+                return Some(InputLine { number, text });
+            }
+        }
+        None
+    }
+}
+
+fn is_silent(line: &[u8]) -> bool
+    ensures { result ≡ is_silent line.now }
+{
+    match line {
+        [] => true,
+        [first, ..] => *first == b'#',
+    }
+}

@@ -1,0 +1,26 @@
+//! Exit statuses.
+ghost use Rattle.std.specs.Prelude.{◌≡◌};
+ghost use Rattle.command_io.specs.Statuses.{status_number};
+
+/// How a command ended.
+#[derive(Clone, Copy, Debug, PartialEq, Eq)]
+pub enum Status {
+    Fine,
+    /// The input is wrong, or was refused.
+    Refused,
+    /// A file, stream or socket failed, or memory ran out.
+    Failed,
+}
+
+impl Status {
+    /// The exit status of the process.
+    pub fn number(self) -> u8
+        ensures { result ≡ status_number self }
+    {
+        match self {
+            Status::Fine => 0,
+            Status::Refused => 1,
+            Status::Failed => 3,
+        }
+    }
+}

@@ -1,0 +1,6 @@
+//! Books in memory one of whose calls is refused: for tests of what stands on books.
+#![tactic(auto)]
+
+mod failing;
+
+pub use failing::FailingBooks;

@@ -1,0 +1,18 @@
+-- Books that hold nothing stand after nothing.
+use Rattle.std.proofs.Common.{zero, suc, List, [], ◌∷◌, inl, refl, arith}
+use Rattle.std.specs.Prelude.{All}
+use Rattle.office_events.specs.declared.facts.Fact.{Fact}
+use Rattle.office_lists.specs.declared.list_books.ListBooks.{ListBooks}
+use Rattle.office_lists.specs.Listed.{AreListed, ledger_of}
+use Rattle.office_run.specs.Leaving.{MayBeLeft, BooksStand}
+
+nothing_left : All (MayBeLeft []) ([] ∷ [])
+nothing_left zero d less = inl refl
+nothing_left (suc k) d less = absurd (omega arith)
+
+pub stands_after_nothing : (books : ListBooks) → AreListed books [] → BooksStand (ledger_of books) []
+stands_after_nothing books listed = record {
+  is_past = record { accepted = tt; planned = tt };
+  holds = listed;
+  leaves = record { left = [] ∷ []; may = inl listed; each = nothing_left };
+}

@@ -1,0 +1,27 @@
+//! Runs from nothing.
+ghost use Rattle.std.specs.Prelude.{[], IfOk};
+ghost use Rattle.office_lists.specs.Listed.{ledger_of};
+ghost use Rattle.office_run.specs.Running.{IsRecorded, accepted_by};
+ghost use Rattle.office_run.specs.Standing.{books_in};
+
+use interval_core::Zone;
+use office_events::{Event, Refusal};
+use office_lists::ListBooks;
+use office_run::{Run, run};
+use std::alloc::Global;
+
+/// Over new books in memory the headline holds, whatever events come: no premise is left.
+pub fn run_anew(
+    alloc: Global,
+    zone: Zone,
+    opened: u64,
+    events: &[(u64, Event)],
+) -> Result<Run<ListBooks>, Refusal>
+    ensures { IfOk result (λ run.
+        IsRecorded (ledger_of (books_in run.office)) (accepted_by [] opened events.now run)) }
+{
+    match run(alloc, ListBooks::new(alloc, zone), opened, events) {
+        Ok(done) => Ok(done),
+        Err((_, why)) => Err(why),
+    }
+}

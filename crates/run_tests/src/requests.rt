@@ -1,0 +1,177 @@
+//! Requests that are sent again.
+use crate::scripts::{READ, answer, command_of, opened, print};
+use office_events::{Answer, Asked, CommandKind, Event, Name, Piece, Refusal};
+use std::alloc::Global;
+use std::str;
+use std::test::Fail;
+
+/// A command that is asked under a caller and a number, with the bytes of its request.
+struct Request {
+    caller: &'static str,
+    number: u64,
+    bytes: &'static str,
+    line: &'static str,
+    answer: Result<Answer, Refusal>,
+}
+
+static REQUESTS: [Request; 16] = [
+    Request {
+        caller: "desk",
+        number: 7,
+        bytes: "exchange",
+        line: "2800 exchange main 5300 0 m2 0 0 100000",
+        answer: Ok(Answer::Done(CommandKind::Exchange)),
+    },
+    Request {
+        caller: "desk",
+        number: 7,
+        bytes: "exchange",
+        line: "2800 exchange main 5300 0 m2 0 0 100000",
+        answer: Ok(Answer::Again(CommandKind::Exchange)),
+    },
+    // A repeat is answered at any moment.
+    Request {
+        caller: "desk",
+        number: 7,
+        bytes: "exchange",
+        line: "1 exchange main 5300 0 m2 0 0 100000",
+        answer: Ok(Answer::Again(CommandKind::Exchange)),
+    },
+    Request {
+        caller: "desk",
+        number: 7,
+        bytes: "exchange, once more",
+        line: "2800 exchange main 5301 0 m2 0 0 100000",
+        answer: Err(Refusal::Reused),
+    },
+    Request {
+        caller: "desk",
+        number: 8,
+        bytes: "exchange",
+        line: "2800 exchange main 5300 0 m2 0 0 100000",
+        answer: Err(Refusal::Exists),
+    },
+    Request {
+        caller: "agent",
+        number: 7,
+        bytes: "exchange",
+        line: "2800 exchange main 0 0 m2 0 0 100000",
+        answer: Err(Refusal::Exists),
+    },
+    // What was refused is not kept: it is judged anew.
+    Request {
+        caller: "desk",
+        number: 8,
+        bytes: "manual",
+        line: "2800 manual main 45 0",
+        answer: Err(Refusal::NotLater),
+    },
+    Request {
+        caller: "desk",
+        number: 8,
+        bytes: "manual",
+        line: "3700 manual main 45 0",
+        answer: Ok(Answer::Done(CommandKind::Manual)),
+    },
+    Request {
+        caller: "desk",
+        number: 8,
+        bytes: "exchange",
+        line: "3700 exchange main 45 0 m3 0 0 100000",
+        answer: Err(Refusal::Reused),
+    },
+    Request {
+        caller: "desk",
+        number: 8,
+        bytes: "manual",
+        line: "3800 manual main 50 0",
+        answer: Ok(Answer::Again(CommandKind::Manual)),
+    },
+    // A start is kept as one; its repeat sends nothing.
+    Request {
+        caller: "desk",
+        number: 0,
+        bytes: "start",
+        line: "3700 start inv 3 40094 3",
+        answer: Ok(Answer::Started {
+            first: 2,
+            count: 1,
+            of: 1,
+        }),
+    },
+    Request {
+        caller: "desk",
+        number: 0,
+        bytes: "start",
+        line: "3700 start inv 3 40094 3",
+        answer: Ok(Answer::Again(CommandKind::Start)),
+    },
+    // Callers and numbers have limits.
+    Request {
+        caller: "1",
+        number: 1,
+        bytes: "void",
+        line: "3700 void m2 2",
+        answer: Err(Refusal::Limit),
+    },
+    Request {
+        caller: "desk",
+        number: 9_223_372_036_854_775_808,
+        bytes: "close",
+        line: "3800 close main 50 0",
+        answer: Err(Refusal::Limit),
+    },
+    Request {
+        caller: "desk",
+        number: 9_223_372_036_854_775_807,
+        bytes: "close",
+        line: "3800 close main 50 0",
+        answer: Ok(Answer::Done(CommandKind::Close)),
+    },
+    Request {
+        caller: "desk",
+        number: 9_223_372_036_854_775_807,
+        bytes: "close",
+        line: "3800 close main 50 0",
+        answer: Ok(Answer::Again(CommandKind::Close)),
+    },
+];
+
+const ROWS: &str = "meter m1\nmeter m2\nmeter m3\nintervals m2\npoll 2\npoll 3";
+
+const PRINTED: &str = "meter m1 last 5300 sf 0 at 2800 total 300000 ended
+meter m2 last 50 sf 0 at 3800 total 50000 ended
+refused 1
+2700 40000
+3600 10000
+end 2
+poll 2 pending
+refused 1
+";
+
+fn asked(alloc: Global, request: &Request) -> Result<(u64, Event), Fail> {
+    let (at, command) = command_of(alloc, request.line)?;
+    let bytes = request.bytes.as_bytes().to_vec(alloc)?;
+    let event = Event::Asked(Asked {
+        caller: Name::new(request.caller.as_bytes()),
+        number: request.number,
+        request: Piece::new(bytes),
+        command,
+    });
+    Ok((at, event))
+}
+
+#[test]
+fn requests_act_once(rt: HostRuntime) -> Result<(), Fail> {
+    let mut office = opened(rt.alloc(), "UTC0")?;
+    let _ = print(rt.alloc(), &mut office, READ)?;
+    for (place, request) in REQUESTS.iter().enumerate() {
+        let (at, event) = asked(rt.alloc(), request)?;
+        assert_eq!(rt; answer(&mut office, at, &event), request.answer, "at {place}");
+        let is_start = matches!(request.answer, Ok(Answer::Started { .. }));
+        assert_eq!(rt; office.outgoing().is_empty(), !is_start, "at {place}");
+    }
+    let printed = print(rt.alloc(), &mut office, ROWS)?;
+    assert_eq!(rt; str::from_utf8(&printed)?, PRINTED);
+    Ok(())
+}

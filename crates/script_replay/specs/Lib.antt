@@ -1,0 +1,7 @@
+pub mod Stages
+pub mod Events
+pub mod Asked
+pub mod Lines
+pub mod Scripts
+pub mod Running
+pub mod Rows

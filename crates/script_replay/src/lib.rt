@@ -1,0 +1,11 @@
+//! Scripts, run over an office in memory.
+#![tactic(auto)]
+
+mod asking;
+mod carrying;
+mod feeding;
+mod replaying;
+mod rows;
+mod running;
+
+pub use replaying::{Replayed, replay};

@@ -1,0 +1,56 @@
+//! The lines of a text, one after the other.
+ghost use Rattle.script_replay.specs.Running.{InputRuns, TextRuns};
+ghost use Rattle.std.specs.Prelude.{IfSome};
+
+use crate::carrying::run_line;
+use command_io::{InputLines, ReadFault, Status, read_whole};
+use interval_core::Zone;
+use office_lists::ListBooks;
+use office_run::Office;
+use script_text::{write_refusal, write_too_long};
+use std::alloc::Global;
+use std::io::{Read, Write};
+
+// Runs the lines of a text over an office in memory, which is opened at moment 0.
+fn run_text<W: Write>(alloc: Global, zone: Zone, text: &[u8], output: &mut W) -> Status
+    ensures { TextRuns zone text.now result (W.contents output.old) (W.contents output.new) }
+{
+    let mut office = match Office::open(alloc, ListBooks::new(alloc, zone), 0) {
+        Ok(office) => office,
+        Err((_, why)) => {
+            return match write_refusal(why, output) {
+                Ok(()) => Status::Refused,
+                Err(_) => Status::Failed,
+            };
+        }
+    };
+    let mut lines = InputLines::of(text);
+    while let Some(line) = lines.next_line() {
+        match run_line(alloc, &mut office, line.number, line.text, output) {
+            Ok(()) => {}
+            Err(status) => return status,
+        }
+    }
+    Status::Fine
+}
+
+/// Runs the script that an input is.
+pub(crate) fn run_input<R: Read, W: Write>(
+    alloc: Global,
+    zone: Zone,
+    input: &mut R,
+    output: &mut W,
+) -> Status
+    ensures { IfSome (R.remaining input.old) (λ all.
+        InputRuns zone all result (W.contents output.old) (W.contents output.new)) }
+{
+    match read_whole(alloc, input) {
+        Ok(text) => run_text(alloc, zone, &text, output),
+        Err(ReadFault::TooLong) => match write_too_long(output) {
+            Ok(()) => Status::Refused,
+            Err(_) => Status::Failed,
+        },
+        Err(ReadFault::Failed) => Status::Failed,
+        Err(ReadFault::Memory) => Status::Failed,
+    }
+}

@@ -1,0 +1,121 @@
+-- Shares booked and taken out one after the other.
+use Rattle.std.proofs.Common.{◌≡◌, ◌≤◌, ◌<◌, ◌+◌, ◌*◌, ◌/◌, ◌-◌, inl, inr, ℕ, List, [], ◌∷◌, ◌++◌, map, true, false, IsTrue, Ok, All, Contains, refl, sym, ap, subst, ◌∙◌, arith, if◌then◌else◌}
+use Rattle.std.specs.List.{list_any, AllByRecursion, range_with_len}
+use Rattle.std.proofs.lemmas.Bool.{cases_Bool}
+use Rattle.std.proofs.lemmas.List.Sums.{sum_by-cons}
+use Rattle.std.proofs.lemmas.List.Elements.{All-contains, All-contains_itself, recursion_from_All}
+use Rattle.sqlite_keyed.proofs.ListLemmas.{all_both, all_unmap}
+use Rattle.energy_core.specs.declared.entries.Step.{Step}
+use Rattle.interval_core.specs.declared.shares.Share.{Share}
+use Rattle.interval_core.specs.Share.{shares_of}
+use Rattle.interval_core.specs.Account.{SharesAddUp, IsSpread, Touches, starts_of, energy_of}
+use Rattle.sqlite.specs.declared.error.Error.{Error}
+use Rattle.sqlite.specs.State.{State}
+use Rattle.store_tables.specs.Content.{Content, HasRows, changed_where}
+use Rattle.store_tables.specs.Steps.{Steps}
+use Rattle.store_tables.proofs.StepLemmas.{no_steps, weaker}
+use Rattle.store_intervals.specs.Trees.{intervals}
+use Rattle.store_intervals.specs.Rows.{Interval, interval_columns, is_at, IsSoundShare, latest_moment, greatest_energy}
+use Rattle.store_intervals.specs.Booking.{raised, lowered, with_share, without_share, with_shares, without_shares, AreSmall, HasEnergy, AreTherein, EditsIf, BooksShares, TakesShares}
+use Rattle.store_intervals.proofs.Kept.{turns_weaker}
+
+-- ---- each share is in its ranges
+
+within_sum : (shares : List Share) (n : ℕ) → energy_of shares ≤ n → AllByRecursion (λ s. s.mwh ≤ n) shares
+within_sum [] n h = tt
+within_sum (s ∷ shares) n h =
+    let mwh : Share → ℕ = λ r. r.mwh in
+    let both : energy_of (s ∷ shares) ≡ s.mwh + energy_of shares = sum_by-cons mwh s shares in
+    (omega (arith, both, h), within_sum shares n (omega (arith, both, h)))
+
+all_starts : (shares : List Share) (till : ℕ) → ((start : ℕ) → Contains (starts_of shares) start → start < till) → AllByRecursion (λ s. s.start < till) shares
+all_starts shares till each =
+    all_unmap (λ n. n < till) (λ (s : Share). s.start) shares (recursion_from_All (λ n. n < till) (starts_of shares) (λ i d low. each _ (All-contains_itself (starts_of shares) i d low)))
+
+pub sound_shares : SharesAddUp → (step : Step) → step.from < step.till → step.mwh ≤ greatest_energy → step.till ≤ latest_moment → AllByRecursion IsSoundShare (shares_of step)
+sound_shares law step forward energy till =
+    let spread = law step forward in
+    let starts = all_starts (shares_of step) step.till (λ start has. ((spread.touched start).0 has).1) in
+    let sums = within_sum (shares_of step) step.mwh (omega (arith, spread.whole)) in
+    all_both _ _ _ (λ s start mwh. record { start = omega (arith, start, till); mwh = omega (arith, mwh, energy) }) (shares_of step) starts sums
+
+-- ---- one edit after the other
+
+edits_then : (May One Two : List Interval → Type 0) (all one two : List Interval → List Interval)
+    → ((is : List Interval) → May is → One is × Two (one is) × (two (one is) ≡ all is)) → (x y z : Content) → EditsIf One one x y → EditsIf Two two y z → EditsIf May all x z
+edits_then May One Two all one two goes x y z first second = record {
+  rows = λ is has may.
+      let it = goes is may in
+      subst (λ js. HasRows intervals interval_columns js z) it.2 (second.rows (one is) (first.rows is has it.0) it.1);
+  others = λ t off. second.others t off ∙ first.others t off;
+}
+
+no_edit : (May : List Interval → Type 0) (held after : Content) → after ≡ held → EditsIf May (λ is. is) held after
+no_edit May held after same = record {
+  rows = λ is has may. subst (HasRows intervals interval_columns is) (sym same) has;
+  others = λ t off. ap (λ (f : Content). f t) same;
+}
+
+-- ---- booking
+
+raised_small : (meter : List ℕ) (start mwh : ℕ) (is : List Interval) → AreSmall (changed_where (is_at meter start) (raised mwh) is) → AreSmall is
+raised_small meter start mwh [] small = tt
+raised_small meter start mwh (i ∷ is) small = elim (cases_Bool (is_at meter start i)) [
+  | inl here ↦ (omega (arith, rw here at small.0), raised_small meter start mwh is small.1)
+  | inr off ↦ (rw off at small.0, raised_small meter start mwh is small.1)
+]
+
+small_before : (meter : List ℕ) (share : Share) (is : List Interval) → AreSmall (with_share meter share is) → AreSmall is
+small_before meter share is small = elim (cases_Bool (list_any (is_at meter share.start) is)) [
+  | inl there ↦ raised_small meter share.start share.mwh is (rw there at small)
+  | inr none ↦ (rw none at small).1
+]
+
+with_one_more : (meter : List ℕ) (shares : List Share) (share : Share) (is : List Interval) → with_share meter share (with_shares meter shares is) ≡ with_shares meter (shares ++ share ∷ []) is
+with_one_more meter [] share is = refl
+with_one_more meter (s ∷ shares) share is = with_one_more meter shares share (with_share meter s is)
+
+pub booked_then : (meter : List ℕ) (shares : List Share) (share : Share) (x y z : Content) → BooksShares meter shares x y → BooksShares meter (share ∷ []) y z → BooksShares meter (shares ++ share ∷ []) x z
+booked_then meter shares share =
+    edits_then (λ is. AreSmall (with_shares meter (shares ++ share ∷ []) is)) (λ is. AreSmall (with_shares meter shares is)) (λ is. AreSmall (with_share meter share is))
+    (with_shares meter (shares ++ share ∷ [])) (with_shares meter shares) (with_share meter share)
+    (λ is small.
+        let last = subst AreSmall (sym (with_one_more meter shares share is)) small in
+        (small_before meter share (with_shares meter shares is) last, last, with_one_more meter shares share is))
+
+-- ---- taking out
+
+without_one_more : (meter : List ℕ) (shares : List Share) (share : Share) (is : List Interval) → without_share meter share (without_shares meter shares is) ≡ without_shares meter (shares ++ share ∷ []) is
+without_one_more meter [] share is = refl
+without_one_more meter (s ∷ shares) share is = without_one_more meter shares share (without_share meter s is)
+
+lowered_small : (meter : List ℕ) (share : Share) (is : List Interval) → AreSmall is → AreSmall (without_share meter share is)
+lowered_small meter share [] small = tt
+lowered_small meter share (i ∷ is) small = elim (cases_Bool (is_at meter share.start i)) [
+  | inl here ↦ rw here (omega (arith, small.0), lowered_small meter share is small.1)
+  | inr off ↦ rw off (small.0, lowered_small meter share is small.1)
+]
+
+all_small : (meter : List ℕ) (shares : List Share) (is : List Interval) → AreSmall is → AreSmall (without_shares meter shares is)
+all_small meter [] is small = small
+all_small meter (s ∷ shares) is small = all_small meter shares (without_share meter s is) (lowered_small meter s is small)
+
+there_before : (meter : List ℕ) (shares : List Share) (share : Share) (is : List Interval) → AreTherein meter (shares ++ share ∷ []) is → AreTherein meter shares is × AreTherein meter (share ∷ []) (without_shares meter shares is)
+there_before meter [] share is there = (tt, there)
+there_before meter (s ∷ shares) share is there = let rest = there_before meter shares share (without_share meter s is) there.1 in ((there.0, rest.0), rest.1)
+
+pub taken_then : (meter : List ℕ) (shares : List Share) (share : Share) (x y z : Content) → TakesShares meter shares x y → TakesShares meter (share ∷ []) y z → TakesShares meter (shares ++ share ∷ []) x z
+taken_then meter shares share =
+    edits_then (λ is. AreSmall is × AreTherein meter (shares ++ share ∷ []) is) (λ is. AreSmall is × AreTherein meter shares is) (λ is. AreSmall is × AreTherein meter (share ∷ []) is)
+    (without_shares meter (shares ++ share ∷ [])) (without_shares meter shares) (without_share meter share)
+    (λ is may.
+        let parts = there_before meter shares share is may.1 in
+        ((may.0, parts.0), (all_small meter shares is may.0, parts.1), without_one_more meter shares share is))
+
+-- ---- before the first share
+
+pub nothing_booked : (meter : List ℕ) (a : State) → Steps {X = Unit {0}} {E = Error} a a (Ok tt) (BooksShares meter [])
+nothing_booked meter a = weaker a a (Ok tt) _ _ (turns_weaker _ _ a.now a.now (no_edit AreSmall)) (no_steps a tt)
+
+pub nothing_taken : (meter : List ℕ) (a : State) → Steps {X = Unit {0}} {E = Error} a a (Ok tt) (TakesShares meter [])
+nothing_taken meter a = weaker a a (Ok tt) _ _ (turns_weaker _ _ a.now a.now (no_edit (λ is. AreSmall is × AreTherein meter [] is))) (no_steps a tt)

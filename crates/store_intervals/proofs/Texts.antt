@@ -1,0 +1,159 @@
+-- What the texts mean.
+use Rattle.std.proofs.Common.{◌≡◌, List, [], ◌∷◌, codes, ℕ, pos, negsuc, true, false, Some, None, refl}
+use Rattle.sqlite.specs.declared.types.Value.TheVariants.{Null, Int}
+use Rattle.sqlite.specs.Term.{Term, lit, col}
+use Rattle.sqlite.specs.Query.{Query, inner, end}
+use Rattle.sqlite.specs.Source.TheVariants.{Values}
+use Rattle.sqlite.specs.Command.TheVariants.{Select, InsertOr, Update, Delete}
+use Rattle.sqlite_schema.specs.declared.command.Conflict.TheVariants.{Abort}
+use Rattle.sqlite_schema.specs.declared.command.Upsert.{Upsert}
+use Rattle.sqlite_sql.specs.Term.{op2}
+use Rattle.sqlite_sql.specs.declared.ops.BinaryOp.TheVariants.{Compare, Arith}
+use Rattle.sqlite_sql.specs.declared.ops.CompareOp.TheVariants.{Eq, Ge}
+use Rattle.sqlite_sql.specs.declared.ops.ArithOp.TheVariants.{Add, Sub}
+use Rattle.sqlite.specs.Collation.TheVariants.{Binary}
+use Rattle.sqlite_tied.specs.Compute.{everything}
+use Rattle.sqlite_value.specs.declared.keys.Key.{Key}
+use Rattle.sqlite.specs.Listing.{understood, reads_listing}
+use Rattle.sqlite.proofs.Callers.{IsPlain, command_of}
+use Rattle.store_tables.specs.Schema.{books_schema}
+use Rattle.store_tables.proofs.Scans.{scan, no_limit}
+
+-- a column is a parameter
+abbrev pub is_param : (column param : ℕ) → Term
+is_param column param = op2 (Compare Eq Binary) (col 1 column) (col 0 param)
+
+-- ---- add_share
+
+abbrev pub add_share : List ℕ
+add_share = codes "INSERT INTO intervals (meter, start, mwh) VALUES (?1, ?2, ?3) ON CONFLICT (meter, start) DO UPDATE SET mwh = mwh + excluded.mwh"
+
+abbrev pub add_share_terms : List Term
+add_share_terms = lit Null ∷ col 0 0 ∷ col 0 1 ∷ col 0 2 ∷ []
+
+-- the row that is there, by its rowid
+abbrev pub add_share_tests : List Term
+add_share_tests = is_param 0 3 ∷ []
+
+abbrev pub add_share_news : List Term
+add_share_news = col 1 0 ∷ col 1 1 ∷ col 1 2 ∷ op2 (Arith Add) (col 1 3) (col 0 7) ∷ []
+
+abbrev pub add_share_query : Query
+add_share_query = scan 14 add_share_tests (col 1 0 ∷ add_share_news) [] no_limit
+
+abbrev pub add_share_clause : Upsert
+add_share_clause = record { target = Some (1 ∷ 2 ∷ []); update = Some (record { lets = []; body = add_share_query }) }
+
+pub add_share_is : command_of (understood books_schema add_share) ≡ InsertOr 9 Abort (Values add_share_terms 4) (add_share_clause ∷ [])
+unfolding understood everything
+add_share_is = refl
+
+pub add_share_plain : IsPlain (understood books_schema add_share)
+unfolding understood everything
+add_share_plain = (refl, refl)
+
+-- ---- take_share
+
+abbrev pub take_share : List ℕ
+take_share = codes "UPDATE intervals SET mwh = mwh - ?3 WHERE meter = ?1 AND start = ?2"
+
+abbrev pub take_share_tests : List Term
+take_share_tests = is_param 1 0 ∷ is_param 2 1 ∷ []
+
+abbrev pub take_share_news : List Term
+take_share_news = col 1 0 ∷ col 1 1 ∷ col 1 2 ∷ op2 (Arith Sub) (col 1 3) (col 0 2) ∷ []
+
+pub take_share_is : command_of (understood books_schema take_share) ≡ Update 9 (record { lets = []; body = scan 14 take_share_tests (col 1 0 ∷ take_share_news) [] no_limit })
+unfolding understood everything
+take_share_is = refl
+
+pub take_share_plain : IsPlain (understood books_schema take_share)
+unfolding understood everything
+take_share_plain = (refl, refl)
+
+-- ---- drop_from
+
+abbrev pub drop_from : List ℕ
+drop_from = codes "DELETE FROM intervals WHERE meter = ?1 AND start >= ?2"
+
+abbrev pub drop_from_tests : List Term
+drop_from_tests = is_param 1 0 ∷ op2 (Compare Ge Binary) (col 1 2) (col 0 1) ∷ []
+
+pub drop_from_is : command_of (understood books_schema drop_from) ≡ Delete 9 (record { lets = []; body = scan 14 drop_from_tests (col 1 0 ∷ []) [] no_limit })
+unfolding understood everything
+drop_from_is = refl
+
+pub drop_from_plain : IsPlain (understood books_schema drop_from)
+unfolding understood everything
+drop_from_plain = (refl, refl)
+
+-- ---- meter_intervals
+
+abbrev pub rising : Key
+rising = record { collation = Binary; descending = false }
+
+abbrev pub meter_intervals : List ℕ
+meter_intervals = codes "SELECT start, mwh FROM intervals WHERE meter = ?1 ORDER BY start"
+
+abbrev pub meter_intervals_tests : List Term
+meter_intervals_tests = is_param 1 0 ∷ []
+
+abbrev pub shares_project : List Term
+shares_project = col 1 2 ∷ col 1 3 ∷ []
+
+abbrev pub meter_intervals_order : List (Term × Key)
+meter_intervals_order = (col 1 2, rising) ∷ []
+
+abbrev pub names : List (List ℕ)
+names = codes "start" ∷ codes "mwh" ∷ []
+
+pub meter_intervals_is : command_of (understood books_schema meter_intervals) ≡ Select (record { lets = []; body = scan 14 meter_intervals_tests shares_project meter_intervals_order no_limit }) names
+unfolding understood everything
+meter_intervals_is = refl
+
+pub meter_intervals_unlisted : reads_listing books_schema meter_intervals ≡ false
+unfolding understood everything
+meter_intervals_unlisted = refl
+
+pub meter_intervals_plain : IsPlain (understood books_schema meter_intervals)
+unfolding understood everything
+meter_intervals_plain = (refl, refl)
+
+-- ---- register_intervals
+
+abbrev pub register_intervals : List ℕ
+register_intervals = codes "SELECT intervals.start, intervals.mwh FROM installations JOIN intervals ON intervals.meter = installations.meter WHERE installations.register = ?1 ORDER BY installations.place, intervals.start"
+
+abbrev pub register_intervals_tests : List Term
+register_intervals_tests = op2 (Compare Eq Binary) (col 2 1) (col 1 2) ∷ is_param 3 0 ∷ []
+
+abbrev pub register_intervals_project : List Term
+register_intervals_project = col 2 2 ∷ col 2 3 ∷ []
+
+abbrev pub register_intervals_order : List (Term × Key)
+register_intervals_order = (col 1 0, rising) ∷ (col 2 2, rising) ∷ []
+
+abbrev pub register_intervals_query : Query
+register_intervals_query = record {
+  from = inner 7 (inner 14 end);
+  filter = register_intervals_tests;
+  group = None;
+  project = register_intervals_project;
+  distinct = false;
+  collations = [];
+  order = register_intervals_order;
+  limit = lit (Int (negsuc 0));
+  offset = lit (Int (pos 0));
+}
+
+pub register_intervals_is : command_of (understood books_schema register_intervals) ≡ Select (record { lets = []; body = register_intervals_query }) names
+unfolding understood everything
+register_intervals_is = refl
+
+pub register_intervals_unlisted : reads_listing books_schema register_intervals ≡ false
+unfolding understood everything
+register_intervals_unlisted = refl
+
+pub register_intervals_plain : IsPlain (understood books_schema register_intervals)
+unfolding understood everything
+register_intervals_plain = (refl, refl)

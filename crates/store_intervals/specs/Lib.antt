@@ -1,0 +1,4 @@
+pub mod Trees
+pub mod Rows
+pub mod Booking
+pub mod Handing

@@ -1,0 +1,10 @@
+//! The energy of meters by intervals, in the tables of the books.
+#![tactic(auto)]
+
+mod booking;
+mod reading;
+mod streams;
+
+pub use booking::{book_step, drop_from, take_step};
+pub use reading::{GREATEST_ENERGY, LATEST_MOMENT};
+pub use streams::{meter_intervals, register_intervals};

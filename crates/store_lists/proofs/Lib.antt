@@ -1,0 +1,5 @@
+mod Texts
+mod Writes
+mod Asks
+mod ReadRows
+mod Counts

@@ -1,0 +1,257 @@
+-- What the texts mean.
+use Rattle.std.proofs.Common.{◌≡◌, List, [], ◌∷◌, codes, ℕ, false, refl}
+use Rattle.sqlite.specs.declared.types.Value.TheVariants.{Null}
+use Rattle.sqlite.specs.Term.{Term, lit, col}
+use Rattle.sqlite.specs.Source.TheVariants.{Values}
+use Rattle.sqlite.specs.Command.TheVariants.{Insert, Select, Delete}
+use Rattle.sqlite_tied.specs.Compute.{everything}
+use Rattle.sqlite.specs.Listing.{understood, reads_listing}
+use Rattle.sqlite.proofs.Callers.{IsPlain, command_of}
+use Rattle.store_tables.specs.Schema.{books_schema}
+use Rattle.store_tables.proofs.Scans.{scan, no_limit, one, is_param, rising, falling}
+
+-- ---- insert_device
+
+abbrev pub insert_device : List ℕ
+insert_device = codes "INSERT INTO devices (place, name, unit, timeout, \"window\") VALUES (?1, ?2, ?3, ?4, ?5)"
+
+abbrev pub insert_device_terms : List Term
+insert_device_terms = col 0 0 ∷ lit Null ∷ col 0 1 ∷ col 0 2 ∷ col 0 3 ∷ col 0 4 ∷ []
+
+pub insert_device_is : command_of (understood books_schema insert_device) ≡ Insert 1 (Values insert_device_terms 6)
+unfolding understood everything
+insert_device_is = refl
+
+pub insert_device_plain : IsPlain (understood books_schema insert_device)
+unfolding understood everything
+insert_device_plain = (refl, refl)
+
+-- ---- insert_point
+
+abbrev pub insert_point : List ℕ
+insert_point = codes "INSERT INTO points (device, place, name, function, area, address, kind, scale) VALUES (?1, ?2, ?3, ?4, ?5, ?6, ?7, ?8)"
+
+abbrev pub insert_point_terms : List Term
+insert_point_terms = lit Null ∷ col 0 0 ∷ col 0 1 ∷ col 0 2 ∷ col 0 3 ∷ col 0 4 ∷ col 0 5 ∷ col 0 6 ∷ col 0 7 ∷ []
+
+pub insert_point_is : command_of (understood books_schema insert_point) ≡ Insert 2 (Values insert_point_terms 9)
+unfolding understood everything
+insert_point_is = refl
+
+pub insert_point_plain : IsPlain (understood books_schema insert_point)
+unfolding understood everything
+insert_point_plain = (refl, refl)
+
+-- ---- drop_points
+
+abbrev pub drop_points : List ℕ
+drop_points = codes "DELETE FROM points WHERE device = ?1"
+
+abbrev pub drop_points_tests : List Term
+drop_points_tests = is_param 1 0 ∷ []
+
+pub drop_points_is : command_of (understood books_schema drop_points) ≡ Delete 2 (record { lets = []; body = scan 3 drop_points_tests (col 1 0 ∷ []) [] no_limit })
+unfolding understood everything
+drop_points_is = refl
+
+pub drop_points_plain : IsPlain (understood books_schema drop_points)
+unfolding understood everything
+drop_points_plain = (refl, refl)
+
+-- ---- insert_register
+
+abbrev pub insert_register : List ℕ
+insert_register = codes "INSERT INTO registers (place, name, device, function, address, scale_kind, scale) VALUES (?1, ?2, ?3, ?4, ?5, ?6, ?7)"
+
+abbrev pub insert_register_terms : List Term
+insert_register_terms = col 0 0 ∷ lit Null ∷ col 0 1 ∷ col 0 2 ∷ col 0 3 ∷ col 0 4 ∷ col 0 5 ∷ col 0 6 ∷ []
+
+pub insert_register_is : command_of (understood books_schema insert_register) ≡ Insert 3 (Values insert_register_terms 8)
+unfolding understood everything
+insert_register_is = refl
+
+pub insert_register_plain : IsPlain (understood books_schema insert_register)
+unfolding understood everything
+insert_register_plain = (refl, refl)
+
+-- ---- device_rows
+
+abbrev pub device_rows : List ℕ
+device_rows = codes "SELECT place, name, unit, timeout, \"window\" FROM devices ORDER BY place"
+
+abbrev pub device_rows_tests : List Term
+device_rows_tests = []
+
+abbrev pub device_rows_project : List Term
+device_rows_project = col 1 0 ∷ col 1 2 ∷ col 1 3 ∷ col 1 4 ∷ col 1 5 ∷ []
+
+abbrev pub device_rows_names : List (List ℕ)
+device_rows_names = codes "place" ∷ codes "name" ∷ codes "unit" ∷ codes "timeout" ∷ codes "window" ∷ []
+
+pub device_rows_is : command_of (understood books_schema device_rows) ≡ Select (record { lets = []; body = scan 1 device_rows_tests device_rows_project ((col 1 0, rising) ∷ []) no_limit }) device_rows_names
+unfolding understood everything
+device_rows_is = refl
+
+pub device_rows_unlisted : reads_listing books_schema device_rows ≡ false
+unfolding understood everything
+device_rows_unlisted = refl
+
+pub device_rows_plain : IsPlain (understood books_schema device_rows)
+unfolding understood everything
+device_rows_plain = (refl, refl)
+
+-- ---- last_device
+
+abbrev pub last_device : List ℕ
+last_device = codes "SELECT place FROM devices ORDER BY place DESC LIMIT 1"
+
+abbrev pub last_device_tests : List Term
+last_device_tests = []
+
+abbrev pub last_device_project : List Term
+last_device_project = col 1 0 ∷ []
+
+abbrev pub last_device_names : List (List ℕ)
+last_device_names = codes "place" ∷ []
+
+pub last_device_is : command_of (understood books_schema last_device) ≡ Select (record { lets = []; body = scan 1 last_device_tests last_device_project ((col 1 0, falling) ∷ []) one }) last_device_names
+unfolding understood everything
+last_device_is = refl
+
+pub last_device_unlisted : reads_listing books_schema last_device ≡ false
+unfolding understood everything
+last_device_unlisted = refl
+
+pub last_device_plain : IsPlain (understood books_schema last_device)
+unfolding understood everything
+last_device_plain = (refl, refl)
+
+-- ---- point_rows
+
+abbrev pub point_rows : List ℕ
+point_rows = codes "SELECT place, name, function, area, address, kind, scale FROM points WHERE device = ?1 ORDER BY place"
+
+abbrev pub point_rows_tests : List Term
+point_rows_tests = is_param 1 0 ∷ []
+
+abbrev pub point_rows_project : List Term
+point_rows_project = col 1 2 ∷ col 1 3 ∷ col 1 4 ∷ col 1 5 ∷ col 1 6 ∷ col 1 7 ∷ col 1 8 ∷ []
+
+abbrev pub point_rows_names : List (List ℕ)
+point_rows_names = codes "place" ∷ codes "name" ∷ codes "function" ∷ codes "area" ∷ codes "address" ∷ codes "kind" ∷ codes "scale" ∷ []
+
+pub point_rows_is : command_of (understood books_schema point_rows) ≡ Select (record { lets = []; body = scan 3 point_rows_tests point_rows_project ((col 1 2, rising) ∷ []) no_limit }) point_rows_names
+unfolding understood everything
+point_rows_is = refl
+
+pub point_rows_unlisted : reads_listing books_schema point_rows ≡ false
+unfolding understood everything
+point_rows_unlisted = refl
+
+pub point_rows_plain : IsPlain (understood books_schema point_rows)
+unfolding understood everything
+point_rows_plain = (refl, refl)
+
+-- ---- register_of
+
+abbrev pub register_of : List ℕ
+register_of = codes "SELECT place, name, device, function, address, scale_kind, scale FROM registers WHERE name = ?1 LIMIT 1"
+
+abbrev pub register_of_tests : List Term
+register_of_tests = is_param 2 0 ∷ []
+
+abbrev pub register_of_project : List Term
+register_of_project = col 1 0 ∷ col 1 2 ∷ col 1 3 ∷ col 1 4 ∷ col 1 5 ∷ col 1 6 ∷ col 1 7 ∷ []
+
+abbrev pub register_of_names : List (List ℕ)
+register_of_names = codes "place" ∷ codes "name" ∷ codes "device" ∷ codes "function" ∷ codes "address" ∷ codes "scale_kind" ∷ codes "scale" ∷ []
+
+pub register_of_is : command_of (understood books_schema register_of) ≡ Select (record { lets = []; body = scan 5 register_of_tests register_of_project [] one }) register_of_names
+unfolding understood everything
+register_of_is = refl
+
+pub register_of_unlisted : reads_listing books_schema register_of ≡ false
+unfolding understood everything
+register_of_unlisted = refl
+
+pub register_of_plain : IsPlain (understood books_schema register_of)
+unfolding understood everything
+register_of_plain = (refl, refl)
+
+-- ---- register_rows
+
+abbrev pub register_rows : List ℕ
+register_rows = codes "SELECT place, name, device, function, address, scale_kind, scale FROM registers WHERE device = ?1 ORDER BY place"
+
+abbrev pub register_rows_tests : List Term
+register_rows_tests = is_param 3 0 ∷ []
+
+abbrev pub register_rows_project : List Term
+register_rows_project = col 1 0 ∷ col 1 2 ∷ col 1 3 ∷ col 1 4 ∷ col 1 5 ∷ col 1 6 ∷ col 1 7 ∷ []
+
+abbrev pub register_rows_names : List (List ℕ)
+register_rows_names = codes "place" ∷ codes "name" ∷ codes "device" ∷ codes "function" ∷ codes "address" ∷ codes "scale_kind" ∷ codes "scale" ∷ []
+
+pub register_rows_is : command_of (understood books_schema register_rows) ≡ Select (record { lets = []; body = scan 5 register_rows_tests register_rows_project ((col 1 0, rising) ∷ []) no_limit }) register_rows_names
+unfolding understood everything
+register_rows_is = refl
+
+pub register_rows_unlisted : reads_listing books_schema register_rows ≡ false
+unfolding understood everything
+register_rows_unlisted = refl
+
+pub register_rows_plain : IsPlain (understood books_schema register_rows)
+unfolding understood everything
+register_rows_plain = (refl, refl)
+
+-- ---- places_of
+
+abbrev pub places_of : List ℕ
+places_of = codes "SELECT place FROM registers WHERE device = ?1"
+
+abbrev pub places_of_tests : List Term
+places_of_tests = is_param 3 0 ∷ []
+
+abbrev pub places_of_project : List Term
+places_of_project = col 1 0 ∷ []
+
+abbrev pub places_of_names : List (List ℕ)
+places_of_names = codes "place" ∷ []
+
+pub places_of_is : command_of (understood books_schema places_of) ≡ Select (record { lets = []; body = scan 5 places_of_tests places_of_project [] no_limit }) places_of_names
+unfolding understood everything
+places_of_is = refl
+
+pub places_of_unlisted : reads_listing books_schema places_of ≡ false
+unfolding understood everything
+places_of_unlisted = refl
+
+pub places_of_plain : IsPlain (understood books_schema places_of)
+unfolding understood everything
+places_of_plain = (refl, refl)
+
+-- ---- last_register
+
+abbrev pub last_register : List ℕ
+last_register = codes "SELECT place FROM registers ORDER BY place DESC LIMIT 1"
+
+abbrev pub last_register_tests : List Term
+last_register_tests = []
+
+abbrev pub last_register_project : List Term
+last_register_project = col 1 0 ∷ []
+
+abbrev pub last_register_names : List (List ℕ)
+last_register_names = codes "place" ∷ []
+
+pub last_register_is : command_of (understood books_schema last_register) ≡ Select (record { lets = []; body = scan 5 last_register_tests last_register_project ((col 1 0, falling) ∷ []) one }) last_register_names
+unfolding understood everything
+last_register_is = refl
+
+pub last_register_unlisted : reads_listing books_schema last_register ≡ false
+unfolding understood everything
+last_register_unlisted = refl
+
+pub last_register_plain : IsPlain (understood books_schema last_register)
+unfolding understood everything
+last_register_plain = (refl, refl)

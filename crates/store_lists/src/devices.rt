@@ -1,0 +1,74 @@
+//! The table `devices`.
+ghost use Rattle.std.specs.Prelude.{◌≡◌, IfOk, IfSome};
+ghost use Rattle.sqlite.specs.Held.{state};
+ghost use Rattle.store_tables.specs.Content.{Edits, with_row};
+ghost use Rattle.store_tables.specs.Steps.{Steps};
+ghost use Rattle.store_tables.specs.Limits.{IsPlace};
+ghost use Rattle.store_tables.specs.Answer.{IsLast, LastFirst, FirstFirst, every};
+ghost use Rattle.store_tables.specs.Asking.{Asks, Tells, Shows, ShowsFirst, LooksUp};
+ghost use Rattle.store_lists.specs.Rows.{device_columns, device_shown, device_place, device_place_shown, HasDevicePlace, IsSoundDevice, IsSoundAdded};
+ghost use Rattle.store_lists.specs.Trees.{devices};
+
+use crate::reading::place;
+use crate::rows::DeviceRow;
+use sqlite::{Alter, Connection, Error, Row, Transaction, params};
+use store_tables::{RowFault, number};
+
+/// Adds a device.
+pub fn insert_device<S: Alter>(
+    tx: &mut Transaction<'_, S>,
+    name: &str,
+    device: DeviceRow,
+) -> Result<usize, Error>
+    requires sound { IsSoundDevice device }
+    ensures same_reference { tx.new.conn.ghost_name ≡ tx.old.conn.ghost_name }
+    ensures does { Steps (state S.Store tx.old.conn.now) (state S.Store tx.new.conn.now) result
+        (Edits devices device_columns (with_row (record { name = name.now; row = device }))) }
+{
+    let place = number(device.place);
+    tx.execute(
+        "INSERT INTO devices (place, name, unit, timeout, \"window\") VALUES (?1, ?2, ?3, ?4, ?5)",
+        params![
+            &place,
+            name,
+            u32::from(device.unit),
+            u32::from(device.timeout),
+            u32::from(device.window)
+        ],
+    )
+}
+
+/// The devices in the order in which they were added; `read_device` reads each.
+pub fn device_rows<S: Alter>(conn: &mut Connection<S>) -> Result<Vec<Row>, Error>
+    ensures asks { Asks S.Store conn.old conn.new }
+    ensures shows { Tells S.Store conn.old conn.new devices device_columns result
+        (λ rows answer. Shows every (FirstFirst device_place) device_shown rows answer.items) }
+{
+    conn.query_all(
+        "SELECT place, name, unit, timeout, \"window\" FROM devices ORDER BY place",
+        &[],
+    )
+}
+
+/// The place of the last device, if there is one.
+fn last_rows<S: Alter>(conn: &mut Connection<S>) -> Result<Vec<Row>, Error>
+    ensures asks { Asks S.Store conn.old conn.new }
+    ensures shows { Tells S.Store conn.old conn.new devices device_columns result
+        (λ rows answer.
+        ShowsFirst every (LastFirst device_place) device_place_shown rows answer.items) }
+{
+    conn.query_all("SELECT place FROM devices ORDER BY place DESC LIMIT 1", &[])
+}
+
+/// The greatest place of a device, which counts them.
+pub fn last_device<S: Alter>(conn: &mut Connection<S>) -> Result<Option<u64>, RowFault>
+    ensures finds { LooksUp S.Store conn.old conn.new devices device_columns IsSoundAdded result
+        (IsLast every HasDevicePlace device_place) }
+    ensures sound { IfOk result (λ found. IfSome found IsPlace) }
+{
+    let rows = last_rows(conn)?;
+    match rows.first() {
+        None => Ok(None),
+        Some(row) => Ok(Some(place(row)?)),
+    }
+}

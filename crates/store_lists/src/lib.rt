@@ -1,0 +1,16 @@
+//! The devices in the tables of the books: devices, the points of their lists, and registers.
+#![tactic(auto)]
+
+mod devices;
+mod points;
+mod reading;
+mod registers;
+mod rows;
+
+pub use devices::{device_rows, insert_device, last_device};
+pub use points::{drop_points, insert_point, point_rows};
+pub use reading::{read_device, read_point, read_register};
+pub use registers::{
+    insert_register, last_register, register_count, register_of, register_rows,
+};
+pub use rows::{Device, DeviceRow, Point, PointRow, Register, RegisterRow, RegisterScale};

@@ -1,8 +1,0 @@
-use Rattle.std.proofs.Common.{take}
-use Rattle.std.specs.List.{flat_map}
-use Rattle.std.specs.Io.KnownBytes.{Appends}
-use Rattle.sunreg.proofs.HexText.{byte_text}
-use Rattle.sunreg.proofs.answer_printing.print_hex.Given as goal
-
-abbrev pub invariant-loop-byte : goal.invariant-loop-byte
-invariant-loop-byte g l = Appends (g.W.Write.contents l.fn.output) (g.W.Write.contents l.output) (flat_map byte_text (take l.byte-index l.bytes))

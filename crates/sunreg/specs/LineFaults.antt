@@ -1,8 +1,0 @@
--- The numbers of what is wrong with a line.
-use Rattle.std.specs.Prelude.{ℕ}
-use Rattle.sunreg.specs.declared.line_fault.LineFault.{LineFault}
-use Rattle.sunreg.specs.declared.line_fault.LineFault.TheVariants.{Bad, Memory}
-
-abbrev pub line_fault_number : LineFault → ℕ
-line_fault_number Bad = 1
-line_fault_number Memory = 2
