@@ -1,5 +1,13 @@
 pub mod Coming
+pub mod Turned
 pub mod SameKeys
 pub mod PlacesComing
+pub mod Standing
+pub mod Found
 pub mod PollRows
+pub mod MetersComing
 pub mod Wholes
+pub mod Passing
+pub mod Known
+pub mod Numbered
+pub mod Joined

@@ -1,5 +1,9 @@
+pub mod Accounts
 pub mod Growing
 pub mod Keys
+pub mod Meters
+pub mod Moving
+pub mod Placed
 pub mod Places
 pub mod Polls
 pub mod Whole

@@ -1,8 +1,8 @@
 -- Where facts stand, by what they are looked up by.
 use Rattle.std.specs.Prelude.{◌≡◌, ℕ, Bool, false, List, [], ◌∷◌, reverse, length, Option, Some, None, if◌then◌else◌}
 use Rattle.std.specs.BTreeMap.{get}
+use Rattle.std.specs.List.{slice_get}
 use Rattle.std.specs.declared.vec.Vec.{Vec}
-use Rattle.std.specs.Option.{option_and_then}
 use Rattle.office_events.specs.declared.facts.DeviceList.{DeviceList}
 use Rattle.office_events.specs.declared.facts.Register.{Register}
 use Rattle.office_events.specs.declared.facts.Opening.{Opening}
@@ -74,7 +74,14 @@ abbrev pub under : {Z : Type 0} → Option (Vec ℕ Z) → List ℕ
 under None = []
 under (Some places) = places.items
 
+-- the place of the latest that passes
+abbrev pub latest_place : (Fact → Bool) → List Fact → Option ℕ
+latest_place p held = slice_get (places_of p held) 0
+
 -- Under each key are the places of its facts, in the order in which they came.
+abbrev pub ArePlacesOf : Kind → Places → List Fact → Type 0
+ArePlacesOf kind places held =
+    (key : Key) → under (get key_cmp places.places key) ≡ reverse (places_of (has_key kind key) held)
+
 abbrev pub ArePlaces : Places → List Fact → Type 0
-ArePlaces places held =
-    (key : Key) → under (get key_cmp places.places key) ≡ reverse (places_of (has_key places.kind key) held)
+ArePlaces places held = ArePlacesOf places.kind places held

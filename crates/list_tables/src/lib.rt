@@ -1,7 +1,11 @@
 //! Tables in memory: what facts say, ready to be looked up.
 #![tactic(auto)]
 
+mod accounts;
 mod keys;
+mod meter;
+mod meters;
+mod placed;
 mod places;
 mod polls;
 mod table;

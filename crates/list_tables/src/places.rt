@@ -107,7 +107,8 @@ impl Places {
     ghost use Rattle.std.specs.BTreeMap.{get, IsUnchanged};
     ghost use Rattle.std.specs.Ordering.{is_eq};
     ghost use Rattle.list_tables.specs.Keys.{key_cmp};
-    ghost use Rattle.list_tables.specs.Places.{ArePlaces, under, places_of, has_key};
+    ghost use Rattle.list_tables.specs.Places.{ArePlaces, ArePlacesOf, under, places_of, latest_place, has_key};
+    ghost use Rattle.list_tables.specs.declared.places.Kind.{Kind};
 
     /// No facts.
     pub(crate) fn new(alloc: Global, kind: Kind) -> Places
@@ -142,18 +143,29 @@ impl Places {
 
     /// The places of the facts under a key, in their order.
     pub(crate) fn all(&self, key: Key) -> &[usize]
-        ensures { (held : List Fact) → ArePlaces self.now held
-            → result.now ≡ reverse (places_of (has_key self.now.kind key) held) }
+        ensures { (kind : Kind) (held : List Fact) → ArePlacesOf kind self.now held
+            → result.now ≡ reverse (places_of (has_key kind key) held) }
     {
         match self.places.get(&key) {
             Some(places) => places.as_slice(),
             None => &[],
         }
     }
+
+    /// The place of the latest fact under a key.
+    pub(crate) fn latest(&self, key: Key) -> Option<usize>
+        ensures { (kind : Kind) (held : List Fact) → ArePlacesOf kind self.now held
+            → result ≡ latest_place (has_key kind key) held }
+    {
+        self.all(key).last().copied()
+    }
 }
 
 impl Table for Places {
+    ghost use Rattle.std.specs.Prelude.{Some};
     ghost use Rattle.list_tables.specs.Places.{ArePlaces};
+
+    ghost kind = { λ places. Some places.kind };
 
     ghost says = { ArePlaces };
 

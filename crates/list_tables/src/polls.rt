@@ -59,7 +59,10 @@ impl Polls {
 }
 
 impl Table for Polls {
+    ghost use Rattle.std.specs.Prelude.{None};
     ghost use Rattle.list_tables.specs.Polls.{ArePolls};
+
+    ghost kind = { λ _. None };
 
     ghost says = { ArePolls };
 
@@ -119,7 +122,10 @@ impl Pending {
 }
 
 impl Table for Pending {
+    ghost use Rattle.std.specs.Prelude.{None};
     ghost use Rattle.list_tables.specs.Polls.{ArePending};
+
+    ghost kind = { λ _. None };
 
     ghost says = { ArePending };
 

@@ -9,9 +9,13 @@ use std::alloc::AllocError;
 
 /// A table of what facts say.
 pub(crate) trait Table: Drop {
-    ghost use Rattle.std.specs.Prelude.{◌≡◌, List, ◌∷◌, length, OnOk, OnErr};
+    ghost use Rattle.std.specs.Prelude.{◌≡◌, List, ◌∷◌, length, Option, OnOk, OnErr};
     ghost use Rattle.office_events.specs.declared.facts.Fact.{Fact};
     ghost use Rattle.office_rules.specs.Lawful.{AreLawful};
+    ghost use Rattle.list_tables.specs.declared.places.Kind.{Kind};
+
+    /// Which places it has, if it is a table of places. This never changes.
+    ghost kind: { Self → Option Kind };
 
     /// It says what these facts say, the latest first.
     ghost says: { Self → List Fact → Type 0 };
@@ -20,7 +24,8 @@ pub(crate) trait Table: Drop {
     fn put(&mut self, place: usize, fact: &Fact) -> Result<(), AllocError>
         ensures ok { (held : List Fact) → AreLawful (fact.now ∷ held) → length held ≡ place → says self.old held
             → OnOk result (says self.new (fact.now ∷ held)) }
-        ensures err { (held : List Fact) → says self.old held → OnErr result (says self.new held) };
+        ensures err { (held : List Fact) → says self.old held → OnErr result (says self.new held) }
+        ensures kind { kind self.new ≡ kind self.old };
 }
 
 /// A table, and how many facts it has.
@@ -45,6 +50,7 @@ impl<T: Table> Kept<T> {
             → HasCome T.says self.new facts.now }
         ensures whole { AreLawful (latest_first facts.now) → HasCome T.says self.old facts.now
             → OnOk result (T.says self.new.table (latest_first facts.now)) }
+        ensures kind { T.kind self.new.table ≡ T.kind self.old.table }
     {
         while self.count < facts.len() {
             self.table.put(self.count, &facts[self.count])?;

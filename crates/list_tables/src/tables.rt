@@ -1,14 +1,26 @@
 //! All tables of some facts.
-ghost use Rattle.std.specs.Prelude.{◌≡◌, List, [], length, IfOk, OnOk};
+ghost use Rattle.std.specs.Prelude.{◌≡◌, List, [], reverse, length, IfOk, IfSome, OnOk};
 ghost use Rattle.office_events.specs.declared.facts.Fact.{Fact};
-ghost use Rattle.office_rules.specs.Facts.{polls_in, pending_in};
+ghost use Rattle.office_rules.specs.Facts.{polls_in, pending_in, list_of, register_of, registers_of, installed_at};
+ghost use Rattle.office_books.specs.Repeats.{repeat_of};
+ghost use Rattle.office_books.specs.Sound.{IsSound};
+ghost use Rattle.office_rules.specs.Intervals.{installations_at, rows_of_meter, rows_of_register};
 ghost use Rattle.office_rules.specs.Lawful.{AreLawful};
+ghost use Rattle.office_rules.specs.Meters.{meter_of, installation_at, entry_at};
 ghost use Rattle.office_rules.specs.Readings.{poll_row_of};
 ghost use Rattle.list_tables.specs.Growing.{latest_first};
 
+use crate::keys::Key;
+use crate::meters::Meters;
+use crate::placed::{list_at, opening_at, openings_at, register_at, registers_at, repeat_at};
+use crate::places::{Kind, Places, named};
 use crate::polls::{Pending, Polls};
 use crate::table::Kept;
-use office_events::{Fact, Poll, PollRow};
+use interval_core::Share;
+use office_books::Repeat;
+use office_events::{
+    EntryPlace, Fact, Installation, Name, Opening, PlannedList, Poll, PollRow, Register,
+};
 use std::alloc::{AllocError, Global};
 
 /// Tables of what facts say. Each has the facts as far as it has come, and what it says is said once all have caught up.
@@ -16,6 +28,12 @@ use std::alloc::{AllocError, Global};
 pub struct Tables {
     polls: Kept<Polls>,
     pending: Kept<Pending>,
+    lists: Kept<Places>,
+    registers: Kept<Places>,
+    device_registers: Kept<Places>,
+    openings: Kept<Places>,
+    replies: Kept<Places>,
+    meters: Kept<Meters>,
 }
 
 impl Tables {
@@ -28,6 +46,12 @@ impl Tables {
         Tables {
             polls: Kept::new(Polls::new(alloc)),
             pending: Kept::new(Pending::new(alloc)),
+            lists: Kept::new(Places::new(alloc, Kind::DeviceLists)),
+            registers: Kept::new(Places::new(alloc, Kind::Registers)),
+            device_registers: Kept::new(Places::new(alloc, Kind::DeviceRegisters)),
+            openings: Kept::new(Places::new(alloc, Kind::RegisterOpenings)),
+            replies: Kept::new(Places::new(alloc, Kind::Replies)),
+            meters: Kept::new(Meters::new(alloc)),
         }
     }
 
@@ -39,6 +63,12 @@ impl Tables {
     {
         self.polls.catch_up(facts)?;
         self.pending.catch_up(facts)?;
+        self.lists.catch_up(facts)?;
+        self.registers.catch_up(facts)?;
+        self.device_registers.catch_up(facts)?;
+        self.openings.catch_up(facts)?;
+        self.replies.catch_up(facts)?;
+        self.meters.catch_up(facts)?;
         Ok(())
     }
 
@@ -61,5 +91,142 @@ impl Tables {
         ensures { (held : List Fact) → AreWhole self.now held → IfOk result (λ v. v.items ≡ pending_in held) }
     {
         self.pending.table.all(alloc)
+    }
+
+    /// The point list of a device, among the facts that the tables are of.
+    pub fn list(&self, facts: &[Fact], device: &Name) -> Result<Option<PlannedList>, AllocError>
+        ensures { (held : List Fact) → facts.now ≡ reverse held → AreWhole self.now held
+            → IfOk result (λ list. list ≡ list_of held device.now) }
+    {
+        match self.lists.table.latest(named(device)) {
+            Some(place) => list_at(facts, place),
+            None => Ok(None),
+        }
+    }
+
+    /// The register of a name, among those facts.
+    pub fn register(&self, facts: &[Fact], name: &Name) -> Option<Register>
+        ensures { (held : List Fact) → facts.now ≡ reverse held → AreWhole self.now held
+            → result ≡ register_of held name.now }
+    {
+        match self.registers.table.latest(named(name)) {
+            Some(place) => register_at(facts, place),
+            None => None,
+        }
+    }
+
+    /// The registers of a device, in the order in which they were added.
+    pub fn registers(
+        &self,
+        alloc: Global,
+        facts: &[Fact],
+        device: &Name,
+    ) -> Result<Vec<Register>, AllocError>
+        ensures { (held : List Fact) → facts.now ≡ reverse held → AreWhole self.now held
+            → IfOk result (λ v. v.items ≡ registers_of held device.now) }
+    {
+        registers_at(alloc, facts, self.device_registers.table.all(named(device)))
+    }
+
+    /// The latest opening at a register.
+    pub fn installed(&self, facts: &[Fact], register: &Name) -> Option<Opening>
+        ensures { (held : List Fact) → facts.now ≡ reverse held → AreWhole self.now held
+            → result ≡ installed_at held register.now }
+    {
+        match self.openings.table.latest(named(register)) {
+            Some(place) => opening_at(facts, place),
+            None => None,
+        }
+    }
+
+    /// What a request is to the one that is kept under its caller and number.
+    pub fn repeat(
+        &self,
+        facts: &[Fact],
+        caller: &Name,
+        number: u64,
+        request: &[u8],
+    ) -> Option<Repeat>
+        ensures { (held : List Fact) → facts.now ≡ reverse held → AreWhole self.now held
+            → result ≡ repeat_of held caller.now number request.now }
+    {
+        let key = Key {
+            name: *caller,
+            number,
+        };
+        match self.replies.table.latest(key) {
+            Some(place) => repeat_at(facts, place, request),
+            None => None,
+        }
+    }
+
+    /// The installation of a meter, as it stands.
+    pub fn meter(&self, name: &Name) -> Option<Installation>
+        ensures found { (held : List Fact) → AreLawful held → AreWhole self.now held
+            → result ≡ meter_of held name.now }
+        ensures sound { IfSome result IsSound }
+    {
+        self.meters.table.row(name)
+    }
+
+    /// The latest installation at a register, as it stands.
+    pub fn installation(&self, facts: &[Fact], register: &Name) -> Option<Installation>
+        ensures found { (held : List Fact) → facts.now ≡ reverse held → AreLawful held → AreWhole self.now held
+            → result ≡ installation_at held register.now }
+        ensures sound { IfSome result IsSound }
+    {
+        match self.installed(facts, register) {
+            Some(opening) => self.meter(&opening.meter),
+            None => None,
+        }
+    }
+
+    /// Where a meter stood before its entry at a place, and the next that stands.
+    pub fn entry(&self, meter: &Name, place: u64) -> Option<EntryPlace>
+        ensures found { (held : List Fact) → AreLawful held → AreWhole self.now held
+            → result ≡ entry_at held meter.now place }
+        ensures sound { IfSome result (λ found. IsSound found.before) }
+    {
+        self.meters.table.entry(meter, place)
+    }
+
+    /// The energy of a meter by quarter hours, in order of their starts.
+    pub fn intervals(&self, alloc: Global, meter: &Name) -> Result<Vec<Share>, AllocError>
+        ensures { (held : List Fact) → AreLawful held → AreWhole self.now held
+            → IfOk result (λ v. v.items ≡ rows_of_meter held meter.now) }
+    {
+        self.meters.table.shares(alloc, meter)
+    }
+
+    /// The openings at a register, in their order.
+    fn openings_of(
+        &self,
+        alloc: Global,
+        facts: &[Fact],
+        register: &Name,
+    ) -> Result<Vec<Opening>, AllocError>
+        ensures { (held : List Fact) → facts.now ≡ reverse held → AreWhole self.now held
+            → IfOk result (λ v. v.items ≡ installations_at held register.now) }
+    {
+        openings_at(alloc, facts, self.openings.table.all(named(register)))
+    }
+
+    /// The energy of a register by quarter hours, installation after installation.
+    pub fn register_intervals(
+        &self,
+        alloc: Global,
+        facts: &[Fact],
+        register: &Name,
+    ) -> Result<Vec<Share>, AllocError>
+        ensures { (held : List Fact) → facts.now ≡ reverse held → AreLawful held → AreWhole self.now held
+            → IfOk result (λ v. v.items ≡ rows_of_register held register.now) }
+    {
+        let openings = self.openings_of(alloc, facts, register)?;
+        let mut all = Vec::new(alloc);
+        for opening in &openings {
+            let mut rows = self.intervals(alloc, &opening.meter)?;
+            all.append(&mut rows)?;
+        }
+        Ok(all)
     }
 }

@@ -9,7 +9,7 @@ use Rattle.list_tables.specs.Whole.{HaveCome}
 use Rattle.list_tables.proofs.Wholes.{have_come_with}
 use Rattle.office_books.specs.declared.faults.BooksFault.{BooksFault}
 use Rattle.office_books.specs.declared.faults.BooksFault.TheVariants.{Store, Memory}
-use Rattle.office_books.specs.Ledgers.{Books, with_facts}
+use Rattle.office_books.specs.Ledgers.{KeepsFacts, Books, with_facts}
 use Rattle.office_lists.specs.declared.list_books.ListBooks.{ListBooks}
 use Rattle.office_lists.specs.Listed.{AreListed, HasOne, ledger_of}
 
@@ -43,30 +43,32 @@ one_among books [] more may = absurd may
 one_among books (held ∷ left) more (inl listed) = inl listed
 one_among books (held ∷ left) more (inr may) = inr (one_among books left more may)
 
-pub added : (old new : ListBooks) (facts : List Fact) (result : Result (Unit {0}) BooksFault)
-    → OnOk result (new.facts.items ≡ old.facts.items ++ facts) → OnErr result (new.facts.items ≡ old.facts.items) → new.zone ≡ old.zone → new.tables ≡ old.tables
-    → IfErr result (λ e. e ≡ Memory) → (facts ≡ [] → IsOk result) → Books (ledger_of old) (ledger_of new) facts result
-added old new facts (Ok done) ok err zone tables memory nothing = record {
-  booked = λ held listed lawful. listed_on old new held facts ok tables listed lawful;
-  settled = λ held listed lawful. inl (listed_on old new held facts ok tables listed lawful);
+-- the facts were added, and the tables came further
+pub added : (old mid new : ListBooks) (facts : List Fact) → mid.facts.items ≡ old.facts.items ++ facts → mid.zone ≡ old.zone → mid.tables ≡ old.tables
+    → KeepsFacts (ledger_of mid) (ledger_of new) → new.zone ≡ mid.zone → Books (ledger_of old) (ledger_of new) facts (Ok tt)
+added old mid new facts is zone tables keeps still_zone = record {
+  booked = λ held listed lawful. keeps.facts (with_facts facts held) (listed_on old mid held facts is tables listed lawful);
+  settled = λ held listed lawful. inl (keeps.facts (with_facts facts held) (listed_on old mid held facts is tables listed lawful));
   refused = λ held listed. tt;
   under_way = λ held left listed lawful may. tt;
   nothing = λ none.
-      let same : new.facts.items ≡ old.facts.items = ok ∙ ap (λ (xs : List Fact). old.facts.items ++ xs) none ∙ append-nil old.facts.items in (
-        nothing none,
-        record {
-          facts = λ held listed. listed_still old new held same tables listed;
-          left = λ left may. one_still old new (λ held listed. listed_still old new held same tables listed) left may;
-        },
-      );
-  goes = record { clean = λ c. c; faults = refl; zone = zone };
+      let same : mid.facts.items ≡ old.facts.items = is ∙ ap (λ (xs : List Fact). old.facts.items ++ xs) none ∙ append-nil old.facts.items in
+      let still : (held : List Fact) → AreListed old held → AreListed mid held = λ held listed. listed_still old mid held same tables listed in
+      (refl, record { facts = λ held listed. keeps.facts held (still held listed); left = λ left may. keeps.left left (one_still old mid still left may) });
+  goes = record { clean = λ c. c; faults = refl; zone = still_zone ∙ zone };
 }
-added old new facts (Err (Store fault)) ok err zone tables memory nothing = absurd (let never : Store fault ≡ Memory = memory in cc)
-added old new facts (Err Memory) ok err zone tables memory nothing = record {
-  booked = λ held listed lawful. tt;
-  settled = λ held listed lawful. tt;
-  refused = λ held listed. listed_still old new held err tables listed;
-  under_way = λ held left listed lawful may. one_among new left _ (one_still old new (λ held listed. listed_still old new held err tables listed) left may);
-  nothing = λ none. absurd (let never : false ≡ true = nothing none in cc);
-  goes = record { clean = λ c. c; faults = refl; zone = zone };
-}
+
+-- there was no room for them
+pub not_added : (old new : ListBooks) (facts : List Fact) (why : BooksFault) → why ≡ Memory → new.facts.items ≡ old.facts.items → new.zone ≡ old.zone
+    → new.tables ≡ old.tables → (facts ≡ [] → false ≡ true) → Books (ledger_of old) (ledger_of new) facts (Err why)
+not_added old new facts (Store fault) memory same zone tables some = absurd (cc)
+not_added old new facts Memory memory same zone tables some =
+    let still : (held : List Fact) → AreListed old held → AreListed new held = λ held listed. listed_still old new held same tables listed in
+    record {
+      booked = λ held listed lawful. tt;
+      settled = λ held listed lawful. tt;
+      refused = still;
+      under_way = λ held left listed lawful may. one_among new left _ (one_still old new still left may);
+      nothing = λ none. absurd (let never : false ≡ true = some none in cc);
+      goes = record { clean = λ c. c; faults = refl; zone = zone };
+    }

@@ -4,7 +4,8 @@ use Rattle.std.proofs.lemmas.List.{reverse-reverse}
 use Rattle.office_events.specs.declared.facts.Fact.{Fact}
 use Rattle.office_rules.specs.Lawful.{AreLawful}
 use Rattle.office_books.specs.Ledgers.{KeepsFacts}
-use Rattle.list_tables.specs.Whole.{HaveCome}
+use Rattle.list_tables.specs.declared.tables.Tables.{Tables}
+use Rattle.list_tables.specs.Whole.{HaveCome, AreWhole}
 use Rattle.office_lists.specs.declared.list_books.ListBooks.{ListBooks}
 use Rattle.office_lists.specs.Listed.{AreListed, ledger_of}
 use Rattle.office_lists.proofs.Adding.{one_still}
@@ -25,3 +26,11 @@ keeps_facts old new facts same is further = record { facts = still; left = one_s
       tables = subst (HaveCome new.tables) (is ∙ sym same)
           (further (subst AreLawful (sym (in_turn old facts held is listed)) listed.lawful) (subst (HaveCome old.tables) (sym is) listed.tables));
     }
+
+-- what the tables then say is what the facts say
+pub all_said : (old : ListBooks) (tables : Tables) (facts held : List Fact) → facts ≡ old.facts.items
+    → (AreLawful (reverse facts) → HaveCome old.tables facts → AreWhole tables (reverse facts)) → AreListed old held → AreWhole tables held
+all_said old tables facts held is whole listed =
+    let turned : reverse facts ≡ held = in_turn old facts held is listed in
+    subst (AreWhole tables) turned
+    (whole (subst AreLawful (sym turned) listed.lawful) (subst (HaveCome old.tables) (sym is) listed.tables))

@@ -1,4 +1,2 @@
 pub mod Looking
-pub mod Accounts
-pub mod Rows
 pub mod Listed

@@ -1,9 +1,9 @@
 //! Each kind of fact.
 ghost use Rattle.std.specs.Prelude.{◌≡◌};
-ghost use Rattle.office_rules.specs.Facts.{as_device, as_register, as_opening, moment_in};
+ghost use Rattle.office_rules.specs.Facts.{as_device, as_opening, moment_in};
 
 use energy_core::Entry;
-use office_events::{Device, Fact, Opening, Register};
+use office_events::{Device, Fact, Opening};
 
 pub(crate) fn device_in(fact: &Fact) -> Option<Device>
     ensures { result ≡ as_device fact.now }
@@ -12,23 +12,6 @@ pub(crate) fn device_in(fact: &Fact) -> Option<Device>
         Fact::Device(device) => Some(*device),
         Fact::List(_)
         | Fact::Register(_)
-        | Fact::Opening(_)
-        | Fact::Entry(_)
-        | Fact::Hold(_)
-        | Fact::Void(_)
-        | Fact::Poll(_)
-        | Fact::Outcome(_)
-        | Fact::Reply(_) => None,
-    }
-}
-
-pub(crate) fn register_in(fact: &Fact) -> Option<Register>
-    ensures { result ≡ as_register fact.now }
-{
-    match fact {
-        Fact::Register(register) => Some(*register),
-        Fact::Device(_)
-        | Fact::List(_)
         | Fact::Opening(_)
         | Fact::Entry(_)
         | Fact::Hold(_)

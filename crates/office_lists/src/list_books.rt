@@ -6,7 +6,7 @@ ghost use Rattle.list_tables.specs.Whole.{AreWhole};
 ghost use Rattle.office_lists.specs.Listed.{AreListed};
 
 use crate::handing::hand_on;
-use crate::{lookups, meters};
+use crate::lookups;
 use interval_core::{Share, Zone};
 use list_tables::Tables;
 use office_books::{Books, BooksFault, Repeat, RowSink};
@@ -15,8 +15,8 @@ use office_events::{
 };
 use std::alloc::Global;
 
-/// Books in memory: a list of the facts, in the order in which they came. They have no store, and so never answer
-/// `BooksFault::Store`: a call fails only for want of memory, and then changes nothing. A look-up walks the list.
+/// Books in memory: a list of the facts, in the order in which they came, and tables of what they say. They have no store,
+/// and so never answer `BooksFault::Store`: a call fails only for want of memory, and then changes nothing.
 #[derive(Drop)]
 pub struct ListBooks {
     facts: Vec<Fact>,
@@ -44,6 +44,7 @@ impl ListBooks {
     fn catch_up(&mut self) -> Result<(), BooksFault>
         ensures keeps { KeepsFacts (ledger_of self.old) (ledger_of self.new) }
         ensures whole { (held : List Fact) → AreListed self.old held → OnOk result (AreWhole self.new.tables held) }
+        ensures facts { self.new.facts ≡ self.old.facts }
         ensures zone { self.new.zone ≡ self.old.zone }
         ensures memory { IfErr result (λ e. e ≡ Memory) }
     {
@@ -87,32 +88,36 @@ impl Books for ListBooks {
     }
 
     fn list(&mut self, device: &Name) -> Result<Option<PlannedList>, BooksFault> {
-        Ok(lookups::list(&self.facts, device)?)
+        self.catch_up()?;
+        Ok(self.tables.list(&self.facts, device)?)
     }
 
     fn register(&mut self, name: &Name) -> Result<Option<Register>, BooksFault> {
-        Ok(lookups::register(&self.facts, name))
+        self.catch_up()?;
+        Ok(self.tables.register(&self.facts, name))
     }
 
     fn registers(&mut self, device: &Name) -> Result<Vec<Register>, BooksFault> {
+        self.catch_up()?;
         let alloc = *self.facts.allocator();
-        Ok(lookups::registers(alloc, &self.facts, device)?)
+        Ok(self.tables.registers(alloc, &self.facts, device)?)
     }
 
     fn register_count(&mut self, device: &Name) -> Result<usize, BooksFault> {
+        self.catch_up()?;
         let alloc = *self.facts.allocator();
-        let registers = lookups::registers(alloc, &self.facts, device)?;
+        let registers = self.tables.registers(alloc, &self.facts, device)?;
         Ok(registers.len())
     }
 
     fn meter(&mut self, name: &Name) -> Result<Option<Installation>, BooksFault> {
-        let alloc = *self.facts.allocator();
-        Ok(meters::named(alloc, &self.facts, name)?)
+        self.catch_up()?;
+        Ok(self.tables.meter(name))
     }
 
     fn installation(&mut self, register: &Name) -> Result<Option<Installation>, BooksFault> {
-        let alloc = *self.facts.allocator();
-        Ok(meters::at_register(alloc, &self.facts, register)?)
+        self.catch_up()?;
+        Ok(self.tables.installation(&self.facts, register))
     }
 
     fn installation_count(&mut self) -> Result<usize, BooksFault> {
@@ -122,8 +127,8 @@ impl Books for ListBooks {
     }
 
     fn entry(&mut self, meter: &Name, place: u64) -> Result<Option<EntryPlace>, BooksFault> {
-        let alloc = *self.facts.allocator();
-        Ok(meters::placed(alloc, &self.facts, meter, place)?)
+        self.catch_up()?;
+        Ok(self.tables.entry(meter, place))
     }
 
     fn poll(&mut self, number: u64) -> Result<Option<PollRow>, BooksFault> {
@@ -152,7 +157,8 @@ impl Books for ListBooks {
         number: u64,
         request: &[u8],
     ) -> Result<Option<Repeat>, BooksFault> {
-        Ok(lookups::repeat(&self.facts, caller, number, request))
+        self.catch_up()?;
+        Ok(self.tables.repeat(&self.facts, caller, number, request))
     }
 
     fn intervals<K: RowSink<Share>>(
@@ -160,8 +166,9 @@ impl Books for ListBooks {
         meter: &Name,
         sink: &mut K,
     ) -> Result<(), BooksFault> {
+        self.catch_up()?;
         let alloc = *self.facts.allocator();
-        let rows = meters::intervals(alloc, &self.facts, meter)?;
+        let rows = self.tables.intervals(alloc, meter)?;
         hand_on(&rows, sink);
         Ok(())
     }
@@ -171,13 +178,21 @@ impl Books for ListBooks {
         register: &Name,
         sink: &mut K,
     ) -> Result<(), BooksFault> {
+        self.catch_up()?;
         let alloc = *self.facts.allocator();
-        let rows = meters::register_intervals(alloc, &self.facts, register)?;
+        let rows = self.tables.register_intervals(alloc, &self.facts, register)?;
         hand_on(&rows, sink);
         Ok(())
     }
 
     fn book(&mut self, facts: Vec<Fact>) -> Result<(), BooksFault> {
-        self.add(facts)
+        match self.add(facts) {
+            Ok(()) => {
+                // Where room is wanting for the tables, the look-ups ask for it again.
+                let _ = self.catch_up();
+                Ok(())
+            }
+            Err(fault) => Err(fault),
+        }
     }
 }

@@ -1,6 +1,6 @@
 use Rattle.std.proofs.Common.{◌∙◌}
 use Rattle.office_rules.specs.Facts.{as_device}
-use Rattle.office_lists.proofs.Turned.{turned}
+use Rattle.list_tables.proofs.Turned.{turned}
 use Rattle.office_lists.proofs.lookups.devices.Goals as goal
 
 pub returns : goal.returns

@@ -1,6 +1,6 @@
 use Rattle.std.proofs.Common.{refl}
 use Rattle.office_lists.specs.declared.list_books.ListBooks.{ListBooks}
-use Rattle.office_lists.proofs.Reading.{keeps_facts}
+use Rattle.office_lists.proofs.Reading.{keeps_facts, all_said}
 use Rattle.office_lists.proofs.list_books.ListBooks.catch_up.Goals as goal
 
 pub returns-in_err-catch_up-clause-keeps : goal.returns-in_err-catch_up-clause-keeps
@@ -12,3 +12,7 @@ pub returns-clause-keeps : goal.returns-clause-keeps
 returns-clause-keeps c =
     let new : ListBooks = record { facts = c.args.self.now.facts; zone = c.args.self.now.zone; tables = c.catch_up.new.self } in
     keeps_facts c.args.self.now new c.deref.result.now refl c.deref.ensures.value c.catch_up.ensures.kept
+
+pub returns-clause-whole : goal.returns-clause-whole
+returns-clause-whole c = λ held listed.
+    all_said c.args.self.now c.catch_up.new.self c.deref.result.now held c.deref.ensures.value c.in_ok-catch_up.ensures.whole listed

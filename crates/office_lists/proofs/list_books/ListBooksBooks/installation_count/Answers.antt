@@ -2,7 +2,7 @@ use Rattle.std.proofs.Common.{◌≡◌, ◌∙◌, reverse, length, ap, arith}
 use Rattle.std.specs.List.{filter_map}
 use Rattle.std.proofs.lemmas.List.{length-reverse}
 use Rattle.office_rules.specs.Facts.{as_opening, openings_in}
-use Rattle.office_lists.proofs.Turned.{filter_map_reverse}
+use Rattle.list_tables.proofs.Turned.{filter_map_reverse}
 use Rattle.office_lists.proofs.list_books.ListBooksBooks.installation_count.Goals as goal
 
 pub returns-clause-found : goal.returns-clause-found

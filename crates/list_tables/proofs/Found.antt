@@ -1,0 +1,155 @@
+-- What is found by its key.
+use Rattle.std.proofs.Common.{◌≡◌, ℕ, ◌==◌, ◌&&◌, Bool, true, false, List, reverse, Option, Some, None, refl, sym, ap, ◌∙◌, Result, Ok, Err, IfOk}
+use Rattle.std.specs.List.{find, filter, filter_map, slice_get}
+use Rattle.std.specs.Option.{option_and_then, option_map}
+use Rattle.office_events.specs.declared.facts.Register.{Register}
+use Rattle.office_events.specs.declared.facts.Opening.{Opening}
+use Rattle.office_events.specs.declared.facts.DeviceList.{DeviceList}
+use Rattle.office_events.specs.declared.facts.Reply.{Reply}
+use Rattle.office_events.specs.declared.facts.Fact.{Fact}
+use Rattle.office_events.specs.declared.facts.Fact.TheVariants as fact
+use Rattle.planned_list.specs.Lists.{Planned}
+use Rattle.office_books.specs.declared.repeats.Repeat.{Repeat}
+use Rattle.office_books.specs.Repeats.{as_repeat, repeat_of}
+use Rattle.office_rules.specs.Facts.{same, if_some, as_list, as_register, as_opening, as_reply, register_of, registers_of, installed_at, list_of, reply_of}
+use Rattle.office_rules.specs.Intervals.{installations_at}
+use Rattle.list_tables.specs.declared.keys.Key.{Key}
+use Rattle.list_tables.specs.declared.places.Kind.{Kind}
+use Rattle.list_tables.specs.declared.places.Kind.TheVariants.{DeviceLists, Registers, DeviceRegisters, RegisterOpenings, Replies}
+use Rattle.list_tables.specs.Keys.{named, numbered}
+use Rattle.list_tables.specs.Places.{has_key, places_of, latest_place}
+use Rattle.list_tables.specs.Placed.{listed, repeated, register_at, opening_at, list_at, repeat_at}
+use Rattle.list_tables.proofs.Standing.{passes, all_at, latest_at}
+
+and_true : (b : Bool) → (b && true) ≡ b
+and_true true = refl
+and_true false = refl
+
+by_register : (name : List ℕ) (f : Fact) → has_key Registers (named name) f ≡ passes (λ (r : Register). same r.name name) (as_register f)
+by_register name (fact.Device d) = refl
+by_register name (fact.List l) = refl
+by_register name (fact.Register r) = and_true (same r.name name)
+by_register name (fact.Opening o) = refl
+by_register name (fact.Entry b) = refl
+by_register name (fact.Hold b) = refl
+by_register name (fact.Void v) = refl
+by_register name (fact.Poll p) = refl
+by_register name (fact.Outcome e) = refl
+by_register name (fact.Reply r) = refl
+
+by_device : (device : List ℕ) (f : Fact) → has_key DeviceRegisters (named device) f ≡ passes (λ (r : Register). same r.device device) (as_register f)
+by_device name (fact.Device d) = refl
+by_device name (fact.List l) = refl
+by_device name (fact.Register r) = and_true (same r.device name)
+by_device name (fact.Opening o) = refl
+by_device name (fact.Entry b) = refl
+by_device name (fact.Hold b) = refl
+by_device name (fact.Void v) = refl
+by_device name (fact.Poll p) = refl
+by_device name (fact.Outcome e) = refl
+by_device name (fact.Reply r) = refl
+
+at_register : (register : List ℕ) (f : Fact) → has_key RegisterOpenings (named register) f ≡ passes (λ (o : Opening). same o.register register) (as_opening f)
+at_register name (fact.Device d) = refl
+at_register name (fact.List l) = refl
+at_register name (fact.Register r) = refl
+at_register name (fact.Opening o) = and_true (same o.register name)
+at_register name (fact.Entry b) = refl
+at_register name (fact.Hold b) = refl
+at_register name (fact.Void v) = refl
+at_register name (fact.Poll p) = refl
+at_register name (fact.Outcome e) = refl
+at_register name (fact.Reply r) = refl
+
+of_device : (device : List ℕ) (f : Fact) → has_key DeviceLists (named device) f ≡ passes (λ (put : DeviceList). same put.device device) (as_list f)
+of_device name (fact.Device d) = refl
+of_device name (fact.List l) = and_true (same l.device name)
+of_device name (fact.Register r) = refl
+of_device name (fact.Opening o) = refl
+of_device name (fact.Entry b) = refl
+of_device name (fact.Hold b) = refl
+of_device name (fact.Void v) = refl
+of_device name (fact.Poll p) = refl
+of_device name (fact.Outcome e) = refl
+of_device name (fact.Reply r) = refl
+
+by_caller : (caller : List ℕ) (number : ℕ) (f : Fact)
+    → has_key Replies (numbered caller number) f ≡ passes (λ (reply : Reply). same reply.caller caller && (reply.number == number)) (as_reply f)
+by_caller name number (fact.Device d) = refl
+by_caller name number (fact.List l) = refl
+by_caller name number (fact.Register r) = refl
+by_caller name number (fact.Opening o) = refl
+by_caller name number (fact.Entry b) = refl
+by_caller name number (fact.Hold b) = refl
+by_caller name number (fact.Void v) = refl
+by_caller name number (fact.Poll p) = refl
+by_caller name number (fact.Outcome e) = refl
+by_caller name number (fact.Reply r) = refl
+
+-- what is found by a place that a table has
+pub looked_up : {Y : Type 0} (at : List Fact → ℕ → Option Y) (facts held : List Fact) (place : Option ℕ) (key own : Key) (kind : Kind) → facts ≡ reverse held
+    → place ≡ latest_place (has_key kind key) held → key ≡ own
+    → option_and_then (at facts) place ≡ option_and_then (at (reverse held)) (latest_place (has_key kind own) held)
+looked_up at facts held place key own kind is found same =
+    ap (λ (fs : List Fact). option_and_then (at fs) place) is
+    ∙ ap (option_and_then (at (reverse held))) (found ∙ ap (λ (k : Key). latest_place (has_key kind k) held) same)
+
+pub if_ok_then : {T E : Type 0} {P Q : T → Type 0} (r : Result T E) → ((x : T) → P x → Q x) → IfOk r P → IfOk r Q
+if_ok_then (Ok x) f h = f x h
+if_ok_then (Err e) f h = tt
+
+pub register_found : (held : List Fact) (name : List ℕ)
+    → option_and_then (register_at (reverse held)) (latest_place (has_key Registers (named name)) held) ≡ register_of held name
+register_found held name = latest_at as_register (has_key Registers (named name)) (λ (r : Register). same r.name name) (by_register name) held
+
+pub registers_found : (held : List Fact) (device : List ℕ)
+    → filter_map (register_at (reverse held)) (reverse (places_of (has_key DeviceRegisters (named device)) held)) ≡ registers_of held device
+registers_found held device = all_at as_register (has_key DeviceRegisters (named device)) (λ (r : Register). same r.device device) (by_device device) held
+
+pub opening_found : (held : List Fact) (register : List ℕ)
+    → option_and_then (opening_at (reverse held)) (latest_place (has_key RegisterOpenings (named register)) held) ≡ installed_at held register
+opening_found held register = latest_at as_opening (has_key RegisterOpenings (named register)) (λ (o : Opening). same o.register register) (at_register register) held
+
+pub openings_found : (held : List Fact) (register : List ℕ)
+    → filter_map (opening_at (reverse held)) (reverse (places_of (has_key RegisterOpenings (named register)) held)) ≡ installations_at held register
+openings_found held register =
+    all_at as_opening (has_key RegisterOpenings (named register)) (λ (o : Opening). same o.register register) (at_register register) held
+
+and_then_both : {X Y Z : Type 0} (g : X → Option Y) (h : Y → Option Z) (o : Option X)
+    → option_and_then (λ x. option_and_then h (g x)) o ≡ option_and_then h (option_and_then g o)
+and_then_both g h None = refl
+and_then_both g h (Some x) = refl
+
+map_and_then : {X Y Z : Type 0} (g : X → Option Y) (h : Y → Z) (o : Option X)
+    → option_and_then (λ x. option_map h (g x)) o ≡ option_map h (option_and_then g o)
+map_and_then g h None = refl
+map_and_then g h (Some x) = refl
+
+lists_at : (facts : List Fact) (i : ℕ) → list_at facts i ≡ option_and_then (λ (put : DeviceList). if_some put.list.points put.list) (option_and_then as_list (slice_get facts i))
+lists_at facts i = and_then_both as_list (λ (put : DeviceList). if_some put.list.points put.list) (slice_get facts i)
+
+and_then_same : {X Y : Type 0} (g k : X → Option Y) → ((x : X) → g x ≡ k x) → (o : Option X) → option_and_then g o ≡ option_and_then k o
+and_then_same g k is None = refl
+and_then_same g k is (Some x) = is x
+
+pub list_found : (held : List Fact) (device : List ℕ)
+    → option_and_then (list_at (reverse held)) (latest_place (has_key DeviceLists (named device)) held) ≡ list_of held device
+list_found held device =
+    let chosen : DeviceList → Option Planned = λ put. if_some put.list.points put.list in
+    let put_at : ℕ → Option DeviceList = λ i. option_and_then as_list (slice_get (reverse held) i) in
+    and_then_same (list_at (reverse held)) (λ (i : ℕ). option_and_then chosen (put_at i)) (lists_at (reverse held)) (latest_place (has_key DeviceLists (named device)) held)
+    ∙ and_then_both put_at chosen (latest_place (has_key DeviceLists (named device)) held)
+    ∙ ap (option_and_then chosen) (latest_at as_list (has_key DeviceLists (named device)) (λ (put : DeviceList). same put.device device) (of_device device) held)
+
+repeats_at : (request : List ℕ) (facts : List Fact) (i : ℕ) → repeat_at request facts i ≡ option_map (as_repeat request) (option_and_then as_reply (slice_get facts i))
+repeats_at request facts i = map_and_then as_reply (as_repeat request) (slice_get facts i)
+
+pub repeat_found : (held : List Fact) (caller : List ℕ) (number : ℕ) (request : List ℕ)
+    → option_and_then (repeat_at request (reverse held)) (latest_place (has_key Replies (numbered caller number)) held) ≡ repeat_of held caller number request
+repeat_found held caller number request =
+    let p : Fact → Bool = has_key Replies (numbered caller number) in
+    let reply_at : ℕ → Option Reply = λ i. option_and_then as_reply (slice_get (reverse held) i) in
+    and_then_same (repeat_at request (reverse held)) (λ (i : ℕ). option_map (as_repeat request) (reply_at i)) (repeats_at request (reverse held)) (latest_place p held)
+    ∙ map_and_then reply_at (as_repeat request) (latest_place p held)
+    ∙ ap (option_map (as_repeat request))
+    (latest_at as_reply p (λ (reply : Reply). same reply.caller caller && (reply.number == number)) (by_caller caller number) held)

@@ -1,0 +1,18 @@
+use Rattle.std.proofs.Common.{◌∙◌, sym, ap}
+use Rattle.std.specs.Option.{option_map, option_and_then}
+use Rattle.meter_journal.specs.Journal.{row_at}
+use Rattle.office_events.specs.declared.facts.Opening.{Opening}
+use Rattle.office_laws.specs.Laws.{IsRecorded}
+use Rattle.office_rules.specs.Facts.{same, openings_in}
+use Rattle.office_rules.specs.Meters.{rows_of, place_in}
+use Rattle.list_tables.proofs.Known.{found_is_there}
+use Rattle.list_tables.proofs.MetersComing.{stands_at}
+use Rattle.list_tables.proofs.meters.Meters.entry.Goals as goal
+
+pub returns-clause-found : goal.returns-clause-found
+returns-clause-found c = λ held lawful are.
+    let stands = stands_at held c.args.self.now c.args.name.now c.named-key.result c.in-Some.meter.now c.named-key.ensures c.in-Some.ensures.value are in
+    let recorded : IsRecorded held stands.opening =
+    found_is_there (λ (o : Opening). same o.meter c.args.name.now) (openings_in held) stands.opening stands.there in
+    c.placed.ensures.found held stands.opening lawful recorded (record { row = stands.row; rows = stands.rows })
+    ∙ sym (ap (option_and_then (λ (o : Opening). option_map (place_in held o) (row_at c.args.place (rows_of held o)))) stands.there)

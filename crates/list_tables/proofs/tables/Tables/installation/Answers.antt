@@ -1,0 +1,17 @@
+use Rattle.std.proofs.Common.{◌≡◌, ◌∙◌, List, Some, sym, ap}
+use Rattle.std.specs.List.{Contains}
+use Rattle.std.specs.Option.{option_map}
+use Rattle.office_events.specs.declared.facts.Opening.{Opening}
+use Rattle.office_rules.specs.Facts.{same, openings_in, installed_at}
+use Rattle.office_rules.specs.Meters.{installation_of}
+use Rattle.office_laws.proofs.Journals.{found}
+use Rattle.list_tables.proofs.Known.{found_is_there}
+use Rattle.list_tables.proofs.tables.Tables.installation.Goals as goal
+
+pub returns-in-Some-clause-found : goal.returns-in-Some-clause-found
+returns-in-Some-clause-found c = λ held facts_are lawful whole.
+    let is : Some c.in-Some.opening ≡ installed_at held c.args.register.now = c.in-Some.ensures held facts_are whole in
+    let there : Contains (openings_in held) c.in-Some.opening =
+    found_is_there (λ (o : Opening). same o.register c.args.register.now) (openings_in held) c.in-Some.opening (sym is) in
+    c.meter.ensures.found held lawful whole
+    ∙ ap (option_map (installation_of held)) (found held c.in-Some.opening lawful there ∙ is)

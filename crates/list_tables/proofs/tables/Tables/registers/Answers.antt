@@ -1,0 +1,20 @@
+use Rattle.std.proofs.Common.{◌∙◌, List, ℕ, reverse, ap}
+use Rattle.std.specs.List.{filter_map}
+use Rattle.office_events.specs.declared.facts.Fact.{Fact}
+use Rattle.list_tables.specs.declared.keys.Key.{Key}
+use Rattle.list_tables.specs.declared.places.Kind.TheVariants.{DeviceRegisters}
+use Rattle.list_tables.specs.Places.{has_key, places_of}
+use Rattle.list_tables.specs.Placed.{register_at}
+use Rattle.list_tables.proofs.Found.{if_ok_then, registers_found}
+use Rattle.list_tables.proofs.tables.Tables.registers.Goals as goal
+
+pub returns : goal.returns
+returns c = λ held is whole.
+    if_ok_then c.registers_at.result
+    (λ v at.
+        at ∙ ap (λ (fs : List Fact). filter_map (register_at fs) c.all.result.now) is
+        ∙ ap (filter_map (register_at (reverse held)))
+        (c.all.ensures DeviceRegisters held whole.device_registers
+        ∙ ap (λ (key : Key). reverse (places_of (has_key DeviceRegisters key) held)) c.named.ensures)
+        ∙ registers_found held c.args.device.now)
+    c.registers_at.ensures

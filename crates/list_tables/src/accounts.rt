@@ -1,0 +1,121 @@
+//! Where a meter stands behind rows that may be any.
+ghost use Rattle.std.specs.Prelude.{◌≡◌, ◌≤◌, ◌<◌, ◌*◌, ◌^◌, true, Some, None, IsTrue, IfOk, IfSome};
+ghost use Rattle.energy_core.specs.Account.{IsScale};
+ghost use Rattle.meter_journal.specs.Books as books;
+ghost use Rattle.meter_journal.specs.Intervals.{rows_of_steps};
+ghost use Rattle.meter_journal.specs.Journal.{entries_in};
+ghost use Rattle.meter_journal.specs.Lists as lists;
+ghost use Rattle.office_books.specs.Sound.{IsSound};
+ghost use Rattle.office_rules.specs.Meters as meters;
+ghost use Rattle.list_tables.specs.Accounts.{HasNumbers};
+
+use energy_core::{Last, Ranged, Terms, accounts_are_sound, enter, entered_is_booked};
+use interval_core::Share;
+use meter_journal::{EntryRow, Installed, Tally, interval_rows, tally_behind};
+use office_events::{Installation, Opening};
+use std::alloc::{AllocError, Global};
+
+/// Whether the rows that stand have an account.
+fn have_account(meter: &Installed, rows: &[EntryRow]) -> bool
+    requires range_low { 65536 ≤ meter.now.range }
+    requires range_high { meter.now.range ≤ 4294967296 }
+    requires installed { books.IsWellInstalled meter.now }
+    ensures so { IsTrue result → books.HasAccount meter.now (entries_in (lists.latest_first rows.now)) }
+    ensures if_so { books.HasAccount meter.now (entries_in (lists.latest_first rows.now)) → IsTrue result }
+{
+    accounts_are_sound();
+    entered_is_booked();
+    let Some(counter) = Ranged::new(meter.range) else {
+        unreachable!()
+    };
+    let mut tally = Tally {
+        last: meter.opening,
+        total: 0,
+    };
+    for row in rows {
+        if row.stands {
+            let terms = Terms {
+                ceiling: meter.ceiling,
+                total: tally.total,
+            };
+            match enter(&counter, &terms, &tally.last, &row.entry) {
+                Ok((last, step)) => {
+                    let total = tally.total + step.mwh;
+                    tally = Tally { last, total };
+                }
+                Err(_) => return false,
+            }
+        }
+    }
+    true
+}
+
+/// A meter as it was installed.
+fn installed(opening: &Opening) -> Installed
+    ensures { result ≡ meters.installed opening.now }
+{
+    Installed {
+        range: opening.range,
+        ceiling: opening.ceiling,
+        opening: Last {
+            at: opening.at,
+            raw: opening.raw,
+            sf: opening.sf,
+        },
+    }
+}
+
+/// Whether the numbers of an opening are in their ranges.
+fn has_numbers(opening: &Opening) -> bool
+    ensures so { IsTrue result → HasNumbers opening.now }
+    ensures if_so { HasNumbers opening.now → IsTrue result }
+{
+    let ranged = 65_536 <= opening.range && opening.range <= 4_294_967_296;
+    let limited = 1 <= opening.ceiling && opening.ceiling <= 1_000_000_000;
+    let scaled = -3 <= opening.sf && opening.sf <= 3;
+    ranged && limited && scaled && u64::from(opening.raw) < opening.range
+}
+
+/// An installation behind these rows, if they have an account.
+pub(crate) fn standing(opening: &Opening, rows: &[EntryRow], ended: bool) -> Option<Installation>
+    ensures found { let es = entries_in (lists.latest_first rows.now) in
+        HasNumbers opening.now → books.HasAccount (meters.installed opening.now) es
+        → result ≡ Some (meters.standing opening.now es ended) }
+    ensures sound { IfSome result IsSound }
+{
+    accounts_are_sound();
+    if !has_numbers(opening) {
+        return None;
+    }
+    let meter = installed(opening);
+    if !have_account(&meter, rows) {
+        return None;
+    }
+    let tally = tally_behind(&meter, rows);
+    Some(Installation {
+        opening: *opening,
+        last: tally.last,
+        total: tally.total,
+        ended,
+    })
+}
+
+/// The interval rows of these rows; none if they have no account.
+pub(crate) fn shares(
+    alloc: Global,
+    opening: &Opening,
+    rows: &[EntryRow],
+) -> Result<Vec<Share>, AllocError>
+    ensures { let es = entries_in (lists.latest_first rows.now) in
+        HasNumbers opening.now → books.HasAccount (meters.installed opening.now) es
+        → IfOk result (λ v. v.items ≡ rows_of_steps (books.steps_after (meters.installed opening.now) es)) }
+{
+    if !has_numbers(opening) {
+        return Ok(Vec::new(alloc));
+    }
+    let meter = installed(opening);
+    if !have_account(&meter, rows) {
+        return Ok(Vec::new(alloc));
+    }
+    interval_rows(alloc, &meter, rows)
+}

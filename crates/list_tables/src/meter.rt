@@ -1,0 +1,210 @@
+//! A meter as it stands.
+ghost use Rattle.std.specs.Prelude.{◌≡◌, ◌∷◌, ◌++◌, ◌≤◌, ◌<◌, ◌*◌, ◌^◌, List, [], ◌+◌, length, take, IsTrue, IfOk, OnOk, OnErr, IfSome};
+ghost use Rattle.std.specs.Option.{option_map};
+ghost use Rattle.energy_core.specs.Account.{IsScale};
+ghost use Rattle.meter_journal.specs.Journal as journal;
+ghost use Rattle.meter_journal.specs.Journal.{row_at};
+ghost use Rattle.meter_journal.specs.Lists as lists;
+ghost use Rattle.office_books.specs.Sound.{IsSound};
+ghost use Rattle.office_events.specs.declared.facts.Fact.{Fact};
+ghost use Rattle.office_events.specs.declared.facts.Opening.{Opening};
+ghost use Rattle.office_laws.specs.Laws.{IsRecorded};
+ghost use Rattle.office_laws.specs.Steps.{moved_by};
+ghost use Rattle.office_rules.specs.Intervals.{rows_of_opening};
+ghost use Rattle.office_rules.specs.Lawful.{AreLawful};
+ghost use Rattle.office_rules.specs.Meters.{place_in, rows_of};
+ghost use Rattle.list_tables.specs.Moving.{MayEnter};
+
+use crate::accounts::{shares, standing};
+use energy_core::Last;
+use interval_core::Share;
+use meter_journal::{
+    EntryKind, EntryRow, find_row, journals_are_kept, places_were_kept, row_behind, strike,
+};
+use office_books::enter;
+use office_events::{BookedEntry, EntryPlace, Installation, Opening};
+use office_laws::{installations_are_in_range, journals_fit};
+use std::alloc::{AllocError, Global};
+
+/// Whether the numbers of an installation are in their ranges.
+pub(crate) fn is_sound(row: &Installation) -> bool
+    ensures so { IsTrue result → IsSound row.now }
+    ensures if_so { IsSound row.now → IsTrue result }
+{
+    let ranged = 65_536 <= row.opening.range && row.opening.range <= 4_294_967_296;
+    let limited = 1 <= row.opening.ceiling && row.opening.ceiling <= 1_000_000_000;
+    let scaled = -3 <= row.last.sf && row.last.sf <= 3;
+    let shown = u64::from(row.last.raw) < row.opening.range;
+    ranged && limited && scaled && shown && row.total <= 4_000_000_000_000_000_000
+}
+
+/// Whether entries of a kind close their meter.
+fn is_closing(kind: EntryKind) -> bool
+    ensures { result ≡ journal.is_closing kind }
+{
+    match kind {
+        EntryKind::Closing => true,
+        EntryKind::Reading | EntryKind::Manual | EntryKind::Reset | EntryKind::Rescale => false,
+    }
+}
+
+/// An installation after one more entry.
+fn moved(row: &Installation, booked: &BookedEntry) -> Installation
+    ensures { IsSound row.now → MayEnter row.now booked.now.entry
+        → result ≡ moved_by booked.now.kind booked.now.entry row.now }
+{
+    if !is_sound(row) {
+        return *row;
+    }
+    let entered = enter(row, &booked.entry);
+    Installation {
+        opening: entered.opening,
+        last: entered.last,
+        total: entered.total,
+        ended: is_closing(booked.kind) || entered.ended,
+    }
+}
+
+/// Whether each row has its place.
+pub(crate) fn are_numbered(rows: &[EntryRow]) -> bool
+    ensures so { IsTrue result → lists.AreNumbered (lists.latest_first rows.now) }
+    ensures if_so { lists.AreNumbered (lists.latest_first rows.now) → IsTrue result }
+{
+    for (index, row) in rows.iter().enumerate() {
+        if row.place != index as u64 + 2 {
+            return false;
+        }
+    }
+    true
+}
+
+/// Voids the entry at a place, if there is one.
+fn strike_among(last: &Last, rows: &mut [EntryRow], place: u64)
+    ensures { let before = lists.latest_first rows.old in
+        lists.AreNumbered before → 2 ≤ place → place < length before + 2
+        → lists.latest_first rows.new ≡ journal.with_void last.now place before }
+{
+    if place >= 2 && place - 2 < rows.len() as u64 && are_numbered(rows) {
+        strike(last, rows, place);
+    }
+}
+
+/// Voids the entry at a place, if there is one.
+fn strike_there(last: &Last, rows: &mut Vec<EntryRow>, place: u64)
+    ensures { let before = lists.latest_first rows.old.items in
+        lists.AreNumbered before → 2 ≤ place → place < length before + 2
+        → lists.latest_first rows.new.items ≡ journal.with_void last.now place before }
+{
+    strike_among(last, rows, place);
+}
+
+/// The first so many of these rows, or all.
+fn first(rows: &[EntryRow], count: usize) -> &[EntryRow]
+    ensures { result.now ≡ take count rows.now }
+{
+    if count < rows.len() {
+        &rows[..count]
+    } else {
+        rows
+    }
+}
+
+/// An installation, and the rows of its meter, the oldest first.
+#[derive(Drop)]
+pub(crate) struct Meter {
+    pub(crate) row: Installation,
+    pub(crate) rows: Vec<EntryRow>,
+}
+
+impl Meter {
+    ghost use Rattle.list_tables.specs.Moving.{HasBegun, HasEntered, IsSame, HasStruck, IsAsSaid};
+
+    /// A meter that was just installed.
+    pub(crate) fn begin(alloc: Global, opening: &Opening) -> Meter
+        ensures { HasBegun opening.now result }
+    {
+        Meter {
+            row: Installation {
+                opening: *opening,
+                last: Last {
+                    at: opening.at,
+                    raw: opening.raw,
+                    sf: opening.sf,
+                },
+                total: 0,
+                ended: false,
+            },
+            rows: Vec::new(alloc),
+        }
+    }
+
+    /// One more entry.
+    pub(crate) fn go_on(&mut self, booked: &BookedEntry) -> Result<(), AllocError>
+        ensures ok { OnOk result (HasEntered booked.now self.old self.new) }
+        ensures err { OnErr result (IsSame self.old self.new) }
+    {
+        let row = row_behind(&self.rows, booked.kind, booked.entry);
+        self.rows.push(row)?;
+        self.row = moved(&self.row, booked);
+        Ok(())
+    }
+
+    /// An entry was voided.
+    pub(crate) fn strike(&mut self, place: u64)
+        ensures { HasStruck place self.old self.new }
+    {
+        let opening = self.row.opening;
+        let ended = self.row.ended;
+        let last = Last {
+            at: opening.at,
+            raw: opening.raw,
+            sf: opening.sf,
+        };
+        strike_there(&last, &mut self.rows, place);
+        if let Some(row) = standing(&opening, &self.rows, ended) {
+            self.row = row;
+        }
+    }
+
+    /// Where the meter stood before its entry at a place, and the next that stands.
+    pub(crate) fn placed(&self, place: u64) -> Option<EntryPlace>
+        ensures found { (held : List Fact) (opening : Opening) → AreLawful held → IsRecorded held opening
+            → IsAsSaid held opening self.now
+            → result ≡ option_map (place_in held opening) (row_at place (rows_of held opening)) }
+        ensures sound { IfSome result (λ found. IsSound found.before) }
+    {
+        journals_fit();
+        journals_are_kept();
+        installations_are_in_range();
+        places_were_kept();
+        if !are_numbered(&self.rows) {
+            return None;
+        }
+        let Some(found) = find_row(&self.rows, place) else {
+            return None;
+        };
+        let Some(before) = standing(
+            &self.row.opening,
+            first(&self.rows, found.index),
+            self.row.ended,
+        ) else {
+            return None;
+        };
+        Some(EntryPlace {
+            before,
+            row: found.row,
+            next: found.next,
+        })
+    }
+
+    /// Its energy by quarter hours.
+    pub(crate) fn shares(&self, alloc: Global) -> Result<Vec<Share>, AllocError>
+        ensures { (held : List Fact) (opening : Opening) → AreLawful held → IsRecorded held opening
+            → IsAsSaid held opening self.now → IfOk result (λ v. v.items ≡ rows_of_opening held opening) }
+    {
+        journals_fit();
+        journals_are_kept();
+        installations_are_in_range();
+        shares(alloc, &self.row.opening, &self.rows)
+    }
+}

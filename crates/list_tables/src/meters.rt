@@ -1,0 +1,150 @@
+//! The meters, by name.
+ghost use Rattle.std.specs.Prelude.{◌≡◌, List, [], OnOk, OnErr, IfOk, IfSome};
+ghost use Rattle.office_events.specs.declared.facts.Fact.{Fact};
+ghost use Rattle.office_books.specs.Sound.{IsSound};
+ghost use Rattle.office_rules.specs.Intervals.{rows_of_meter};
+ghost use Rattle.office_rules.specs.Lawful.{AreLawful};
+ghost use Rattle.office_rules.specs.Meters.{meter_of, entry_at};
+ghost use Rattle.list_tables.specs.Moving.{HasEntered, IsSame, HasStruck};
+
+use crate::keys::Key;
+use crate::meter::{Meter, is_sound};
+use crate::places::named;
+use crate::table::Table;
+use interval_core::Share;
+use meter_journal::journals_are_kept;
+use office_events::{BookedEntry, EntryPlace, Fact, Installation, Name, Opening, VoidedEntry};
+use office_laws::{
+    entries_move_on, holds_change_nothing, installations_are_in_range, journals_fit,
+    openings_begin, other_meters_stay,
+};
+use std::alloc::{AllocError, Global};
+use std::collections::BTreeMap;
+
+/// Each meter as it stands.
+#[derive(Drop)]
+pub(crate) struct Meters {
+    alloc: Global,
+    meters: BTreeMap<Key, Meter>,
+}
+
+impl Meters {
+    ghost use Rattle.list_tables.specs.Meters.{AreMeters, Changes, Begins, IfThere, meter_at};
+
+    /// No meters.
+    pub(crate) fn new(alloc: Global) -> Meters
+        ensures { AreMeters result [] }
+    {
+        Meters {
+            alloc,
+            meters: BTreeMap::new(alloc),
+        }
+    }
+
+    fn open(&mut self, opening: &Opening) -> Result<(), AllocError>
+        ensures ok { OnOk result (Changes opening.now.meter (Begins opening.now) self.old self.new) }
+        ensures err { OnErr result (Changes opening.now.meter (IfThere IsSame) self.old self.new) }
+    {
+        let key = named(&opening.meter);
+        let meter = Meter::begin(self.alloc, opening);
+        self.meters.insert(key, meter)?;
+        Ok(())
+    }
+
+    fn enter(&mut self, booked: &BookedEntry) -> Result<(), AllocError>
+        ensures ok { OnOk result (Changes booked.now.meter (IfThere (HasEntered booked.now)) self.old self.new) }
+        ensures err { OnErr result (Changes booked.now.meter (IfThere IsSame) self.old self.new) }
+    {
+        let key = named(&booked.meter);
+        match self.meters.get_mut(&key) {
+            Some(meter) => meter.go_on(booked),
+            None => Ok(()),
+        }
+    }
+
+    fn strike(&mut self, voided: &VoidedEntry)
+        ensures { Changes voided.now.meter (IfThere (HasStruck voided.now.place)) self.old self.new }
+    {
+        let key = named(&voided.meter);
+        if let Some(meter) = self.meters.get_mut(&key) {
+            meter.strike(voided.place);
+        }
+    }
+
+    /// The installation of a meter, as it stands.
+    pub(crate) fn row(&self, name: &Name) -> Option<Installation>
+        ensures found { (held : List Fact) → AreLawful held → AreMeters self.now held
+            → result ≡ meter_of held name.now }
+        ensures sound { IfSome result IsSound }
+    {
+        installations_are_in_range();
+        let key = named(name);
+        let Some(meter) = self.meters.get(&key) else {
+            return None;
+        };
+        if is_sound(&meter.row) {
+            Some(meter.row)
+        } else {
+            None
+        }
+    }
+
+    /// Where a meter stood before its entry at a place, and the next that stands.
+    pub(crate) fn entry(&self, name: &Name, place: u64) -> Option<EntryPlace>
+        ensures found { (held : List Fact) → AreLawful held → AreMeters self.now held
+            → result ≡ entry_at held name.now place }
+        ensures sound { IfSome result (λ found. IsSound found.before) }
+    {
+        let key = named(name);
+        let Some(meter) = self.meters.get(&key) else {
+            return None;
+        };
+        meter.placed(place)
+    }
+
+    /// The energy of a meter by quarter hours.
+    pub(crate) fn shares(&self, alloc: Global, name: &Name) -> Result<Vec<Share>, AllocError>
+        ensures { (held : List Fact) → AreLawful held → AreMeters self.now held
+            → IfOk result (λ v. v.items ≡ rows_of_meter held name.now) }
+    {
+        let key = named(name);
+        let Some(meter) = self.meters.get(&key) else {
+            return Ok(Vec::new(alloc));
+        };
+        meter.shares(alloc)
+    }
+}
+
+impl Table for Meters {
+    ghost use Rattle.std.specs.Prelude.{None};
+    ghost use Rattle.list_tables.specs.Meters.{AreMeters};
+
+    ghost kind = { λ _. None };
+
+    ghost says = { AreMeters };
+
+    fn put(&mut self, _place: usize, fact: &Fact) -> Result<(), AllocError> {
+        entries_move_on();
+        openings_begin();
+        other_meters_stay();
+        holds_change_nothing();
+        journals_fit();
+        journals_are_kept();
+        installations_are_in_range();
+        match fact {
+            Fact::Opening(opening) => self.open(opening),
+            Fact::Entry(booked) => self.enter(booked),
+            Fact::Void(voided) => {
+                self.strike(voided);
+                Ok(())
+            }
+            Fact::Hold(_reading) => Ok(()),
+            Fact::Device(_)
+            | Fact::List(_)
+            | Fact::Register(_)
+            | Fact::Poll(_)
+            | Fact::Outcome(_)
+            | Fact::Reply(_) => Ok(()),
+        }
+    }
+}

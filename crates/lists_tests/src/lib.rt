@@ -1,0 +1,7 @@
+//! Tests of books in lists.
+#![tactic(auto)]
+
+#[cfg(test)]
+mod facts;
+#[cfg(test)]
+mod looked_up;
