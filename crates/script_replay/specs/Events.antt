@@ -67,9 +67,9 @@ abbrev pub list_event : GivenList → Planned → Event
 list_event list planned = Command (PutList (record { device = list.device; list = planned }))
 
 -- The text spells a list, with the reads of its plan.
-pub record IsListOf (text : List ℕ) (planned : Planned) : Type 0 where
-  pub points : SpellsList text planned.points
-  pub planned : IsPlanned planned
+pub record IsListOf (text : List ℕ) (list : Planned) : Type 0 where
+  pub points : SpellsList text list.points
+  pub planned : IsPlanned list
 
 -- A line for each faulty row, and then that the list is refused; the office isn't asked.
 pub record FaultsPrint (now : Stage) (text printed : List ℕ) (next : Stage) : Type 0 where

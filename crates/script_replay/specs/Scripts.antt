@@ -5,10 +5,10 @@ use Rattle.command_io.specs.Lines.{Line, speaking_lines}
 use Rattle.command_io.specs.declared.status.Status.{Status}
 use Rattle.command_io.specs.declared.status.Status.TheVariants.{Fine, Refused}
 use Rattle.interval_core.specs.declared.zone.Zone.{Zone}
-use Rattle.office_events.specs.declared.refusals.Refusal.TheVariants as refusal
+use Rattle.office_events.specs.declared.refusals.Refusal.{Refusal}
 use Rattle.script_words.specs.Words.{words_of}
 use Rattle.script_replay.specs.Lines.{BadPrints, BeginsText, LineBegins, WordsPrint}
-use Rattle.script_replay.specs.Stages.{Stage, beginning}
+use Rattle.script_replay.specs.Stages.{Stage, NoOffice, beginning}
 use Rattle.script_text.specs.AnswerText.{refused_line, too_long}
 
 -- The lines of a script print one after the other, from where it stands. A line that is none ends the run.
@@ -27,15 +27,15 @@ ScriptBegins now (first ∷ lines) part =
     ⊎ ((here rest : List ℕ) × (next : Stage) × WordsPrint now (words_of first.text) here next
     × ScriptBegins next lines rest × (part ≡ here ++ rest))
 
--- A text prints what its lines print, or that there was no memory for an office.
+-- A text prints what its lines print, or that there is no office: memory was wanting for it.
 abbrev pub TextPrints : Zone → (text printed : List ℕ) → Status → Type 0
 TextPrints zone text printed status =
-    ((printed ≡ refused_line refusal.Memory) × (status ≡ Refused))
+    ((why : Refusal) × NoOffice why × (printed ≡ refused_line why) × (status ≡ Refused))
     ⊎ ScriptPrints (beginning zone) (speaking_lines text) printed status
 
 abbrev pub TextBegins : Zone → (text part : List ℕ) → Type 0
 TextBegins zone text part =
-    BeginsText part (refused_line refusal.Memory) ⊎ ScriptBegins (beginning zone) (speaking_lines text) part
+    ((why : Refusal) × NoOffice why × BeginsText part (refused_line why)) ⊎ ScriptBegins (beginning zone) (speaking_lines text) part
 
 -- An input prints what its text prints, where it isn't too long.
 pub record ReplayPrints (zone : Zone) (input printed : List ℕ) (status : Status) : Type 0 where

@@ -25,6 +25,10 @@ Fails (Err refusal.Memory) = Unit {0}
 Fails (Err refusal.Stopped) = Unit {0}
 Fails _ = ⊥
 
+-- why an office over books in memory that hold nothing is not opened
+abbrev pub NoOffice : Refusal → Type 0
+NoOffice why = Fails {T = Unit {0}} (Err why)
+
 -- That the office has stopped is told exactly where it has.
 abbrev pub TellsStop : {T : Type 0} → Stage → Result T Refusal → Type 0
 TellsStop now reply = (reply ≡ Err refusal.Stopped) ↔ (now.stopped ≡ true)

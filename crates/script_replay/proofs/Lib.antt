@@ -1,0 +1,5 @@
+pub mod Replies
+pub mod Told
+pub mod Written
+pub mod Scripts
+pub mod Held
