@@ -1,5 +1,5 @@
 -- What one call reads and gives.
-use Rattle.std.proofs.Common.{◌≡◌, ◌∙◌, ◌⊎◌, ℕ, ◌+◌, ◌^◌, ◌-◌, min, Bool, true, false, not, ◌&&◌, List, [], ◌++◌, Option, Some, None, Result, Ok, Err, inl, inr, refl, sym, ap, subst}
+use Rattle.std.proofs.Common.{◌≡◌, ◌∙◌, ◌⊎◌, ℕ, Bool, true, false, not, ◌&&◌, List, [], ◌++◌, Option, Some, None, Result, Ok, Err, inl, inr, refl, sym, ap, subst}
 use Rattle.std.specs.Io.KnownBytes.{Appends, Consumes, Keeps}
 use Rattle.std.specs.Prelude.{is_err}
 use Rattle.std.proofs.KnownBytes.{Appends-trans, Consumes-kept, Keeps-trans}
@@ -10,7 +10,7 @@ use Rattle.mb_wire.specs.declared.link.LinkFailed.{LinkFailed}
 use Rattle.http_head.specs.Heads.{IsOpenHead}
 use Rattle.http_head.specs.declared.head.Look.{Look}
 use Rattle.http_read.specs.Reading.{EndsAt, ReadsHead, StopsAtOnce}
-use Rattle.http_read.specs.Taking.{Came, CountsTakes, bytes_in, is_read_fault}
+use Rattle.http_read.specs.Taking.{Came, bytes_in}
 use Rattle.http_read.specs.declared.inbox.Inbox.{Inbox}
 use Rattle.http_read.specs.declared.inbox.TakeFault.{TakeFault}
 use Rattle.http_read.specs.declared.inbox.TakeFault.TheVariants as take
@@ -25,7 +25,7 @@ use Rattle.office_rules.specs.History.{History}
 use Rattle.office_books.specs.Ledgers.{Ledger}
 use Rattle.office_run.specs.Standing.{After}
 use Rattle.office_run.specs.declared.office.Office.{Office}
-use Rattle.office_http.specs.Handling.{CountsLink, Does, DoesBare, GivesReply, Handles, HandlesBare, IsEnd, Passage, ReadsOn, ReadsOnBare, Replies, RepliesBare, StopsReading, as_fault, ended, is_link_fault, passage}
+use Rattle.office_http.specs.Handling.{Does, DoesBare, GivesReply, Handles, HandlesBare, IsEnd, Passage, ReadsOn, ReadsOnBare, Replies, RepliesBare, StopsReading, as_fault, ended, is_link_fault, passage}
 use Rattle.office_http.specs.declared.fault.HandleFault.{HandleFault}
 use Rattle.office_http.specs.declared.fault.HandleFault.TheVariants.{Read, Write, Short, TurnsUsed, Cut}
 use Rattle.office_http.proofs.Served.{no_memory}
@@ -95,31 +95,6 @@ head_failed take.TurnsUsed old new remaining later given later_given last empty 
   does = record { goes_on = inl (subst IsOpenHead (came_is old new remaining later empty reads.0) reads.1); nothing = keeps };
 }
 
-abbrev no_look : TakeFault → Result Look TakeFault
-no_look fault = Err fault
-
-abbrev failed_with : HandleFault → Result (Unit {0}) HandleFault
-failed_with fault = Err fault
-
-turns_used : (fault : TakeFault) (old new : Inbox) (taken later count : ℕ) → old.takes ≡ 0 → CountsTakes (no_look fault) old new taken later
-    → failed_with (as_fault fault) ≡ Err TurnsUsed → taken ≡ min count (2 ^ 64 - 1) → later ≡ min (count + 100000) (2 ^ 64 - 1)
-turns_used take.Read old new taken later count fresh counts is from = cc is
-turns_used take.Short old new taken later count fresh counts is from = cc is
-turns_used take.TurnsUsed old new taken later count fresh counts is from =
-    counts.counts count (from ∙ ap (λ t. min (count + t) (2 ^ 64 - 1)) (sym fresh)) ∙ ap (λ t. min (count + t) (2 ^ 64 - 1)) (counts.used refl)
-
-fault_same : (fault : TakeFault) → is_read_fault (no_look fault) ≡ is_link_fault (Err (as_fault fault))
-fault_same take.Read = refl
-fault_same take.Short = refl
-fault_same take.TurnsUsed = refl
-
-pub failed_counts : (fault : TakeFault) (old new : Inbox) (failed later_failed taken later : ℕ) → old.takes ≡ 0 → CountsTakes (no_look fault) old new taken later
-    → later_failed ≡ risen (is_read_fault (no_look fault)) failed → CountsLink (Err (as_fault fault)) failed later_failed taken later
-failed_counts fault old new failed later_failed taken later fresh counts rises = record {
-  failures = rises ∙ ap (λ b. risen b failed) (fault_same fault);
-  turns = λ is count from. turns_used fault old new taken later count fresh counts is from;
-}
-
 -- ---- a reply was given
 
 does_reply : {B : Type 0} (ledger : B → Ledger) (at : ℕ) (old new : Office B) (link : Passage) (read : List ℕ) (result : Result (Unit {0}) HandleFault)
@@ -157,13 +132,6 @@ replied ledger at old new inbox full seen result remaining mid later given given
             };
       });
     }
-
-pub replied_counts : (result : Result (Unit {0}) HandleFault) (failed mid later_failed taken later : ℕ) → IsEnd result → mid ≡ failed
-    → later_failed ≡ risen (is_link_fault result) mid → CountsLink result failed later_failed taken later
-replied_counts result failed mid later_failed taken later end same rises = record {
-  failures = rises ∙ ap (risen (is_link_fault result)) same;
-  turns = λ is count from. absurd (subst IsEnd is end);
-}
 
 -- ---- an outlet that was finished
 

@@ -7,11 +7,11 @@ use Rattle.office_http.proofs.handling.reply.Goals as goal
 
 pub returns-clause-gives : goal.returns-clause-gives
 returns-clause-gives g c = λ past stands clean.
-    let puts = c.put_reply.ensures.serves past stands clean in
+    let puts = c.put_reply-outlet.ensures.serves past stands clean in
     let given = g.L.Link.given c.args.link.now in
-    let last : g.L.Link.given c.link-1.given.0 ≡ c.finish-sent.new.outlet.given = search rules in
+    let last : g.L.Link.given c.link-1.given.0 ≡ c.finish-sent.new.self.given = search rules in
     record {
-      cut = c.put_reply.result.cut;
+      cut = c.put_reply-outlet.result.cut;
       sent = c.finish-sent.result;
       ends = c.ended.ensures;
       put = puts.put;
@@ -23,25 +23,25 @@ returns-clause-gives g c = λ past stands clean.
     }
 
 pub returns-clause-ends : goal.returns-clause-ends
-returns-clause-ends g c = ends_well c.finish-sent.result c.put_reply.result.cut c.ended.result c.ended.ensures
+returns-clause-ends g c = ends_well c.finish-sent.result c.put_reply-outlet.result.cut c.ended.result c.ended.ensures
 
 pub returns-clause-remaining : goal.returns-clause-remaining
 returns-clause-remaining g c =
-    let last : g.L.Link.remaining c.link-1.given.0 ≡ c.finish-sent.new.outlet.remaining = search rules in
-    finished_remaining c.new-outlet.result c.put_reply.result.outlet c.finish-sent.new.outlet c.finish-sent.result _ _
-    (record { works = c.new-outlet.ensures.works; puts = c.put_reply.ensures.gives; finish = c.finish-sent.ensures.link; failed = c.finish-sent.ensures.failed })
+    let last : g.L.Link.remaining c.link-1.given.0 ≡ c.finish-sent.new.self.remaining = search rules in
+    finished_remaining c.new-outlet.result c.put_reply-outlet.result.outlet c.finish-sent.new.self c.finish-sent.result _ _
+    (record { works = c.new-outlet.ensures.works; puts = c.put_reply-outlet.ensures.gives; finish = c.finish-sent.ensures.link; failed = c.finish-sent.ensures.failed })
     c.new-outlet.ensures.remaining last
 
 pub returns-clause-last : goal.returns-clause-last
 returns-clause-last g c =
-    let last : g.L.Link.last c.link-1.given.0 ≡ c.finish-sent.new.outlet.last = search rules in
-    finished_last c.new-outlet.result c.put_reply.result.outlet c.finish-sent.new.outlet c.finish-sent.result _ _
-    (record { works = c.new-outlet.ensures.works; puts = c.put_reply.ensures.gives; finish = c.finish-sent.ensures.link; failed = c.finish-sent.ensures.failed })
+    let last : g.L.Link.last c.link-1.given.0 ≡ c.finish-sent.new.self.last = search rules in
+    finished_last c.new-outlet.result c.put_reply-outlet.result.outlet c.finish-sent.new.self c.finish-sent.result _ _
+    (record { works = c.new-outlet.ensures.works; puts = c.put_reply-outlet.ensures.gives; finish = c.finish-sent.ensures.link; failed = c.finish-sent.ensures.failed })
     c.new-outlet.ensures.last last
 
 pub returns-clause-failures : goal.returns-clause-failures
 returns-clause-failures g c =
-    let last : g.L.Link.failed c.link-1.given.0 ≡ c.finish-sent.new.outlet.failures = search rules in
-    finished_failures c.new-outlet.result c.put_reply.result.outlet c.finish-sent.new.outlet c.finish-sent.result c.put_reply.result.cut c.ended.result _ _
-    (record { works = c.new-outlet.ensures.works; puts = c.put_reply.ensures.gives; finish = c.finish-sent.ensures.link; failed = c.finish-sent.ensures.failed })
+    let last : g.L.Link.failed c.link-1.given.0 ≡ c.finish-sent.new.self.failures = search rules in
+    finished_failures c.new-outlet.result c.put_reply-outlet.result.outlet c.finish-sent.new.self c.finish-sent.result c.put_reply-outlet.result.cut c.ended.result _ _
+    (record { works = c.new-outlet.ensures.works; puts = c.put_reply-outlet.ensures.gives; finish = c.finish-sent.ensures.link; failed = c.finish-sent.ensures.failed })
     c.new-outlet.ensures.failures c.ended.ensures last
