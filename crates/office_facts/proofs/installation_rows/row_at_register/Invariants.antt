@@ -1,7 +1,0 @@
-use Rattle.std.proofs.Common.{◌≡◌, reverse, take}
-use Rattle.std.specs.List.{find}
-use Rattle.office_facts.specs.Facts.{same}
-use Rattle.office_facts.proofs.installation_rows.row_at_register.Given as goal
-
-abbrev pub invariant-loop-row : goal.invariant-loop-row
-invariant-loop-row l = l.found ≡ find (λ row. same row.opening.register l.register) (reverse (take l.row-index l.rows))

@@ -1,5 +1,0 @@
-use Rattle.office_facts.proofs.Meters.{meters_are_kept as lemma}
-use Rattle.office_facts.proofs.lawfulness.meters_are_kept.Goals as goal
-
-pub returns : goal.returns
-returns c = lemma c.readings_keep_accounts.ensures c.accounts_are_sound.ensures
