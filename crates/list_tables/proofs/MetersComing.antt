@@ -223,16 +223,16 @@ opening_comes law others held o old new lawful changes are name =
     let begins = law o held lawful in
     by_name o.meter name
     (λ e is.
-        let n : Meter = changes.own.0 in
-        let has : HasBegun o n = changes.own.2 in
-        let stands : Stands later n (opening_of later o.meter) =
-        record { opening = o; there = begins.by_name; row = has.row ∙ sym begins.installation; rows = ap reverse has.rows ∙ sym begins.rows } in
-        subst (λ (nm : List ℕ). IsMeter later (meter_at new nm) (opening_of later nm)) is
-        (subst (λ (x : Option Meter). IsMeter later x (opening_of later o.meter)) (sym changes.own.1) stands))
+    let n : Meter = changes.own.0 in
+    let has : HasBegun o n = changes.own.2 in
+    let stands : Stands later n (opening_of later o.meter) =
+    record { opening = o; there = begins.by_name; row = has.row ∙ sym begins.installation; rows = ap reverse has.rows ∙ sym begins.rows } in
+    subst (λ (nm : List ℕ). IsMeter later (meter_at new nm) (opening_of later nm)) is
+    (subst (λ (x : Option Meter). IsMeter later x (opening_of later o.meter)) (sym changes.own.1) stands))
     (λ apart.
-        subst (IsMeter later (meter_at new name)) (sym (cond-false _ _ _ apart))
-        (subst (λ (x : Option Meter). IsMeter later x (opening_of held name)) (sym (changes.others name apart))
-        (stays_so (fact.Opening o) held (meter_at old name) (opening_of held name) (λ p there. others (fact.Opening o) held p refl) (are name))))
+    subst (IsMeter later (meter_at new name)) (sym (cond-false _ _ _ apart))
+    (subst (λ (x : Option Meter). IsMeter later x (opening_of held name)) (sym (changes.others name apart))
+    (stays_so (fact.Opening o) held (meter_at old name) (opening_of held name) (λ p there. others (fact.Opening o) held p refl) (are name))))
 
 -- the meter that is found under a name
 pub stands_at : (held : List Fact) (meters : Meters) (name : List ℕ) (key : Key) (m : Meter) → key ≡ named name → Some m ≡ get_by (key_cmp key) meters.meters

@@ -228,8 +228,8 @@ polls_wait held p h =
     let waits : Poll → Bool = λ poll. length (ends_of held poll.number) == 0 in
     let passes : waits p ≡ true = ap (λ (es : List EndedPoll). length es == 0) none.0 in
     sym (
-      ap (filter waits) (reverse_cons p (polls_in held)) ∙ filter-append waits (reverse (polls_in held)) (p ∷ [])
-      ∙ ap (λ (ps : List Poll). filter waits (reverse (polls_in held)) ++ ps) (cond-true _ _ _ passes)
+    ap (filter waits) (reverse_cons p (polls_in held)) ∙ filter-append waits (reverse (polls_in held)) (p ∷ [])
+    ∙ ap (λ (ps : List Poll). filter waits (reverse (polls_in held)) ++ ps) (cond-true _ _ _ passes)
     )
 
 -- what is looked up by number

@@ -20,8 +20,10 @@ fn have_account(meter: &Installed, rows: &[EntryRow]) -> bool
     requires range_low { 65536 ≤ meter.now.range }
     requires range_high { meter.now.range ≤ 4294967296 }
     requires installed { books.IsWellInstalled meter.now }
-    ensures so { IsTrue result → books.HasAccount meter.now (entries_in (lists.latest_first rows.now)) }
-    ensures if_so { books.HasAccount meter.now (entries_in (lists.latest_first rows.now)) → IsTrue result }
+    ensures so { IsTrue result
+        → books.HasAccount meter.now (entries_in (lists.latest_first rows.now)) }
+    ensures if_so { books.HasAccount meter.now (entries_in (lists.latest_first rows.now))
+        → IsTrue result }
 {
     accounts_are_sound();
     entered_is_booked();
@@ -108,7 +110,8 @@ pub(crate) fn shares(
 ) -> Result<Vec<Share>, AllocError>
     ensures { let es = entries_in (lists.latest_first rows.now) in
         HasNumbers opening.now → books.HasAccount (meters.installed opening.now) es
-        → IfOk result (λ v. v.items ≡ rows_of_steps (books.steps_after (meters.installed opening.now) es)) }
+        → IfOk result (λ v. v.items
+        ≡ rows_of_steps (books.steps_after (meters.installed opening.now) es)) }
 {
     if !has_numbers(opening) {
         return Ok(Vec::new(alloc));

@@ -49,9 +49,11 @@ impl Ord for Key {
 }
 
 impl PartialOrd for Key {
-    ghost partial_cmp = { as_partial_cmp (then_cmp (on (λ k. k.name) (slice_cmp nat_cmp)) (on (λ k. k.number) nat_cmp)) };
+    ghost partial_cmp = { as_partial_cmp (then_cmp (on (λ k. k.name) (slice_cmp nat_cmp))
+        (on (λ k. k.number) nat_cmp)) };
 
-    ghost laws = { partial_order_from_own_ties (Prim.search (comparing, rules)) (Prim.search (comparing, rules)) };
+    ghost laws = { partial_order_from_own_ties (Prim.search (comparing, rules))
+        (Prim.search (comparing, rules)) };
 
     fn partial_cmp(&self, other: &Key) -> Option<Ordering> {
         Some(self.cmp(other))

@@ -168,7 +168,8 @@ impl Meter {
 
     /// Where the meter stood before its entry at a place, and the next that stands.
     pub(crate) fn placed(&self, place: u64) -> Option<EntryPlace>
-        ensures found { (held : List Fact) (opening : Opening) → AreLawful held → IsRecorded held opening
+        ensures found { (held : List Fact) (opening : Opening) → AreLawful held
+            → IsRecorded held opening
             → IsAsSaid held opening self.now
             → result ≡ option_map (place_in held opening) (row_at place (rows_of held opening)) }
         ensures sound { IfSome result (λ found. IsSound found.before) }
@@ -200,7 +201,8 @@ impl Meter {
     /// Its energy by quarter hours.
     pub(crate) fn shares(&self, alloc: Global) -> Result<Vec<Share>, AllocError>
         ensures { (held : List Fact) (opening : Opening) → AreLawful held → IsRecorded held opening
-            → IsAsSaid held opening self.now → IfOk result (λ v. v.items ≡ rows_of_opening held opening) }
+            → IsAsSaid held opening self.now
+            → IfOk result (λ v. v.items ≡ rows_of_opening held opening) }
     {
         journals_fit();
         journals_are_kept();

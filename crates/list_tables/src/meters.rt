@@ -42,7 +42,8 @@ impl Meters {
     }
 
     fn open(&mut self, opening: &Opening) -> Result<(), AllocError>
-        ensures ok { OnOk result (Changes opening.now.meter (Begins opening.now) self.old self.new) }
+        ensures ok { OnOk result (Changes opening.now.meter (Begins opening.now)
+            self.old self.new) }
         ensures err { OnErr result (Changes opening.now.meter (IfThere IsSame) self.old self.new) }
     {
         let key = named(&opening.meter);
@@ -52,7 +53,8 @@ impl Meters {
     }
 
     fn enter(&mut self, booked: &BookedEntry) -> Result<(), AllocError>
-        ensures ok { OnOk result (Changes booked.now.meter (IfThere (HasEntered booked.now)) self.old self.new) }
+        ensures ok { OnOk result (Changes booked.now.meter (IfThere (HasEntered booked.now))
+            self.old self.new) }
         ensures err { OnErr result (Changes booked.now.meter (IfThere IsSame) self.old self.new) }
     {
         let key = named(&booked.meter);
@@ -63,7 +65,8 @@ impl Meters {
     }
 
     fn strike(&mut self, voided: &VoidedEntry)
-        ensures { Changes voided.now.meter (IfThere (HasStruck voided.now.place)) self.old self.new }
+        ensures { Changes voided.now.meter (IfThere (HasStruck voided.now.place))
+            self.old self.new }
     {
         let key = named(&voided.meter);
         if let Some(meter) = self.meters.get_mut(&key) {

@@ -125,7 +125,8 @@ impl Places {
     /// One place more under a key.
     fn add(&mut self, key: Key, place: usize) -> Result<(), AllocError>
         ensures ok { OnOk result ((other : Key) → under (get key_cmp self.new.places other)
-            ≡ cond (is_eq (key_cmp key other)) (under (get key_cmp self.old.places key) ++ place ∷ [])
+            ≡ cond (is_eq (key_cmp key other))
+            (under (get key_cmp self.old.places key) ++ place ∷ [])
             (under (get key_cmp self.old.places other))) }
         ensures err { OnErr result ((other : Key) → under (get key_cmp self.new.places other)
             ≡ under (get key_cmp self.old.places other)) }

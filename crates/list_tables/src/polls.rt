@@ -41,7 +41,8 @@ impl Polls {
 
     /// The poll of a number, and how it ended.
     pub fn row(&self, number: u64) -> Option<PollRow>
-        ensures { (held : List Fact) → AreLawful held → ArePolls self.now held → result ≡ poll_row_of held number }
+        ensures { (held : List Fact) → AreLawful held → ArePolls self.now held
+            → result ≡ poll_row_of held number }
     {
         if number >= 1 && number - 1 < self.rows.len() as u64 {
             Some(self.rows[(number - 1) as usize])
@@ -115,7 +116,8 @@ impl Pending {
 
     /// The polls, in the order in which they were started.
     pub fn all(&self, alloc: Global) -> Result<Vec<Poll>, AllocError>
-        ensures { (held : List Fact) → ArePending self.now held → IfOk result (λ v. v.items ≡ pending_in held) }
+        ensures { (held : List Fact) → ArePending self.now held
+            → IfOk result (λ v. v.items ≡ pending_in held) }
     {
         self.polls.as_slice().to_vec(alloc)
     }

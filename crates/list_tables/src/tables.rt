@@ -23,7 +23,7 @@ use office_events::{
 };
 use std::alloc::{AllocError, Global};
 
-/// Tables of what facts say. Each has the facts as far as it has come, and what it says is said once all have caught up.
+/// Tables of what facts say. Each has the facts as far as it has come; look them up once all have caught up.
 #[derive(Drop)]
 pub struct Tables {
     polls: Kept<Polls>,
@@ -57,7 +57,8 @@ impl Tables {
 
     /// Adds the facts that the tables don't have. For want of memory each has some of them, and lacks the rest.
     pub fn catch_up(&mut self, facts: &[Fact]) -> Result<(), AllocError>
-        ensures kept { AreLawful (latest_first facts.now) → HaveCome self.old facts.now → HaveCome self.new facts.now }
+        ensures kept { AreLawful (latest_first facts.now) → HaveCome self.old facts.now
+            → HaveCome self.new facts.now }
         ensures whole { AreLawful (latest_first facts.now) → HaveCome self.old facts.now
             → OnOk result (AreWhole self.new (latest_first facts.now)) }
     {
@@ -74,7 +75,8 @@ impl Tables {
 
     /// The poll of a number, and how it ended.
     pub fn poll(&self, number: u64) -> Option<PollRow>
-        ensures { (held : List Fact) → AreLawful held → AreWhole self.now held → result ≡ poll_row_of held number }
+        ensures { (held : List Fact) → AreLawful held → AreWhole self.now held
+            → result ≡ poll_row_of held number }
     {
         self.polls.table.row(number)
     }
@@ -88,7 +90,8 @@ impl Tables {
 
     /// The polls that have no outcome, in the order in which they were started.
     pub fn pending(&self, alloc: Global) -> Result<Vec<Poll>, AllocError>
-        ensures { (held : List Fact) → AreWhole self.now held → IfOk result (λ v. v.items ≡ pending_in held) }
+        ensures { (held : List Fact) → AreWhole self.now held
+            → IfOk result (λ v. v.items ≡ pending_in held) }
     {
         self.pending.table.all(alloc)
     }
@@ -171,7 +174,8 @@ impl Tables {
 
     /// The latest installation at a register, as it stands.
     pub fn installation(&self, facts: &[Fact], register: &Name) -> Option<Installation>
-        ensures found { (held : List Fact) → facts.now ≡ reverse held → AreLawful held → AreWhole self.now held
+        ensures found { (held : List Fact) → facts.now ≡ reverse held → AreLawful held
+            → AreWhole self.now held
             → result ≡ installation_at held register.now }
         ensures sound { IfSome result IsSound }
     {
@@ -218,7 +222,8 @@ impl Tables {
         facts: &[Fact],
         register: &Name,
     ) -> Result<Vec<Share>, AllocError>
-        ensures { (held : List Fact) → facts.now ≡ reverse held → AreLawful held → AreWhole self.now held
+        ensures { (held : List Fact) → facts.now ≡ reverse held → AreLawful held
+            → AreWhole self.now held
             → IfOk result (λ v. v.items ≡ rows_of_register held register.now) }
     {
         let openings = self.openings_of(alloc, facts, register)?;

@@ -25,8 +25,7 @@ fn booked(alloc: Global, facts: Vec<Fact>) -> Result<ListBooks, Fail> {
 }
 
 fn three_polls(alloc: Global) -> Result<ListBooks, Fail> {
-    let facts = vec![
-        in alloc;
+    let facts = vec![in alloc;
         device()?,
         Fact::Poll(poll(1)?),
         Fact::Poll(poll(2)?),
@@ -44,7 +43,13 @@ fn row(number: u64, ended: Option<EndedPoll>) -> Result<Option<PollRow>, Fail> {
 #[test]
 fn polls_are_looked_up(rt: HostRuntime) -> Result<(), Fail> {
     let mut books = three_polls(rt.alloc())?;
-    let rows = [None, row(1, None)?, row(2, Some(ENDED))?, row(3, None)?, None];
+    let rows = [
+        None,
+        row(1, None)?,
+        row(2, Some(ENDED))?,
+        row(3, None)?,
+        None,
+    ];
     for i in 0..5 {
         assert_eq!(rt; books.poll(i as u64)?, rows[i]);
     }
@@ -58,8 +63,7 @@ fn polls_are_looked_up(rt: HostRuntime) -> Result<(), Fail> {
 /// The meter went 2,000 counts, 2 kWh, and was closed; a second one stands in its place.
 #[test]
 fn an_exchange_leaves_two_meters(rt: HostRuntime) -> Result<(), Fail> {
-    let facts = vec![
-        in rt.alloc();
+    let facts = vec![in rt.alloc();
         device()?,
         Fact::Register(register()?),
         opening(b"old", 1000)?,
@@ -80,8 +84,7 @@ fn an_exchange_leaves_two_meters(rt: HostRuntime) -> Result<(), Fail> {
 /// Without its second entry the meter stands where the first left it.
 #[test]
 fn a_void_gives_way(rt: HostRuntime) -> Result<(), Fail> {
-    let facts = vec![
-        in rt.alloc();
+    let facts = vec![in rt.alloc();
         device()?,
         Fact::Register(register()?),
         opening(b"m1", 1000)?,
@@ -91,9 +94,15 @@ fn a_void_gives_way(rt: HostRuntime) -> Result<(), Fail> {
     ]?;
     let mut books = booked(rt.alloc(), facts)?;
     let meter = books.meter(&name(b"m1")?)?.ok_or("no meter")?;
-    assert_eq!(rt; (meter.last.at, meter.last.raw, meter.total), (4600, 1500, 1_500_000));
+    assert_eq!(rt;
+        (meter.last.at, meter.last.raw, meter.total),
+        (4600, 1500, 1_500_000)
+    );
     let voided = books.entry(&name(b"m1")?, 3)?.ok_or("no entry")?;
-    assert_eq!(rt; (voided.row.stands, voided.before.total), (false, 1_500_000));
+    assert_eq!(rt;
+        (voided.row.stands, voided.before.total),
+        (false, 1_500_000)
+    );
     assert_eq!(rt; books.entry(&name(b"m1")?, 4)?.is_some(), false);
     assert_eq!(rt; books.latest()?, 9000);
     Ok(())

@@ -15,8 +15,8 @@ use office_events::{
 };
 use std::alloc::Global;
 
-/// Books in memory: a list of the facts, in the order in which they came, and tables of what they say. They have no store,
-/// and so never answer `BooksFault::Store`: a call fails only for want of memory, and then changes nothing.
+/// Books in memory: a list of the facts, in the order in which they came, and tables of what they say. They have no
+/// store, and so never answer `BooksFault::Store`: a call fails only for want of memory, and then changes nothing.
 #[derive(Drop)]
 pub struct ListBooks {
     facts: Vec<Fact>,
@@ -43,7 +43,8 @@ impl ListBooks {
     /// Adds to the tables what they lack. For want of memory they lack some yet.
     fn catch_up(&mut self) -> Result<(), BooksFault>
         ensures keeps { KeepsFacts (ledger_of self.old) (ledger_of self.new) }
-        ensures whole { (held : List Fact) → AreListed self.old held → OnOk result (AreWhole self.new.tables held) }
+        ensures whole { (held : List Fact) → AreListed self.old held
+            → OnOk result (AreWhole self.new.tables held) }
         ensures facts { self.new.facts ≡ self.old.facts }
         ensures zone { self.new.zone ≡ self.old.zone }
         ensures memory { IfErr result (λ e. e ≡ Memory) }
@@ -180,7 +181,9 @@ impl Books for ListBooks {
     ) -> Result<(), BooksFault> {
         self.catch_up()?;
         let alloc = *self.facts.allocator();
-        let rows = self.tables.register_intervals(alloc, &self.facts, register)?;
+        let rows = self
+            .tables
+            .register_intervals(alloc, &self.facts, register)?;
         hand_on(&rows, sink);
         Ok(())
     }

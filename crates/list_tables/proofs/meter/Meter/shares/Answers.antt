@@ -22,7 +22,7 @@ returns c = λ held o lawful there said.
     let es : List Entry = entries_in rows in
     if_ok_then c.shares.result
     (λ v at.
-        at ∙ ap (λ (p : Opening). rows_of_steps (steps_after (installed p) es)) opening_is
-        ∙ ap (λ (rs : List EntryRow). rows_of_steps (steps_after (installed o) (entries_in rs))) is)
+    at ∙ ap (λ (p : Opening). rows_of_steps (steps_after (installed p) es)) opening_is
+    ∙ ap (λ (rs : List EntryRow). rows_of_steps (steps_after (installed o) (entries_in rs))) is)
     (c.shares.ensures (subst HasNumbers (sym opening_is) all.numbers)
     (subst (λ (p : Opening). HasAccount (installed p) es) (sym opening_is) (all.account rows is)))

@@ -10,8 +10,8 @@ pub returns-in-Opening-clause-ok : goal.returns-in-Opening-clause-ok
 returns-in-Opening-clause-ok c = λ held lawful long are.
     on_ok_then c.open.result
     (λ changes.
-        subst (λ (f : Fact). AreLawful (f ∷ held) → AreMeters c.open.new.self (f ∷ held)) (sym c.in-Opening.is)
-        (λ h. opening_comes c.openings_begin.ensures c.other_meters_stay.ensures held c.in-Opening.opening c.args.self.now c.open.new.self h changes are) lawful)
+    subst (λ (f : Fact). AreLawful (f ∷ held) → AreMeters c.open.new.self (f ∷ held)) (sym c.in-Opening.is)
+    (λ h. opening_comes c.openings_begin.ensures c.other_meters_stay.ensures held c.in-Opening.opening c.args.self.now c.open.new.self h changes are) lawful)
     c.open.ensures.ok
 
 pub returns-in-Opening-clause-err : goal.returns-in-Opening-clause-err
@@ -22,9 +22,9 @@ pub returns-in-Entry-clause-ok : goal.returns-in-Entry-clause-ok
 returns-in-Entry-clause-ok c = λ held lawful long are.
     on_ok_then c.enter.result
     (λ changes.
-        subst (λ (f : Fact). AreLawful (f ∷ held) → AreMeters c.enter.new.self (f ∷ held)) (sym c.in-Entry.is)
-        (λ h. entry_comes c.entries_move_on.ensures c.other_meters_stay.ensures c.installations_are_in_range.ensures held c.in-Entry.booked
-            c.args.self.now c.enter.new.self h changes are) lawful)
+    subst (λ (f : Fact). AreLawful (f ∷ held) → AreMeters c.enter.new.self (f ∷ held)) (sym c.in-Entry.is)
+    (λ h. entry_comes c.entries_move_on.ensures c.other_meters_stay.ensures c.installations_are_in_range.ensures held c.in-Entry.booked
+    c.args.self.now c.enter.new.self h changes are) lawful)
     c.enter.ensures.ok
 
 pub returns-in-Entry-clause-err : goal.returns-in-Entry-clause-err
@@ -35,7 +35,7 @@ pub returns-in-Void-clause-ok : goal.returns-in-Void-clause-ok
 returns-in-Void-clause-ok c = λ held lawful long are.
     subst (λ (f : Fact). AreLawful (f ∷ held) → AreMeters c.strike.new.self (f ∷ held)) (sym c.in-Void.is)
     (λ h. void_comes c.other_meters_stay.ensures c.journals_fit.ensures c.journals_are_kept.ensures c.installations_are_in_range.ensures held c.in-Void.voided
-        c.args.self.now c.strike.new.self h c.strike.ensures are) lawful
+    c.args.self.now c.strike.new.self h c.strike.ensures are) lawful
 
 pub returns-in-Hold-clause-ok : goal.returns-in-Hold-clause-ok
 returns-in-Hold-clause-ok c = λ held lawful long are.

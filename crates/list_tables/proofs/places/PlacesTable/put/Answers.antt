@@ -13,8 +13,8 @@ returns-in-Some-clause-ok c = λ held lawful long says.
     let after : Key → List ℕ = λ key. under (get key_cmp c.add.new.self.places key) in
     on_ok_then c.add.result
     (λ adds key.
-        place_comes c.args.self.now.kind held c.args.fact.now c.in-Some.key c.args.place before after long (sym c.in-Some.ensures) says adds key
-        ∙ ap (λ (kind : Kind). reverse (places_of (has_key kind key) (c.args.fact.now ∷ held))) (sym c.add.ensures.kind))
+    place_comes c.args.self.now.kind held c.args.fact.now c.in-Some.key c.args.place before after long (sym c.in-Some.ensures) says adds key
+    ∙ ap (λ (kind : Kind). reverse (places_of (has_key kind key) (c.args.fact.now ∷ held))) (sym c.add.ensures.kind))
     c.add.ensures.ok
 
 pub returns-in-Some-clause-err : goal.returns-in-Some-clause-err

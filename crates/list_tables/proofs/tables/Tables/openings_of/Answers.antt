@@ -12,9 +12,9 @@ pub returns : goal.returns
 returns c = λ held is whole.
     if_ok_then c.openings_at.result
     (λ v at.
-        at ∙ ap (λ (fs : List Fact). filter_map (opening_at fs) c.all.result.now) is
-        ∙ ap (filter_map (opening_at (reverse held)))
-        (c.all.ensures RegisterOpenings held whole.openings
-        ∙ ap (λ (key : Key). reverse (places_of (has_key RegisterOpenings key) held)) c.named.ensures)
-        ∙ openings_found held c.args.register.now)
+    at ∙ ap (λ (fs : List Fact). filter_map (opening_at fs) c.all.result.now) is
+    ∙ ap (filter_map (opening_at (reverse held)))
+    (c.all.ensures RegisterOpenings held whole.openings
+    ∙ ap (λ (key : Key). reverse (places_of (has_key RegisterOpenings key) held)) c.named.ensures)
+    ∙ openings_found held c.args.register.now)
     c.openings_at.ensures

@@ -12,9 +12,9 @@ pub returns : goal.returns
 returns c = λ held is whole.
     if_ok_then c.registers_at.result
     (λ v at.
-        at ∙ ap (λ (fs : List Fact). filter_map (register_at fs) c.all.result.now) is
-        ∙ ap (filter_map (register_at (reverse held)))
-        (c.all.ensures DeviceRegisters held whole.device_registers
-        ∙ ap (λ (key : Key). reverse (places_of (has_key DeviceRegisters key) held)) c.named.ensures)
-        ∙ registers_found held c.args.device.now)
+    at ∙ ap (λ (fs : List Fact). filter_map (register_at fs) c.all.result.now) is
+    ∙ ap (filter_map (register_at (reverse held)))
+    (c.all.ensures DeviceRegisters held whole.device_registers
+    ∙ ap (λ (key : Key). reverse (places_of (has_key DeviceRegisters key) held)) c.named.ensures)
+    ∙ registers_found held c.args.device.now)
     c.registers_at.ensures
