@@ -1,0 +1,9 @@
+//! Tests of scripts, and of the input that they come from.
+#![tactic(auto)]
+
+#[cfg(test)]
+mod inputs;
+#[cfg(test)]
+mod scripts;
+#[cfg(test)]
+mod streams;
