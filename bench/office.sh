@@ -11,9 +11,8 @@ cat > "$scratch/office_bench.rt" <<'END'
 
 use interval_core::Zone;
 use mb_wire::ReadSpan;
-use office_core::Office;
-use office_events::{
-    AddDevice, AddRegister, Command, Event, GivenScale, Install, Name, Piece, StartPoll,
+use office_core::{
+    AddDevice, AddRegister, Command, Event, GivenScale, Install, Name, Office, Piece, StartPoll,
 };
 use office_lists::ListBooks;
 use std::time::SystemTime;
@@ -137,4 +136,4 @@ fn main(rt: HostRuntime) -> anyhow::Result<()> {
     Ok(())
 }
 END
-scratch office_bench "anyhow interval_core jiff jiff_core jiff_tz mb_wire office_core office_events office_lists" "$scratch/office_bench.rt"
+scratch office_bench "anyhow interval_core jiff jiff_core jiff_tz mb_wire office_core office_lists" "$scratch/office_bench.rt"

@@ -4,7 +4,7 @@ use Rattle.std.specs.Prelude.{All}
 use Rattle.office_events.specs.declared.facts.Fact.{Fact}
 use Rattle.office_lists.specs.declared.list_books.ListBooks.{ListBooks}
 use Rattle.office_lists.specs.Listed.{AreListed, ledger_of}
-use Rattle.office_run.specs.Leaving.{MayBeLeft, BooksStand}
+use Rattle.office_core.specs.Leaving.{MayBeLeft, BooksStand}
 
 nothing_left : All (MayBeLeft []) ([] ∷ [])
 nothing_left zero d less = inl refl

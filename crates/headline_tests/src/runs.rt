@@ -1,13 +1,13 @@
 //! Runs from nothing.
 ghost use Rattle.std.specs.Prelude.{[], IfOk};
 ghost use Rattle.office_lists.specs.Listed.{ledger_of};
-ghost use Rattle.office_run.specs.Running.{IsRecorded, accepted_by};
-ghost use Rattle.office_run.specs.Standing.{books_in};
+ghost use Rattle.office_core.specs.Running.{IsRecorded, accepted_by};
+ghost use Rattle.office_core.specs.Standing.{books_in};
 
 use interval_core::Zone;
 use office_events::{Event, Refusal};
 use office_lists::ListBooks;
-use office_run::{Run, run};
+use office_core::{Run, run};
 use std::alloc::Global;
 
 /// Over new books in memory the headline holds, whatever events come: no premise is left.

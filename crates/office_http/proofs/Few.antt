@@ -16,7 +16,7 @@ use Rattle.office_rules.specs.Lawful.{AreLawful}
 use Rattle.office_laws.proofs.InTurn.{last_at, last_is_recorded}
 use Rattle.office_laws.proofs.Journals.{IsInstalled, installed_fits, well}
 use Rattle.office_laws.proofs.Lookups.{find_passes, same_text}
-use Rattle.office_run.specs.Asking.{intervals_of, rows_in}
+use Rattle.office_core.specs.Asking.{intervals_of, rows_in}
 
 -- what journals say of their interval rows
 pub record FromJournals : Type 0 where

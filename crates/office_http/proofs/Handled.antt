@@ -23,8 +23,8 @@ use Rattle.office_events.specs.declared.refusals.Refusal.{Refusal}
 use Rattle.office_events.specs.declared.refusals.Refusal.TheVariants as refusal
 use Rattle.office_rules.specs.History.{History}
 use Rattle.office_books.specs.Ledgers.{Ledger}
-use Rattle.office_run.specs.Standing.{After}
-use Rattle.office_run.specs.declared.office.Office.{Office}
+use Rattle.office_core.specs.Standing.{After}
+use Rattle.office_core.specs.declared.office.Office.{Office}
 use Rattle.office_http.specs.Handling.{Does, DoesBare, GivesReply, Handles, HandlesBare, IsEnd, Passage, ReadsOn, ReadsOnBare, Replies, RepliesBare, StopsReading, as_fault, ended, is_link_fault, passage}
 use Rattle.office_http.specs.declared.fault.HandleFault.{HandleFault}
 use Rattle.office_http.specs.declared.fault.HandleFault.TheVariants.{Read, Write, Short, TurnsUsed, Cut}

@@ -14,11 +14,11 @@ use Rattle.office_rules.specs.Facts.{register_of}
 use Rattle.office_rules.specs.History.{History, facts_of}
 use Rattle.office_books.specs.Ledgers.{Ledger}
 use Rattle.office_books.specs.Rows.{TakesAll}
-use Rattle.office_run.specs.Asking.{HandsDays, HandsRows, IsFound, is_there, or_not_found, rows_in}
-use Rattle.office_run.specs.Failing.{IsOutside}
-use Rattle.office_run.specs.Standing.{Stands, books_in}
-use Rattle.office_run.specs.Taking.{failures_of}
-use Rattle.office_run.specs.declared.office.Office.{Office as Run}
+use Rattle.office_core.specs.Asking.{HandsDays, HandsRows, IsFound, is_there, or_not_found, rows_in}
+use Rattle.office_core.specs.Failing.{IsOutside}
+use Rattle.office_core.specs.Standing.{Stands, books_in}
+use Rattle.office_core.specs.Taking.{failures_of}
+use Rattle.office_core.specs.declared.office.Office.{Office as Run}
 use Rattle.report_lines.specs.Lines.{days_text, end_line}
 use Rattle.http_reply.specs.Replies.{text_head}
 use Rattle.http_reply.specs.Sending as sending

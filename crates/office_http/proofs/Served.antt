@@ -9,11 +9,11 @@ use Rattle.office_events.specs.declared.refusals.Refusal.TheVariants as refusal
 use Rattle.office_rules.specs.History.{History}
 use Rattle.office_rules.specs.Refusals.{response_of, with_answer}
 use Rattle.office_books.specs.Ledgers.{Ledger}
-use Rattle.office_run.specs.Asking.{IsFound, OnlyAsks, or_not_found}
-use Rattle.office_run.specs.Failing.{FailsOutside}
-use Rattle.office_run.specs.Standing.{Stands, books_in, is_stopped}
-use Rattle.office_run.specs.Taking.{Ends, IsAnswer, failures_of}
-use Rattle.office_run.specs.declared.office.Office.{Office as Run}
+use Rattle.office_core.specs.Asking.{IsFound, OnlyAsks, or_not_found}
+use Rattle.office_core.specs.Failing.{FailsOutside}
+use Rattle.office_core.specs.Standing.{Stands, books_in, is_stopped}
+use Rattle.office_core.specs.Taking.{Ends, IsAnswer, failures_of}
+use Rattle.office_core.specs.declared.office.Office.{Office as Run}
 use Rattle.http_commands.specs.declared.fault.CommandFault.{CommandFault}
 use Rattle.http_route.specs.Routes.{routes}
 use Rattle.http_answer.specs.Kinds.{done_text}

@@ -17,7 +17,7 @@ use Rattle.office_rules.specs.History.{History, facts_of}
 use Rattle.office_rules.specs.Meters.{meter_of}
 use Rattle.office_rules.specs.Readings.{poll_row_of}
 use Rattle.office_rules.specs.Refusals.{response_of}
-use Rattle.office_run.specs.Asking.{AreDaysNamed, intervals_of, or_not_found}
+use Rattle.office_core.specs.Asking.{AreDaysNamed, intervals_of, or_not_found}
 use Rattle.http_answer.specs.Kinds.{kind_answered}
 use Rattle.http_answer.specs.Offices.{Office}
 

@@ -8,8 +8,8 @@ use Rattle.office_events.specs.declared.refusals.Refusal.{Refusal}
 use Rattle.office_events.specs.declared.refusals.Refusal.TheVariants as refusal
 use Rattle.office_rules.specs.History.{History}
 use Rattle.office_books.specs.Ledgers.{Ledger}
-use Rattle.office_run.specs.Standing.{After}
-use Rattle.office_run.specs.declared.office.Office.{Office}
+use Rattle.office_core.specs.Standing.{After}
+use Rattle.office_core.specs.declared.office.Office.{Office}
 use Rattle.http_read.specs.Reading.{TakesWhatLacks}
 use Rattle.http_read.specs.declared.inbox.TakeFault.{TakeFault}
 use Rattle.http_read.specs.declared.inbox.TakeFault.TheVariants as take

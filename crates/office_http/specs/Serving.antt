@@ -7,10 +7,10 @@ use Rattle.office_events.specs.declared.refusals.Refusal.{Refusal}
 use Rattle.office_rules.specs.History.{History}
 use Rattle.office_rules.specs.Refusals.{response_of, with_answer}
 use Rattle.office_books.specs.Ledgers.{Ledger}
-use Rattle.office_run.specs.Failing.{IsOutside}
-use Rattle.office_run.specs.Standing.{After, Stands, books_in, is_stopped}
-use Rattle.office_run.specs.Taking.{failures_of}
-use Rattle.office_run.specs.declared.office.Office.{Office as Run}
+use Rattle.office_core.specs.Failing.{IsOutside}
+use Rattle.office_core.specs.Standing.{After, Stands, books_in, is_stopped}
+use Rattle.office_core.specs.Taking.{failures_of}
+use Rattle.office_core.specs.declared.office.Office.{Office as Run}
 use Rattle.report_lines.specs.Lines.{days_text, intervals_text}
 use Rattle.http_reply.specs.Sending as sending
 use Rattle.http_reply.specs.Sending.{OnlyGives, Outgoing}

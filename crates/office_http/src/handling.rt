@@ -4,7 +4,7 @@ ghost use Rattle.std.specs.Io.KnownBytes.{Keeps};
 ghost use Rattle.mb_wire.specs.Links.{risen};
 ghost use Rattle.http_route.specs.Routes.{routes};
 ghost use Rattle.http_wants.specs.Wanting.{HasFewFaults, Wants};
-ghost use Rattle.office_run.specs.Standing.{After};
+ghost use Rattle.office_core.specs.Standing.{After};
 ghost use Rattle.office_http.specs.Handling.{CountsLink, GivesReply, Handles, HandlesBare, IsEnd, ended, is_link_fault, passage};
 ghost use Rattle.office_http.specs.Serving.{Lasts};
 
@@ -21,7 +21,7 @@ use matchit::Router;
 use mb_wire::{Link, LinkFailed};
 use office_books::Books;
 use office_events::Refusal;
-use office_run::Office;
+use office_core::Office;
 use std::alloc::Global;
 
 // How a request ends to which a reply was put.

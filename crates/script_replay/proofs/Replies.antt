@@ -11,10 +11,10 @@ use Rattle.office_lists.specs.Listed.{ledger_of}
 use Rattle.office_lists.specs.declared.list_books.ListBooks.{ListBooks}
 use Rattle.office_rules.specs.History.{History}
 use Rattle.office_rules.specs.Refusals.{with_answer}
-use Rattle.office_run.specs.Failing.{FailsOutside}
-use Rattle.office_run.specs.Standing.{Stands, is_stopped}
-use Rattle.office_run.specs.Taking.{Ends, IsAnswer, IsQuiet, SettlesNothing}
-use Rattle.office_run.specs.declared.office.Office.{Office}
+use Rattle.office_core.specs.Failing.{FailsOutside}
+use Rattle.office_core.specs.Standing.{Stands, is_stopped}
+use Rattle.office_core.specs.Taking.{Ends, IsAnswer, IsQuiet, SettlesNothing}
+use Rattle.office_core.specs.declared.office.Office.{Office}
 use Rattle.script_replay.specs.Events.{EventPrints, reply_text}
 use Rattle.script_replay.specs.Running.{IsCarriedOut, stage_of}
 use Rattle.script_replay.specs.Stages.{Fails, Stage}

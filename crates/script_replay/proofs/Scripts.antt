@@ -11,9 +11,9 @@ use Rattle.office_lists.specs.Listed.{AreListed, ledger_of}
 use Rattle.office_lists.specs.declared.list_books.ListBooks.{ListBooks}
 use Rattle.office_rules.specs.History.{History, Opened, facts_of}
 use Rattle.office_rules.specs.Refusals.{opening_refusal_of}
-use Rattle.office_run.specs.Failing.{IsOutside}
-use Rattle.office_run.specs.Leaving.{BooksStand, MayBeLeft}
-use Rattle.office_run.specs.Reopening.{IsNotOpened}
+use Rattle.office_core.specs.Failing.{IsOutside}
+use Rattle.office_core.specs.Leaving.{BooksStand, MayBeLeft}
+use Rattle.office_core.specs.Reopening.{IsNotOpened}
 use Rattle.office_books.specs.Ledgers.{Ledger}
 use Rattle.std.specs.Prelude.{Result, Ok, Err, IfSome, length, ◌<◌, ◌≤◌}
 use Rattle.std.specs.declared.io.Error.{Error}
@@ -24,8 +24,8 @@ use Rattle.command_io.specs.Input.{most_bytes}
 use Rattle.script_text.specs.AnswerText.{bad_line, too_long}
 use Rattle.sun_points.specs.Writing.{GotPart}
 use Rattle.script_replay.proofs.Replies.{fails_in_memory}
-use Rattle.office_run.specs.Standing.{Stands}
-use Rattle.office_run.specs.declared.office.Office.{Office}
+use Rattle.office_core.specs.Standing.{Stands}
+use Rattle.office_core.specs.declared.office.Office.{Office}
 use Rattle.script_words.specs.Words.{words_of}
 use Rattle.script_replay.specs.Lines.{BadPrints, LineBegins, LinePrints, WordsPrint}
 use Rattle.script_replay.specs.Running.{InputRuns, LineRan, LineRuns, MayCarryOut, TextRuns, stage_of}

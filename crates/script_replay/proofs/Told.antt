@@ -8,11 +8,11 @@ use Rattle.office_events.specs.declared.refusals.Refusal.{Refusal}
 use Rattle.office_lists.specs.Listed.{ledger_of}
 use Rattle.office_lists.specs.declared.list_books.ListBooks.{ListBooks}
 use Rattle.office_rules.specs.History.{History, facts_of}
-use Rattle.office_run.specs.Asking.{HandsDays, HandsRows, IsFound, OnlyAsks, rows_in}
+use Rattle.office_core.specs.Asking.{HandsDays, HandsRows, IsFound, OnlyAsks, rows_in}
 use Rattle.office_books.specs.Rows.{TakesAll}
 use Rattle.interval_core.specs.declared.totals.DayTotal.{DayTotal}
-use Rattle.office_run.specs.Standing.{Stands}
-use Rattle.office_run.specs.declared.office.Office.{Office}
+use Rattle.office_core.specs.Standing.{Stands}
+use Rattle.office_core.specs.declared.office.Office.{Office}
 use Rattle.script_replay.specs.Asked.{AreDaysTold, IsAnswered, RowPrints, RowsPrint, counted, last_line, row_text}
 use Rattle.script_replay.specs.Running.{IsCarriedOut, stage_of}
 use Rattle.script_replay.specs.Stages.{Stage}

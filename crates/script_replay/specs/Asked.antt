@@ -8,7 +8,7 @@ use Rattle.office_events.specs.declared.facts.Fact.{Fact}
 use Rattle.office_events.specs.declared.refusals.Refusal.{Refusal}
 use Rattle.office_rules.specs.Facts.{register_of}
 use Rattle.office_rules.specs.History.{facts_of}
-use Rattle.office_run.specs.Asking.{AreDaysNamed, intervals_of, is_there, or_not_found, rows_in}
+use Rattle.office_core.specs.Asking.{AreDaysNamed, intervals_of, is_there, or_not_found, rows_in}
 use Rattle.row_text.specs.Rows.{day_line, end_line, interval_line}
 use Rattle.script_replay.specs.Stages.{Stage, Fails, TellsStop}
 use Rattle.script_text.specs.AnswerText.{refused_line}

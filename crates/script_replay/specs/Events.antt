@@ -14,8 +14,8 @@ use Rattle.office_events.specs.declared.refusals.Refusal.TheVariants as refusal
 use Rattle.office_rules.specs.History.{History}
 use Rattle.office_rules.specs.Notes.{notes_after, outgoing_after}
 use Rattle.office_rules.specs.Refusals.{response_of}
-use Rattle.office_run.specs.Failing.{is_failure}
-use Rattle.office_run.specs.Taking.{SettlesNothing}
+use Rattle.office_core.specs.Failing.{is_failure}
+use Rattle.office_core.specs.Taking.{SettlesNothing}
 use Rattle.script_lines.specs.declared.script.GivenList.{GivenList}
 use Rattle.script_lines.specs.declared.script.GivenStart.{GivenStart}
 use Rattle.script_replay.specs.Stages.{Stage, Fails, TellsStop, after_reply}

@@ -9,8 +9,8 @@ use Rattle.interval_core.specs.declared.zone.Zone.{Zone}
 use Rattle.office_lists.specs.Listed.{ledger_of}
 use Rattle.office_lists.specs.declared.list_books.ListBooks.{ListBooks}
 use Rattle.office_rules.specs.History.{History}
-use Rattle.office_run.specs.Standing.{Stands, books_in, is_stopped}
-use Rattle.office_run.specs.declared.office.Office.{Office}
+use Rattle.office_core.specs.Standing.{Stands, books_in, is_stopped}
+use Rattle.office_core.specs.declared.office.Office.{Office}
 use Rattle.script_replay.specs.Lines.{BadPrints, LineBegins, WordsPrint}
 use Rattle.script_replay.specs.Scripts.{ReplayBegins, ReplayPrints, TextBegins, TextPrints}
 use Rattle.script_replay.specs.Stages.{Stage}

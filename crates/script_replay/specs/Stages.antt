@@ -7,7 +7,7 @@ use Rattle.office_events.specs.declared.refusals.Refusal.{Refusal}
 use Rattle.office_events.specs.declared.refusals.Refusal.TheVariants as refusal
 use Rattle.office_rules.specs.History.{History, Opened}
 use Rattle.office_rules.specs.Refusals.{with_answer}
-use Rattle.office_run.specs.Failing.{stops}
+use Rattle.office_core.specs.Failing.{stops}
 
 -- What the office has accepted, whether it has stopped, and by the clocks of which zone it tells days.
 pub record Stage : Type 0 where

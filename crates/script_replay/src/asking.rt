@@ -11,7 +11,7 @@ ghost use Rattle.sun_points.specs.Writing.{GotText};
 use crate::rows::Rows;
 use office_events::{Name, Refusal};
 use office_lists::ListBooks;
-use office_run::Office;
+use office_core::Office;
 use row_text::write_end;
 use script_text::{write_meter, write_poll, write_refusal};
 use std::io::{self, ErrorKind, Write};

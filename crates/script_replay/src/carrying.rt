@@ -1,7 +1,7 @@
 //! A line of a script, carried out.
 ghost use Rattle.office_lists.specs.Listed.{ledger_of};
 ghost use Rattle.office_rules.specs.History.{History};
-ghost use Rattle.office_run.specs.Standing.{Stands};
+ghost use Rattle.office_core.specs.Standing.{Stands};
 ghost use Rattle.script_replay.specs.Lines.{LinePrints};
 ghost use Rattle.script_replay.specs.Running.{LineRuns, MayCarryOut};
 
@@ -9,7 +9,7 @@ use crate::asking::{tell_days, tell_intervals, tell_meter, tell_poll};
 use crate::feeding::{feed, feed_list, feed_start};
 use command_io::Status;
 use office_lists::ListBooks;
-use office_run::Office;
+use office_core::Office;
 use script_lines::{LineFault, ScriptLine};
 use script_text::write_bad_line;
 use std::alloc::Global;

@@ -6,7 +6,7 @@ use crate::carrying::run_line;
 use command_io::{InputLines, ReadFault, Status, read_whole};
 use interval_core::Zone;
 use office_lists::ListBooks;
-use office_run::Office;
+use office_core::Office;
 use script_text::{write_refusal, write_too_long};
 use std::alloc::Global;
 use std::io::{Read, Write};

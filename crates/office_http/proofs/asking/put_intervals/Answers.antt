@@ -6,7 +6,7 @@ use Rattle.http_answer.specs.Replies.{lines_reply, reply_bytes}
 use Rattle.http_answer.specs.Whole.{IsReply}
 use Rattle.report_lines.specs.Lines.{intervals_text, share_line}
 use Rattle.office_rules.specs.History.{facts_of}
-use Rattle.office_run.specs.Asking.{intervals_of}
+use Rattle.office_core.specs.Asking.{intervals_of}
 use Rattle.office_http.specs.Serving.{Puts}
 use Rattle.office_http.proofs.Few.{FromJournals, few_named}
 use Rattle.office_http.proofs.Reported.{lines_give, rows_told}

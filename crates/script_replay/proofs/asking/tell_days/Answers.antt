@@ -3,7 +3,7 @@ use Rattle.std.specs.declared.io.Error.{Error}
 use Rattle.office_rules.specs.History.{facts_of}
 use Rattle.std.specs.Option.{option_and_then}
 use Rattle.office_rules.specs.Facts.{register_of}
-use Rattle.office_run.specs.Asking.{is_there}
+use Rattle.office_core.specs.Asking.{is_there}
 use Rattle.script_replay.specs.Running.{stage_of}
 use Rattle.row_text.specs.Rows.{day_line}
 use Rattle.script_replay.specs.Asked.{AreDaysTold, last_line}

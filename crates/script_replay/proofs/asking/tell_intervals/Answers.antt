@@ -1,7 +1,7 @@
 use Rattle.std.proofs.Common.{◌≡◌, rules}
 use Rattle.std.specs.declared.io.Error.{Error}
 use Rattle.office_rules.specs.History.{facts_of}
-use Rattle.office_run.specs.Asking.{intervals_of, is_there}
+use Rattle.office_core.specs.Asking.{intervals_of, is_there}
 use Rattle.row_text.specs.Rows.{interval_line}
 use Rattle.script_replay.specs.Asked.{AreIntervals, last_line}
 use Rattle.script_replay.proofs.Told.{handed, rows_told}

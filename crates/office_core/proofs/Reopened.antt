@@ -1,0 +1,57 @@
+-- How an opening leaves books.
+use Rattle.std.proofs.Common.{◌≡◌, ℕ, ◌∷◌, inl, inr, sym, subst, Ok, Err, Some, None}
+use Rattle.std.specs.declared.alloc.Global.{Global}
+use Rattle.std.specs.declared.vec.Vec.{Vec}
+use Rattle.office_events.specs.declared.refusals.Refusal.{Refusal}
+use Rattle.office_rules.specs.History.{History, Opened, facts_of}
+use Rattle.office_rules.specs.Refusals.{opening_refusal_of}
+use Rattle.office_lawful.specs.Laws.{IsPast}
+use Rattle.office_lines.specs.declared.lines.Line.{Line}
+use Rattle.office_books.specs.declared.faults.BooksFault.{BooksFault}
+use Rattle.office_books.specs.Faults.{as_refusal, faults_after}
+use Rattle.office_books.specs.Ledgers.{Ledger, OnlyReads}
+use Rattle.office_opening.specs.Opening.{MayOpen, Opens}
+use Rattle.office_core.specs.Leaving.{BooksStand}
+use Rattle.office_core.specs.Reopening.{IsNotOpened, IsReopened}
+use Rattle.office_core.proofs.Left.{read_stand, moved_on, moved_not}
+use Rattle.office_core.proofs.Taken.{failed_outside}
+
+opened_past : (past : History) (at : ℕ) → IsPast past → opening_refusal_of (facts_of past) at ≡ None → IsPast (Opened at ∷ past)
+opened_past past at is none = record { accepted = (none, is.accepted); planned = is.planned }
+
+-- the books could not say whether it is refused
+pub not_asked : {T : Type 0} (past : History) (at : ℕ) (old new : Ledger) (fault : BooksFault) (why : Refusal) → OnlyReads {T = T} old new (Err fault)
+    → BooksStand old past → why ≡ as_refusal fault → IsNotOpened past at old new why
+not_asked {T = T} past at old new fault why reads stand is =
+    subst (IsNotOpened past at old new) (sym is)
+    (record { books = read_stand old new past (Err fault) reads stand; reason = inr (failed_outside T _ _ fault reads.goes.faults) })
+
+-- it is refused
+pub refused : {T : Type 0} (past : History) (at : ℕ) (old new : Ledger) (x : T) (why : Refusal) → OnlyReads old new (Ok x)
+    → BooksStand old past → Some why ≡ opening_refusal_of (facts_of past) at → IsNotOpened past at old new why
+refused past at old new x why reads stand is =
+    record { books = read_stand old new past (Ok x) reads stand; reason = inl (sym is, reads.goes.faults) }
+
+-- it is booked, or that fails
+pub reopened : {T : Type 0} (past : History) (at : ℕ) (old between new : Ledger) (x : T) (lines : Vec Line Global) → OnlyReads old between (Ok x)
+    → BooksStand old past → None ≡ opening_refusal_of (facts_of past) at → new.is_clean
+    → (MayOpen past at → Opens past at between new (Ok lines)) → IsReopened past at new lines.items
+reopened past at old between new x lines reads stand none clean opens =
+    let kept = read_stand old between past (Ok x) reads stand in
+    let opened = opens (record { is_past = stand.is_past; accepted = sym none }) in
+    record {
+      books = moved_on between new (Opened at) past lines opened.books (opened_past past at stand.is_past (sym none)) clean kept;
+      keeps = opened.lines kept.holds clean;
+    }
+
+pub not_booked : {T : Type 0} (past : History) (at : ℕ) (old between new : Ledger) (x : T) (fault : BooksFault) (why : Refusal) → OnlyReads old between (Ok x)
+    → BooksStand old past → None ≡ opening_refusal_of (facts_of past) at → new.is_clean
+    → (MayOpen past at → Opens past at between new (Err fault)) → why ≡ as_refusal fault → IsNotOpened past at old new why
+not_booked past at old between new x fault why reads stand none clean opens is =
+    let kept = read_stand old between past (Ok x) reads stand in
+    let opened = opens (record { is_past = stand.is_past; accepted = sym none }) in
+    subst (IsNotOpened past at old new) (sym is)
+    (record {
+      books = moved_not between new (Opened at) past fault opened.books (opened_past past at stand.is_past (sym none)) clean kept;
+      reason = inr (failed_outside (Vec Line Global) _ _ fault (subst (λ n. new.fault_count ≡ faults_after {T = Vec Line Global} (Err fault) n) reads.goes.faults opened.books.goes.faults));
+    })

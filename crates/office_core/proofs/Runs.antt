@@ -1,0 +1,129 @@
+-- A run, one more event at its end.
+use Rattle.std.proofs.Common.{◌≡◌, ◌↔◌, ◌||◌, ℕ, suc, ◌+◌, ◌<◌, Bool, true, false, List, [], ◌∷◌, ◌++◌, take, length, ◌≤◌, get_or, Result, Err, refl, ap, sym, subst, ◌∙◌, arith, take_all}
+use Rattle.std.proofs.lemmas.List.{take_more}
+use Rattle.office_events.specs.declared.answers.Answer.{Answer}
+use Rattle.office_events.specs.declared.events.Event.{Event}
+use Rattle.office_events.specs.declared.refusals.Refusal.{Refusal}
+use Rattle.office_events.specs.declared.refusals.Refusal.TheVariants as refusal
+use Rattle.office_rules.specs.History.{History, Opened}
+use Rattle.office_rules.specs.Refusals.{with_answer}
+use Rattle.office_books.specs.Ledgers.{Ledger}
+use Rattle.office_core.specs.declared.office.Office.{Office}
+use Rattle.office_core.specs.Failing.{Counts, is_failure, stops}
+use Rattle.office_core.specs.Leaving.{BooksStand}
+use Rattle.office_core.specs.Standing.{After, Stands, books_in, is_stopped}
+use Rattle.office_core.specs.Taking.{IsAnswer, IsTold, IsQuiet, SettlesNothing, Ends, failures_of}
+use Rattle.office_core.specs.Running.{Answered, in_turn, history_after, IsAnswered, AreAnswered, TellsOfLast, StopsInTurn, CountInTurn}
+
+abbrev Events : Type 0
+Events = List (ℕ × Event)
+
+abbrev Results : Type 0
+Results = List (Result Answer Refusal)
+
+abbrev pub with_result : ℕ × Event → Result Answer Refusal → Answered
+with_result fed r = record { at = fed.0; event = fed.1; result = r }
+
+turn_push : (events : Events) (results : Results) (e : ℕ × Event) (r : Result Answer Refusal) → length results ≡ length events
+    → in_turn (events ++ e ∷ []) (results ++ r ∷ []) ≡ in_turn events results ++ with_result e r ∷ []
+turn_push [] [] e r same = refl
+turn_push [] (b ∷ results) e r same = absurd (omega arith)
+turn_push (f ∷ events) [] e r same = absurd (omega arith)
+turn_push (f ∷ events) (b ∷ results) e r same = ap (λ fed. with_result f b ∷ fed) (turn_push events results e r (omega arith))
+
+one_more : (events : Events) (i : ℕ) (e : ℕ × Event) → i < length events → e ≡ get_or events i e → take (i + 1) events ≡ take i events ++ e ∷ []
+one_more events i e inside is = take_more events i e inside ∙ ap (λ (x : ℕ × Event). take i events ++ x ∷ []) (sym is)
+
+pub turn_more : (events : Events) (i : ℕ) (e : ℕ × Event) (results later : Results) (r : Result Answer Refusal)
+    → i < length events → e ≡ get_or events i e → later ≡ results ++ r ∷ [] → length results ≡ length (take i events)
+    → in_turn (take (i + 1) events) later ≡ in_turn (take i events) results ++ with_result e r ∷ []
+turn_more events i e results later r inside at is same = rw (one_more events i e inside at, is) (turn_push (take i events) results e r same)
+
+history_push : (past : History) (fed : List Answered) (one : Answered)
+    → history_after past (fed ++ one ∷ []) ≡ with_answer (history_after past fed) one.at one.event one.result
+history_push past [] one = refl
+history_push past (f ∷ fed) one = history_push (with_answer past f.at f.event f.result) fed one
+
+answers_push : (past : History) (before between after : ℕ) (fed : List Answered) (one : Answered)
+    → AreAnswered past before between fed → IsAnswered (history_after past fed) between after one
+    → AreAnswered past before after (fed ++ one ∷ [])
+answers_push past before between after [] one h k = (after, rw (sym h) k, refl)
+answers_push past before between after (f ∷ fed) one h k =
+    (h.0, h.1, answers_push (with_answer past f.at f.event f.result) h.0 between after fed one h.2 k)
+
+told_push : {B : Type 0} (past : History) (fed : List Answered) (one : Answered) (office : Office B)
+    → IsTold (history_after past fed) one.at one.event one.result office → TellsOfLast past (fed ++ one ∷ []) office
+told_push past [] one office told = told
+told_push past (f ∷ []) one office told = told
+told_push past (f ∷ next ∷ fed) one office told =
+    told_push (with_answer past f.at f.event f.result) (next ∷ fed) one office told
+
+stops_push : (before between : Bool) (fed : List Answered) (one : Answered)
+    → StopsInTurn before between fed → ((one.result ≡ Err refusal.Stopped) ↔ (between ≡ true))
+    → StopsInTurn before (between || stops one.event one.result) (fed ++ one ∷ [])
+stops_push before between [] one h k = rw (sym h) (k, refl)
+stops_push before between (f ∷ fed) one h k = (h.0, stops_push (before || stops f.event f.result) between fed one h.1 k)
+
+counts_push : (before between after : ℕ) (fed : List Answered) (one : Answered)
+    → CountInTurn before between fed → Counts between after one.result → CountInTurn before after (fed ++ one ∷ [])
+counts_push before between after [] one h k = (after, rw (sym h) k, refl)
+counts_push before between after (f ∷ fed) one h k = (h.0, h.1, counts_push h.0 between after fed one h.2 k)
+
+-- How far a run has come with these events.
+pub record SoFar {B : Type 0} (ledger : B → Ledger) (books : B) (opened : ℕ) (fed : List Answered) (office : Office B) : Type 0 where
+  pub stands : (past : History) → BooksStand (ledger books) past → (ledger (books_in office)).is_clean
+      → Stands ledger (history_after (Opened opened ∷ past) fed) office
+  pub answers : (past : History) → BooksStand (ledger books) past → (ledger (books_in office)).is_clean
+      → AreAnswered (Opened opened ∷ past) (ledger books).fault_count (ledger (books_in office)).fault_count fed
+  pub told : (past : History) → BooksStand (ledger books) past → (ledger (books_in office)).is_clean
+      → TellsOfLast (Opened opened ∷ past) fed office
+  pub stops : StopsInTurn false (is_stopped office) fed
+  pub counts : CountInTurn (ledger books).fault_count (ledger (books_in office)).fault_count fed
+  pub clean : (ledger (books_in office)).is_clean → (ledger books).is_clean
+  pub zone : (ledger (books_in office)).zone ≡ (ledger books).zone
+
+-- what feeding one more event promises
+pub record Feeds {B : Type 0} (ledger : B → Ledger) (old new : Office B) (one : Answered) : Type 0 where
+  pub answers : After ledger old new (λ past. IsAnswer past one.at one.event (failures_of ledger old) (failures_of ledger new) one.result)
+  pub stands : After ledger old new (λ past. Stands ledger (with_answer past one.at one.event one.result) new)
+  pub told : After ledger old new (λ past. IsTold past one.at one.event one.result new)
+  pub quiet : (past : History) → Stands ledger past old → is_stopped old ≡ false → SettlesNothing past one.at one.event
+      → IsQuiet old new one.result
+  pub ends : Ends ledger old new one.event one.result
+
+-- an office that had stopped says so, which is no failure
+not_failing : {B : Type 0} (ledger : B → Ledger) (past : History) (old new : Office B) (one : Answered) → Feeds ledger old new one
+    → Stands ledger past old → SettlesNothing past one.at one.event → (stopped : Bool) → is_stopped old ≡ stopped
+    → is_failure one.result ≡ false
+not_failing ledger past old new one feeds stands nothing true is = ap is_failure (feeds.ends.stopped.1 is)
+not_failing ledger past old new one feeds stands nothing false is = (feeds.quiet past stands is nothing).answer
+
+pub further : {B : Type 0} (ledger : B → Ledger) (books : B) (opened : ℕ) (fed : List Answered) (old new : Office B) (one : Answered)
+    → SoFar ledger books opened fed old → Feeds ledger old new one → SoFar ledger books opened (fed ++ one ∷ []) new
+further ledger books opened fed old new one so feeds = record {
+  stands = λ past stood clean.
+      rw (history_push (Opened opened ∷ past) fed one)
+      (feeds.stands (history_after (Opened opened ∷ past) fed) (so.stands past stood (feeds.ends.clean clean)) clean);
+  answers = λ past stood clean.
+      answers_push (Opened opened ∷ past) _ _ _ fed one (so.answers past stood (feeds.ends.clean clean))
+      (let before = so.stands past stood (feeds.ends.clean clean) in
+      let history = history_after (Opened opened ∷ past) fed in
+      record {
+        answer = feeds.answers history before clean;
+        quiet = λ nothing. not_failing ledger history old new one feeds before nothing (is_stopped old) refl;
+      });
+  told = λ past stood clean.
+      told_push (Opened opened ∷ past) fed one new
+      (feeds.told (history_after (Opened opened ∷ past) fed) (so.stands past stood (feeds.ends.clean clean)) clean);
+  stops = rw feeds.ends.stops (stops_push false (is_stopped old) fed one so.stops feeds.ends.stopped);
+  counts = counts_push _ _ _ fed one so.counts feeds.ends.counts;
+  clean = λ clean. so.clean (feeds.ends.clean clean);
+  zone = feeds.ends.zone ∙ so.zone;
+}
+
+-- the last event was fed
+pub all_fed : {B : Type 0} (ledger : B → Ledger) (books : B) (opened : ℕ) (events : Events) (i : ℕ) (results : Results) (office : Office B)
+    → length events ≤ i → SoFar ledger books opened (in_turn (take i events) results) office
+    → SoFar ledger books opened (in_turn events results) office
+all_fed ledger books opened events i results office over so =
+    subst (λ es. SoFar ledger books opened (in_turn es results) office) (take_all i events over) so

@@ -1,0 +1,110 @@
+-- Rows that a sink adds up to days, one after the other.
+use Rattle.std.proofs.Common.{◌≡◌, ℕ, ◌+◌, ◌≤◌, ◌<◌, List, [], ◌∷◌, ◌++◌, length, get_or, Option, Some, None, refl, sym, ap, subst, ◌∙◌, arith, append_assoc, length-append}
+use Rattle.std.specs.Prelude.{MatchOption, MatchResult, Result, Ok, Err, map, unwrap_or}
+use Rattle.std.specs.declared.alloc.Global.{Global}
+use Rattle.std.specs.declared.vec.Vec.{Vec}
+use Rattle.std.proofs.Math.ListN.{get_or-append}
+use Rattle.std.proofs.Math.Seq.{get_or-append_seam}
+use Rattle.std.proofs.lemmas.List.{append-nil}
+use Rattle.std.proofs.lemmas.List.Elements.{All-map, All-contains}
+use Rattle.std.proofs.lemmas.List.Sums.{sum_by-append}
+use Rattle.interval_core.specs.Account.{energy_of, starts_of}
+use Rattle.interval_core.specs.Days.{AreAccounts, account_of}
+use Rattle.interval_core.specs.Fold.{FoldState, HasTaken, IsLatest}
+use Rattle.interval_core.specs.declared.day.DayFault.{DayFault}
+use Rattle.interval_core.specs.declared.day.DayFault.TheVariants as fault
+use Rattle.interval_core.specs.declared.shares.Share.{Share}
+use Rattle.interval_core.specs.declared.zone.Zone.{Zone}
+use Rattle.interval_core.specs.declared.totals.DayTotal.{DayTotal}
+use Rattle.office_events.specs.declared.refusals.Refusal.{Refusal}
+use Rattle.office_rules.specs.Intervals.{rows_of_register}
+use Rattle.office_laws.specs.Registers.{CanBeFolded, RegistersAreInTurn}
+use Rattle.office_books.specs.Ledgers.{Ledger, OnlyReads}
+use Rattle.office_books.specs.Rows.{TakesAll, HandsOn}
+use Rattle.office_core.specs.declared.day_sink.DaySink.{DaySink}
+use Rattle.office_core.specs.Asking.{AddsUp}
+use Rattle.office_core.specs.DaySums.{MayFollow, UnlessFailed, HasAdded, AddsRow, TakesShare, EndsAs}
+use Rattle.office_core.specs.Failing.{IsOutside}
+
+-- a row of a list may follow those before it there
+may_follow : (done rest : List Share) (row : Share) → CanBeFolded (done ++ row ∷ rest) → MayFollow done row
+may_follow done rest row folds =
+    let start : Share → ℕ = λ r. r.start in
+    let within : length done < length (done ++ row ∷ rest) = simp length-append (omega arith) in
+    record {
+      in_turn = λ k d less.
+          let le : start (get_or (done ++ row ∷ rest) k d) ≤ start (get_or (done ++ row ∷ rest) (length done) d) =
+          folds.never_fall k (length done) d (omega arith) within in
+          omega (arith, le, ap start (get_or-append done (row ∷ rest) d k less), ap start (get_or-append_seam done row rest d));
+      moment =
+          let le : start (get_or (done ++ row ∷ rest) (length done) row) ≤ 4102444800 = folds.moments (length done) row within in
+          omega (arith, le, ap start (get_or-append_seam done row rest row));
+      energy =
+          let more : energy_of (done ++ row ∷ rest) ≡ energy_of done + energy_of (row ∷ rest) = sum_by-append (λ (r : Share). r.mwh) done (row ∷ rest) in
+          let first : energy_of (row ∷ rest) ≡ energy_of (row ∷ []) + energy_of rest = sum_by-append (λ (r : Share). r.mwh) (row ∷ []) rest in
+          omega (arith, folds.energy, more, first);
+    }
+
+-- one row
+add_one : (failed : Option DayFault) (done : List Share) (row : Share) (s next : DaySink) → s.fault ≡ failed → MayFollow done row
+    → UnlessFailed failed (HasTaken s.zone done s.fold) → MatchOption failed (AddsRow s row next) (λ fault. next ≡ s)
+    → (next.zone ≡ s.zone) × HasAdded next (done ++ row ∷ [])
+add_one None done row s next is may added step = (step.zone, step.added done added may)
+add_one (Some fault.Memory) done row s next is may added step =
+    let P : Option DayFault → Type 0 = λ f. UnlessFailed f (HasTaken s.zone (done ++ row ∷ []) s.fold) in
+    let Q : DaySink → Type 0 = λ t. (t.zone ≡ s.zone) × HasAdded t (done ++ row ∷ []) in
+    subst Q (sym step) (refl, subst P (sym is) tt)
+add_one (Some fault.Zone) done row s next is may added step = absurd added
+
+-- all of them
+add_all : (zone : Zone) (done rest : List Share) (s after : DaySink) → s.zone ≡ zone → CanBeFolded (done ++ rest) → HasAdded s done
+    → TakesAll TakesShare s rest after → (after.zone ≡ zone) × HasAdded after (done ++ rest)
+add_all zone done [] s after is folds added took =
+    let P : DaySink → Type 0 = λ t. (t.zone ≡ zone) × HasAdded t (done ++ []) in
+    subst P (sym took) (is, subst (HasAdded s) (sym (append-nil done)) added)
+add_all zone done (row ∷ rest) s after is folds added took =
+    let step = add_one s.fault done row s took.0 refl (may_follow done rest row folds) added took.1 in
+    let same : (done ++ row ∷ []) ++ rest ≡ done ++ row ∷ rest = append_assoc done (row ∷ []) rest in
+    let all = add_all zone (done ++ row ∷ []) rest took.0 after (step.0 ∙ is) (subst CanBeFolded (sym same) folds) step.1 took.2 in
+    (all.0, subst (HasAdded after) same all.1)
+
+-- what a new sink has after rows of which days can be made
+pub added_up : (fresh after : DaySink) (rows : List Share) → CanBeFolded rows → fresh.fault ≡ None → HasTaken fresh.zone [] fresh.fold
+    → TakesAll TakesShare fresh rows after → (after.zone ≡ fresh.zone) × HasAdded after rows
+added_up fresh after rows folds works empty took =
+    let P : Option DayFault → Type 0 = λ f. UnlessFailed f (HasTaken fresh.zone [] fresh.fold) in
+    add_all fresh.zone [] rows fresh after refl folds (subst P (sym works) empty) took
+
+-- a row that may follow starts no earlier than the latest
+after_latest : (rows : List Share) (latest : Option ℕ) (row : Share) → IsLatest rows latest → MayFollow rows row → unwrap_or latest 0 ≤ row.start
+after_latest rows None row at may = omega arith
+after_latest rows (Some start) row at may =
+    let P : ℕ → Type 0 = λ m. m ≤ row.start in
+    All-contains P (starts_of rows) start (All-map P (λ (r : Share). r.start) rows may.in_turn) at.0
+
+pub no_earlier : (zone : Zone) (rows : List Share) (fold : FoldState) (latest : Option ℕ) (row : Share) → fold.latest ≡ latest → HasTaken zone rows fold
+    → MayFollow rows row → unwrap_or latest 0 ≤ row.start
+no_earlier zone rows fold latest row same taken may = after_latest rows latest row (subst (IsLatest rows) same taken.latest) may
+
+-- the days that the sink has in the end are those of the rows
+days_by : (failed : Option DayFault) (old new : Ledger) (zone : Zone) (rows : List Share) (fold : FoldState)
+    (result : Result (Vec DayTotal Global) Refusal) → new.fault_count ≡ old.fault_count → UnlessFailed failed (HasTaken zone rows fold)
+    → EndsAs failed fold.accounts result
+    → MatchResult result (λ days. AreAccounts zone rows (map account_of days.items) × (new.fault_count ≡ old.fault_count))
+    (IsOutside old.fault_count new.fault_count)
+days_by None old new zone rows fold (Ok days) same added ends = (subst (AreAccounts zone rows) (sym ends) added.accounts, same)
+days_by None old new zone rows fold (Err why) same added ends = absurd ends
+days_by (Some f) old new zone rows fold (Ok days) same added ends = absurd ends
+days_by (Some fault.Memory) old new zone rows fold (Err why) same added ends =
+    subst (IsOutside old.fault_count new.fault_count) (sym ends) same
+days_by (Some fault.Zone) old new zone rows fold (Err why) same added ends = absurd added
+
+pub adds_up : (old new : Ledger) (fresh after : DaySink) (register : List ℕ) (done : Unit {0}) (result : Result (Vec DayTotal Global) Refusal)
+    → RegistersAreInTurn → fresh.zone ≡ old.zone → fresh.fault ≡ None → HasTaken fresh.zone [] fresh.fold
+    → HandsOn TakesShare old new fresh after (Ok done) (λ held. rows_of_register held register) → OnlyReads old new (Ok done)
+    → EndsAs after.fault after.fold.accounts result → AddsUp old new register result
+adds_up old new fresh after register done result in_turn zone works empty hands reads ends = λ held lawful holds clean.
+    let rows = rows_of_register held register in
+    let up = added_up fresh after rows (in_turn held register lawful) works empty (hands.whole held holds clean) in
+    let P : Zone → Type 0 = λ z. UnlessFailed after.fault (HasTaken z rows after.fold) in
+    days_by after.fault old new old.zone rows after.fold result reads.goes.faults (subst P (up.0 ∙ zone) up.1) ends

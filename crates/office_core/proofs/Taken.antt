@@ -1,0 +1,133 @@
+-- What an accepted event leaves and tells.
+use Rattle.std.proofs.Common.{◌≡◌, ℕ, Bool, true, false, not, ◌&&◌, cond, List, [], ◌∷◌, inl, inr, refl, sym, ap, subst, ◌∙◌, Ok, Err}
+use Rattle.office_events.specs.declared.answers.Answer.{Answer}
+use Rattle.office_events.specs.declared.answers.Answer.TheVariants as answer
+use Rattle.office_events.specs.declared.answers.CommandKind.{CommandKind}
+use Rattle.office_events.specs.declared.events.Event.{Event}
+use Rattle.office_events.specs.declared.events.Event.TheVariants as event
+use Rattle.office_events.specs.declared.facts.Fact.{Fact}
+use Rattle.office_events.specs.declared.refusals.Refusal.{Refusal}
+use Rattle.office_rules.specs.Sessions.{Line, command_in}
+use Rattle.office_rules.specs.History.{History, Fed, facts_of, lines_of, next_poll}
+use Rattle.office_rules.specs.Refusals.{IsAccepted, refusal_of, unless_kept, unless_refused, response_of, answer_of, is_start}
+use Rattle.office_lawful.specs.Laws.{IsPast, PutsPlanned}
+use Rattle.office_books.specs.declared.faults.BooksFault.{BooksFault}
+use Rattle.office_books.specs.declared.faults.BooksFault.TheVariants.{Store, Memory}
+use Rattle.office_books.specs.declared.faults.StoreFault.TheVariants.{Refused, Damaged}
+use Rattle.office_books.specs.Faults.{as_refusal, faults_after}
+use Rattle.office_rules.specs.Refusals.{with_answer}
+use Rattle.office_rules.specs.Notes.{notes_of, outgoing_of, notes_after, outgoing_after}
+use Rattle.office_lines.specs.Keeping.{KeepsLines}
+use Rattle.office_books.specs.Ledgers.{Ledger, Moves}
+use Rattle.office_core.specs.declared.office.Office.{Office}
+use Rattle.office_core.specs.Events.{is_command}
+use Rattle.office_core.specs.Failing.{IsOutside, stops}
+use Rattle.office_core.specs.Leaving.{BooksStand}
+use Rattle.office_core.specs.Standing.{Goes, notes_in, outgoing_in}
+use Rattle.office_core.specs.Taking.{MayTake, Takes}
+use Rattle.office_core.proofs.Left.{moved_on, moved_not}
+
+-- an accepted event is answered as it is to be
+pub accepted_response : (past : History) (at : ℕ) (e : Event) → IsAccepted past at e → response_of past at e ≡ Ok (answer_of (lines_of past) (facts_of past) at e)
+accepted_response past at e accepted =
+    ap (λ kept. unless_kept (unless_refused (answer_of (lines_of past) (facts_of past) at e) (refusal_of past at e)) kept) accepted.new
+    ∙ ap (unless_refused (answer_of (lines_of past) (facts_of past) at e)) accepted.right
+
+-- what follows an answer to an accepted event is never that it was asked before
+by_start : {X : Type 0} (f : Answer → X) (v : X) → ((n m k : ℕ) → f (answer.Started n m k) ≡ v) → ((k : CommandKind) → f (answer.Done k) ≡ v)
+    → (b : Bool) (n m k : ℕ) (kind : CommandKind) → f (cond b (answer.Started n m k) (answer.Done kind)) ≡ v
+by_start f v started done true n m k kind = started n m k
+by_start f v started done false n m k kind = done kind
+
+pub by_answer : {X : Type 0} (f : Answer → X) (v : X) → ((n m k : ℕ) → f (answer.Started n m k) ≡ v) → ((k : CommandKind) → f (answer.Done k) ≡ v)
+    → f answer.Noted ≡ v → (lines : List Line) (facts : List Fact) (at : ℕ) (e : Event) → f (answer_of lines facts at e) ≡ v
+by_answer f v started done noted lines facts at (event.Connected given) = noted
+by_answer f v started done noted lines facts at (event.Bytes given piece) = noted
+by_answer f v started done noted lines facts at event.Tick = noted
+by_answer f v started done noted lines facts at (event.Gone given closing) = noted
+by_answer f v started done noted lines facts at (event.Command c) = by_start f v started done (is_start c) _ _ _ _
+by_answer f v started done noted lines facts at (event.Asked asked) = by_start f v started done (is_start asked.command) _ _ _ _
+
+-- an accepted event may follow
+pub one_more_past : (past : History) (at : ℕ) (e : Event) → IsPast past → IsAccepted past at e → PutsPlanned (command_in e) → IsPast (Fed at e ∷ past)
+one_more_past past at e is accepted planned = record { accepted = (accepted, is.accepted); planned = (planned, is.planned) }
+
+-- how failures of books are told and counted
+pub failed_outside : (T : Type 0) (before after : ℕ) (why : BooksFault) → after ≡ faults_after {T = T} (Err why) before
+    → IsOutside before after (as_refusal why)
+failed_outside T before after (Store Refused) is = is
+failed_outside T before after (Store Damaged) is = is
+failed_outside T before after Memory is = is
+
+-- an event of a device that fails stops the office
+pub stops_failed : (e : Event) (why : BooksFault) → is_command e ≡ false → stops e (Err (as_refusal why)) ≡ true
+stops_failed e (Store Refused) device = ap (λ b. not b && true) device
+stops_failed e (Store Damaged) device = ap (λ b. not b && true) device
+stops_failed e Memory device = ap (λ b. not b && true) device
+
+-- an event of a device is noted, and wants nothing sent; one that asks a command brings no notes
+pub noted : (lines : List Line) (facts : List Fact) (at : ℕ) (e : Event) → is_command e ≡ false → answer.Noted ≡ answer_of lines facts at e
+noted lines facts at (event.Connected given) device = refl
+noted lines facts at (event.Bytes given piece) device = refl
+noted lines facts at event.Tick device = refl
+noted lines facts at (event.Gone given closing) device = refl
+noted lines facts at (event.Command c) device = absurd (cc)
+noted lines facts at (event.Asked asked) device = absurd (cc)
+
+pub unsent : (number at : ℕ) (e : Event) (lines : List Line) (facts : List Fact) → is_command e ≡ false → outgoing_of number at e lines facts ≡ []
+unsent number at (event.Connected given) lines facts device = refl
+unsent number at (event.Bytes given piece) lines facts device = refl
+unsent number at event.Tick lines facts device = refl
+unsent number at (event.Gone given closing) lines facts device = refl
+unsent number at (event.Command c) lines facts device = absurd (cc)
+unsent number at (event.Asked asked) lines facts device = absurd (cc)
+
+pub unnoted : (number at : ℕ) (e : Event) (lines : List Line) (facts : List Fact) → is_command e ≡ true → notes_of number at e lines facts ≡ []
+unnoted number at (event.Connected given) lines facts asks = refl
+unnoted number at (event.Bytes given piece) lines facts asks = absurd (cc)
+unnoted number at event.Tick lines facts asks = absurd (cc)
+unnoted number at (event.Gone given closing) lines facts asks = absurd (cc)
+unnoted number at (event.Command c) lines facts asks = refl
+unnoted number at (event.Asked asked) lines facts asks = refl
+
+-- an event that was carried out or settled
+pub taken : {B T : Type 0} (ledger : B → Ledger) (past : History) (at : ℕ) (e : Event) (old new : Office B) (x : T) (given : Answer)
+    → MayTake ledger past e old → IsAccepted past at e → (ledger new.books).is_clean
+    → Moves (ledger old.books) (ledger new.books) (facts_of past) (facts_of (Fed at e ∷ past)) (Ok x)
+    → given ≡ answer_of (lines_of past) (facts_of past) at e → new.latest ≡ at → KeepsLines new.lines.items (lines_of (Fed at e ∷ past))
+    → notes_in new ≡ notes_of (next_poll (facts_of past)) at e (lines_of past) (facts_of past)
+    → outgoing_in new ≡ outgoing_of (next_poll (facts_of past)) at e (lines_of past) (facts_of past)
+    → Takes ledger past at e old new (Ok given)
+taken ledger past at e old new x given may accepted clean moves is latest lines notes outgoing =
+    let follows : with_answer past at e (Ok given) ≡ Fed at e ∷ past =
+    ap (λ a. with_answer past at e (Ok a)) is
+    ∙ by_answer (λ a. with_answer past at e (Ok a)) (Fed at e ∷ past) (λ n m k. refl) (λ k. refl) refl (lines_of past) (facts_of past) at e in
+    let told : notes_after past at e (Ok given) ≡ notes_of (next_poll (facts_of past)) at e (lines_of past) (facts_of past) =
+    ap (λ a. notes_after past at e (Ok a)) is
+    ∙ by_answer (λ a. notes_after past at e (Ok a)) _ (λ n m k. refl) (λ k. refl) refl (lines_of past) (facts_of past) at e in
+    let sent : outgoing_after past at e (Ok given) ≡ outgoing_of (next_poll (facts_of past)) at e (lines_of past) (facts_of past) =
+    ap (λ a. outgoing_after past at e (Ok a)) is
+    ∙ by_answer (λ a. outgoing_after past at e (Ok a)) _ (λ n m k. refl) (λ k. refl) refl (lines_of past) (facts_of past) at e in
+    record {
+      answer = inl (ap (λ a. Ok a) is ∙ sym (accepted_response past at e accepted), moves.goes.faults);
+      books =
+          subst (BooksStand (ledger new.books)) (sym follows)
+          (moved_on (ledger old.books) (ledger new.books) (Fed at e) past x moves (one_more_past past at e may.books.is_past accepted may.planned) clean may.books);
+      goes = λ on. subst (λ h. Goes h new) (sym follows) (record { latest = latest; lines = lines });
+      told = record { notes = notes ∙ sym told; outgoing = outgoing ∙ sym sent };
+    }
+
+-- one that failed
+pub not_taken : {B T : Type 0} (ledger : B → Ledger) (past : History) (at : ℕ) (e : Event) (old new : Office B) (fault : BooksFault) (why : Refusal)
+    → MayTake ledger past e old → IsAccepted past at e → (ledger new.books).is_clean
+    → Moves {T = T} (ledger old.books) (ledger new.books) (facts_of past) (facts_of (Fed at e ∷ past)) (Err fault)
+    → why ≡ as_refusal fault → (stops e (Err (as_refusal fault)) ≡ false → Goes past new) → notes_in new ≡ notes_in old → outgoing_in new ≡ outgoing_in old
+    → Takes ledger past at e old new (Err why)
+not_taken {T = T} ledger past at e old new fault why may accepted clean moves is goes notes outgoing =
+    subst (λ w. Takes ledger past at e old new (Err w)) (sym is)
+    (record {
+      answer = inr (failed_outside T _ _ fault moves.goes.faults);
+      books = moved_not (ledger old.books) (ledger new.books) (Fed at e) past fault moves (one_more_past past at e may.books.is_past accepted may.planned) clean may.books;
+      goes = goes;
+      told = record { notes = notes ∙ may.notes; outgoing = outgoing ∙ may.outgoing };
+    })

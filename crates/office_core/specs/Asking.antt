@@ -1,0 +1,176 @@
+-- How questions are answered, and what they leave.
+use Rattle.std.specs.Prelude.{◌≡◌, ◌⊎◌, ◌↔◌, ℕ, ◌<◌, ◌^◌, length, true, List, [], map, Option, Some, None, Result, Ok, Err, MatchResult, IfErr, OnOk, OnErr}
+use Rattle.std.specs.Option.{option_map, option_and_then}
+use Rattle.std.specs.declared.alloc.Global.{Global}
+use Rattle.std.specs.declared.vec.Vec.{Vec}
+use Rattle.interval_core.specs.Days.{DayAccount, account_of}
+use Rattle.interval_core.specs.declared.shares.Share.{Share}
+use Rattle.interval_core.specs.declared.totals.DayTotal.{DayTotal}
+use Rattle.interval_core.specs.declared.zone.Zone.{Zone}
+use Rattle.office_events.specs.declared.facts.Fact.{Fact}
+use Rattle.office_events.specs.declared.refusals.Refusal.{Refusal}
+use Rattle.office_events.specs.declared.refusals.Refusal.TheVariants as refusal
+use Rattle.office_events.specs.declared.refusals.StoreCause.{StoreCause}
+use Rattle.office_events.specs.declared.refusals.StoreCause.TheVariants as store
+use Rattle.office_rules.specs.Facts.{opening_of, register_of}
+use Rattle.office_rules.specs.History.{History, facts_of}
+use Rattle.office_rules.specs.Intervals.{rows_of_opening, AreDaysOf}
+use Rattle.office_rules.specs.Lawful.{AreLawful}
+use Rattle.office_books.specs.declared.faults.BooksFault.{BooksFault}
+use Rattle.office_books.specs.Faults.{as_refusal, one_more}
+use Rattle.office_books.specs.Ledgers.{Ledger, KeepsFacts}
+use Rattle.office_books.specs.Rows.{TakesAll, TakesFirst}
+use Rattle.office_core.specs.declared.office.Office.{Office}
+use Rattle.office_core.specs.Failing.{FailsOutside, IsOutside}
+use Rattle.office_core.specs.Standing.{Stands, After, books_in, is_stopped, notes_in, outgoing_in}
+use Rattle.office_core.specs.Taking.{failures_of, IsNotStopped}
+
+-- What is answered where the facts have this, or nothing.
+abbrev pub or_not_found : {T : Type 0} → Option T → Result T Refusal
+or_not_found None = Err refusal.NotFound
+or_not_found (Some found) = Ok found
+
+-- what is answered where a look-up gave this
+abbrev pub answered : {T : Type 0} → Result (Option T) BooksFault → Result T Refusal
+answered (Ok found) = or_not_found found
+answered (Err why) = Err (as_refusal why)
+
+-- So a question is answered, and the count of the books' failures stays; or it failed outside.
+abbrev pub IsFound : {T : Type 0} → Option T → (before after : ℕ) → Result T Refusal → Type 0
+IsFound found before after result =
+    ((result ≡ or_not_found found) × (after ≡ before)) ⊎ FailsOutside before after result
+
+-- that something is there, whatever it is
+abbrev pub is_there : {T : Type 0} → Option T → Option (Unit {0})
+is_there found = option_map (λ x. tt) found
+
+-- the rows that are there; where there is no list, there are none
+abbrev pub rows_in : {T : Type 0} → Option (List T) → List T
+rows_in None = []
+rows_in (Some rows) = rows
+
+-- The energy of a meter by quarter hours, where there is a meter of the name.
+abbrev pub intervals_of : List Fact → (meter : Option (List ℕ)) → Option (List Share)
+intervals_of facts meter = option_map (rows_of_opening facts) (option_and_then (opening_of facts) meter)
+
+-- Rows are asked for. What the sink took begins those that are there, and at Ok is all of them.
+pub record HandsRows {S T : Type 0} (takes : S → T → S → Type 0) (rows : Option (List T)) (before after : ℕ)
+    (from to : S) (result : Result (Unit {0}) Refusal) : Type 0 where
+  pub answer : IsFound (is_there rows) before after result
+  pub begun : TakesFirst takes from (rows_in rows) to
+  pub whole : OnOk result (TakesAll takes from (rows_in rows) to)
+
+-- These are the days of the register of a name, by the clocks of a zone.
+abbrev pub AreDaysNamed : Zone → List Fact → (register : Option (List ℕ)) → List DayAccount → Type 0
+AreDaysNamed zone facts None days = ⊥
+AreDaysNamed zone facts (Some register) days = AreDaysOf zone facts register days
+
+-- The sink took the days of a register, one for each civil day on which one of its interval rows begins, in order. A number
+-- of 64 bits counts them.
+pub record TakesDays {S : Type 0} (takes : S → DayTotal → S → Type 0) (zone : Zone) (facts : List Fact)
+    (register : Option (List ℕ)) (from to : S) : Type 0 where
+  pub days : List DayTotal
+  pub are : AreDaysNamed zone facts register (map account_of days)
+  pub few : length days < 2 ^ 64
+  pub took : TakesAll takes from days to
+
+-- Days are asked for. The sink took all of them at Ok, and else none.
+pub record HandsDays {S : Type 0} (takes : S → DayTotal → S → Type 0) (zone : Zone) (facts : List Fact)
+    (register : Option (List ℕ)) (before after : ℕ) (from to : S) (result : Result (Unit {0}) Refusal) : Type 0 where
+  pub answer : IsFound (is_there (option_and_then (register_of facts) register)) before after result
+  pub whole : OnOk result (TakesDays takes zone facts register from to)
+  pub none : OnErr result (to ≡ from)
+
+-- Books tell what the facts that they hold say, if no wrong answer of a store was taken as true: a row, rows, or days.
+abbrev pub FoundIn : {T : Type 0} → (old new : Ledger) → Result T Refusal → (List Fact → Option T) → Type 0
+FoundIn old new result row =
+    (held : List Fact) → old.holds held → new.is_clean → IsFound (row held) old.fault_count new.fault_count result
+
+abbrev pub RowsIn : {S T : Type 0} → (S → T → S → Type 0) → (old new : Ledger) → (from to : S)
+    → Result (Unit {0}) Refusal → (List Fact → Option (List T)) → Type 0
+RowsIn takes old new from to result rows =
+    (held : List Fact) → old.holds held → new.is_clean
+    → HandsRows takes (rows held) old.fault_count new.fault_count from to result
+
+abbrev pub DaysIn : {S : Type 0} → (S → DayTotal → S → Type 0) → (old new : Ledger) → (from to : S)
+    → Result (Unit {0}) Refusal → (register : Option (List ℕ)) → Type 0
+DaysIn takes old new from to result register =
+    (held : List Fact) → AreLawful held → old.holds held → new.is_clean
+    → HandsDays takes old.zone held register old.fault_count new.fault_count from to result
+
+-- the days of a register, as a list, where the facts are lawful; or it failed outside
+abbrev pub AddsUp : (old new : Ledger) → (register : List ℕ) → Result (Vec DayTotal Global) Refusal → Type 0
+AddsUp old new register result =
+    (held : List Fact) → AreLawful held → old.holds held → new.is_clean
+    → MatchResult result
+    (λ days. AreDaysOf old.zone held register (map account_of days.items) × (new.fault_count ≡ old.fault_count))
+    (IsOutside old.fault_count new.fault_count)
+
+-- So does the office, by the facts of what it accepted.
+abbrev pub Tells : {B T : Type 0} → (B → Ledger) → (old new : Office B) → Result T Refusal
+    → (List Fact → Option T) → Type 0
+Tells ledger old new result row = After ledger old new (λ past.
+    IsFound (row (facts_of past)) (failures_of ledger old) (failures_of ledger new) result)
+
+abbrev pub TellsRows : {B S T : Type 0} → (S → T → S → Type 0) → (B → Ledger) → (old new : Office B) → (from to : S)
+    → Result (Unit {0}) Refusal → (List Fact → Option (List T)) → Type 0
+TellsRows takes ledger old new from to result rows = After ledger old new (λ past.
+    HandsRows takes (rows (facts_of past)) (failures_of ledger old) (failures_of ledger new) from to result)
+
+abbrev pub TellsDays : {B S : Type 0} → (S → DayTotal → S → Type 0) → (B → Ledger) → (old new : Office B)
+    → (from to : S) → Result (Unit {0}) Refusal → (register : Option (List ℕ)) → Type 0
+TellsDays takes ledger old new from to result register = After ledger old new (λ past.
+    HandsDays takes (ledger (books_in old)).zone (facts_of past) register
+    (failures_of ledger old) (failures_of ledger new) from to result)
+
+-- Whatever the books hold, the sink took rows and nothing else.
+abbrev pub TakesRows : {S T : Type 0} → (S → T → S → Type 0) → (from to : S) → Type 0
+TakesRows {S} {T} takes from to = (rows : List T) × TakesAll takes from rows to
+
+-- Of the store's causes, that a row has no civil day is no failure of the books.
+abbrev pub CountsCause : (before after : ℕ) → StoreCause → Type 0
+CountsCause before after store.NoDay = after ≡ before
+CountsCause before after _ = after ≡ one_more before
+
+-- A question is refused where nothing is found, the books or memory failed, or the office had stopped, and for no other
+-- reason; the count of the books' failures rises by those alone, whatever the books hold.
+abbrev pub CountsWhy : (before after : ℕ) → Refusal → Type 0
+CountsWhy before after refusal.NotFound = after ≡ before
+CountsWhy before after (refusal.Store cause) = CountsCause before after cause
+CountsWhy before after refusal.Memory = after ≡ before
+CountsWhy before after refusal.Stopped = after ≡ before
+CountsWhy before after _ = ⊥
+
+abbrev pub CountsAsked : {T : Type 0} → (before after : ℕ) → Result T Refusal → Type 0
+CountsAsked before after (Ok x) = after ≡ before
+CountsAsked before after (Err why) = CountsWhy before after why
+
+-- a reason other than that a row has no civil day
+abbrev pub IsOfStore : StoreCause → Type 0
+IsOfStore store.NoDay = ⊥
+IsOfStore _ = Unit {0}
+
+abbrev pub NeedsNoDay : Refusal → Type 0
+NeedsNoDay (refusal.Store cause) = IsOfStore cause
+NeedsNoDay _ = Unit {0}
+
+-- A question leaves the books as they were, whatever they hold: the facts, what a stop may leave, the zone, and that a
+-- wrong answer of a store was taken as true.
+pub record Asks {T : Type 0} (old new : Ledger) (result : Result T Refusal) : Type 0 where
+  pub keeps : KeepsFacts old new
+  pub counts : CountsAsked old.fault_count new.fault_count result
+  pub not_stopped : IfErr result IsNotStopped
+  pub clean : new.is_clean → old.is_clean
+  pub zone : new.zone ≡ old.zone
+
+-- It leaves the office as it was: it stands where it stood, and tells and sends what it did. It is refused as stopped
+-- exactly where the office had stopped, and stops none.
+pub record OnlyAsks {B T : Type 0} (ledger : B → Ledger) (old new : Office B) (result : Result T Refusal) : Type 0 where
+  pub stands : (past : History) → Stands ledger past old → Stands ledger past new
+  pub notes : notes_in new ≡ notes_in old
+  pub outgoing : outgoing_in new ≡ outgoing_in old
+  pub stopped : (result ≡ Err refusal.Stopped) ↔ (is_stopped old ≡ true)
+  pub stays : is_stopped new ≡ is_stopped old
+  pub counts : CountsAsked (failures_of ledger old) (failures_of ledger new) result
+  pub clean : (ledger (books_in new)).is_clean → (ledger (books_in old)).is_clean
+  pub zone : (ledger (books_in new)).zone ≡ (ledger (books_in old)).zone

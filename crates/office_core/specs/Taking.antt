@@ -1,0 +1,98 @@
+-- What taking an event leaves and answers.
+use Rattle.std.specs.Prelude.{◌≡◌, ◌⊎◌, ◌↔◌, ℕ, true, false, ◌||◌, [], Result, Err, IfErr}
+use Rattle.office_events.specs.declared.answers.Answer.{Answer}
+use Rattle.office_events.specs.declared.events.Event.{Event}
+use Rattle.office_events.specs.declared.refusals.Refusal.{Refusal}
+use Rattle.office_events.specs.declared.refusals.Refusal.TheVariants as refusal
+use Rattle.office_rules.specs.History.{History, facts_of, lines_of, next_poll}
+use Rattle.office_rules.specs.Refusals.{IsAccepted, response_of, with_answer}
+use Rattle.office_rules.specs.Notes.{notes_after, outgoing_after}
+use Rattle.office_rules.specs.Sessions.{command_in}
+use Rattle.office_lawful.specs.Laws.{PutsPlanned}
+use Rattle.office_books.specs.Ledgers.{Ledger}
+use Rattle.office_settling.specs.Settling.{SettleNothing}
+use Rattle.office_core.specs.declared.office.Office.{Office}
+use Rattle.office_core.specs.Events.{is_command}
+use Rattle.office_core.specs.Failing.{Counts, FailsOutside, is_failure, stops}
+use Rattle.office_core.specs.Leaving.{BooksStand}
+use Rattle.office_core.specs.Standing.{Goes, books_in, is_stopped, notes_in, outgoing_in}
+
+-- how often the books of an office failed
+abbrev pub failures_of : {B : Type 0} → (B → Ledger) → Office B → ℕ
+failures_of ledger office = (ledger office.books).fault_count
+
+-- An event is answered as its definition says, and the count of the books' failures stays; or it failed outside.
+abbrev pub IsAnswer : History → (at : ℕ) → Event → (before after : ℕ) → Result Answer Refusal → Type 0
+IsAnswer past at e before after result =
+    ((result ≡ response_of past at e) × (after ≡ before)) ⊎ FailsOutside before after result
+
+-- What the office tells is of this event alone: its outcomes and readings, and the frames that it wants sent.
+pub record IsTold {B : Type 0} (past : History) (at : ℕ) (e : Event) (result : Result Answer Refusal)
+    (office : Office B) : Type 0 where
+  pub notes : notes_in office ≡ notes_after past at e result
+  pub outgoing : outgoing_in office ≡ outgoing_after past at e result
+
+-- Whatever the books hold, the office refuses since it stopped exactly where it had; it stops where an event of a
+-- device fails; the books' count of failures rises by those alone; and a wrong answer of a store that was taken as true
+-- stays one.
+pub record Ends {B : Type 0} (ledger : B → Ledger) (old new : Office B) (e : Event)
+    (result : Result Answer Refusal) : Type 0 where
+  pub stopped : (result ≡ Err refusal.Stopped) ↔ (is_stopped old ≡ true)
+  pub stops : is_stopped new ≡ (is_stopped old || stops e result)
+  pub counts : Counts (ledger (books_in old)).fault_count (ledger (books_in new)).fault_count result
+  pub clean : (ledger (books_in new)).is_clean → (ledger (books_in old)).is_clean
+  pub zone : (ledger (books_in new)).zone ≡ (ledger (books_in old)).zone
+
+-- The event is of a device, and settles no poll.
+pub record SettlesNothing (past : History) (at : ℕ) (e : Event) : Type 0 where
+  pub device : is_command e ≡ false
+  pub nothing : SettleNothing (next_poll (facts_of past)) at e (lines_of past)
+
+-- Neither the store nor memory fails, and no books are asked.
+pub record IsQuiet {B : Type 0} (old new : Office B) (result : Result Answer Refusal) : Type 0 where
+  pub answer : is_failure result ≡ false
+  pub books : books_in new ≡ books_in old
+
+-- An event may be taken: the office stands, has told nothing of it, and a list that it puts is planned.
+pub record MayTake {B : Type 0} (ledger : B → Ledger) (past : History) (e : Event) (office : Office B) : Type 0 where
+  pub books : BooksStand (ledger office.books) past
+  pub goes : Goes past office
+  pub planned : PutsPlanned (command_in e)
+  pub notes : notes_in office ≡ []
+  pub outgoing : outgoing_in office ≡ []
+
+-- It was taken: it is answered and told, and the books stand after it; so does the office, where it doesn't stop.
+pub record Takes {B : Type 0} (ledger : B → Ledger) (past : History) (at : ℕ) (e : Event) (old new : Office B)
+    (result : Result Answer Refusal) : Type 0 where
+  pub answer : IsAnswer past at e (ledger (books_in old)).fault_count (ledger (books_in new)).fault_count result
+  pub books : BooksStand (ledger (books_in new)) (with_answer past at e result)
+  pub goes : stops e result ≡ false → Goes (with_answer past at e result) new
+  pub told : IsTold past at e result new
+
+-- So it is after every past after which it may be taken, or may be taken and is accepted.
+abbrev pub TakesAny : {B : Type 0} → (B → Ledger) → (at : ℕ) → Event → (old new : Office B)
+    → Result Answer Refusal → Type 0
+TakesAny ledger at e old new result =
+    (past : History) → MayTake ledger past e old → (ledger (books_in new)).is_clean
+    → Takes ledger past at e old new result
+
+abbrev pub TakesAccepted : {B : Type 0} → (B → Ledger) → (at : ℕ) → Event → (old new : Office B)
+    → Result Answer Refusal → Type 0
+TakesAccepted ledger at e old new result =
+    (past : History) → MayTake ledger past e old → IsAccepted past at e → (ledger (books_in new)).is_clean
+    → Takes ledger past at e old new result
+
+-- A reason other than that the office had stopped.
+abbrev pub IsNotStopped : Refusal → Type 0
+IsNotStopped refusal.Stopped = ⊥
+IsNotStopped _ = Unit {0}
+
+-- The count of the books' failures rises by those alone, whatever they hold; a wrong answer of a store that was taken
+-- as true stays one, and so do the zone and that the office goes on.
+pub record Passes {B : Type 0} (ledger : B → Ledger) (old new : Office B)
+    (result : Result Answer Refusal) : Type 0 where
+  pub counts : Counts (ledger (books_in old)).fault_count (ledger (books_in new)).fault_count result
+  pub clean : (ledger (books_in new)).is_clean → (ledger (books_in old)).is_clean
+  pub zone : (ledger (books_in new)).zone ≡ (ledger (books_in old)).zone
+  pub stopped : is_stopped new ≡ is_stopped old
+  pub not_stopped : IfErr result IsNotStopped

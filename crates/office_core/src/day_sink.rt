@@ -1,0 +1,76 @@
+//! A sink that adds interval rows up to civil days.
+ghost use Rattle.std.specs.Prelude.{◌≡◌};
+ghost use Rattle.std.proofs.Props.{props};
+
+use interval_core::{DayFault, DayFold, DayTotal, Share, Zone};
+use office_books::RowSink;
+use office_events::{Refusal, StoreCause};
+use std::alloc::Global;
+
+/// Adds interval rows up to days as they come. It keeps its first failure, and drops the rows that come after it.
+#[derive(Drop)]
+pub struct DaySink {
+    zone: Zone,
+    fold: DayFold,
+    latest: Option<u64>,
+    fault: Option<DayFault>,
+    ghost in_step: { fold.latest ≡ latest } by { Prim.hlevel props },
+}
+
+impl DaySink {
+    ghost use Rattle.std.specs.Prelude.{◌≡◌, [], None};
+    ghost use Rattle.interval_core.specs.Fold.{HasTaken};
+    ghost use Rattle.office_core.specs.DaySums.{AddsRow, EndsAs};
+
+    /// No rows yet. No memory is taken.
+    pub fn new(alloc: Global, zone: Zone) -> DaySink
+        ensures zone { result.zone ≡ zone }
+        ensures works { result.fault ≡ None }
+        ensures empty { HasTaken zone [] result.fold }
+    {
+        DaySink {
+            zone,
+            fold: DayFold::new(alloc),
+            latest: None,
+            fault: None,
+        }
+    }
+
+    /// Adds a row up. One that starts before another, or past the last moment, has no day.
+    fn add(&mut self, row: Share)
+        requires works { self.old.fault ≡ None }
+        ensures { AddsRow self.old row self.new }
+    {
+        if row.start < self.latest.unwrap_or(0) || 4_102_444_800 < row.start {
+            self.fault = Some(DayFault::Zone);
+            return;
+        }
+        match self.fold.push(row.start, row.mwh, &self.zone) {
+            Ok(()) => self.latest = Some(row.start),
+            Err(fault) => self.fault = Some(fault),
+        }
+    }
+
+    /// The days, in order, or what failed first.
+    pub fn into_days(self) -> Result<Vec<DayTotal>, Refusal>
+        ensures { EndsAs self.fault self.fold.accounts result }
+    {
+        match self.fault {
+            None => Ok(self.fold.into_rows()),
+            Some(DayFault::Zone) => Err(Refusal::Store(StoreCause::NoDay)),
+            Some(DayFault::Memory) => Err(Refusal::Memory),
+        }
+    }
+}
+
+impl RowSink<Share> for DaySink {
+    ghost use Rattle.office_core.specs.DaySums.{TakesShare};
+
+    ghost takes = { TakesShare };
+
+    fn put(&mut self, row: Share) {
+        if self.fault.is_none() {
+            self.add(row);
+        }
+    }
+}

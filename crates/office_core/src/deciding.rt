@@ -1,0 +1,96 @@
+//! How an event is decided before anything is done.
+ghost use Rattle.std.specs.Prelude.{◌≡◌, None, Some, false, IfOk, IfSome};
+ghost use Rattle.office_rules.specs.Sessions.{command_in};
+ghost use Rattle.office_lines.specs.Ranges.{IsInRange};
+ghost use Rattle.office_lawful.specs.Laws.{PutsPlanned};
+ghost use Rattle.office_books.specs.Ledgers.{OnlyReads};
+ghost use Rattle.office_core.specs.Events as events;
+ghost use Rattle.office_core.specs.Failing as failing;
+ghost use Rattle.office_core.specs.Deciding.{Decided, DecidesAlone, IsNoChange};
+
+use office_books::{Books, BooksFault};
+use office_events::{Answer, Command, Event, Refusal};
+use office_lines::Line;
+use office_refusing::{kept, refusal};
+
+/// Whether an event asks a command.
+pub fn is_command(event: &Event) -> bool
+    ensures { result ≡ events.is_command event.now }
+{
+    match event {
+        Event::Connected(_) => false,
+        Event::Bytes(_, _) => false,
+        Event::Tick => false,
+        Event::Gone(_, _) => false,
+        Event::Command(_) => true,
+        Event::Asked(_) => true,
+    }
+}
+
+/// Whether the books or memory failed.
+pub fn is_failure(given: &Result<Answer, Refusal>) -> bool
+    ensures { result ≡ failing.is_failure given.now }
+{
+    matches!(given, Err(Refusal::Store(_)) | Err(Refusal::Memory))
+}
+
+/// That a list that a command puts is planned.
+fn command_puts_planned(command: &Command)
+    ensures { PutsPlanned (Some command.now) }
+{
+    match command {
+        Command::PutList(put) => {
+            let _planned = put.list.points();
+        }
+        Command::AddDevice(_) => {}
+        Command::AddRegister(_) => {}
+        Command::Install(_) => {}
+        Command::Exchange(_) => {}
+        Command::Reset(_) => {}
+        Command::Rescale(_) => {}
+        Command::Manual(_) => {}
+        Command::Close(_) => {}
+        Command::Void(_) => {}
+        Command::StartPoll(_) => {}
+        Command::StartRound(_) => {}
+    }
+}
+
+/// That a list that an event puts is planned.
+pub fn puts_planned(event: &Event)
+    ensures { PutsPlanned (command_in event.now) }
+{
+    match event {
+        Event::Connected(_) => {}
+        Event::Bytes(_, _) => {}
+        Event::Tick => {}
+        Event::Gone(_, _) => {}
+        Event::Command(command) => command_puts_planned(command),
+        Event::Asked(asked) => command_puts_planned(&asked.command),
+    }
+}
+
+/// What an event is answered that was asked before, or is refused; `None` where it is accepted.
+pub fn decide<B: Books>(
+    books: &mut B,
+    lines: &[Line],
+    latest: u64,
+    moment: u64,
+    event: &Event,
+) -> Result<Option<Result<Answer, Refusal>>, BooksFault>
+    ensures found { Decided (B.ledger books.old) (B.ledger books.new) lines.now latest moment
+        event.now result }
+    ensures reads { OnlyReads (B.ledger books.old) (B.ledger books.new) result }
+    ensures in_range { IfOk result (λ given. given ≡ None → IsInRange latest moment event.now) }
+    ensures unchanged { IfOk result (λ given. IfSome given IsNoChange) }
+    ensures alone { events.is_command event.now ≡ false
+        → DecidesAlone books.old books.new lines.now latest moment event.now result }
+{
+    if let Some(given) = kept(books, event)? {
+        return Ok(Some(given.map(|kind| Answer::Again(kind))));
+    }
+    match refusal(books, lines, latest, moment, event)? {
+        Some(why) => Ok(Some(Err(why))),
+        None => Ok(None),
+    }
+}

@@ -1,0 +1,245 @@
+//! The office.
+ghost use Rattle.std.specs.Prelude.{◌≡◌, ◌≤◌, ◌∷◌, true, false, None, Ok, Err};
+ghost use Rattle.std.specs.Prelude.{IfOk, IfErr, MatchResult};
+ghost use Rattle.std.specs.Option.{option_and_then};
+ghost use Rattle.office_rules.specs.Facts.{moment_limit};
+ghost use Rattle.office_rules.specs.History.{History, Opened};
+ghost use Rattle.office_rules.specs.Meters.{meter_of};
+ghost use Rattle.office_rules.specs.Readings.{poll_row_of};
+ghost use Rattle.office_rules.specs.Refusals.{refusal_of, with_answer};
+ghost use Rattle.office_rules.specs.Sessions.{command_in};
+ghost use Rattle.office_lines.specs.Ranges.{AsksInRange};
+ghost use Rattle.office_core.specs.Asking.{NeedsNoDay, OnlyAsks, TakesRows, intervals_of};
+ghost use Rattle.office_core.specs.Asking.{Tells, TellsDays, TellsRows};
+ghost use Rattle.office_core.specs.Events as events;
+ghost use Rattle.office_core.specs.Leaving.{BooksStand};
+ghost use Rattle.office_core.specs.Reopening.{IsNotOpened, Passed};
+ghost use Rattle.office_core.specs.Standing.{After, IsFresh, Stands};
+ghost use Rattle.office_core.specs.Standing.{books_in, is_stopped, notes_in, outgoing_in};
+ghost use Rattle.office_core.specs.Taking.{Ends, IsAnswer, IsQuiet, IsTold, SettlesNothing};
+ghost use Rattle.office_core.specs.Taking.{MayTake, Passes, TakesAccepted, TakesAny, failures_of};
+
+use crate::deciding::{decide, is_command, is_failure, puts_planned};
+use crate::opening::reopen;
+use crate::questions;
+use interval_core::{DayTotal, Share};
+use office_books::{Books, RowSink};
+use office_commands::carry_out;
+use office_events::{Answer, Event, Installation, Name, Note, PollRow, Refusal};
+use office_lawful::facts_are_lawful;
+use office_lines::Line;
+use office_settling::settle_event;
+use office_starting::Outgoing;
+use std::alloc::Global;
+
+/// An office: it takes events, polls devices, and books what their meters tell.
+#[derive(Drop)]
+pub struct Office<B: Books> {
+    alloc: Global,
+    books: B,
+    latest: u64,
+    lines: Vec<Line>,
+    stopped: bool,
+    outgoing: Outgoing,
+    notes: Vec<Note>,
+}
+
+impl<B: Books> Office<B> {
+    /// Opens an office over books; each poll that has no outcome is lost, and no device is connected. A refusal hands
+    /// the books back. Moments are seconds since 1970-01-01 UTC.
+    pub fn open(alloc: Global, mut books: B, moment: u64) -> Result<Office<B>, (B, Refusal)>
+        ensures opened { (past : History) → BooksStand (B.ledger books) past
+            → IfOk result (λ office. (B.ledger (books_in office)).is_clean
+            → Stands B.ledger (Opened moment ∷ past) office) }
+        ensures fresh { IfOk result (λ office. IsFresh office) }
+        ensures refused { (past : History) → BooksStand (B.ledger books) past
+            → IfErr result (λ e. (B.ledger e.0).is_clean
+            → IsNotOpened past moment (B.ledger books) (B.ledger e.0) e.1) }
+        ensures passed { MatchResult result
+            (λ office. Passed (B.ledger books) (B.ledger (books_in office)) (Ok office))
+            (λ e. Passed {T = B} (B.ledger books) (B.ledger e.0) (Err e.1)) }
+    {
+        match reopen(alloc, &mut books, moment) {
+            Err(why) => Err((books, why)),
+            Ok(lines) => Ok(Office {
+                alloc,
+                books,
+                latest: moment,
+                lines,
+                stopped: false,
+                outgoing: Outgoing::none(),
+                notes: Vec::new(alloc),
+            }),
+        }
+    }
+
+    /// Settles an event of a device that is accepted.
+    fn settle(&mut self, moment: u64, event: &Event) -> Result<Answer, Refusal>
+        requires settling { events.is_command event.now ≡ false }
+        requires limit { moment ≤ moment_limit }
+        ensures takes { TakesAccepted B.ledger moment event.now self.old self.new result }
+        ensures quiet { (past : History) → MayTake B.ledger past event.now self.old
+            → refusal_of past moment event.now ≡ None → SettlesNothing past moment event.now
+            → IsQuiet self.old self.new result }
+        ensures passes { Passes B.ledger self.old self.new result }
+    {
+        match settle_event(self.alloc, &mut self.lines, &mut self.books, moment, event) {
+            Ok(notes) => {
+                self.latest = moment;
+                self.notes = notes;
+                Ok(Answer::Noted)
+            }
+            Err(fault) => Err(Refusal::from(fault)),
+        }
+    }
+
+    /// Carries out a command that is accepted.
+    fn obey(&mut self, moment: u64, event: &Event) -> Result<Answer, Refusal>
+        requires asks { events.is_command event.now ≡ true }
+        requires range { AsksInRange moment (command_in event.now) }
+        requires limit { moment ≤ moment_limit }
+        ensures takes { TakesAccepted B.ledger moment event.now self.old self.new result }
+        ensures passes { Passes B.ledger self.old self.new result }
+    {
+        match carry_out(self.alloc, &mut self.lines, &mut self.books, moment, event) {
+            Ok(done) => {
+                self.latest = moment;
+                self.outgoing = done.outgoing;
+                Ok(done.answer)
+            }
+            Err(fault) => Err(Refusal::from(fault)),
+        }
+    }
+
+    /// Takes an event while the office goes on: it is answered by what was kept, refused, settled or carried out.
+    fn take(&mut self, moment: u64, event: &Event) -> Result<Answer, Refusal>
+        ensures takes { TakesAny B.ledger moment event.now self.old self.new result }
+        ensures quiet { (past : History) → MayTake B.ledger past event.now self.old
+            → SettlesNothing past moment event.now → IsQuiet self.old self.new result }
+        ensures passes { Passes B.ledger self.old self.new result }
+    {
+        match decide(&mut self.books, &self.lines, self.latest, moment, event) {
+            Err(fault) => Err(Refusal::from(fault)),
+            Ok(Some(given)) => given,
+            Ok(None) => {
+                if is_command(event) {
+                    self.obey(moment, event)
+                } else {
+                    self.settle(moment, event)
+                }
+            }
+        }
+    }
+
+    /// Takes an event. A refused one changes nothing, save that nothing is told and nothing wants to be sent; so does a
+    /// request that was asked before. Where the books or memory fail while an event of a device is settled, the office
+    /// stops, and refuses whatever comes until it is opened again. An event of a device that settles no poll takes no
+    /// memory. Moments are seconds since 1970-01-01 UTC.
+    pub fn feed(&mut self, moment: u64, event: &Event) -> Result<Answer, Refusal>
+        ensures answers { After B.ledger self.old self.new (λ past. IsAnswer past moment event.now
+            (failures_of B.ledger self.old) (failures_of B.ledger self.new) result) }
+        ensures stands { After B.ledger self.old self.new (λ past.
+            Stands B.ledger (with_answer past moment event.now result) self.new) }
+        ensures told { After B.ledger self.old self.new (λ past.
+            IsTold past moment event.now result self.new) }
+        ensures quiet { (past : History) → Stands B.ledger past self.old
+            → is_stopped self.old ≡ false → SettlesNothing past moment event.now
+            → IsQuiet self.old self.new result }
+        ensures ends { Ends B.ledger self.old self.new event.now result }
+    {
+        self.outgoing = Outgoing::none();
+        self.notes = Vec::new(self.alloc);
+        if self.stopped {
+            return Err(Refusal::Stopped);
+        }
+        puts_planned(event);
+        let answer = self.take(moment, event);
+        self.stopped = !is_command(event) && is_failure(&answer);
+        answer
+    }
+
+    /// The installation of a meter, as it stands. `None` is a name that no meter can have.
+    pub fn meter(&mut self, name: &Option<Name>) -> Result<Installation, Refusal>
+        ensures found { Tells B.ledger self.old self.new result
+            (λ facts. option_and_then (meter_of facts) name.now) }
+        ensures asks { OnlyAsks B.ledger self.old self.new result }
+        ensures no_day { IfErr result NeedsNoDay }
+    {
+        if self.stopped {
+            return Err(Refusal::Stopped);
+        }
+        questions::meter(&mut self.books, name)
+    }
+
+    /// The poll of a number, and how it ended, if it has.
+    pub fn poll(&mut self, number: u64) -> Result<PollRow, Refusal>
+        ensures found { Tells B.ledger self.old self.new result
+            (λ facts. poll_row_of facts number) }
+        ensures asks { OnlyAsks B.ledger self.old self.new result }
+        ensures no_day { IfErr result NeedsNoDay }
+    {
+        if self.stopped {
+            return Err(Refusal::Stopped);
+        }
+        questions::poll(&mut self.books, number)
+    }
+
+    /// Hands on the energy of a meter by quarter hours, in mWh, in order of their starts.
+    pub fn intervals<K: RowSink<Share>>(
+        &mut self,
+        meter: &Option<Name>,
+        sink: &mut K,
+    ) -> Result<(), Refusal>
+        ensures rows { TellsRows K.takes B.ledger self.old self.new sink.old sink.new result
+            (λ facts. intervals_of facts meter.now) }
+        ensures puts { TakesRows K.takes sink.old sink.new }
+        ensures asks { OnlyAsks B.ledger self.old self.new result }
+        ensures no_day { IfErr result NeedsNoDay }
+    {
+        if self.stopped {
+            return Err(Refusal::Stopped);
+        }
+        questions::intervals(&mut self.books, meter, sink)
+    }
+
+    /// Hands on the energy of a register by civil days of the books' zone, in mWh, in order, once all are added up. A
+    /// register at which no meter was ever installed has no days.
+    pub fn days<K: RowSink<DayTotal>>(
+        &mut self,
+        register: &Option<Name>,
+        sink: &mut K,
+    ) -> Result<(), Refusal>
+        ensures days { TellsDays K.takes B.ledger self.old self.new sink.old sink.new result
+            register.now }
+        ensures puts { TakesRows K.takes sink.old sink.new }
+        ensures asks { OnlyAsks B.ledger self.old self.new result }
+    {
+        if self.stopped {
+            return Err(Refusal::Stopped);
+        }
+        facts_are_lawful();
+        questions::days(self.alloc, &mut self.books, register, sink)
+    }
+
+    /// The bytes that the last event wants sent: the frames of its polls, where it started some.
+    pub fn outgoing(&self) -> &[u8]
+        ensures { result.now ≡ outgoing_in self.now }
+    {
+        self.outgoing.as_slice()
+    }
+
+    /// What the last event brought: outcomes of polls, each followed by its readings.
+    pub fn notes(&self) -> &[Note]
+        ensures { result.now ≡ notes_in self.now }
+    {
+        &self.notes
+    }
+
+    /// Hands the books back.
+    pub fn into_books(self) -> B
+        ensures { result ≡ books_in self }
+    {
+        let Office { books, .. } = self;
+        books
+    }
+}

@@ -1,0 +1,115 @@
+//! Questions, asked of the books.
+ghost use Rattle.std.specs.Prelude.{◌≡◌, ◌<◌, ◌^◌, length, IfErr};
+ghost use Rattle.std.specs.Option.{option_and_then};
+ghost use Rattle.office_rules.specs.Meters.{meter_of};
+ghost use Rattle.office_rules.specs.Readings.{poll_row_of};
+ghost use Rattle.office_books.specs.Rows.{TakesAll};
+ghost use Rattle.office_core.specs.Asking.{AddsUp, Asks, DaysIn, FoundIn, RowsIn, TakesRows};
+ghost use Rattle.office_core.specs.Asking.{NeedsNoDay, answered, intervals_of};
+
+use crate::day_sink::DaySink;
+use interval_core::{DayTotal, Share};
+use office_books::{Books, BooksFault, RowSink};
+use office_events::{Installation, Name, PollRow, Refusal};
+use office_laws::registers_are_in_turn;
+use std::alloc::Global;
+
+/// What a look-up is answered as.
+fn found<T: Drop>(answer: Result<Option<T>, BooksFault>) -> Result<T, Refusal>
+    ensures { result ≡ answered answer }
+{
+    match answer {
+        Ok(Some(row)) => Ok(row),
+        Ok(None) => Err(Refusal::NotFound),
+        Err(fault) => Err(Refusal::from(fault)),
+    }
+}
+
+/// The installation of a meter, as it stands.
+pub fn meter<B: Books>(books: &mut B, name: &Option<Name>) -> Result<Installation, Refusal>
+    ensures found { FoundIn (B.ledger books.old) (B.ledger books.new) result
+        (λ held. option_and_then (meter_of held) name.now) }
+    ensures asks { Asks (B.ledger books.old) (B.ledger books.new) result }
+    ensures no_day { IfErr result NeedsNoDay }
+{
+    let Some(name) = name else {
+        return Err(Refusal::NotFound);
+    };
+    found(books.meter(name))
+}
+
+/// The poll of a number, and how it ended, if it has.
+pub fn poll<B: Books>(books: &mut B, number: u64) -> Result<PollRow, Refusal>
+    ensures found { FoundIn (B.ledger books.old) (B.ledger books.new) result
+        (λ held. poll_row_of held number) }
+    ensures asks { Asks (B.ledger books.old) (B.ledger books.new) result }
+    ensures no_day { IfErr result NeedsNoDay }
+{
+    found(books.poll(number))
+}
+
+/// Hands on the energy of a meter by quarter hours, in order of their starts.
+pub fn intervals<B: Books, K: RowSink<Share>>(
+    books: &mut B,
+    meter: &Option<Name>,
+    sink: &mut K,
+) -> Result<(), Refusal>
+    ensures rows { RowsIn K.takes (B.ledger books.old) (B.ledger books.new) sink.old sink.new result
+        (λ held. intervals_of held meter.now) }
+    ensures puts { TakesRows K.takes sink.old sink.new }
+    ensures asks { Asks (B.ledger books.old) (B.ledger books.new) result }
+    ensures no_day { IfErr result NeedsNoDay }
+{
+    let Some(name) = meter else {
+        return Err(Refusal::NotFound);
+    };
+    found(books.meter(name))?;
+    books.intervals(name, sink)?;
+    Ok(())
+}
+
+/// Hands on all days, in their order.
+fn hand_on<K: RowSink<DayTotal>>(days: &[DayTotal], sink: &mut K)
+    ensures took { TakesAll K.takes sink.old days.now sink.new }
+    ensures few { length days.now < 2 ^ 64 }
+{
+    for day in days {
+        sink.put(*day);
+    }
+}
+
+/// The days of a register that is recorded.
+fn days_of<B: Books>(
+    alloc: Global,
+    books: &mut B,
+    register: &Name,
+) -> Result<Vec<DayTotal>, Refusal>
+    ensures days { AddsUp (B.ledger books.old) (B.ledger books.new) register.now result }
+    ensures asks { Asks (B.ledger books.old) (B.ledger books.new) result }
+{
+    registers_are_in_turn();
+    let mut days = DaySink::new(alloc, books.zone());
+    books.register_intervals(register, &mut days)?;
+    days.into_days()
+}
+
+/// Hands on the energy of a register by civil days of the books' zone, in order.
+pub fn days<B: Books, K: RowSink<DayTotal>>(
+    alloc: Global,
+    books: &mut B,
+    register: &Option<Name>,
+    sink: &mut K,
+) -> Result<(), Refusal>
+    ensures days { DaysIn K.takes (B.ledger books.old) (B.ledger books.new) sink.old sink.new result
+        register.now }
+    ensures puts { TakesRows K.takes sink.old sink.new }
+    ensures asks { Asks (B.ledger books.old) (B.ledger books.new) result }
+{
+    let Some(name) = register else {
+        return Err(Refusal::NotFound);
+    };
+    found(books.register(name))?;
+    let days = days_of(alloc, books, name)?;
+    hand_on(&days, sink);
+    Ok(())
+}
