@@ -1,5 +1,5 @@
 -- The headline of one meter, worked out: its counter turns over, is rescaled, and is reset.
-use Rattle.std.proofs.Common.{◌≡◌, ℤ, pos, ◌+ℤ◌, ◌-ℤ◌, List, ℕ, [], ◌∷◌, refl}
+use Rattle.std.proofs.Common.{◌≡◌, pos, List, ℕ, [], ◌∷◌, refl}
 use Rattle.energy_core.specs.Value.{unit_of}
 use Rattle.energy_core.specs.declared.entries.Entry.{Entry}
 use Rattle.energy_core.specs.declared.entries.Entry.TheVariants.{Step, Change}
