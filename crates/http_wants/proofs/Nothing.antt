@@ -85,7 +85,7 @@ pub where_the_body_fails : BodiesGiveOne → (table : Table) (bytes : List ℕ) 
     → IsNoMemory why → AsksNothing table bytes
 where_the_body_fails bodies table bytes at found posted why whole tests gives memory = λ asked asks.
     let same = bodies found.route (name_asked (name_of found)) (body_of table bytes at) (Err why) (Ok asks.command) gives
-        (gives_again table bytes at found posted asked whole tests asks) memory (λ e. cc e) in
+    (gives_again table bytes at found posted asked whole tests asks) memory (λ e. cc e) in
     cc same
 
 pub by_a_command : (table : Table) (bytes : List ℕ) (at : Head) (found : Found) (posted : Posted) (command : Command) (asked : Asked) → IsWhole table bytes at

@@ -56,12 +56,15 @@ row_told ledger past at read old new text found answer (inl is) nothing reply st
   reply = reply_bytes (row_reply text answer);
   is_put = refl;
   later = past;
-  served = inl (record {
-    replies = λ office answers. subst (λ a. IsReply office routes read (reply_bytes (row_reply text a))) (sym is.0) (reply office answers);
-    asked = None;
-    asks = nothing;
-    accepts = refl;
-  }, is.1);
+  served = inl (
+    record {
+      replies = λ office answers. subst (λ a. IsReply office routes read (reply_bytes (row_reply text a))) (sym is.0) (reply office answers);
+      asked = None;
+      asks = nothing;
+      accepts = refl;
+    },
+    is.1,
+  );
   stands = stands;
 }
 row_told ledger past at read old new text found (Ok x) (inr fails) nothing reply stands = absurd fails
@@ -83,13 +86,16 @@ command_told ledger past at read old new asked answer wanted (inl is) stands = r
   reply = reply_bytes (row_reply done_text (told answer));
   is_put = refl;
   later = with_answer past at (event.Asked asked) answer;
-  served = inl (record {
-    replies = λ office answers.
-        subst (λ a. IsReply office routes read (reply_bytes (row_reply done_text a))) (answers.asked asked ∙ ap told (sym is.0)) (wanted.reply office);
-    asked = Some asked;
-    asks = wanted.asks;
-    accepts = ap (with_answer past at (event.Asked asked)) is.0;
-  }, is.1);
+  served = inl (
+    record {
+      replies = λ office answers.
+          subst (λ a. IsReply office routes read (reply_bytes (row_reply done_text a))) (answers.asked asked ∙ ap told (sym is.0)) (wanted.reply office);
+      asked = Some asked;
+      asks = wanted.asks;
+      accepts = ap (with_answer past at (event.Asked asked)) is.0;
+    },
+    is.1,
+  );
   stands = stands;
 }
 command_told ledger past at read old new asked (Ok answer) wanted (inr fails) stands = absurd fails
