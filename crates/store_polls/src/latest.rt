@@ -1,5 +1,5 @@
-//! The greatest moments of the tables, in seconds since 1970-01-01 UTC. Each looks at the whole of its table, and is for an
-//! opening.
+//! The greatest moments of the tables, in seconds since 1970-01-01 UTC. Each looks at the whole of its table, and is for
+//! an opening.
 ghost use Rattle.std.specs.Prelude.{◌≡◌, ◌≤◌, IfOk, IfSome};
 ghost use Rattle.store_tables.specs.Limits.{latest_moment};
 ghost use Rattle.store_tables.specs.Answer.{IsLast, LastFirst, every};
@@ -40,7 +40,8 @@ pub fn latest_start<S: Alter>(conn: &mut Connection<S>) -> Result<Option<u64>, R
 fn outcome_rows<S: Alter>(conn: &mut Connection<S>) -> Result<Vec<Row>, Error>
     ensures asks { Asks S.Store conn.old conn.new }
     ensures shows { Tells S.Store conn.old conn.new outcomes outcome_columns result
-        (λ rows answer. ShowsFirst every (LastFirst outcome_moment) outcome_moment_shown rows answer.items) }
+        (λ rows answer.
+        ShowsFirst every (LastFirst outcome_moment) outcome_moment_shown rows answer.items) }
 {
     conn.query_all(
         "SELECT moment FROM outcomes ORDER BY moment DESC LIMIT 1",
@@ -65,7 +66,8 @@ pub fn latest_outcome<S: Alter>(conn: &mut Connection<S>) -> Result<Option<u64>,
 fn hold_rows<S: Alter>(conn: &mut Connection<S>) -> Result<Vec<Row>, Error>
     ensures asks { Asks S.Store conn.old conn.new }
     ensures shows { Tells S.Store conn.old conn.new holds hold_columns result
-        (λ rows answer. ShowsFirst every (LastFirst hold_moment) hold_moment_shown rows answer.items) }
+        (λ rows answer.
+        ShowsFirst every (LastFirst hold_moment) hold_moment_shown rows answer.items) }
 {
     conn.query_all("SELECT moment FROM holds ORDER BY moment DESC LIMIT 1", &[])
 }
@@ -87,7 +89,8 @@ pub fn latest_hold<S: Alter>(conn: &mut Connection<S>) -> Result<Option<u64>, Ro
 fn reply_rows<S: Alter>(conn: &mut Connection<S>) -> Result<Vec<Row>, Error>
     ensures asks { Asks S.Store conn.old conn.new }
     ensures shows { Tells S.Store conn.old conn.new replies reply_columns result
-        (λ rows answer. ShowsFirst every (LastFirst reply_moment) reply_moment_shown rows answer.items) }
+        (λ rows answer.
+        ShowsFirst every (LastFirst reply_moment) reply_moment_shown rows answer.items) }
 {
     conn.query_all(
         "SELECT moment FROM replies ORDER BY moment DESC LIMIT 1",
