@@ -1,7 +1,6 @@
 -- Books that hold nothing stand after nothing.
-use Rattle.std.proofs.Common.{zero, suc, List, [], ◌∷◌, inl, refl, arith}
+use Rattle.std.proofs.Common.{zero, suc, [], ◌∷◌, inl, refl, arith}
 use Rattle.std.specs.Prelude.{All}
-use Rattle.office_events.specs.declared.facts.Fact.{Fact}
 use Rattle.office_lists.specs.declared.list_books.ListBooks.{ListBooks}
 use Rattle.office_lists.specs.Listed.{AreListed, ledger_of}
 use Rattle.office_core.specs.Leaving.{MayBeLeft, BooksStand}
