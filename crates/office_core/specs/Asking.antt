@@ -21,9 +21,9 @@ use Rattle.office_books.specs.Faults.{as_refusal, one_more}
 use Rattle.office_books.specs.Ledgers.{Ledger, KeepsFacts}
 use Rattle.office_books.specs.Rows.{TakesAll, TakesFirst}
 use Rattle.office_core.specs.declared.office.Office.{Office}
-use Rattle.office_core.specs.Failing.{FailsOutside, IsOutside}
+use Rattle.office_core.specs.Failing.{FailsOutside, IsNotStopped, IsOutside}
 use Rattle.office_core.specs.Standing.{Stands, After, books_in, is_stopped, notes_in, outgoing_in}
-use Rattle.office_core.specs.Taking.{failures_of, IsNotStopped}
+use Rattle.office_core.specs.Taking.{failures_of}
 
 -- What is answered where the facts have this, or nothing.
 abbrev pub or_not_found : {T : Type 0} → Option T → Result T Refusal
@@ -144,15 +144,6 @@ CountsWhy before after _ = ⊥
 abbrev pub CountsAsked : {T : Type 0} → (before after : ℕ) → Result T Refusal → Type 0
 CountsAsked before after (Ok x) = after ≡ before
 CountsAsked before after (Err why) = CountsWhy before after why
-
--- a reason other than that a row has no civil day
-abbrev pub IsOfStore : StoreCause → Type 0
-IsOfStore store.NoDay = ⊥
-IsOfStore _ = Unit {0}
-
-abbrev pub NeedsNoDay : Refusal → Type 0
-NeedsNoDay (refusal.Store cause) = IsOfStore cause
-NeedsNoDay _ = Unit {0}
 
 -- A question leaves the books as they were, whatever they hold: the facts, what a stop may leave, the zone, and that a
 -- wrong answer of a store was taken as true.

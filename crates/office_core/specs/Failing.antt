@@ -32,6 +32,20 @@ Counts before after (Ok x) = after ≡ before
 Counts before after (Err (refusal.Store why)) = StoreCounts before after why
 Counts before after (Err _) = after ≡ before
 
+-- a reason other than that the office had stopped
+abbrev pub IsNotStopped : Refusal → Type 0
+IsNotStopped refusal.Stopped = ⊥
+IsNotStopped _ = Unit {0}
+
+-- a reason other than that a row has no civil day
+abbrev pub IsOfStore : StoreCause → Type 0
+IsOfStore store.NoDay = ⊥
+IsOfStore _ = Unit {0}
+
+abbrev pub NeedsNoDay : Refusal → Type 0
+NeedsNoDay (refusal.Store cause) = IsOfStore cause
+NeedsNoDay _ = Unit {0}
+
 -- the books failed, or there was no memory
 abbrev pub is_failure : {T : Type 0} → Result T Refusal → Bool
 is_failure (Ok x) = false

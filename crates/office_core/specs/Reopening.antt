@@ -1,5 +1,5 @@
 -- What the opening of an office over books leaves.
-use Rattle.std.specs.Prelude.{◌≡◌, ◌⊎◌, ℕ, List, ◌∷◌, Some, Result, Ok, Err}
+use Rattle.std.specs.Prelude.{◌≡◌, ◌⊎◌, ℕ, List, ◌∷◌, Some, Result, Ok, Err, IfErr}
 use Rattle.std.specs.declared.alloc.Global.{Global}
 use Rattle.std.specs.declared.vec.Vec.{Vec}
 use Rattle.office_events.specs.declared.refusals.Refusal.{Refusal}
@@ -8,7 +8,7 @@ use Rattle.office_rules.specs.Refusals.{opening_refusal_of}
 use Rattle.office_lines.specs.declared.lines.Line.{Line}
 use Rattle.office_lines.specs.Keeping.{KeepsLines}
 use Rattle.office_books.specs.Ledgers.{Ledger}
-use Rattle.office_core.specs.Failing.{Counts, IsOutside}
+use Rattle.office_core.specs.Failing.{Counts, IsNotStopped, IsOutside, NeedsNoDay}
 use Rattle.office_core.specs.Leaving.{BooksStand}
 
 -- An opening is refused as its definition says, or it failed outside; the books stand as they did.
@@ -27,8 +27,10 @@ Reopens past at old new (Ok lines) = IsReopened past at new lines.items
 Reopens past at old new (Err why) = IsNotOpened past at old new why
 
 -- Whatever the books hold: the count of their failures, that a wrong answer of a store that was taken as true stays
--- one, and the zone.
+-- one, and the zone. It isn't refused since an office had stopped, nor since a row has no civil day.
 pub record Passed {T : Type 0} (old new : Ledger) (result : Result T Refusal) : Type 0 where
   pub counts : Counts old.fault_count new.fault_count result
   pub clean : new.is_clean → old.is_clean
   pub zone : new.zone ≡ old.zone
+  pub not_stopped : IfErr result IsNotStopped
+  pub no_day : IfErr result NeedsNoDay

@@ -13,7 +13,7 @@ use Rattle.office_books.specs.Ledgers.{Ledger}
 use Rattle.office_settling.specs.Settling.{SettleNothing}
 use Rattle.office_core.specs.declared.office.Office.{Office}
 use Rattle.office_core.specs.Events.{is_command}
-use Rattle.office_core.specs.Failing.{Counts, FailsOutside, is_failure, stops}
+use Rattle.office_core.specs.Failing.{Counts, FailsOutside, IsNotStopped, NeedsNoDay, is_failure, stops}
 use Rattle.office_core.specs.Leaving.{BooksStand}
 use Rattle.office_core.specs.Standing.{Goes, books_in, is_stopped, notes_in, outgoing_in}
 
@@ -32,12 +32,13 @@ pub record IsTold {B : Type 0} (past : History) (at : ℕ) (e : Event) (result :
   pub notes : notes_in office ≡ notes_after past at e result
   pub outgoing : outgoing_in office ≡ outgoing_after past at e result
 
--- Whatever the books hold, the office refuses since it stopped exactly where it had; it stops where an event of a
--- device fails; the books' count of failures rises by those alone; and a wrong answer of a store that was taken as true
--- stays one.
+-- Whatever the books hold, the office refuses since it stopped exactly where it had, and never since a row has no civil
+-- day; it stops where an event of a device fails; the books' count of failures rises by those alone; a wrong answer of a
+-- store that was taken as true stays one, and so does the zone.
 pub record Ends {B : Type 0} (ledger : B → Ledger) (old new : Office B) (e : Event)
     (result : Result Answer Refusal) : Type 0 where
   pub stopped : (result ≡ Err refusal.Stopped) ↔ (is_stopped old ≡ true)
+  pub no_day : IfErr result NeedsNoDay
   pub stops : is_stopped new ≡ (is_stopped old || stops e result)
   pub counts : Counts (ledger (books_in old)).fault_count (ledger (books_in new)).fault_count result
   pub clean : (ledger (books_in new)).is_clean → (ledger (books_in old)).is_clean
@@ -82,13 +83,9 @@ TakesAccepted ledger at e old new result =
     (past : History) → MayTake ledger past e old → IsAccepted past at e → (ledger (books_in new)).is_clean
     → Takes ledger past at e old new result
 
--- A reason other than that the office had stopped.
-abbrev pub IsNotStopped : Refusal → Type 0
-IsNotStopped refusal.Stopped = ⊥
-IsNotStopped _ = Unit {0}
-
 -- The count of the books' failures rises by those alone, whatever they hold; a wrong answer of a store that was taken
--- as true stays one, and so do the zone and that the office goes on.
+-- as true stays one, and so do the zone and that the office goes on. It isn't refused since the office had stopped, nor
+-- since a row has no civil day.
 pub record Passes {B : Type 0} (ledger : B → Ledger) (old new : Office B)
     (result : Result Answer Refusal) : Type 0 where
   pub counts : Counts (ledger (books_in old)).fault_count (ledger (books_in new)).fault_count result
@@ -96,3 +93,4 @@ pub record Passes {B : Type 0} (ledger : B → Ledger) (old new : Office B)
   pub zone : (ledger (books_in new)).zone ≡ (ledger (books_in old)).zone
   pub stopped : is_stopped new ≡ is_stopped old
   pub not_stopped : IfErr result IsNotStopped
+  pub no_day : IfErr result NeedsNoDay

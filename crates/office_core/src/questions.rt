@@ -5,7 +5,8 @@ ghost use Rattle.office_rules.specs.Meters.{meter_of};
 ghost use Rattle.office_rules.specs.Readings.{poll_row_of};
 ghost use Rattle.office_books.specs.Rows.{TakesAll};
 ghost use Rattle.office_core.specs.Asking.{AddsUp, Asks, DaysIn, FoundIn, RowsIn, TakesRows};
-ghost use Rattle.office_core.specs.Asking.{NeedsNoDay, answered, intervals_of};
+ghost use Rattle.office_core.specs.Asking.{answered, intervals_of};
+ghost use Rattle.office_core.specs.Failing.{NeedsNoDay};
 
 use crate::day_sink::DaySink;
 use interval_core::{DayTotal, Share};
