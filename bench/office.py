@@ -4,6 +4,7 @@ program against. It knows the lines that the timed scripts have (device, registe
 intervals) and their answers, counters of a fixed scale, and one session a device.
 """
 import re
+import struct
 import sys
 from dataclasses import dataclass, field
 
@@ -21,6 +22,8 @@ class Refused(Exception):
 @dataclass
 class Poll:
     number: int
+    of: int
+    device: "Device"
     function: int
     address: int
     count: int
@@ -82,20 +85,16 @@ def check(holds, why):
 class Office:
     def __init__(self):
         self.devices, self.registers, self.meters = {}, {}, {}
-        self.latest, self.polls, self.started = 0, {}, 0
+        self.latest, self.polls, self.pending, self.started = 0, {}, {}, 0
 
     def reach(self, at):
         """The polls whose time is over by this moment are silent."""
         check(at >= self.latest, 3)
-        notes = []
-        if any(device.polls for device in self.devices.values()):
-            for device in self.devices.values():
-                for of in [of for of, poll in device.polls.items() if poll.due <= at]:
-                    notes.append(self.settle(device, of, "silent"))
-        return notes
+        over = [poll for poll in self.pending.values() if poll.due <= at]
+        return [self.settle(poll, "silent") for poll in over]
 
-    def settle(self, device, of, outcome):
-        poll = device.polls.pop(of)
+    def settle(self, poll, outcome):
+        del poll.device.polls[poll.of], self.pending[poll.number]
         self.polls[poll.number] = outcome
         return f"poll {poll.number} {outcome}"
 
@@ -130,9 +129,10 @@ class Office:
         check(device.is_connected and len(device.polls) < device.window, 10)
         of, device.next_id = device.next_id, (device.next_id + 1) % 65536
         self.started += 1
-        device.polls[of] = Poll(self.started, function, address, count, at + device.timeout)
+        poll = Poll(self.started, of, device, function, address, count, at + device.timeout)
+        device.polls[of] = self.pending[self.started] = poll
         self.polls[self.started] = "pending"
-        frame = of.to_bytes(2, "big") + b"\0\0\0\6" + bytes([device.unit, function]) + address.to_bytes(2, "big") + count.to_bytes(2, "big")
+        frame = struct.pack(">HHHBBHH", of, 0, 6, device.unit, function, address, count)
         return f"started {self.started} 1 1 {frame.hex()}"
 
     def take(self, at, name, more):
@@ -154,10 +154,10 @@ class Office:
         if poll is None or frame[6] != device.unit:
             return []
         if frame[7] == poll.function | 128:
-            return [self.settle(device, of, f"exception {frame[8]}")]
+            return [self.settle(poll, f"exception {frame[8]}")]
         if frame[7] != poll.function or frame[8] != 2 * poll.count or len(frame) != 9 + frame[8]:
-            return [self.settle(device, of, "malformed 1")]
-        notes = [self.settle(device, of, "answered")]
+            return [self.settle(poll, "malformed 1")]
+        notes = [self.settle(poll, "answered")]
         for counter in device.registers:
             first = 2 * (counter.address - poll.address)
             if counter.function == poll.function and 0 <= first and first + 4 <= frame[8] and counter.meter:
