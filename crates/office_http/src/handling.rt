@@ -20,8 +20,8 @@ use http_whole::read_request;
 use matchit::Router;
 use mb_wire::{Link, LinkFailed};
 use office_books::Books;
-use office_events::Refusal;
 use office_core::Office;
+use office_events::Refusal;
 use std::alloc::Global;
 
 // How a request ends to which a reply was put.
