@@ -1,15 +1,15 @@
 -- What is read of a row that the queries show.
-use Rattle.std.proofs.Common.{◌≡◌, ◌≤◌, ℕ, pos, zero-le, Option, Some, None, Ok, Err, Result, IfOk, refl, sym, ap, subst, ◌∙◌}
+use Rattle.std.proofs.Common.{◌≡◌, ℕ, pos, zero-le, Some, Ok, Err, Result, IfOk, refl, sym, ap, subst, ◌∙◌}
 use Rattle.sqlite.specs.declared.types.Value.TheVariants.{Int}
 use Rattle.sqlite.specs.Order.{Row, column}
 use Rattle.store_tables.specs.declared.faults.RowFault.{RowFault}
 use Rattle.store_tables.specs.Asking.{ReadsRow}
 use Rattle.store_tables.specs.Columns.{whole_in, within, or_damaged}
-use Rattle.store_tables.proofs.ReadLemmas.{ok_is, number_bounds, reads_number, IsFair, fair_last, then_read, fair_some, fair_whole, fair_within, reads_row, has_read, whole_bounds, within_bounds}
+use Rattle.store_tables.proofs.ReadLemmas.{ok_is, reads_number, IsFair, fair_some, fair_whole, fair_within, reads_row, has_read, whole_bounds, within_bounds}
 use Rattle.store_entries.specs.declared.rows.EntryKind.{EntryKind}
 use Rattle.store_entries.specs.declared.rows.EntryKind.TheVariants.{Opening, Reading, Manual, Closing, Reset, Rescale}
 use Rattle.store_entries.specs.declared.rows.EntryRow.{EntryRow}
-use Rattle.store_tables.specs.Limits.{IsPlace, greatest_place, latest_moment}
+use Rattle.store_tables.specs.Limits.{greatest_place, latest_moment}
 use Rattle.store_entries.specs.Rows.{place_shown, entry_place, HasEntryPlace, voided_shown, voided_place, HasPlace, IsSoundVoided, Entered, entry_in, entry_shown, kind_in, kind_number, IsRow, IsSoundEntry, IsSoundEntered}
 
 kind_back : (k : EntryKind) → kind_in (Int (pos (kind_number k))) ≡ Some k
@@ -57,9 +57,6 @@ sound_entry row (Ok e) is =
     })
 
 -- ---- places
-
-pub place_bounds : (row : Row) (r : Result ℕ RowFault) → r ≡ or_damaged (whole_in 1 greatest_place (column row 0)) → IfOk r IsPlace
-place_bounds = number_bounds 1 greatest_place
 
 pub reads_entry_place : (row : Row) (r : Result ℕ RowFault) → r ≡ or_damaged (whole_in 1 greatest_place (column row 0)) → ReadsRow row place_shown HasEntryPlace IsSoundEntered r
 reads_entry_place = reads_number 1 greatest_place place_shown entry_place IsSoundEntered (λ e. refl) (λ e is. is.place)

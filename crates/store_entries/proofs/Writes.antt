@@ -1,5 +1,5 @@
 -- What the statements do.
-use Rattle.std.proofs.Common.{◌≡◌, ℕ, ◌==◌, pos, bytes_eq, List, [], ◌∷◌, drop, Result, OnOk, refl}
+use Rattle.std.proofs.Common.{◌≡◌, ℕ, ◌==◌, pos, List, [], ◌∷◌, Result, OnOk, refl}
 use Rattle.sqlite.specs.declared.types.Value.TheVariants.{Null, Int, Text}
 use Rattle.sqlite.specs.declared.error.Error.{Error}
 use Rattle.sqlite.specs.Order.{Row}
@@ -11,7 +11,7 @@ use Rattle.store_tables.specs.Steps.{Turns}
 use Rattle.store_tables.proofs.Scans.{text_is, number_is, and_true}
 use Rattle.store_tables.proofs.Updates.{updates}
 use Rattle.store_tables.proofs.Tables.{cast_int, cast_null, rowid_stays}
-use Rattle.store_tables.proofs.Inserts.{plainly, inserts, chosen_rowid, given_rowid}
+use Rattle.store_tables.proofs.Inserts.{plainly, inserts, chosen_rowid}
 use Rattle.store_entries.specs.Rows.{Entered, entry_columns, is_entry, rolled, Voided, voided_columns}
 use Rattle.store_entries.specs.Trees.{entries, voids}
 use Rattle.store_entries.proofs.Texts as text

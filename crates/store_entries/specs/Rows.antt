@@ -1,9 +1,9 @@
 -- Rows of the tables, their columns, and the ranges of their values.
-use Rattle.std.specs.Prelude.{◌≡◌, ℕ, pos, ◌≤◌, List, [], ◌∷◌, IsTrue, Bool, bytes_eq, ◌&&◌, ◌==◌, Option, Some, None, if◌then◌else◌, Result, Ok, true, false, IsUtf8, string_bytes}
+use Rattle.std.specs.Prelude.{◌≡◌, ℕ, pos, ◌≤◌, List, [], ◌∷◌, IsTrue, Bool, bytes_eq, ◌&&◌, ◌==◌, Option, Some, None, if◌then◌else◌, Result, Ok}
 use Rattle.std.specs.Option.{option_and_then}
 use Rattle.sqlite.specs.declared.types.Value.{Value}
 use Rattle.store_tables.specs.declared.faults.RowFault.{RowFault}
-use Rattle.sqlite.specs.declared.types.Value.TheVariants.{Null, Int, Text}
+use Rattle.sqlite.specs.declared.types.Value.TheVariants.{Int, Text}
 use Rattle.sqlite.specs.Order.{Row, column}
 use Rattle.store_tables.specs.Columns.{is_within, whole_in, within, or_damaged, and_then}
 use Rattle.store_entries.specs.declared.rows.EntryRow.{EntryRow}

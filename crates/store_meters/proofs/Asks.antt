@@ -1,16 +1,16 @@
 -- What the queries show.
-use Rattle.std.proofs.Common.{ℕ, ◌==◌, pos, bytes_eq, List, [], ◌∷◌, refl}
-use Rattle.sqlite.specs.declared.types.Value.TheVariants.{Int, Text}
+use Rattle.std.proofs.Common.{ℕ, bytes_eq, List, [], ◌∷◌, refl}
+use Rattle.sqlite.specs.declared.types.Value.TheVariants.{Text}
 use Rattle.sqlite.specs.Order.{Row}
 use Rattle.sqlite.specs.State.{State, Shown}
 use Rattle.store_tables.specs.Schema.{books_schema, installations_table, ranges_table}
 use Rattle.store_tables.specs.Content.{Content, AreTables, HasRows}
-use Rattle.store_tables.specs.Answer.{AnyOrder, LastFirst, FirstFirst}
-use Rattle.store_tables.specs.Asking.{Shows, ShowsFirst}
+use Rattle.store_tables.specs.Answer.{AnyOrder, LastFirst, every}
+use Rattle.store_tables.specs.Asking.{ShowsFirst}
 use Rattle.store_tables.proofs.Frames.{tree_at}
-use Rattle.store_tables.proofs.Scans.{falling, rising, text_is, number_is, and_true, no_limit, one}
+use Rattle.store_tables.proofs.Scans.{falling, text_is, and_true, one}
 use Rattle.store_tables.proofs.Selects.{selects, in_order}
-use Rattle.store_meters.specs.Rows.{Installed, installed_columns, installed_shown, installed_place_shown, installed_place, is_meter, is_at, every, Ranged, ranged_columns, range_shown, is_range_of}
+use Rattle.store_meters.specs.Rows.{Installed, installed_columns, installed_shown, installed_place_shown, installed_place, is_meter, is_at, Ranged, ranged_columns, range_shown, is_range_of}
 use Rattle.store_meters.specs.Trees.{installations, ranges}
 use Rattle.store_meters.proofs.Texts as text
 

@@ -1,14 +1,13 @@
 -- What is read of a row that the queries show.
-use Rattle.std.proofs.Common.{◌≡◌, ◌≤◌, ℕ, pos, zero-le, Option, Some, None, Ok, Err, Result, IfOk, refl, sym, ap, subst, ◌∙◌}
-use Rattle.sqlite.specs.declared.types.Value.TheVariants.{Int}
+use Rattle.std.proofs.Common.{◌≡◌, ℕ, Ok, Result, refl, subst}
 use Rattle.sqlite.specs.Order.{Row, column}
 use Rattle.store_tables.specs.declared.faults.RowFault.{RowFault}
 use Rattle.store_tables.specs.Asking.{ReadsRow}
 use Rattle.store_tables.specs.Columns.{whole_in, within, or_damaged}
-use Rattle.store_tables.proofs.ReadLemmas.{ok_is, number_bounds, reads_number, IsFair, fair_last, then_read, fair_some, fair_whole, fair_within, reads_row, has_read, whole_bounds, within_bounds}
+use Rattle.store_tables.proofs.ReadLemmas.{ok_is, reads_number, then_read, has_read, whole_bounds, within_bounds}
 use Rattle.store_meters.specs.declared.rows.LastRow.{LastRow}
 use Rattle.store_meters.specs.declared.rows.InstallationRow.{InstallationRow}
-use Rattle.store_tables.specs.Limits.{IsPlace, greatest_place, latest_moment}
+use Rattle.store_tables.specs.Limits.{greatest_place, latest_moment}
 use Rattle.store_meters.specs.Rows.{installed_place_shown, installed_place, HasInstalledPlace, range_shown, HasRange, IsSoundRanged, flag_in, installation_in, last_in, greatest_ceiling, greatest_total, IsSoundLast, IsSoundInstallation, IsSoundInstalled}
 
 sound_last : (row : Row) (a : LastRow) → last_in row ≡ Ok a → IsSoundLast a
@@ -39,9 +38,6 @@ sound_installation row a is =
     })
 
 -- ---- places and ranges
-
-pub place_bounds : (row : Row) (r : Result ℕ RowFault) → r ≡ or_damaged (whole_in 1 greatest_place (column row 0)) → IfOk r IsPlace
-place_bounds = number_bounds 1 greatest_place
 
 pub reads_installed_place : (row : Row) (r : Result ℕ RowFault) → r ≡ or_damaged (whole_in 1 greatest_place (column row 0)) → ReadsRow row installed_place_shown HasInstalledPlace IsSoundInstalled r
 reads_installed_place = reads_number 1 greatest_place installed_place_shown installed_place IsSoundInstalled (λ i. refl) (λ i is. is.row.place)

@@ -1,5 +1,5 @@
 -- What the statements do.
-use Rattle.std.proofs.Common.{◌≡◌, ℕ, ◌==◌, pos, bytes_eq, List, [], ◌∷◌, drop, Result, OnOk, refl}
+use Rattle.std.proofs.Common.{◌≡◌, ℕ, pos, bytes_eq, List, [], ◌∷◌, drop, Result, OnOk, refl}
 use Rattle.sqlite.specs.declared.types.Value.TheVariants.{Null, Int, Text}
 use Rattle.sqlite.specs.declared.error.Error.{Error}
 use Rattle.sqlite.specs.Order.{Row}
@@ -8,7 +8,7 @@ use Rattle.sqlite.specs.State.{State, Executes}
 use Rattle.store_tables.specs.Schema.{installations_table, ranges_table}
 use Rattle.store_tables.specs.Content.{Edits, with_row, changed_where}
 use Rattle.store_tables.specs.Steps.{Turns}
-use Rattle.store_tables.proofs.Scans.{text_is, number_is, and_true}
+use Rattle.store_tables.proofs.Scans.{text_is, and_true}
 use Rattle.store_tables.proofs.Updates.{updates}
 use Rattle.store_tables.proofs.Tables.{cast_int, cast_null, rowid_stays}
 use Rattle.store_tables.proofs.Inserts.{plainly, inserts, chosen_rowid, given_rowid}

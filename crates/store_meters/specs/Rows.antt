@@ -1,5 +1,5 @@
 -- Rows of the tables, their columns, and the ranges of their values.
-use Rattle.std.specs.Prelude.{◌≡◌, ℕ, pos, ◌≤◌, List, [], ◌∷◌, IsTrue, Bool, bytes_eq, ◌&&◌, ◌==◌, Option, Some, None, if◌then◌else◌, Result, Ok, true, false, IsUtf8, string_bytes}
+use Rattle.std.specs.Prelude.{◌≡◌, ℕ, pos, ◌≤◌, List, [], ◌∷◌, IsTrue, Bool, bytes_eq, ◌==◌, Option, Some, None, if◌then◌else◌, Result, Ok, true, false, IsUtf8, string_bytes}
 use Rattle.std.specs.Option.{option_and_then}
 use Rattle.sqlite.specs.declared.types.Value.{Value}
 use Rattle.store_tables.specs.declared.faults.RowFault.{RowFault}
@@ -9,7 +9,7 @@ use Rattle.store_tables.specs.Columns.{is_within, whole_in, within, or_damaged, 
 use Rattle.store_meters.specs.declared.rows.LastRow.{LastRow}
 use Rattle.store_meters.specs.declared.rows.InstallationRow.{InstallationRow}
 use Rattle.store_meters.specs.declared.rows.Installation.{Installation}
-use Rattle.store_tables.specs.Limits.{greatest_place, latest_moment, IsPlace}
+use Rattle.store_tables.specs.Limits.{greatest_place, latest_moment}
 
 abbrev pub greatest_ceiling : ℕ
 greatest_ceiling = 1000000000
@@ -105,9 +105,6 @@ installed_place_shown i = Int (pos i.row.place) ∷ []
 
 abbrev pub HasInstalledPlace : Installed → ℕ → Type 0
 HasInstalledPlace i place = place ≡ i.row.place
-
-abbrev pub every : {X : Type 0} → X → Bool
-every x = true
 
 -- ---- ranges
 

@@ -1,12 +1,12 @@
 //! The table `installations`.
-ghost use Rattle.std.specs.Prelude.{◌≡◌, ◌≤◌, IfOk, IfSome};
+ghost use Rattle.std.specs.Prelude.{◌≡◌, IfOk, IfSome};
 ghost use Rattle.sqlite.specs.Held.{state};
 ghost use Rattle.store_tables.specs.Content.{Edits, with_row, changed_where};
 ghost use Rattle.store_tables.specs.Steps.{Steps};
-ghost use Rattle.store_tables.specs.Answer.{IsFound, IsLast, AnyOrder, LastFirst};
+ghost use Rattle.store_tables.specs.Answer.{IsFound, IsLast, AnyOrder, LastFirst, every};
 ghost use Rattle.store_tables.specs.Asking.{Asks, AsksInside, Tells, ShowsFirst, LooksUp};
 ghost use Rattle.store_tables.specs.Limits.{IsPlace};
-ghost use Rattle.store_meters.specs.Rows.{installed_columns, installed_shown, installed_place_shown, installed_place, is_meter, is_at, every, IsInstalled, HasInstalledPlace, moved, ended, ended_number, IsSoundLast, IsSoundInstallation, IsSoundInstalled};
+ghost use Rattle.store_meters.specs.Rows.{installed_columns, installed_shown, installed_place_shown, installed_place, is_meter, is_at, IsInstalled, HasInstalledPlace, moved, ended, ended_number, IsSoundLast, IsSoundInstallation, IsSoundInstalled};
 ghost use Rattle.store_meters.specs.Trees.{installations};
 
 use crate::reading::{place, read_installation};

@@ -1,9 +1,11 @@
 use Rattle.std.proofs.Common.{sym, ◌∙◌, ap, slice_get, Ok}
 use Rattle.std.specs.Option.{option_copied}
-use Rattle.store_tables.specs.Answer.{LastFirst}
+use Rattle.store_tables.specs.Answer.{LastFirst, every}
 use Rattle.store_tables.proofs.Selects.{found_none, last_some}
+use Rattle.store_tables.specs.Limits.{greatest_place}
+use Rattle.store_tables.proofs.ReadLemmas.{number_bounds}
 use Rattle.store_tables.proofs.LookUps.{looked_none, looked_some, looked_fault}
-use Rattle.store_meters.specs.Rows.{HasInstalledPlace, IsSoundInstalled, every, installed_columns, installed_place, installed_place_shown}
+use Rattle.store_meters.specs.Rows.{HasInstalledPlace, IsSoundInstalled, installed_columns, installed_place, installed_place_shown}
 use Rattle.store_meters.specs.Trees.{installations}
 use Rattle.store_meters.proofs.ReadRows as reading
 use Rattle.store_meters.proofs.installations.last_installation.Goals as goal
@@ -26,4 +28,4 @@ returns-clause-finds g c =
     (reading.reads_installed_place c.in-Some.row.now _ c.in_ok-place-in-Some.ensures) (λ xs found x are is seen. last_some (every) HasInstalledPlace installed_place xs found x _ are is seen)
 
 pub returns-clause-sound : goal.returns-clause-sound
-returns-clause-sound g c = reading.place_bounds c.in-Some.row.now (Ok c.in_ok-place-in-Some.field-0) c.in_ok-place-in-Some.ensures
+returns-clause-sound g c = number_bounds 1 greatest_place c.in-Some.row.now (Ok c.in_ok-place-in-Some.field-0) c.in_ok-place-in-Some.ensures
