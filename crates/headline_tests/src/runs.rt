@@ -5,9 +5,9 @@ ghost use Rattle.office_core.specs.Running.{IsRecorded, accepted_by};
 ghost use Rattle.office_core.specs.Standing.{books_in};
 
 use interval_core::Zone;
+use office_core::{Run, run};
 use office_events::{Event, Refusal};
 use office_lists::ListBooks;
-use office_core::{Run, run};
 use std::alloc::Global;
 
 /// Over new books in memory the headline holds, whatever events come: no premise is left.

@@ -2,9 +2,9 @@
 use crate::events::{connect, device, install, register, reply, start};
 use crate::runs::run_anew;
 use interval_core::Zone;
+use office_core::{Run, run};
 use office_events::{Answer, CommandKind, EndedPoll, Event, Name, Refusal};
 use office_lists::ListBooks;
-use office_core::{Run, run};
 use poll_core::{LostCause, Outcome};
 use std::alloc::Global;
 use std::test::Fail;

@@ -1,8 +1,8 @@
 //! Questions of an office, and what is printed of their answers.
 use crate::kept_rows::KeptRows;
 use office_books::Books;
-use office_events::{Name, Refusal};
 use office_core::Office;
+use office_events::{Name, Refusal};
 use row_text::{write_day, write_end, write_interval};
 use script_text::{write_meter, write_poll, write_refusal};
 use std::alloc::Global;

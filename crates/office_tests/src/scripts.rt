@@ -2,9 +2,9 @@
 use crate::questions::{ask_days, ask_intervals, ask_meter, ask_poll};
 use interval_core::Zone;
 use office_books::Books;
+use office_core::Office;
 use office_events::{Answer, Command, Event, Refusal, StartPoll};
 use office_lists::ListBooks;
-use office_core::Office;
 use script_lines::{GivenStart, ScriptLine};
 use script_text::{write_accepted, write_notes, write_refusal};
 use std::alloc::Global;
