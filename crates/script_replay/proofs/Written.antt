@@ -111,9 +111,9 @@ all_written contents line (row ∷ rows) from to works fits took =
     let first = took.1.written works in
     either took.0.failed
     (λ still. written_on contents (line row) (flat_map line rows) (length rows) from took.0 to still first
-        (all_written contents line rows took.0 to still (fits_after contents (line row) from took.0 still first) took.2))
+    (all_written contents line rows took.0 to still (fits_after contents (line row) from took.0 still first) took.2))
     (λ failed. written_no_more contents (line row) (flat_map line rows) (suc (length rows)) from took.0 to failed first
-        (all_dropped contents line rows took.0 to failed took.2))
+    (all_dropped contents line rows took.0 to failed took.2))
 
 -- the lines of rows, and what came behind them
 pub got_part : {W T E : Type 0} (contents : W → Option (List ℕ)) (line : T → List ℕ) (rows : List T) (last : List ℕ)

@@ -9,9 +9,9 @@ ghost use Rattle.script_text.specs.AnswerText as text;
 ghost use Rattle.sun_points.specs.Writing.{GotText};
 
 use crate::rows::Rows;
+use office_core::Office;
 use office_events::{Name, Refusal};
 use office_lists::ListBooks;
-use office_core::Office;
 use row_text::write_end;
 use script_text::{write_meter, write_poll, write_refusal};
 use std::io::{self, ErrorKind, Write};
@@ -83,11 +83,7 @@ pub(crate) fn tell_days<W: Write>(
 }
 
 // How many rows there were, or why there are no more.
-fn write_last<W: Write>(
-    told: Result<(), Refusal>,
-    count: u64,
-    output: &mut W,
-) -> io::Result<()>
+fn write_last<W: Write>(told: Result<(), Refusal>, count: u64, output: &mut W) -> io::Result<()>
     ensures { GotText result (last_line count told) (W.contents output.old) (W.contents output.new) }
 {
     match told {

@@ -20,7 +20,7 @@ returns-then-rows g c = λ past stands.
     rows_told (λ now. is_there (intervals_of (facts_of now.past) c.args.meter.now)) (λ now. AreIntervals (facts_of now.past) c.args.meter.now)
     interval_line past _ _ shown.0 c.intervals-told.result _ _ _ told.answer (record { begun = shown.2; whole = shown.3 }) c.intervals-told.ensures.asks stands
     (got_part {E = Error} g.W.Write.contents interval_line shown.0 _ from to c.from.result c.args.output.now c.output-1.given.0 c.to-rows.ensures.works c.to-rows.ensures.none shown.1 c.if-rows.true
-      c.to-rows.ensures.same end)
+    c.to-rows.ensures.same end)
 
 pub returns : goal.returns
 returns g c = λ past stands.
@@ -34,4 +34,4 @@ returns g c = λ past stands.
     rows_told (λ now. is_there (intervals_of (facts_of now.past) c.args.meter.now)) (λ now. AreIntervals (facts_of now.past) c.args.meter.now)
     interval_line past _ _ shown.0 c.intervals-told.result _ _ _ told.answer (record { begun = shown.2; whole = shown.3 }) c.intervals-told.ensures.asks stands
     (rw end (got_all g.W.Write.contents interval_line shown.0 (λ n. last_line n c.intervals-told.result) from to c.write_last.result _ _
-      c.to-rows.ensures.works c.to-rows.ensures.none shown.1 c.if-rows.false c.to-rows.ensures.same c.write_last.ensures))
+    c.to-rows.ensures.works c.to-rows.ensures.none shown.1 c.if-rows.false c.to-rows.ensures.same c.write_last.ensures))

@@ -13,9 +13,9 @@ returns-in-Ok g c = λ past stands.
     replied past c.args.at c.args.event.now c.args.office.now c.feed.new.self (Ok answer) c.write_accepted.result _ _
     (c.in-Ok.ensures.answers past stands tt) c.in-Ok.ensures.ends (c.in-Ok.ensures.quiet past stands) (c.in-Ok.ensures.stands past stands tt)
     (got_this c.write_accepted.result _ _ _ _
-      (ap (λ notes. accepted_text answer notes c.outgoing.result.now) (c.notes.ensures ∙ told.notes)
-      ∙ ap (λ frames. accepted_text answer (notes_after past c.args.at c.args.event.now (Ok answer)) frames) (c.outgoing.ensures ∙ told.outgoing))
-      c.write_accepted.ensures)
+    (ap (λ notes. accepted_text answer notes c.outgoing.result.now) (c.notes.ensures ∙ told.notes)
+    ∙ ap (λ frames. accepted_text answer (notes_after past c.args.at c.args.event.now (Ok answer)) frames) (c.outgoing.ensures ∙ told.outgoing))
+    c.write_accepted.ensures)
 
 pub returns-in-Err : goal.returns-in-Err
 returns-in-Err g c = λ past stands.

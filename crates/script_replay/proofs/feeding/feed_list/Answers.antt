@@ -15,5 +15,5 @@ returns-in-Ok-new g c = λ past stands.
       planned = c.in-Ok-new.ensures.planned;
     } in
     inl (carried_as (λ now printed next. EventPrints now c.args.at (list_event c.args.list.now planned) printed next)
-        (λ now printed next. ListPrints now c.args.at c.args.list.now printed next) past _ _ _ _ _ (λ now printed next prints. inl (planned, is, prints))
-        (c.feed.ensures past stands))
+    (λ now printed next. ListPrints now c.args.at c.args.list.now printed next) past _ _ _ _ _ (λ now printed next prints. inl (planned, is, prints))
+    (c.feed.ensures past stands))

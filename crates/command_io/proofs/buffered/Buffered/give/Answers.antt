@@ -8,5 +8,5 @@ returns-in-Ok-clause-bytes g c =
     let held = take c.args.self.now.filled c.args.self.now.held in
     let n = c.in-Ok.count in
     rw c.drop_front.ensures.output (append_known-moved _ _ (take n held) _ held
-        (front_of c.args.end c.args.self.now.filled c.args.self.now.held n c.requires.within (search rules) c.in-Ok.ensures.bound _ _ c.in-Ok.ensures.bytes)
-        (sym (take-append-drop n held) ∙ ap (λ rest. take n held ++ rest) (sym c.drop_front.ensures.rest)))
+    (front_of c.args.end c.args.self.now.filled c.args.self.now.held n c.requires.within (search rules) c.in-Ok.ensures.bound _ _ c.in-Ok.ensures.bytes)
+    (sym (take-append-drop n held) ∙ ap (λ rest. take n held ++ rest) (sym c.drop_front.ensures.rest)))
