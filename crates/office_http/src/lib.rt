@@ -4,6 +4,8 @@
 mod asking;
 mod fault;
 mod handling;
+mod laws;
 
 pub use fault::HandleFault;
 pub use handling::handle;
+pub use laws::replies_are_one;

@@ -1,0 +1,63 @@
+-- A request has one reply.
+use Rattle.std.proofs.Common.{◌≡◌, ◌∙◌, ℕ, Bool, true, false, List, Option, Some, None, Result, refl, sym, ap, subst}
+use Rattle.http_commands.specs.declared.fault.CommandFault.{CommandFault}
+use Rattle.http_request.specs.HeadTests.{Start, head_fault}
+use Rattle.http_route.specs.Routes.{routes}
+use Rattle.http_route.specs.Targets.{is_question, name_in, route_in}
+use Rattle.http_route.specs.declared.routes.Route.{Route}
+use Rattle.http_route.specs.declared.routes.Route.TheVariants as route
+use Rattle.http_status.specs.declared.Status.{Status}
+use Rattle.http_whole.proofs.Unique.{one_held}
+use Rattle.office_events.specs.declared.commands.Command.{Command}
+use Rattle.http_answer.specs.Offices.{Office}
+use Rattle.http_answer.specs.Replies.{ask, command_reply, found_reply, reply_bytes, reply_of, route_reply, unless_failed}
+use Rattle.http_answer.specs.Requests.{name_asked}
+use Rattle.http_answer.specs.Whole.{BodyGives, RepliesToRequest}
+use Rattle.http_wants.specs.Bodies.{BodiesGiveOne}
+use Rattle.office_http.specs.Laws.{RepliesAreOne}
+
+by_route : (office : Office) (start : Start) (body : List ℕ) (g h : Result Command CommandFault) (at : Route) (taken : Option (List ℕ))
+    → (is_question at ≡ false → g ≡ h) → route_reply office start body g at taken ≡ route_reply office start body h at taken
+by_route office start body g h route.Days taken same = refl
+by_route office start body g h route.Meter taken same = refl
+by_route office start body g h route.Intervals taken same = refl
+by_route office start body g h route.Poll taken same = refl
+by_route office start body g h route.Devices taken same = ap (command_reply (ask office start body)) (same refl)
+by_route office start body g h route.List taken same = ap (command_reply (ask office start body)) (same refl)
+by_route office start body g h route.Registers taken same = ap (command_reply (ask office start body)) (same refl)
+by_route office start body g h route.Install taken same = ap (command_reply (ask office start body)) (same refl)
+by_route office start body g h route.Exchange taken same = ap (command_reply (ask office start body)) (same refl)
+by_route office start body g h route.Reset taken same = ap (command_reply (ask office start body)) (same refl)
+by_route office start body g h route.Rescale taken same = ap (command_reply (ask office start body)) (same refl)
+by_route office start body g h route.Manual taken same = ap (command_reply (ask office start body)) (same refl)
+by_route office start body g h route.Close taken same = ap (command_reply (ask office start body)) (same refl)
+by_route office start body g h route.Void taken same = ap (command_reply (ask office start body)) (same refl)
+
+by_found : (office : Office) (start : Start) (body : List ℕ) (g h : Result Command CommandFault) (found : Option Route) (taken : Option (List ℕ))
+    → ((at : Route) → found ≡ Some at → is_question at ≡ false → g ≡ h) → found_reply office start body g found taken ≡ found_reply office start body h found taken
+by_found office start body g h None taken same = refl
+by_found office start body g h (Some at) taken same = by_route office start body g h at taken (same at refl)
+
+by_tests : (office : Office) (start : Start) (body : List ℕ) (g h : Result Command CommandFault) (fault : Option Status) (found : Option Route) (taken : Option (List ℕ))
+    → ((at : Route) → fault ≡ None → found ≡ Some at → is_question at ≡ false → g ≡ h)
+    → unless_failed fault (found_reply office start body g found taken) ≡ unless_failed fault (found_reply office start body h found taken)
+by_tests office start body g h None found taken same = by_found office start body g h found taken (λ at. same at refl)
+by_tests office start body g h (Some status) found taken same = refl
+
+one_given : BodiesGiveOne → (office : Office) (start : Start) (body : List ℕ) (g h : Result Command CommandFault) → BodyGives routes start body g → BodyGives routes start body h
+    → reply_of office routes start body g ≡ reply_of office routes start body h
+one_given bodies office start body g h a b =
+    by_tests office start body g h (head_fault routes start) (route_in routes start.target) (name_in routes start.target)
+    (λ at passes leads changes.
+    let one = a at (record { passes = passes; leads = leads; changes = changes }) in
+    let other = b at (record { passes = passes; leads = leads; changes = changes }) in
+    bodies at (name_asked (name_in routes start.target)) body g h one.0 other.0 one.1 other.1)
+
+pub one_reply : BodiesGiveOne → RepliesAreOne
+one_reply bodies office bytes one other a b =
+    let same = one_held routes bytes a.start b.start a.body b.body a.holds b.holds in
+    let gives : BodyGives routes a.start a.body b.given =
+    subst (λ (s : Start). BodyGives routes s a.body b.given) (sym same.one_start) (subst (λ t. BodyGives routes b.start t b.given) (sym same.one_body) b.gives) in
+    a.is ∙ ap reply_bytes (one_given bodies office a.start a.body a.given b.given a.gives gives)
+    ∙ ap (λ (s : Start). reply_bytes (reply_of office routes s a.body b.given)) same.one_start
+    ∙ ap (λ t. reply_bytes (reply_of office routes b.start t b.given)) same.one_body ∙ sym b.is
