@@ -1,7 +1,8 @@
 #!/usr/bin/env python3
-"""office.py: carries out the script on standard input as a plain Python program does, with no proof: what bench/replay.sh times the
-program against. It knows the lines that the timed scripts have (device, register, install, connect, start, bytes, tick, meter and
-intervals) and their answers, counters of a fixed scale, and one session a device.
+"""office.py: carries out the script on standard input as a plain Python program does, with no proof.
+
+bench/replay.sh times the program against it. It knows the lines that the timed scripts have (device, register, install,
+connect, start, bytes, tick, meter and intervals) and their answers, and counters of a fixed scale.
 """
 import re
 import struct
@@ -159,9 +160,11 @@ class Office:
             return [self.settle(poll, "malformed 1")]
         notes = [self.settle(poll, "answered")]
         for counter in device.registers:
-            first = 2 * (counter.address - poll.address)
-            if counter.function == poll.function and 0 <= first and first + 4 <= frame[8] and counter.meter:
-                notes.append(self.read(at, counter.meter, int.from_bytes(frame[9 + first : 13 + first], "big"), counter.sf))
+            first = 9 + 2 * (counter.address - poll.address)
+            is_read = counter.function == poll.function and 9 <= first and first + 4 <= len(frame)
+            if is_read and counter.meter:
+                raw = int.from_bytes(frame[first : first + 4], "big")
+                notes.append(self.read(at, counter.meter, raw, counter.sf))
         return notes
 
     def read(self, at, name, raw, sf):
@@ -189,7 +192,7 @@ class Office:
         return f"reading {name} {raw} rolls {rolls} step {step}"
 
     def spread(self, meter, at, step):
-        """Each quarter hour gets its part, rounded down from the step's begin to the quarter hour's end."""
+        """Each quarter hour gets its part: what is rounded down is what came since the step's begin."""
         begin, given = meter.last_at, 0
         for start in range(begin - begin % QUARTER, at, QUARTER):
             so_far = step * (min(start + QUARTER, at) - begin) // (at - begin)
@@ -198,11 +201,13 @@ class Office:
 
     def tell(self, name):
         meter = known(name, self.meters, 1)
-        return f"meter {name} last {meter.raw} sf {meter.sf} at {meter.last_at} total {meter.total} open"
+        last = f"last {meter.raw} sf {meter.sf} at {meter.last_at}"
+        return f"meter {name} {last} total {meter.total} open"
 
     def intervals(self, name):
         quarters = known(name, self.meters, 1).quarters
-        return [f"{start} {quarters[start]}" for start in sorted(quarters)] + [f"end {len(quarters)}"]
+        rows = [f"{start} {quarters[start]}" for start in sorted(quarters)]
+        return rows + [f"end {len(rows)}"]
 
     def feed(self, at, words):
         notes, last = self.reach(at), "ok"

@@ -1,17 +1,18 @@
 #!/usr/bin/env bash
-# Times the program on scripts of polls that each read one counter, and of their replies, beside bench/office.py, a plain Python
-# program that carries out the same lines: `bench/replay.sh [N]`. The scripts have N/2 and N lines over one meter (N is 100,000 by
-# default), and N/10 and N/5 lines over 2,048 meters at 64 devices of 32 registers. Both must print the same; twice the lines should
-# take at most 2.2 times as long. Times are of the processor, the least of three runs. It runs the proved program, which `rt run`
-# builds first, so the first call takes a while.
+# Times the program on scripts of polls that each read one counter, and of their replies, beside bench/office.py, a plain
+# Python program that carries out the same lines: `bench/replay.sh [N]`. The scripts have N/2 and N lines over one meter
+# (N is 100,000 by default), and N/10 and N/5 lines over 2,048 meters at 64 devices of 32 registers. Both must print the
+# same; twice the lines should take at most 2.2 times as long. Times are of the processor, the least of three runs. It
+# runs the proved program, which `rt run` builds first, so the first call takes a while.
 set -euo pipefail
 lines="${1:-100000}"
 most=4194304 # bytes, the program's own limit
 here="$(dirname "$(readlink -f "$0")")"
 . "$here/../tests/scratch.sh"
 
-# script LINES DEVICES REGISTERS: the devices, as many registers at each, a meter at each register, and then polls of the meters in
-# turn, each with its reply; each counter rises by 1 Wh from poll to poll, which come 900 seconds apart. Two questions end it.
+# script LINES DEVICES REGISTERS: the devices, as many registers at each, a meter at each register, and then polls of the
+# meters in turn, each with its reply; each counter rises by 1 Wh from poll to poll, which come 900 seconds apart. Two
+# questions end it.
 script() {
     python3 - "$@" <<'END_OF_PYTHON'
 import sys
@@ -25,7 +26,8 @@ for n in range((lines - len(out) - 2) // 2):
     turn, m = divmod(n, meters)
     d, at, place = m // registers, 900 * (turn + 1), m % registers
     of = (turn * registers + place) % 65536
-    out += [f"{at} start d{d} 3 {2 * place} 2", f"{at} bytes d{d} {of:04x}00000007010304{turn + 2:08x}"]
+    reply = f"{of:04x}00000007010304{turn + 2:08x}"
+    out += [f"{at} start d{d} 3 {2 * place} 2", f"{at} bytes d{d} {reply}"]
 print("\n".join(out + ["meter m0", "intervals m0"]))
 END_OF_PYTHON
 }
@@ -35,7 +37,8 @@ took() {
     local TIMEFORMAT="%U %S"
     for _ in 1 2 3; do
         { time "${@:2}" < "$scratch/script" > "$1"; } 2>&1
-    done | awk '{ ms = 1000 * ($1 + $2); if (NR == 1 || ms < least) least = ms } END { printf "%d\n", least }'
+    done | awk '{ ms = 1000 * ($1 + $2) } NR == 1 || ms < least { least = ms }
+        END { printf "%d\n", least }'
 }
 
 # compare LINES DEVICES REGISTERS
