@@ -1,5 +1,5 @@
 //! The table `registers`.
-ghost use Rattle.std.specs.Prelude.{◌≡◌, pos, IfOk, IfSome};
+ghost use Rattle.std.specs.Prelude.{◌≡◌, IfOk, IfSome};
 ghost use Rattle.sqlite.specs.declared.types.Value.TheVariants.{Int};
 ghost use Rattle.sqlite.specs.Held.{state};
 ghost use Rattle.store_tables.specs.Content.{Edits, with_row};

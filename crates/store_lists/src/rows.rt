@@ -1,5 +1,4 @@
 //! Rows of the tables.
-ghost use Rattle.std.specs.Prelude.{◌≡◌};
 
 use mb_wire::ReadFunction;
 
