@@ -2,6 +2,6 @@ use Rattle.failing_books.proofs.Reading.{read_on}
 use Rattle.failing_books.proofs.failing.FailingBooksBooks.intervals.Goals as goal
 
 pub returns-clause-reads : goal.returns-clause-reads
-returns-clause-reads c =
+returns-clause-reads g c =
     read_on c.args.self.now.books c.called.new.self.books c.intervals.new.self c.args.self.now.faults c.called.new.self.faults
-        c.intervals.result c.in_ok-called.ensures.books c.in_ok-called.ensures.ok c.intervals.ensures.reads
+    c.intervals.result c.in_ok-called.ensures.books c.in_ok-called.ensures.ok c.intervals.ensures.reads
