@@ -11,7 +11,7 @@ use Rattle.office_lists.specs.declared.list_books.ListBooks.{ListBooks}
 use Rattle.office_lists.specs.Listed.{ledger_of}
 use Rattle.failing_books.specs.Refusing.{refusing}
 
-keeps : (old new : Ledger) (n : ℕ) → KeepsFacts old new → KeepsFacts (refusing old n) (refusing new n)
+pub keeps : (old new : Ledger) (n : ℕ) → KeepsFacts old new → KeepsFacts (refusing old n) (refusing new n)
 keeps old new n k = record {
   facts = k.facts;
   left = λ left m. (m.0, k.facts m.0 m.1, m.2);

@@ -43,6 +43,9 @@ impl FailingBooks {
     /// Counts a call, and refuses it where it is the one that fails.
     fn called(&mut self) -> Result<(), BooksFault>
         ensures books { self.new.books ≡ self.old.books }
+        ensures holds { (held : List Fact) → (ledger_of self.old.books).holds held
+            → (ledger_of self.new.books).holds held }
+        ensures zone { (ledger_of self.new.books).zone ≡ (ledger_of self.old.books).zone }
         ensures ok { OnOk result (self.new.faults ≡ self.old.faults) }
         ensures refused { IfErr result (λ fault.
             (fault ≡ Store Refused) × (self.new.faults ≡ one_more self.old.faults)) }
