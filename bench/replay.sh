@@ -2,7 +2,7 @@
 # Times the program on scripts of polls that each read one counter, and of their replies, beside bench/office.py, a plain
 # Python program that carries out the same lines: `bench/replay.sh [N]`. The scripts have N/2 and N lines over one meter
 # (N is 100,000 by default), and N/10 and N/5 lines over 2,048 meters at 64 devices of 32 registers. Both must print the
-# same; twice the lines should take at most 2.2 times as long. Times are of the processor, the least of three runs. It
+# same; twice the lines should take at most 2.2 times as long, and as much memory. Times are of the processor, the least of three runs. It
 # runs the proved program, which `rt run` builds first, so the first call takes a while.
 set -euo pipefail
 lines="${1:-100000}"
@@ -41,6 +41,13 @@ took() {
         END { printf "%d\n", least }'
 }
 
+# memory COMMAND..: the most memory, in KiB, that the script takes it
+memory() {
+    python3 -c 'import resource, subprocess, sys
+subprocess.run(sys.argv[1:], stdin=sys.stdin, stdout=subprocess.DEVNULL, check=True)
+print(resource.getrusage(resource.RUSAGE_CHILDREN).ru_maxrss)' "$@" < "$scratch/script"
+}
+
 # compare LINES DEVICES REGISTERS
 compare() {
     local size ours plain
@@ -54,7 +61,8 @@ compare() {
     plain=$(took "$scratch/plain" python3 "$here/office.py")
     cmp "$scratch/ours" "$scratch/plain"
     echo "$(($2 * $3)) meters, $1 lines ($size bytes, $(wc -l < "$scratch/ours") printed):" \
-        "$ours ms, Python $plain ms, ratio $(python3 -c "print(f'{$plain / max($ours, 1):.1f}')")"
+        "$ours ms, Python $plain ms, ratio $(python3 -c "print(f'{$plain / max($ours, 1):.1f}')");" \
+        "$(memory "$program/out/sunreg") KiB, Python $(memory python3 "$here/office.py") KiB"
 }
 
 program="$here/../crates/sunreg"
