@@ -6,3 +6,4 @@ pub mod Streams
 pub mod Servings
 pub mod Exchanging
 pub mod Examples
+pub mod Adding

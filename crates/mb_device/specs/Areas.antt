@@ -1,7 +1,9 @@
 -- Areas of a device, and the maps that begin with them.
-use Rattle.std.specs.Prelude.{ℕ, ◌+◌, ◌==◌, ◌&&◌, ◌||◌, nat_le, nat_lt, min, max, Bool, false, if◌then◌else◌, List, [], ◌∷◌, Some, None}
+use Rattle.std.specs.Prelude.{◌≡◌, ℕ, ◌+◌, ◌==◌, ◌&&◌, ◌||◌, nat_le, nat_lt, min, max, Bool, true, false, if◌then◌else◌, List, [], ◌∷◌, ◌++◌, length, take, drop, replicate, is_some, Some, None, Ok, Err}
 use Rattle.std.specs.List.{list_any}
 use Rattle.std.specs.declared.option.Option.{Option}
+use Rattle.std.specs.declared.result.Result.{Result}
+use Rattle.mb_device.specs.Maps.{values_at}
 use Rattle.mb_device.specs.declared.kinds.Area.{Area}
 use Rattle.mb_device.specs.declared.kinds.BankFault.{BankFault}
 use Rattle.mb_device.specs.declared.kinds.BankFault.TheVariants.{AreasOverlap, OutOfRange, Memory}
@@ -40,3 +42,25 @@ abbrev pub bank_fault_number : BankFault → ℕ
 bank_fault_number AreasOverlap = 1
 bank_fault_number OutOfRange = 2
 bank_fault_number Memory = 3
+
+-- a table whose addresses begin with the value 0, so many of them from one on
+abbrev pub begun_from : List (Option ℕ) → ℕ → ℕ → List (Option ℕ)
+begun_from table start count = take start table ++ (replicate count (Some 0) ++ drop (start + count) table)
+
+-- one of so many addresses is there
+abbrev pub is_any_there : List (Option ℕ) → ℕ → ℕ → Bool
+is_any_there table start count = list_any (λ value. is_some value) (values_at table start count)
+
+-- so many addresses are none, or reach past the last
+abbrev pub is_past_end : List (Option ℕ) → ℕ → ℕ → Bool
+is_past_end table start count = count == 0 || nat_lt (length table) (start + count)
+
+-- An area more in a table, where none of its addresses is there and all are in range; else the least fault is
+-- told, and the table stays. No memory is taken.
+abbrev pub Adds : List (Option ℕ) → (start count : ℕ) → Result (Unit {0}) BankFault → List (Option ℕ) → Type 0
+Adds old start count (Ok done) new =
+    (is_any_there old start count ≡ false) × (is_past_end old start count ≡ false) × (new ≡ begun_from old start count)
+Adds old start count (Err AreasOverlap) new = (is_any_there old start count ≡ true) × (new ≡ old)
+Adds old start count (Err OutOfRange) new =
+    (is_any_there old start count ≡ false) × (is_past_end old start count ≡ true) × (new ≡ old)
+Adds old start count (Err Memory) new = ⊥

@@ -1,11 +1,14 @@
 // What a device answers to a request, and what becomes of a table.
-ghost use Rattle.std.specs.Prelude.{◌≡◌, ◌≤◌, ◌+◌, ◌/◌, ◌∷◌, [], ℕ, List, map, length, take, if◌then◌else◌, is_some, true};
+ghost use Rattle.std.specs.Prelude.{◌≡◌, ◌≤◌, ◌+◌, ◌/◌, ◌∷◌, [], ℕ, List, map, length, take};
+ghost use Rattle.std.specs.Prelude.{if◌then◌else◌, is_some, true};
 ghost use Rattle.std.specs.List.{list_all};
 ghost use Rattle.mb_wire.specs.Bytes.{words_of};
 ghost use Rattle.mb_wire.specs.Coils.{bytes_for, coils_of};
 ghost use Rattle.mb_wire.specs.Requests.{IsLawful, IsWithin, query_of};
-ghost use Rattle.mb_wire.specs.Replies.{Bits, Words, Echo, Exception, WantsCoils, WantsHead, WantsRegisters, answer_bytes};
-ghost use Rattle.mb_device.specs.Device.{code_of_fault, coil_number, exception_bytes, is_kept_on, kept_value};
+ghost use Rattle.mb_wire.specs.Replies.{Bits, Words, Echo, Exception, WantsCoils, WantsHead};
+ghost use Rattle.mb_wire.specs.Replies.{WantsRegisters, answer_bytes};
+ghost use Rattle.mb_device.specs.Device.{code_of_fault, coil_number, exception_bytes, is_kept_on};
+ghost use Rattle.mb_device.specs.Device.{kept_value};
 ghost use Rattle.mb_device.specs.Maps.{all_written, are_there, values_at};
 
 use crate::packing::{pack_coils, pack_words, write_coils, write_words};

@@ -1,10 +1,14 @@
 // A device's values.
-ghost use Rattle.std.specs.Prelude.{◌≡◌, ◌≤◌, ◌<◌, ℕ, List, ◌↔◌, IsTrue, IfOk, Ok, Err, take, true, false, is_some, if◌then◌else◌, slice_index_or, length, None};
+ghost use Rattle.std.specs.Prelude.{◌≡◌, ◌≤◌, ◌<◌, ◌+◌, ℕ, List, ◌↔◌, IsTrue, IfOk, Ok, Err, take};
+ghost use Rattle.std.specs.Prelude.{true, false, is_some, if◌then◌else◌, slice_index_or, length};
+ghost use Rattle.std.specs.Prelude.{None};
 ghost use Rattle.std.specs.List.{list_any};
-ghost use Rattle.mb_device.specs.Areas.{any_overlap, first_value, holds, is_out_of_range, overlap};
+ghost use Rattle.mb_device.specs.Areas.{Adds, any_overlap, begun_from, first_value, holds};
+ghost use Rattle.mb_device.specs.Areas.{is_out_of_range, overlap};
 ghost use Rattle.mb_wire.specs.Requests.{IsLawful, query_of};
 ghost use Rattle.mb_device.specs.Device.{answer_to, maps_after, maps_for, reply_for};
-ghost use Rattle.mb_device.specs.Maps.{Maps, kept, table_of, value_at, value_in, with_table, written};
+ghost use Rattle.mb_device.specs.Maps.{Maps, kept, table_of, value_at, value_in, values_at};
+ghost use Rattle.mb_device.specs.Maps.{with_table, written};
 
 use crate::answer::{
     answer_bits, answer_coil, answer_coils, answer_registers, answer_words, code_of, refuse,
@@ -91,6 +95,49 @@ fn begin_table(alloc: Global, areas: &[Area], kind: Kind) -> Result<Vec<Option<u
     Ok(table)
 }
 
+// One of the addresses is there.
+fn any_some(values: &[Option<u16>]) -> bool
+    ensures { result ≡ list_any (λ value. is_some value) values.now }
+{
+    values.iter().any(|value| value.is_some())
+}
+
+// One of so many addresses from an address on is there.
+#[tactic(auto, using(crate::proofs::Adding::cut))]
+fn has_some(table: &[Option<u16>], start: usize, count: usize) -> bool
+    ensures { result ≡ list_any (λ value. is_some value) (values_at table.now start count) }
+{
+    let rest = &table[start.min(table.len())..];
+    any_some(&rest[..count.min(rest.len())])
+}
+
+// So many addresses from an address on begin with the value 0.
+#[tactic(auto, using(crate::proofs::Adding::pasted))]
+fn begin_area(table: &mut Vec<Option<u16>>, start: usize, count: usize)
+    requires { start + count ≤ length table.old.items }
+    ensures { table.new.items ≡ begun_from table.old.items start count }
+{
+    for place in 0..count {
+        table[start + place] = Some(0);
+    }
+}
+
+// A table with an area more, where it has none of its addresses.
+fn add_to(table: &mut Vec<Option<u16>>, start: u16, count: u32) -> Result<(), BankFault>
+    ensures { Adds table.old.items start count result table.new.items }
+{
+    let start = usize::from(start);
+    let count = count as usize;
+    if has_some(table.as_slice(), start, count) {
+        return Err(BankFault::AreasOverlap);
+    }
+    if count == 0 || table.len() < start + count {
+        return Err(BankFault::OutOfRange);
+    }
+    begin_area(table, start, count);
+    Ok(())
+}
+
 // A table with another value at an address that it has, and whether it has it.
 fn write(table: &mut Vec<Option<u16>>, address: u16, value: u16) -> bool
     ensures there { result ≡ is_some (value_in table.old.items address) }
@@ -137,6 +184,22 @@ impl Bank {
             holdings: begin_table(alloc, areas, Kind::Holding)?,
             inputs: begin_table(alloc, areas, Kind::Input)?,
         })
+    }
+
+    /// Adds an area, with all values 0. A refused one changes nothing.
+    pub fn add(&mut self, area: &Area) -> Result<(), BankFault>
+        ensures added { Adds (table_of self.old area.now.kind) area.now.start area.now.count
+            result (table_of self.new area.now.kind) }
+        ensures others { self.new ≡
+            with_table self.old area.now.kind (table_of self.new area.now.kind) }
+    {
+        let Area { kind, start, count } = *area;
+        match kind {
+            Kind::Coil => add_to(&mut self.coils, start, count),
+            Kind::Discrete => add_to(&mut self.discretes, start, count),
+            Kind::Holding => add_to(&mut self.holdings, start, count),
+            Kind::Input => add_to(&mut self.inputs, start, count),
+        }
     }
 
     /// Keeps a value, and says whether there is such an address. A coil or a discrete input is on where

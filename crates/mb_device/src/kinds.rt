@@ -1,6 +1,7 @@
 // What a device keeps.
 ghost use Rattle.std.specs.Prelude.{◌≡◌, ◌+◌};
-ghost use Rattle.mb_device.specs.Areas.{bank_fault_number, holds, is_out_of_range, kind_number, overlap};
+ghost use Rattle.mb_device.specs.Areas.{bank_fault_number, holds, is_out_of_range, kind_number};
+ghost use Rattle.mb_device.specs.Areas.{overlap};
 
 /// The four kinds of values of a device (Modbus Application Protocol V1.1b3, section 4.3).
 #[derive(Clone, Copy, Debug, PartialEq, Eq)]

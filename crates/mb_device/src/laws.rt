@@ -2,9 +2,11 @@
 ghost use Rattle.std.specs.Prelude.{◌≡◌, ◌-◌, ◌^◌, ℕ, List, [], Ok, false};
 ghost use Rattle.std.specs.List.{flat_map};
 ghost use Rattle.mb_wire.specs.Reader.{Fields};
-ghost use Rattle.mb_device.specs.Exchanges.{Exchange, Exchanges, ExchangesOver, InOrder, in_all, joined};
+ghost use Rattle.mb_device.specs.Exchanges.{Exchange, Exchanges, ExchangesOver, InOrder, in_all};
+ghost use Rattle.mb_device.specs.Exchanges.{joined};
 ghost use Rattle.mb_device.specs.Maps.{Maps};
-ghost use Rattle.mb_device.specs.Tricks.{Course, Playing, carried_out, course_after, frame_of, is_cut, sent};
+ghost use Rattle.mb_device.specs.Tricks.{Course, Playing, carried_out, course_after, frame_of};
+ghost use Rattle.mb_device.specs.Tricks.{is_cut, sent};
 ghost use Rattle.mb_device.specs.Serving.{Around, Holds, Serves, Standing, Turns};
 ghost use Rattle.mb_device.specs.declared.serving.Turned.{Turned};
 ghost use Rattle.mb_device.specs.declared.trick.Trick.{Trick};

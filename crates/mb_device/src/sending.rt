@@ -1,9 +1,11 @@
 // The answers of a connection, on their way to the peer.
-ghost use Rattle.std.specs.Prelude.{◌≡◌, ◌≤◌, ◌++◌, ℕ, List, [], length, take, min, false, is_err, IfOk};
+ghost use Rattle.std.specs.Prelude.{◌≡◌, ◌≤◌, ◌++◌, ℕ, List, [], length, take, min, false, is_err};
+ghost use Rattle.std.specs.Prelude.{IfOk};
 ghost use Rattle.std.specs.Io.KnownBytes.{Keeps};
 ghost use Rattle.mb_wire.specs.Links.{risen};
 ghost use Rattle.mb_device.specs.Serving.{Gives};
-ghost use Rattle.mb_device.specs.Tricks.{answer_of, begun, behind, course_next, first_trick, is_cut, sent_next, sent_of, spelled_by, trick_at};
+ghost use Rattle.mb_device.specs.Tricks.{answer_of, begun, behind, course_next, first_trick};
+ghost use Rattle.mb_device.specs.Tricks.{is_cut, sent_next, sent_of, spelled_by, trick_at};
 
 use crate::trick::Trick;
 use mb_wire::{Link, LinkFailed, write_frame};

@@ -1,11 +1,17 @@
 // A server: frames come over a link, and their answers go back.
-ghost use Rattle.std.specs.Prelude.{◌≡◌, ◌≤◌, ◌<◌, ◌+◌, ◌^◌, ◌++◌, ℕ, List, [], length, not, true, false, is_err, IfOk, Ok, Err};
+ghost use Rattle.std.specs.Prelude.{◌≡◌, ◌≤◌, ◌<◌, ◌+◌, ◌^◌, ◌++◌, ℕ, List, [], length, not, true};
+ghost use Rattle.std.specs.Prelude.{false, is_err, IfOk, Ok, Err};
 ghost use Rattle.std.specs.Io.KnownBytes.{Keeps};
 ghost use Rattle.mb_wire.specs.Frames.{IsOpen};
 ghost use Rattle.mb_wire.specs.Links.{risen};
 ghost use Rattle.mb_device.specs.Device.{answer_to, maps_after};
 ghost use Rattle.mb_device.specs.Tricks.{Course, answer_of, begun, course_next, is_cut, sent_next};
-ghost use Rattle.mb_device.specs.Serving.{Answered, Faulted, Gives, HeldTells, Holds, HoldsFrame, Over, PieceTells, Serves, TellsTake, Turns, around, came_to_end, course_behind, has_faulted, held_frames, is_link_fault, is_over, is_read_fault, is_serving, own_frames, serve_fault_number, served_to_end, standing_in, stretch};
+ghost use Rattle.mb_device.specs.Serving.{Answered, Faulted, Gives, HeldTells, Holds, HoldsFrame};
+ghost use Rattle.mb_device.specs.Serving.{Over, PieceTells, Serves, TellsTake, Turns, around};
+ghost use Rattle.mb_device.specs.Serving.{came_to_end, course_behind, has_faulted, held_frames};
+ghost use Rattle.mb_device.specs.Serving.{is_link_fault, is_over, is_read_fault, is_serving};
+ghost use Rattle.mb_device.specs.Serving.{own_frames, serve_fault_number, served_to_end};
+ghost use Rattle.mb_device.specs.Serving.{standing_in, stretch};
 
 use crate::bank::Bank;
 use crate::sending::Sender;

@@ -2,7 +2,12 @@
 ghost use Rattle.std.specs.Prelude.{◌≡◌, ◌≤◌, ◌<◌, ◌+◌, ℕ, length, false, None, IfOk};
 ghost use Rattle.mb_wire.specs.Bytes.{AreBytes, number_at};
 ghost use Rattle.mb_wire.specs.Requests.{IsLawful, query_of, request_bytes};
-ghost use Rattle.mb_wire.specs.RequestFaults.{asked_as, bytes_of, carries_bytes, function_in, is_known, is_unknown_function, is_wrong_request_length, is_wrong_quantity, is_wrong_carried_count, is_wrong_coil_value, most_of, query_from, query_in, request_cleared, request_fault, writes_one};
+ghost use Rattle.mb_wire.specs.RequestFaults.{asked_as, bytes_of, carries_bytes, function_in};
+ghost use Rattle.mb_wire.specs.RequestFaults.{is_known, is_unknown_function};
+ghost use Rattle.mb_wire.specs.RequestFaults.{is_wrong_request_length, is_wrong_quantity};
+ghost use Rattle.mb_wire.specs.RequestFaults.{is_wrong_carried_count, is_wrong_coil_value, most_of};
+ghost use Rattle.mb_wire.specs.RequestFaults.{query_from, query_in, request_cleared, request_fault};
+ghost use Rattle.mb_wire.specs.RequestFaults.{writes_one};
 
 use crate::bytes::read_number;
 use crate::requests::{Request, RequestFault};

@@ -3,7 +3,8 @@ ghost use Rattle.std.specs.Prelude.{◌≡◌, ◌↔◌, ℕ, List, Ok};
 ghost use Rattle.mb_wire.specs.Bytes.{AreBytes};
 ghost use Rattle.mb_wire.specs.Requests.{Query, IsLawfulQuery, SpellsRequest, query_bytes};
 ghost use Rattle.mb_wire.specs.RequestFaults.{query_in, request_cleared};
-ghost use Rattle.mb_wire.specs.Replies.{Answer, AnswersQuery, SpellsReply, answer_bytes, answer_in, reply_cleared};
+ghost use Rattle.mb_wire.specs.Replies.{Answer, AnswersQuery, SpellsReply, answer_bytes, answer_in};
+ghost use Rattle.mb_wire.specs.Replies.{reply_cleared};
 
 /// A PDU spells a request exactly where it is read as that request. A lawful request is read back
 /// from its spelling, and a PDU is the spelling of its request up to the spare bits.

@@ -1,6 +1,8 @@
 // A link over slices, which fails where it is told to.
-ghost use Rattle.std.specs.Prelude.{◌≡◌, ◌≤◌, ◌+◌, ◌-◌, ◌==◌, ℕ, List, [], length, min, take, true, is_err, Some, None, IfOk};
-ghost use Rattle.mb_wire.specs.Links.{TakeConsumes, TakesAtMost, is_call, is_end, is_failed_give, risen};
+ghost use Rattle.std.specs.Prelude.{◌≡◌, ◌≤◌, ◌+◌, ◌-◌, ◌==◌, ℕ, List, [], length, min, take, true};
+ghost use Rattle.std.specs.Prelude.{is_err, Some, None, IfOk};
+ghost use Rattle.mb_wire.specs.Links.{TakeConsumes, TakesAtMost, is_call, is_end, is_failed_give};
+ghost use Rattle.mb_wire.specs.Links.{risen};
 
 use crate::link::{LastTake, Link, LinkFailed, Took};
 use std::marker::Model;
@@ -127,7 +129,8 @@ impl MemoryLink<'_> {
 
 impl Link for MemoryLink<'_> {
     ghost use Rattle.std.specs.Io.KnownBytes.{WriteAppends};
-    ghost use Rattle.mb_wire.specs.MemoryLinks.{LeavesGive, LeavesTake, filled, give_answer, handed_out, take_answer};
+    ghost use Rattle.mb_wire.specs.MemoryLinks.{LeavesGive, LeavesTake, filled, give_answer};
+    ghost use Rattle.mb_wire.specs.MemoryLinks.{handed_out, take_answer};
 
     ghost remaining = { λ link. Some link.input };
 
@@ -160,7 +163,8 @@ impl Link for MemoryLink<'_> {
     fn give(&mut self, bytes: &[u8]) -> Result<usize, LinkFailed>
         ensures answered { result ≡ give_answer self.old (length bytes.now) }
         ensures bound { IfOk result (λ n. n ≤ length bytes.now) }
-        ensures bytes { WriteAppends (Some self.old.output) (Some self.new.output) result bytes.now }
+        ensures bytes { WriteAppends (Some self.old.output)
+            (Some self.new.output) result bytes.now }
         ensures after { LeavesGive self.old self.new result bytes.now }
     {
         self.calls = self.calls.saturating_add(1);

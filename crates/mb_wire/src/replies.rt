@@ -1,8 +1,14 @@
 // Replies and their PDUs.
-ghost use Rattle.std.specs.Prelude.{◌≡◌, ◌≤◌, ◌+◌, ℕ, ◌↔◌, ◌++◌, List, length, take, false, Ok, None, IfOk};
+ghost use Rattle.std.specs.Prelude.{◌≡◌, ◌≤◌, ◌+◌, ℕ, ◌↔◌, ◌++◌, List, length, take, false, Ok};
+ghost use Rattle.std.specs.Prelude.{None, IfOk};
 ghost use Rattle.mb_wire.specs.Bytes.{AreBytes};
 ghost use Rattle.mb_wire.specs.Requests.{Query, IsLawful, query_of, function_of};
-ghost use Rattle.mb_wire.specs.Replies.{Answer, AnswersRequest, FitsRequest, SpellsReply, answer_bytes, answer_from, answer_in, answer_of, bit_at, brings_bytes, byte_count, echo_of, fault_number, is_exception, is_wrong_byte_count, is_wrong_echo, is_wrong_function, is_wrong_length, read_as, reply_cleared, reply_fault, reply_of, wanted_by, word_at};
+ghost use Rattle.mb_wire.specs.Replies.{Answer, AnswersRequest, FitsRequest, SpellsReply};
+ghost use Rattle.mb_wire.specs.Replies.{answer_bytes, answer_from, answer_in, answer_of, bit_at};
+ghost use Rattle.mb_wire.specs.Replies.{brings_bytes, byte_count, echo_of, fault_number};
+ghost use Rattle.mb_wire.specs.Replies.{is_exception, is_wrong_byte_count, is_wrong_echo};
+ghost use Rattle.mb_wire.specs.Replies.{is_wrong_function, is_wrong_length, read_as, reply_cleared};
+ghost use Rattle.mb_wire.specs.Replies.{reply_fault, reply_of, wanted_by, word_at};
 
 use crate::bytes::{append, append_coils, append_words, head, read_number};
 use crate::requests::{Request, Wanted};
@@ -203,7 +209,8 @@ pub fn encode_reply(request: &Request<'_>, reply: &Reply<'_>, out: &mut [u8; 253
     ensures few { result ≤ 253 }
     ensures written { take result out.new ≡
         answer_bytes (query_of request.now) (answer_of reply.now) }
-    ensures spelled { SpellsReply (query_of request.now) (take result out.new) (answer_of reply.now) }
+    ensures spelled { SpellsReply (query_of request.now) (take result out.new)
+        (answer_of reply.now) }
     ensures reads_back { reply_of request.now (take result out.new) ≡ Ok (answer_of reply.now) }
 {
     write_reply(request, reply, out)

@@ -1,0 +1,23 @@
+-- What a clock tells, where its moments are known.
+use Rattle.std.specs.Prelude.{◌≡◌, ℕ, List, [], ◌∷◌, Option, None, Some}
+use Rattle.socket_link.specs.declared.clock.ListedClock.{ListedClock}
+
+-- the moments of a listed clock
+abbrev pub moments_in : ListedClock → List ℕ
+moments_in clock = clock.moments.now
+
+-- the next moment; 0 where there is none
+abbrev pub next_moment : List ℕ → ℕ
+next_moment [] = 0
+next_moment (moment ∷ later) = moment
+
+-- the moments behind it; the last is told again and again
+abbrev pub later_moments : List ℕ → List ℕ
+later_moments [] = []
+later_moments (moment ∷ []) = moment ∷ []
+later_moments (moment ∷ next ∷ later) = next ∷ later
+
+-- a clock whose moments are known tells the next, and goes on behind it
+abbrev pub Tells : Option (List ℕ) → Option (List ℕ) → ℕ → Type 0
+Tells None new moment = Unit {0}
+Tells (Some moments) new moment = (moment ≡ next_moment moments) × (new ≡ Some (later_moments moments))

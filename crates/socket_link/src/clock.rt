@@ -1,0 +1,74 @@
+//! Clocks.
+use std::time::{SystemTime, UNIX_EPOCH};
+
+/// A clock, in whole seconds since 1970-01-01 UTC.
+pub trait Clock {
+    ghost use Rattle.std.specs.Prelude.{ℕ, List, Option, None};
+    ghost use Rattle.socket_link.specs.Clocks.{Tells};
+
+    // The moments that it will tell from here on, where they are known.
+    ghost moments: { Self → Option (List ℕ) } = { λ _. None };
+
+    /// The moment. One that can't be read is told as 0.
+    fn now(&mut self) -> u64
+        ensures { Tells (moments self.old) (moments self.new) result };
+}
+
+/// The clock of the system, which may be set back.
+#[derive(Drop)]
+pub struct SystemClock<R: std::rt::Clock + Drop> {
+    rt: R,
+}
+
+impl<R: std::rt::Clock + Drop> SystemClock<R> {
+    pub fn new(rt: R) -> SystemClock<R> {
+        SystemClock { rt }
+    }
+}
+
+impl<R: std::rt::Clock + Drop> Clock for SystemClock<R> {
+    fn now(&mut self) -> u64 {
+        let Ok(now) = SystemTime::now(&self.rt) else {
+            return 0;
+        };
+        match now.duration_since(UNIX_EPOCH) {
+            Ok(since) => since.as_secs(),
+            Err(_) => 0,
+        }
+    }
+}
+
+/// A clock that tells the moments of a list, one after the other, and then the last of them again and again. Where there
+/// is none it tells 0.
+#[derive(Drop)]
+pub struct ListedClock<'a> {
+    moments: &'a [u64],
+}
+
+impl<'a> ListedClock<'a> {
+    ghost use Rattle.std.specs.Prelude.{◌≡◌};
+    ghost use Rattle.socket_link.specs.Clocks.{moments_in};
+
+    pub fn new(moments: &'a [u64]) -> ListedClock<'a>
+        ensures { moments_in result ≡ moments.entry.now }
+    {
+        ListedClock { moments }
+    }
+}
+
+impl Clock for ListedClock<'_> {
+    ghost use Rattle.std.specs.Prelude.{Some};
+
+    ghost moments = { λ clock. Some clock.moments.now };
+
+    fn now(&mut self) -> u64 {
+        match self.moments {
+            [] => 0,
+            [last] => *last,
+            [next, later @ ..] => {
+                self.moments = later;
+                *next
+            }
+        }
+    }
+}

@@ -1,0 +1,121 @@
+//! A link over a socket.
+ghost use Rattle.std.specs.Prelude.{◌≡◌};
+
+use mb_wire::{LastTake, Link, LinkFailed, Took};
+use std::io::{self, ErrorKind, Read, Write};
+use std::net::{OpenStream, Shutdown};
+use std::time::Duration;
+
+/// A link over a socket. A take waits for a second at most, and is idle then; so does a give, and has failed then. A take
+/// or a give that was interrupted has failed too.
+#[derive(Drop)]
+pub struct SocketLink<S: Drop> {
+    stream: S,
+    failures: u64,
+    takes: u64,
+    ends: u64,
+    last: Option<LastTake>,
+}
+
+impl<S: Read + Write + OpenStream + Drop> SocketLink<S> {
+    /// A link over a socket that is connected, whose timeouts it sets.
+    pub fn new(stream: S) -> io::Result<SocketLink<S>> {
+        stream.set_read_timeout(Some(Duration::from_secs(1)))?;
+        stream.set_write_timeout(Some(Duration::from_secs(1)))?;
+        Ok(SocketLink {
+            stream,
+            failures: 0,
+            takes: 0,
+            ends: 0,
+            last: None,
+        })
+    }
+
+    /// Ends a connection of which the peer may still send what nobody wants: says that nothing more is given, and then drops
+    /// what comes, up to the end, a second without anything, or ten pieces. A socket that is closed with bytes unread is
+    /// reset, and the peer may then lose what it was given.
+    pub fn end(mut self) {
+        if self.stream.shutdown(Shutdown::Write).is_err() {
+            return;
+        }
+        let mut piece = [0; 8192];
+        for _piece in 0..10 {
+            match self.stream.read(&mut piece) {
+                Ok(count) if count > 0 => {}
+                _ => return,
+            }
+        }
+    }
+}
+
+impl<S: Read + Write + Drop> SocketLink<S> {
+    ghost use Rattle.mb_wire.specs.Links.{TakesAtMost};
+
+    // What a read brought. A read of nothing with room for something is the end.
+    fn read(&mut self, piece: &mut [u8]) -> Result<Took, LinkFailed>
+        ensures bound { TakesAtMost result piece.new }
+        ensures failures { self.new.failures ≡ self.old.failures }
+        ensures takes { self.new.takes ≡ self.old.takes }
+        ensures ends { self.new.ends ≡ self.old.ends }
+    {
+        match self.stream.read(piece) {
+            Ok(0) => Ok(Took::End),
+            Ok(count) => Ok(Took::Bytes(count)),
+            Err(error) => match error.kind() {
+                ErrorKind::WouldBlock | ErrorKind::TimedOut => Ok(Took::Idle),
+                _ => Err(LinkFailed),
+            },
+        }
+    }
+}
+
+impl<S: Read + Write + Drop> Link for SocketLink<S> {
+    ghost failed = { λ link. link.failures };
+
+    ghost taken = { λ link. link.takes };
+
+    ghost ended = { λ link. link.ends };
+
+    ghost last = { λ link. link.last };
+
+    fn take(&mut self, piece: &mut [u8]) -> Result<Took, LinkFailed> {
+        let answer = self.read(piece);
+        self.takes = self.takes.saturating_add(1);
+        match answer {
+            Ok(Took::End) => self.ends = self.ends.saturating_add(1),
+            Err(_) => self.failures = self.failures.saturating_add(1),
+            Ok(Took::Bytes(_)) | Ok(Took::Idle) => {}
+        }
+        self.last = Some(LastTake {
+            room: piece.len(),
+            answer,
+        });
+        answer
+    }
+
+    fn give(&mut self, bytes: &[u8]) -> Result<usize, LinkFailed> {
+        match self.stream.write(bytes) {
+            Ok(0) if !bytes.is_empty() => {
+                self.failures = self.failures.saturating_add(1);
+                Ok(0)
+            }
+            Ok(count) => Ok(count),
+            Err(_) => {
+                self.failures = self.failures.saturating_add(1);
+                Err(LinkFailed)
+            }
+        }
+    }
+
+    fn failures(&self) -> u64 {
+        self.failures
+    }
+
+    fn takes(&self) -> u64 {
+        self.takes
+    }
+
+    fn last_take(&self) -> Option<LastTake> {
+        self.last
+    }
+}
