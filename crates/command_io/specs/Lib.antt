@@ -1,4 +1,5 @@
 pub mod Holding
 pub mod Input
 pub mod Lines
+pub mod Printing
 pub mod Statuses

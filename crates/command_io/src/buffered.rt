@@ -6,9 +6,10 @@ use std::io::{self, ErrorKind, Write};
 /// How many bytes are held back at most.
 const ROOM: usize = 8192;
 
-/// A writer that holds bytes back, at most 8,192, and gives them out once there is no room for more: up to the last line's
-/// end among them, where there is one. `flush` gives out all. No byte is lost by a write that fails: what was not
-/// written is still held back. But for one that was interrupted, no write is made after it.
+/// A writer that holds bytes back, at most 8,192, and gives them out once there is no room for more: up to
+/// the last line's end among them, where there is one. `flush` gives out all. No byte is lost by a write
+/// that fails: what was not written is still held back. But for one that was interrupted, no write is made
+/// after it.
 #[derive(Drop)]
 pub struct Buffered<W> {
     pub(crate) output: W,
@@ -68,7 +69,8 @@ impl<W: Write> Buffered<W> {
         ensures less { OnOk result (self.new.filled < self.old.filled) }
         ensures bytes { Keeps (contents_of W.contents self.old) (contents_of W.contents self.new) }
         ensures stuck { self.old.failed ≡ true → IsErr result × (self.new ≡ self.old) }
-        ensures failed { IfErr result (λ error. error_kind error ≢ ErrorKind.Interrupted → self.new.failed ≡ true) }
+        ensures failed { IfErr result (λ error.
+            error_kind error ≢ ErrorKind.Interrupted → self.new.failed ≡ true) }
     {
         if self.failed {
             return Err(io::Error::from(ErrorKind::BrokenPipe));

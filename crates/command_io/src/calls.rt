@@ -33,8 +33,8 @@ impl<'r, R: Read> Calls<'r, R> {
         ensures made { self.new.made ≡ self.old.made + 1 }
         ensures failed { self.new.failed ≡ is_err result }
         ensures bound { ReadsAtMost result piece.new }
-        ensures bytes { ReadConsumes (R.remaining self.old.input.now) (R.remaining self.new.input.now) result
-            piece.new }
+        ensures bytes { ReadConsumes (R.remaining self.old.input.now)
+            (R.remaining self.new.input.now) result piece.new }
     {
         let count = self.input.read(piece);
         self.made += 1;

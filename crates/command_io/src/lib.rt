@@ -9,5 +9,5 @@ mod status;
 
 pub use buffered::Buffered;
 pub use lines::{InputLine, InputLines};
-pub use reading::{MOST_BYTES, ReadFault, read_whole};
+pub use reading::{MOST_BYTES, ReadFault, read_input, read_whole};
 pub use status::Status;

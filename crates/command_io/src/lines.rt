@@ -12,7 +12,8 @@ pub struct InputLine<'a> {
     pub text: &'a [u8],
 }
 
-/// The lines of a text that say something, one at a time: all but empty ones and those that begin with `#`.
+/// The lines of a text that say something, one at a time: all but empty ones and those that begin with
+/// `#`.
 #[derive(Drop)]
 pub struct InputLines<'a> {
     lines: bstr::Lines<'a>,
@@ -46,7 +47,8 @@ impl<'a> InputLines<'a> {
 
     /// The next line that says something.
     pub fn next_line(&mut self) -> Option<InputLine<'a>>
-        ensures { MatchOption result ((self.old ≡ []) × (self.new ≡ [])) (λ line. self.old ≡ seen_line line ∷ self.new) }
+        ensures { MatchOption result ((self.old ≡ []) × (self.new ≡ []))
+            (λ line. self.old ≡ seen_line line ∷ self.new) }
     {
         while let Some(text) = self.lines.next() {
             let number = self.number;

@@ -1,10 +1,12 @@
 //! Reading a whole input.
 ghost use Rattle.std.specs.Prelude.{◌≡◌, ◌≤◌, ◌<◌, ◌↔◌, Err, false, true, IfOk, IfErr, IfSome, length};
-ghost use Rattle.command_io.specs.Input.{most_bytes};
+ghost use Rattle.command_io.specs.Input.{EndsUnread, TellsTooLong, most_bytes};
 
 use crate::calls::Calls;
+use crate::status::Status;
 use std::alloc::Global;
-use std::io::Read;
+use std::io::{Read, Write};
+use sun_points::Sink;
 
 /// The most bytes of an input.
 pub const MOST_BYTES: usize = 4_194_304;
@@ -22,10 +24,11 @@ pub enum ReadFault {
     Memory,
 }
 
-/// Reads an input to its end, by at most one call of `read` more than it may have bytes. No call is made again after one
-/// that failed.
+/// Reads an input to its end, by at most one call of `read` more than it may have bytes. No call is
+/// made after one that failed.
 pub fn read_whole<R: Read>(alloc: Global, input: &mut R) -> Result<Vec<u8>, ReadFault>
-    ensures whole { IfOk result (λ bytes. IfSome (R.remaining input.old) (λ all. bytes.items ≡ all)) }
+    ensures whole { IfOk result (λ bytes.
+        IfSome (R.remaining input.old) (λ all. bytes.items ≡ all)) }
     ensures fits { IfOk result (λ bytes. length bytes.items ≤ most_bytes) }
     ensures long { IfErr result (λ fault. fault ≡ ReadFault.TooLong
         → IfSome (R.remaining input.old) (λ all. most_bytes < length all)) }
@@ -40,7 +43,8 @@ fn read_by<R: Read>(alloc: Global, calls: &mut Calls<'_, R>) -> Result<Vec<u8>, 
     requires works { calls.old.failed ≡ false }
     ensures few { calls.new.made ≤ 4194305 }
     ensures failed { (calls.new.failed ≡ true) ↔ (result ≡ Err ReadFault.Failed) }
-    ensures whole { IfOk result (λ bytes. IfSome (R.remaining calls.old.input.now) (λ all. bytes.items ≡ all)) }
+    ensures whole { IfOk result (λ bytes.
+        IfSome (R.remaining calls.old.input.now) (λ all. bytes.items ≡ all)) }
     ensures fits { IfOk result (λ bytes. length bytes.items ≤ most_bytes) }
     ensures long { IfErr result (λ fault. fault ≡ ReadFault.TooLong
         → IfSome (R.remaining calls.old.input.now) (λ all. most_bytes < length all)) }
@@ -62,4 +66,35 @@ fn read_by<R: Read>(alloc: Global, calls: &mut Calls<'_, R>) -> Result<Vec<u8>, 
         }
     }
     Err(ReadFault::TooLong)
+}
+
+/// Reads the input of a command whole. Of one that is too long `too long` is printed; where it is, or was
+/// not read, the command ends with the status.
+pub fn read_input<R: Read, W: Write>(
+    alloc: Global,
+    input: &mut R,
+    output: &mut W,
+) -> Result<Vec<u8>, Status>
+    ensures whole { IfOk result (λ text.
+        IfSome (R.remaining input.old) (λ all. text.items ≡ all)) }
+    ensures fits { IfOk result (λ text. length text.items ≤ most_bytes) }
+    ensures silent { IfOk result (λ text. output.new ≡ output.old) }
+    ensures unread { IfErr result (λ status. IfSome (R.remaining input.old) (λ all.
+        EndsUnread all status (W.contents output.old) (W.contents output.new))) }
+{
+    match read_whole(alloc, input) {
+        Ok(text) => Ok(text),
+        Err(ReadFault::TooLong) => Err(tell_too_long(output)),
+        Err(ReadFault::Failed | ReadFault::Memory) => Err(Status::Failed),
+    }
+}
+
+// Prints that an input is too long.
+fn tell_too_long<W: Write>(output: &mut W) -> Status
+    ensures { TellsTooLong result (W.contents output.old) (W.contents output.new) }
+{
+    match output.take_text(b"too long\n") {
+        Ok(()) => Status::Refused,
+        Err(_) => Status::Failed,
+    }
 }

@@ -14,7 +14,8 @@ use Rattle.point_list.specs.declared.point.PointScale.TheVariants.{Unscaled, Fix
 use Rattle.point_list.specs.declared.point.RegisterTable.{RegisterTable}
 use Rattle.point_list.specs.declared.point.RegisterTable.TheVariants.{Holding, Input}
 use Rattle.point_list.specs.Faults.{is_bad_scale}
-use Rattle.point_list.specs.Fields.{digits_value, fixed_scale_of, number_of, number_within, table_of, type_of}
+use Rattle.digits.specs.Digits.{digits_value}
+use Rattle.point_list.specs.Fields.{fixed_scale_of, number_of, number_within, table_of, type_of}
 use Rattle.point_list.specs.Lists.{scale_spelled}
 use Rattle.point_list.specs.Names.{is_name}
 use Rattle.point_list.specs.Points.{function_of, takes_scale}

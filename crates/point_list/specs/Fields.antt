@@ -1,23 +1,18 @@
 -- What the fields of a row spell.
-use Rattle.std.specs.Prelude.{ℕ, zero, suc, ◌+◌, ◌-◌, ◌*◌, ℤ, pos, negsuc, ◌==◌, nat_le, ◌&&◌, if◌then◌else◌, List, [], ◌∷◌, length, drop, fold, codes, Some, None}
-use Rattle.std.specs.Char.{is_ascii_digit}
+use Rattle.std.specs.Prelude.{ℕ, zero, suc, ℤ, pos, negsuc, ◌==◌, nat_le, ◌&&◌, if◌then◌else◌, List, [], ◌∷◌, drop, codes, Some, None}
 use Rattle.std.specs.declared.option.Option.{Option}
-use Rattle.std.specs.List.{list_all, starts_with}
+use Rattle.std.specs.List.{starts_with}
 use Rattle.std.specs.Option.{option_and_then, option_map}
 use Rattle.std.specs.Str.{bytes_eq}
+use Rattle.digits.specs.Digits.{number_of_digits}
 use Rattle.sun_points.specs.declared.point_type.PointType.{PointType}
 use Rattle.sun_points.specs.declared.point_type.PointType.TheVariants as kind
 use Rattle.point_list.specs.declared.point.RegisterTable.{RegisterTable}
 use Rattle.point_list.specs.declared.point.RegisterTable.TheVariants.{Holding, Input}
 
--- the number that digits spell, the ones last
-abbrev pub digits_value : List ℕ → ℕ
-digits_value digits = fold (λ n digit. 10 * n + (digit - 48)) 0 digits
-
 -- a whole number: one to ten digits
 abbrev pub number_of : List ℕ → Option ℕ
-number_of field =
-    if nat_le 1 (length field) && nat_le (length field) 10 && list_all is_ascii_digit field then Some (digits_value field) else None
+number_of field = number_of_digits 10 field
 
 -- a whole number from low to high
 abbrev pub number_within : ℕ → ℕ → List ℕ → Option ℕ

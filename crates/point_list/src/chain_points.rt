@@ -1,12 +1,14 @@
 //! The point list of a chain of models.
-ghost use Rattle.std.specs.Prelude.{◌≡◌, ◌≤◌, ◌++◌, ◌∷◌, [], Some, IfOk, IfErr, IfSome, IsTrue, OnOk, map};
+ghost use Rattle.std.specs.Prelude.{◌≡◌, ◌≤◌, ◌++◌, ◌∷◌, [], Some, IfOk, IfErr, IfSome, IsTrue};
+ghost use Rattle.std.specs.Prelude.{OnOk, map};
 ghost use Rattle.std.specs.List.{All, list_any};
 ghost use Rattle.std.specs.Option.{option_map};
 ghost use Rattle.std.specs.Str.{bytes_eq};
 ghost use Rattle.sun_chain.specs.Chain.{words_of};
 ghost use Rattle.sun_chain.specs.Points.{seen};
 ghost use Rattle.sun_chain.specs.Tables.{scale_name_in, table_of};
-ghost use Rattle.point_list.specs.ChainPoints.{chain_faults, chain_name, chain_scale, listed, model_points, points_of_chain};
+ghost use Rattle.point_list.specs.ChainPoints.{chain_faults, chain_name, chain_scale, listed};
+ghost use Rattle.point_list.specs.ChainPoints.{model_points, points_of_chain};
 ghost use Rattle.point_list.specs.Lists.{ExplainsList};
 ghost use Rattle.point_list.specs.Names.{is_name};
 

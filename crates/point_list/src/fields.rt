@@ -1,41 +1,21 @@
 //! What the fields of a row spell.
 ghost use Rattle.std.specs.Prelude.{◌≡◌, ◌≤◌, IsTrue, length, pos};
-ghost use Rattle.std.specs.List.{list_all};
-ghost use Rattle.std.specs.Char.{is_ascii_digit};
 ghost use Rattle.sun_points.specs.Scale.{scale_of};
-ghost use Rattle.point_list.specs.Fields.{digits_value, fixed_scale_of, minus, number_of, number_within, table_of, text_type_of, type_of};
+ghost use Rattle.point_list.specs.Fields.{fixed_scale_of, minus, number_of, number_within};
+ghost use Rattle.point_list.specs.Fields.{table_of, text_type_of, type_of};
 
 use crate::point::RegisterTable;
+use digits::number_of_digits;
 use sun_points::{PointType, Scale, TextLength};
 
-// The number that at most ten digits spell, the ones last.
-fn digits_value(digits: &[u8]) -> u64
-    requires few { length digits.now ≤ 10 }
-    requires digits { IsTrue (list_all is_ascii_digit digits.now) }
-    ensures { result ≡ digits_value digits.now }
-{
-    let mut value = 0;
-    for digit in digits {
-        value = 10 * value + u64::from(*digit - b'0');
-    }
-    value
-}
-
-fn are_digits(field: &[u8]) -> bool
-    ensures { result ≡ list_all is_ascii_digit field.now }
-{
-    field.iter().all(|byte| byte.is_ascii_digit())
-}
+/// The most digits of a whole number.
+const MOST_DIGITS: usize = 10;
 
 // A whole number: one to ten digits.
 fn number(field: &[u8]) -> Option<u64>
     ensures { result ≡ number_of field.now }
 {
-    if 1 <= field.len() && field.len() <= 10 && are_digits(field) {
-        Some(digits_value(field))
-    } else {
-        None
-    }
+    number_of_digits(MOST_DIGITS, field)
 }
 
 /// A whole number from `low` to `high`.

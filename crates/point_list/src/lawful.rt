@@ -2,7 +2,8 @@
 ghost use Rattle.std.specs.Prelude.{◌≡◌, ◌≢◌, ◌+◌, ◌≤◌, ◌↔◌, IsTrue, length};
 ghost use Rattle.std.specs.List.{All, AllPairs};
 ghost use Rattle.point_list.specs.Names.{is_name};
-ghost use Rattle.point_list.specs.Points.{HasLawfulScale, IsGroup, IsPointList, end_of, takes_scale};
+ghost use Rattle.point_list.specs.Points.{HasLawfulScale, IsGroup, IsPointList, end_of};
+ghost use Rattle.point_list.specs.Points.{takes_scale};
 ghost use Rattle.sun_points.specs.PointType.{registers_of};
 
 use crate::name::is_point_name;

@@ -3,7 +3,10 @@ ghost use Rattle.std.specs.Prelude.{◌≡◌, ◌+◌, ◌≤◌, ◌++◌, ◌
 ghost use Rattle.std.specs.Option.{option_map};
 ghost use Rattle.csv.specs.Records.{fields_of};
 ghost use Rattle.point_list.specs.Faults.{seen_row};
-ghost use Rattle.point_list.specs.Lists.{ExplainsList, SpellEach, SpellsList, faults_below, faulty_rows, is_header, is_header_text, list_faults, points_of, row_faults, rows_read, scale_fault, scale_faults};
+ghost use Rattle.point_list.specs.Lists.{ExplainsList, SpellEach, SpellsList, faults_below};
+ghost use Rattle.point_list.specs.Lists.{faulty_rows, is_header, is_header_text, list_faults};
+ghost use Rattle.point_list.specs.Lists.{points_of, row_faults, rows_read, scale_fault};
+ghost use Rattle.point_list.specs.Lists.{scale_faults};
 ghost use Rattle.point_list.specs.Points.{IsPointList};
 
 use crate::fault::{FaultyRow, FaultyRows, ListFault, RowFault};

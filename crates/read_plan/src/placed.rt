@@ -30,9 +30,11 @@ impl Model for Plan {
 
     ghost use Rattle.read_plan.specs.PlannedReads.{IsPlan};
 
-    ghost view = { λ p. record { starts = p.starts.items; items = p.items.items; reads = p.reads.items } };
+    ghost view = { λ p.
+        record { starts = p.starts.items; items = p.items.items; reads = p.reads.items } };
 
-    ghost invariant = { λ p. IsPlan (record { starts = p.starts.items; items = p.items.items; reads = p.reads.items }) };
+    ghost invariant = { λ p. IsPlan
+        (record { starts = p.starts.items; items = p.items.items; reads = p.reads.items }) };
 }
 
 impl Plan {

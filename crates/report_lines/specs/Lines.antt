@@ -1,14 +1,16 @@
 -- The lines of a report: interval rows or days in their order, and then how many there are.
 use Rattle.std.specs.Prelude.{ℕ, List, [], ◌∷◌, ◌++◌, length, flat_map, codes}
 use Rattle.std.specs.Fmt.{decimal}
-use Rattle.interval_core.specs.Report.{day_line}
+pub use Rattle.interval_core.specs.Report.{day_line}
 use Rattle.interval_core.specs.declared.shares.Share.{Share}
 use Rattle.interval_core.specs.declared.totals.DayTotal.{DayTotal}
 
--- the start of an interval and its energy in mWh, with a space (32) between and a line feed (10) at the end
+-- The start of an interval, in seconds since 1970-01-01 UTC, and its energy in mWh, with a space (32) between and a
+-- line feed (10) at the end.
 abbrev pub share_line : Share → List ℕ
 share_line row = decimal row.start ++ 32 ∷ (decimal row.mwh ++ 10 ∷ [])
 
+-- how many rows there are
 abbrev pub end_line : ℕ → List ℕ
 end_line count = codes "end " ++ decimal count ++ codes "\n"
 

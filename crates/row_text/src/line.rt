@@ -61,7 +61,7 @@ impl Line {
         self.push(buffer.format(number).as_bytes());
     }
 
-    /// Puts a number at its end, with so many spaces before it that it takes the width, which is at most 24.
+    /// Puts a number at its end, with so many spaces before it that it takes the width, at most 24.
     pub fn push_right<I: Integer>(&mut self, width: usize, number: I)
         requires narrow { width ≤ 24 }
         requires room { length self.old + width + I.MAX_STR_LEN ≤ 128 }

@@ -12,7 +12,7 @@ use sun_points::Sink;
 
 /// `START MWH`: the start of an interval, in seconds since 1970-01-01 UTC, and its energy.
 pub fn interval_line(row: Share) -> Line
-    ensures { result ≡ rows.interval_line row }
+    ensures { result ≡ rows.share_line row }
 {
     let mut line = Line::new();
     line.push_number(b"", row.start);
@@ -21,7 +21,8 @@ pub fn interval_line(row: Share) -> Line
     line
 }
 
-/// `DAY COUNT MWH`: the day as `YYYY-MM-DD`, the count of its intervals right in 3 places, and its energy right in 24 places.
+/// `DAY COUNT MWH`: the day as `YYYY-MM-DD`, the count of its intervals right in 3 places, and its energy
+/// right in 24 places.
 pub fn day_line(total: &DayTotal) -> Line
     ensures { result ≡ rows.day_line total.now }
 {
@@ -100,7 +101,7 @@ fn day_of_month(day: Day) -> u8
 
 /// Writes the line of an interval.
 pub fn write_interval<S: Sink>(row: Share, output: &mut S) -> io::Result<()>
-    ensures { S.takes output.old (rows.interval_line row) result output.new }
+    ensures { S.takes output.old (rows.share_line row) result output.new }
 {
     output.take_text(interval_line(row).bytes())
 }

@@ -1,7 +1,7 @@
 -- Texts that a writer got one after the other.
 use Rattle.std.proofs.Common.{◌≡◌, ◌<◌, ℕ, zero, suc, Option, Some, None, List, [], ◌∷◌, ◌++◌, length, take, drop, get_or, refl, sym, ◌∙◌, ap, append_assoc, arith}
 use Rattle.std.specs.List.{flat_map}
-use Rattle.std.specs.Prelude.{Ok, Err, IsErr}
+use Rattle.std.specs.Prelude.{Ok, Err, IsErr, OnOk}
 use Rattle.std.specs.declared.result.Result.{Result}
 use Rattle.std.specs.Io.KnownBytes.{Appends}
 use Rattle.sun_points.specs.Writing.{GotPart, GotText}
@@ -66,3 +66,9 @@ got_this result a b x y same got = rw same at got
 
 pub appends_this : (old new : Option (List ℕ)) (x y : List ℕ) → x ≡ y → Appends old new x → Appends old new y
 appends_this old new x y same written = rw same at written
+
+-- bytes before those that a call may have written
+pub appends_before : {E : Type 0} (written : Result (Unit {0}) E) (a b c : Option (List ℕ)) (x y z : List ℕ) → Appends a b x → OnOk written (Appends b c y) → x ++ y ≡ z
+    → OnOk written (Appends a c z)
+appends_before (Ok done) a b c x y z first second joined = appends_both a b c x y z first second joined
+appends_before (Err e) a b c x y z first second joined = tt

@@ -33,7 +33,7 @@ spelled Hex word = bytes_of word
 spelled Range word = number_of word
 spelled Moment word = option_map Some (number_of word)
 
--- What a word says that is missing, where it may be: no bytes, the range of an acc32 counter, and no moment.
+-- What a word says that is missing, where it may be: no bytes, the range of an acc32 counter, no moment.
 abbrev pub missing : (kind : Kind) → Option (Value kind)
 missing AnyName = None
 missing Number = None

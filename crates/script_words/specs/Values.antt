@@ -1,23 +1,21 @@
 -- What words spell.
-use Rattle.std.specs.Prelude.{ℕ, ℤ, pos, neg_ℤ, [], ◌∷◌, option_map, ◌+◌, ◌-◌, ◌*◌, ◌%◌, ◌==◌, nat_le, Bool, ◌&&◌, if◌then◌else◌, List, length, fold, Some, None}
-use Rattle.std.specs.Char.{is_ascii_digit}
+use Rattle.std.specs.Prelude.{ℕ, ℤ, pos, neg_ℤ, [], ◌∷◌, option_and_then, option_map, ◌%◌, ◌==◌, nat_le, Bool, ◌&&◌, if◌then◌else◌, List, length, Some, None}
 use Rattle.std.specs.declared.option.Option.{Option}
 use Rattle.std.specs.List.{list_all}
+use Rattle.digits.specs.Digits.{number_of_digits}
 use Rattle.std.specs.Result.{result_ok}
 use Rattle.office_events.specs.Names.{named}
 use Rattle.office_events.specs.declared.commands.GivenScale.{GivenScale}
 use Rattle.office_events.specs.declared.commands.GivenScale.TheVariants.{Fixed, Register}
 use Rattle.hex.specs.Hex.{decode_of, is_hex_digit}
 
--- the number that digits spell, the ones last
-abbrev pub digits_value : List ℕ → ℕ
-digits_value digits = fold (λ n digit. 10 * n + (digit - 48)) 0 digits
+-- no number of a script is greater than 2 ^ 63 - 1
+abbrev pub not_past : ℕ → Option ℕ
+not_past number = if nat_le number 9223372036854775807 then Some number else None
 
 -- a number: one to nineteen digits, of at most 2 ^ 63 - 1
 abbrev pub number_of : List ℕ → Option ℕ
-number_of word =
-    if nat_le 1 (length word) && nat_le (length word) 19 && list_all is_ascii_digit word && nat_le (digits_value word) 9223372036854775807
-    then Some (digits_value word) else None
+number_of word = option_and_then not_past (number_of_digits 19 word)
 
 -- pairs of hex digits, in either case
 abbrev pub is_paired : List ℕ → Bool
@@ -26,7 +24,8 @@ is_paired word = length word % 2 == 0 && list_all is_hex_digit word
 -- the bytes that pairs of hex digits spell: one to 65,536 of them
 abbrev pub bytes_of : List ℕ → Option (List ℕ)
 bytes_of word =
-    if nat_le 1 (length word) && nat_le (length word) 131072 then result_ok (decode_of word) else None
+    if nat_le 1 (length word) && nat_le (length word) 131072 then result_ok (decode_of word)
+    else None
 
 -- a name is any word of one byte or more, though it may be none that the office knows
 abbrev pub name_of : List ℕ → Option (Option (List ℕ))
@@ -40,10 +39,12 @@ negative n = neg_ℤ (pos n)
 abbrev pub signed_of : List ℕ → Option ℤ
 signed_of [] = None
 signed_of (byte ∷ bytes) =
-    if byte == 45 then option_map negative (number_of bytes) else option_map pos (number_of (byte ∷ bytes))
+    if byte == 45 then option_map negative (number_of bytes)
+    else option_map pos (number_of (byte ∷ bytes))
 
 -- `@` and the address of a register, or a fixed scale
 abbrev pub scale_of : List ℕ → Option GivenScale
 scale_of [] = None
 scale_of (byte ∷ bytes) =
-    if byte == 64 then option_map Register (number_of bytes) else option_map Fixed (signed_of (byte ∷ bytes))
+    if byte == 64 then option_map Register (number_of bytes)
+    else option_map Fixed (signed_of (byte ∷ bytes))

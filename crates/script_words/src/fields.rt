@@ -10,7 +10,7 @@ use office_events::{GivenScale, Name};
 /// The range of a meter of which a line tells none: that of an acc32 counter.
 const WHOLE_RANGE: u64 = 4_294_967_296;
 
-// Any word: the name that it is, or none where the office knows no such names. An empty word is no word.
+// Any word: the name that it is, or none where the office knows no such names. An empty word is none.
 fn any_name(word: &[u8]) -> Option<Option<Name>>
     ensures { result ≡ name_of word.now }
 {

@@ -1,10 +1,10 @@
 //! What words spell.
-ghost use Rattle.std.specs.Prelude.{◌≡◌, ◌≤◌, IfOk, IfSome, IsErr, IsSome, IsTrue, length, option_map};
+ghost use Rattle.std.specs.Prelude.{◌≡◌, ◌≤◌, IfOk, IfSome, IsErr, IsSome, option_map};
 ghost use Rattle.std.specs.List.{list_all};
-ghost use Rattle.std.specs.Char.{is_ascii_digit};
 ghost use Rattle.hex.specs.Hex.{is_hex_digit};
-ghost use Rattle.script_words.specs.Values.{bytes_of, digits_value, is_paired, number_of};
+ghost use Rattle.script_words.specs.Values.{bytes_of, is_paired, number_of};
 
+use digits::number_of_digits;
 use std::alloc::{AllocError, Global};
 
 /// The greatest number that a word spells.
@@ -21,36 +21,15 @@ pub fn number(word: &[u8]) -> Option<u64>
     ensures value { result ≡ number_of word.now }
     ensures most { IfSome result (λ value. value ≤ 9223372036854775807) }
 {
-    if word.is_empty() || word.len() > MOST_DIGITS || !are_digits(word) {
-        return None;
-    }
-    let value = digits_value(word);
+    let value = number_of_digits(MOST_DIGITS, word)?;
     if value <= GREATEST { Some(value) } else { None }
-}
-
-fn are_digits(word: &[u8]) -> bool
-    ensures { result ≡ list_all is_ascii_digit word.now }
-{
-    word.iter().all(|byte| byte.is_ascii_digit())
-}
-
-// The number that at most nineteen digits spell, the ones last.
-fn digits_value(digits: &[u8]) -> u64
-    requires few { length digits.now ≤ 19 }
-    requires digits { IsTrue (list_all is_ascii_digit digits.now) }
-    ensures { result ≡ digits_value digits.now }
-{
-    let mut value = 0;
-    for digit in digits {
-        value = 10 * value + u64::from(*digit - b'0');
-    }
-    value
 }
 
 /// The bytes that a word of hex digits spells, in either case: one to 65,536 whole bytes.
 #[tactic(auto, using(crate::proofs::HexWords::no_bytes, crate::proofs::HexWords::hex_spells))]
 pub fn hex_bytes(alloc: Global, word: &[u8]) -> Result<Option<Vec<u8>>, AllocError>
-    ensures value { IfOk result (λ found. option_map (λ bytes. bytes.items) found ≡ bytes_of word.now) }
+    ensures value { IfOk result (λ found.
+        option_map (λ bytes. bytes.items) found ≡ bytes_of word.now) }
     ensures memory { IsErr result → IsSome (bytes_of word.now) }
 {
     if word.is_empty() || word.len() > MOST_HEX_DIGITS {

@@ -3,8 +3,8 @@ ghost use Rattle.std.specs.Prelude.{◌≡◌, ◌==◌, position};
 
 use std::marker::Model;
 
-/// What stands between the spaces of a line, one at a time. Where two spaces stand side by side, or one at
-/// either end, there is an empty word.
+/// What stands between the spaces of a line, one at a time. Where two spaces stand side by side, or one
+/// at either end, there is an empty word.
 #[derive(Debug, Drop)]
 pub struct Words<'a> {
     // What is left of the line, less a space before it; none once the last word was taken.

@@ -1,6 +1,8 @@
-ghost use Rattle.std.specs.Prelude.{◌≡◌, ◌<◌, ◌≤◌, ◌+◌, ℕ, Some, None, IfOk, IfErr, MatchOption, MatchResult};
+ghost use Rattle.std.specs.Prelude.{◌≡◌, ◌<◌, ◌≤◌, ◌+◌, ℕ, Some, None, IfOk, IfErr, MatchOption};
+ghost use Rattle.std.specs.Prelude.{MatchResult};
 ghost use Rattle.sun_chain.specs.Image.{word_in};
-ghost use Rattle.sun_chain.specs.Chain.{base_in, is_marked, base_of, end_of, models_of, words_of, next_after, IsChain, Stands};
+ghost use Rattle.sun_chain.specs.Chain.{base_in, is_marked, base_of, end_of, models_of, words_of};
+ghost use Rattle.sun_chain.specs.Chain.{next_after, IsChain, Stands};
 ghost use Rattle.sun_chain.specs.Walk.{Fails, first_lack};
 
 use crate::chain::Chain;
@@ -20,7 +22,8 @@ const END_ID: u16 = 0xFFFF;
 
 /// Finds the chain of models in an image.
 pub fn walk(alloc: Global, image: &Image) -> Result<Chain<'_>, ChainFault>
-    ensures chain { IfOk result (λ chain. IsChain (word_in image.now) (base_of chain) (models_of chain) (end_of chain)) }
+    ensures chain { IfOk result
+        (λ chain. IsChain (word_in image.now) (base_of chain) (models_of chain) (end_of chain)) }
     ensures words { IfOk result (λ chain. words_of chain ≡ word_in image.now) }
     ensures fails { IfErr result (λ fault. Fails (word_in image.now) fault) }
 {
@@ -61,9 +64,11 @@ fn is_marked_at(image: &Image, base: u16) -> bool
 
 // The model that stands at an address behind so many models, or none where the end stands there.
 fn model_at(image: &Image, count: usize, address: u32) -> Result<Option<Model>, ChainFault>
-    ensures stands { IfOk result (λ found. MatchOption found ((word_in image.now address ≡ Some 0xFFFF) × (address ≤ 65535))
+    ensures stands { IfOk result
+        (λ found. MatchOption found ((word_in image.now address ≡ Some 0xFFFF) × (address ≤ 65535))
         (λ model. (model.address ≡ address) × Stands (word_in image.now) model × (count < 64))) }
-    ensures lack { IfErr result (λ fault. first_lack (word_in image.now) count address ≡ Some fault) }
+    ensures lack { IfErr result
+        (λ fault. first_lack (word_in image.now) count address ≡ Some fault) }
 {
     let address = u16::try_from(address).map_err(|_| ChainFault::PastEnd)?;
     let id = image.word(address).ok_or(ChainFault::Unreadable(address))?;

@@ -21,7 +21,8 @@ pub struct Common<'a> {
 impl<'a> Chain<'a> {
     /// The fields of the first model 1.
     pub fn common(&self) -> Option<Common<'a>>
-        ensures { option_map said result ≡ option_map (common_in (words_of self.now)) (first_common (models_of self.now)) }
+        ensures { option_map said result
+            ≡ option_map (common_in (words_of self.now)) (first_common (models_of self.now)) }
     {
         let model = first_of(&self.models)?;
         Some(self.common_of(&model))

@@ -1,4 +1,5 @@
-ghost use Rattle.std.specs.Prelude.{◌≡◌, ◌↔◌, ℕ, ◌+◌, ◌<◌, ◌≤◌, length, None, IfSome, IsSome, OnOk, OnErr, ◌++◌, ◌-◌, take, drop, replicate, true, vec_len};
+ghost use Rattle.std.specs.Prelude.{◌≡◌, ◌↔◌, ℕ, ◌+◌, ◌<◌, ◌≤◌, length, None, IfSome, IsSome, OnOk};
+ghost use Rattle.std.specs.Prelude.{OnErr, ◌++◌, ◌-◌, take, drop, replicate, true, vec_len};
 ghost use Rattle.std.specs.Option.{option_map};
 ghost use Rattle.std.specs.List.{list_all};
 
@@ -33,8 +34,10 @@ impl Image {
 
     /// Puts words at an address and the ones behind it, in place of what stood there.
     pub fn put(&mut self, address: u16, words: &[u16]) -> Result<(), ImageFault>
-        ensures past_end { (result ≡ Err ImageFault.PastEnd) ↔ (65536 < address + length words.now) }
-        ensures put { OnOk result ((at : ℕ) → word_in self.new at ≡ put_words (word_in self.old) address words.now at) }
+        ensures past_end { (result ≡ Err ImageFault.PastEnd)
+            ↔ (65536 < address + length words.now) }
+        ensures put { OnOk result
+            ((at : ℕ) → word_in self.new at ≡ put_words (word_in self.old) address words.now at) }
         ensures err { OnErr result ((at : ℕ) → word_in self.new at ≡ word_in self.old at) }
     {
         let start = usize::from(address);
@@ -87,7 +90,8 @@ impl Image {
     /// So many words from an address on, if all of them were read.
     pub(crate) fn words_at(&self, address: u32, count: u16) -> Option<&[u16]>
         requires { 1 ≤ count }
-        ensures words { option_map (λ words. words.now) result ≡ words_in (word_in self.now) address count }
+        ensures words { option_map (λ words. words.now) result
+            ≡ words_in (word_in self.now) address count }
         ensures length { IfSome result (λ words. length words.now ≡ count) }
         ensures inside { IsSome result → address + count ≤ 65536 }
     {
@@ -109,7 +113,8 @@ fn is_all_true(marks: &[bool]) -> bool
 
 // Makes a list at least so long, by more of the value at its end.
 fn pad<T: Copy>(items: &mut Vec<T>, size: usize, value: T) -> Result<(), AllocError>
-    ensures longer { OnOk result (items.new.items ≡ items.old.items ++ replicate (size - vec_len items.old) value) }
+    ensures longer { OnOk result
+        (items.new.items ≡ items.old.items ++ replicate (size - vec_len items.old) value) }
     ensures err { OnErr result (items.new.items ≡ items.old.items) }
 {
     if items.len() < size {
@@ -120,14 +125,18 @@ fn pad<T: Copy>(items: &mut Vec<T>, size: usize, value: T) -> Result<(), AllocEr
 
 fn copy_at(items: &mut Vec<u16>, start: usize, words: &[u16])
     requires { start + length words.now ≤ vec_len items.old }
-    ensures { items.new.items ≡ take start items.old.items ++ (words.now ++ drop (length words.now) (drop start items.old.items)) }
+    ensures { items.new.items
+        ≡ take start items.old.items
+        ++ (words.now ++ drop (length words.now) (drop start items.old.items)) }
 {
     items[start..start + words.len()].copy_from_slice(words);
 }
 
 fn mark_at(marks: &mut Vec<bool>, start: usize, count: usize)
     requires { start + count ≤ vec_len marks.old }
-    ensures { marks.new.items ≡ take start marks.old.items ++ (replicate count true ++ drop count (drop start marks.old.items)) }
+    ensures { marks.new.items
+        ≡ take start marks.old.items
+        ++ (replicate count true ++ drop count (drop start marks.old.items)) }
 {
     marks[start..start + count].fill(true);
 }

@@ -1,7 +1,8 @@
 ghost use Rattle.std.specs.Prelude.{◌≡◌, ◌<◌, ◌≤◌, ◌+◌, map, length, IfOk, IfSome, OnOk};
 ghost use Rattle.std.specs.Option.{option_map};
 ghost use Rattle.sun_chain.specs.Chain.{words_of};
-ghost use Rattle.sun_chain.specs.Points.{point_in, points_in, register_in, registers_in, scale_word_in, seen, value_in};
+ghost use Rattle.sun_chain.specs.Points.{point_in, points_in, register_in, registers_in};
+ghost use Rattle.sun_chain.specs.Points.{scale_word_in, seen, value_in};
 ghost use Rattle.sun_points.specs.Point.{seen as point_seen};
 ghost use Rattle.sun_chain.specs.TableRules.{StandInOrder};
 ghost use Rattle.sun_chain.specs.Tables.{row_of};
@@ -17,8 +18,10 @@ impl<'a> Chain<'a> {
     /// The points of a model that lie wholly inside it and were read, in order of address. A model that
     /// is not known has none.
     pub fn points(&self, model: &Model) -> Result<Vec<NamedPoint<'a>>, AllocError>
-        ensures points { IfOk result (λ points. map seen points.items ≡ points_in (words_of self.now) model.now) }
-        ensures in_order { IfOk result (λ points. StandInOrder (model.now.address + 2) (map seen points.items)) }
+        ensures points { IfOk result
+            (λ points. map seen points.items ≡ points_in (words_of self.now) model.now) }
+        ensures in_order { IfOk result
+            (λ points. StandInOrder (model.now.address + 2) (map seen points.items)) }
     {
         let mut points = Vec::new(*self.models.allocator());
         for entry in table(model.id) {
@@ -31,7 +34,8 @@ impl<'a> Chain<'a> {
 
     // A point of the table, if all of its registers are there.
     fn point(&self, model: &Model, entry: &'static Entry) -> Option<NamedPoint<'a>>
-        ensures { option_map seen result ≡ point_in (words_of self.now) model.now (row_of entry.now) }
+        ensures { option_map seen result
+            ≡ point_in (words_of self.now) model.now (row_of entry.now) }
     {
         let value = self.value(model, entry)?;
         let scale_word = self.scale_word(model, entry.scale);
@@ -46,7 +50,8 @@ impl<'a> Chain<'a> {
     }
 
     fn value(&self, model: &Model, entry: &Entry) -> Option<Point<'a>>
-        ensures value { option_map point_seen result ≡ value_in (words_of self.now) model.now (row_of entry.now) }
+        ensures value { option_map point_seen result
+            ≡ value_in (words_of self.now) model.now (row_of entry.now) }
         ensures inside { IfSome result (λ _. model.now.address + entry.now.offset < 65536) }
     {
         let count = entry.ty.point_type().registers();
@@ -57,7 +62,8 @@ impl<'a> Chain<'a> {
     /// Registers of a model, if they lie inside it and were read.
     pub(crate) fn registers(&self, model: &Model, offset: u16, count: u16) -> Option<&'a [u16]>
         requires { 1 ≤ count }
-        ensures words { option_map (λ words. words.now) result ≡ registers_in (words_of self.now) model.now offset count }
+        ensures words { option_map (λ words. words.now) result
+            ≡ registers_in (words_of self.now) model.now offset count }
         ensures length { IfSome result (λ words. length words.now ≡ count) }
         ensures inside { IfSome result (λ _. model.now.address + offset + count ≤ 65536) }
     {

@@ -1,0 +1,3 @@
+pub mod ChainText
+pub mod ImageLines
+pub mod Seen

@@ -1,0 +1,27 @@
+-- What the types of the lines stand for.
+use Rattle.std.specs.Prelude.{◌≡◌, ℕ, None, Err}
+use Rattle.std.specs.declared.result.Result.{Result}
+use Rattle.sun_chain.specs.Image.{Words}
+use Rattle.command_io.specs.Lines.{Line}
+use Rattle.chain_text.specs.ImageLines.{Put, words_after}
+use Rattle.chain_text.specs.declared.image_lines.Put.{Put as LoadedPut}
+use Rattle.chain_text.specs.declared.image_lines.LoadFault.{LoadFault}
+use Rattle.chain_text.specs.declared.image_lines.LoadFault.TheVariants.{BadLine, Memory}
+
+abbrev pub seen_put : LoadedPut → Put
+seen_put put = record { address = put.address; words = put.words.items }
+
+-- the line is wrong, and this is its number
+pub record IsBad (word : Words) (line : Line) (number : ℕ) : Type 0 where
+  pub number_of : number ≡ line.number
+  pub wrong : words_after word line.text ≡ None
+
+-- why a line was not carried out
+abbrev pub ExplainsLine : LoadFault → Words → Line → Type 0
+ExplainsLine (BadLine number) word line = IsBad word line number
+ExplainsLine Memory word line = Unit {0}
+
+-- the lines end with a wrong line of this number
+abbrev pub Explains : LoadFault → Result Words ℕ → Type 0
+Explains (BadLine number) told = told ≡ Err number
+Explains Memory told = Unit {0}

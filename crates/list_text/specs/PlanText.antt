@@ -1,0 +1,78 @@
+-- What is printed of a point list's plan: its reads, and where its points stand in them.
+use Rattle.std.specs.Prelude.{◌≡◌, ℕ, ◌+◌, List, [], ◌∷◌, ◌++◌, flat_map, map, codes, slice_index_or}
+use Rattle.std.specs.Fmt.{decimal}
+use Rattle.std.specs.List.{All}
+use Rattle.command_io.specs.declared.status.Status.{Status}
+use Rattle.command_io.specs.declared.status.Status.TheVariants.{Fine}
+use Rattle.mb_wire.specs.Spans.{code_of}
+use Rattle.point_list.specs.declared.point.ListedPoint.{ListedPoint}
+use Rattle.read_plan.specs.Items.{item_of, items_of, runs_of}
+use Rattle.read_plan.specs.PlannedReads.{IsFirstHolding, read_runs}
+use Rattle.read_plan.specs.Plans.{FollowsRule, IsLawful}
+use Rattle.read_plan.specs.declared.planned.PlannedRead.{PlannedRead}
+
+-- the number of a read and the code of its function
+abbrev pub read_head : (number function : ℕ) → List ℕ
+read_head number function =
+    codes "read " ++ decimal number ++ codes " " ++ decimal function ++ codes " "
+
+-- its area number, its first address and how many registers it reads
+abbrev pub registers_text : PlannedRead → List ℕ
+registers_text read =
+    decimal read.area ++ codes " " ++ decimal read.span.address ++ codes " " ++ decimal read.span.count
+    ++ codes "\n"
+
+abbrev pub span_line : (number function : ℕ) → PlannedRead → List ℕ
+span_line number function read = read_head number function ++ registers_text read
+
+abbrev pub read_line : (number : ℕ) → PlannedRead → List ℕ
+read_line number read = span_line number (code_of read.span.function) read
+
+-- reads, the first of which has the number given
+abbrev pub read_lines : ℕ → List PlannedRead → List ℕ
+read_lines number [] = []
+read_lines number (read ∷ reads) = read_line number read ++ read_lines (number + 1) reads
+
+-- A point, the place of a read in the plan, the first being 0, and how many registers of the read stand
+-- before the point's.
+pub record PlacedPoint : Type 0 where
+  pub point : ListedPoint
+  pub read : ℕ
+  pub offset : ℕ
+
+-- the read is the first of the item's area that holds it
+pub record IsPlaced (list : List ListedPoint) (reads : List PlannedRead) (placed : PlacedPoint) : Type 0 where
+  pub first : IsFirstHolding (read_runs reads) (item_of list placed.point) placed.read
+  pub offset : (d : PlannedRead)
+      → (slice_index_or reads placed.read d).span.address + placed.offset ≡ placed.point.address
+
+abbrev pub point_line : PlacedPoint → List ℕ
+point_line placed =
+    codes "point " ++ placed.point.name ++ codes " " ++ decimal (placed.read + 1) ++ codes " "
+    ++ decimal placed.offset ++ codes "\n"
+
+-- the lines of points, each of the list with its place
+pub record PointsPrint (list points : List ListedPoint) (reads : List PlannedRead) (printed : List ℕ)
+    : Type 0 where
+  pub placed : List PlacedPoint
+  pub points_of : map (λ (p : PlacedPoint). p.point) placed ≡ points
+  pub each : All (IsPlaced list reads) placed
+  pub lines : printed ≡ flat_map point_line placed
+
+-- the lines of reads, and then those of the list's points
+pub record LinesPrint (list : List ListedPoint) (reads : List PlannedRead) (printed : List ℕ) : Type 0 where
+  pub points : List ℕ
+  pub placed : PointsPrint list list reads points
+  pub lines : printed ≡ read_lines 1 reads ++ points
+
+-- a list prints the lines of the rule's plan, which is lawful
+pub record PlanPrints (list : List ListedPoint) (printed : List ℕ) : Type 0 where
+  pub reads : List PlannedRead
+  pub rule : FollowsRule (items_of list) (read_runs reads)
+  pub lawful : IsLawful (runs_of list) (items_of list) (read_runs reads)
+  pub lines : LinesPrint list reads printed
+
+-- nothing is refused where a list is there
+pub record PrintsPlan (list : List ListedPoint) (printed : List ℕ) (status : Status) : Type 0 where
+  pub fine : status ≡ Fine
+  pub plan : PlanPrints list printed
