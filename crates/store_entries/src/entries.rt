@@ -6,7 +6,9 @@ ghost use Rattle.store_tables.specs.Steps.{Steps};
 ghost use Rattle.store_tables.specs.Answer.{IsFound, IsLast, AnyOrder, LastFirst, FirstFirst};
 ghost use Rattle.store_tables.specs.Asking.{Asks, AsksInside, Tells, Shows, ShowsFirst, LooksUp};
 ghost use Rattle.store_tables.specs.Limits.{IsPlace, greatest_place};
-ghost use Rattle.store_entries.specs.Rows.{entry_columns, entry_shown, place_shown, entry_place, is_entry, is_of, IsRow, HasEntryPlace, rolled, IsSoundEntry, IsSoundEntered};
+ghost use Rattle.store_entries.specs.Rows.{entry_columns, entry_shown, place_shown, entry_place};
+ghost use Rattle.store_entries.specs.Rows.{is_entry, is_of, IsRow, HasEntryPlace, rolled};
+ghost use Rattle.store_entries.specs.Rows.{IsSoundEntry, IsSoundEntered};
 ghost use Rattle.store_entries.specs.Trees.{entries};
 
 use crate::reading::{entry, place};

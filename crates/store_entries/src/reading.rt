@@ -4,7 +4,9 @@ ghost use Rattle.sqlite.specs.Order.{column};
 ghost use Rattle.store_tables.specs.Asking.{ReadsRow};
 ghost use Rattle.store_tables.specs.Columns.{whole_in, or_damaged};
 ghost use Rattle.store_tables.specs.Limits.{greatest_place, IsPlace};
-ghost use Rattle.store_entries.specs.Rows.{place_shown, HasEntryPlace, kind_in, entry_in, entry_shown, IsRow, IsSoundEntry, IsSoundEntered, voided_shown, HasPlace, IsSoundVoided};
+ghost use Rattle.store_entries.specs.Rows.{place_shown, HasEntryPlace, kind_in, entry_in};
+ghost use Rattle.store_entries.specs.Rows.{entry_shown, IsRow, IsSoundEntry, IsSoundEntered};
+ghost use Rattle.store_entries.specs.Rows.{voided_shown, HasPlace, IsSoundVoided};
 
 use crate::rows::{EntryKind, EntryRow};
 use sqlite::Row;

@@ -6,7 +6,9 @@ ghost use Rattle.sqlite.specs.State.{HasCleanDisk};
 ghost use Rattle.sqlite.specs.Values.{bound};
 ghost use Rattle.store_tables.specs.Schema.{books_schema};
 ghost use Rattle.store_tables.specs.Asking.{Asks};
-ghost use Rattle.store_intervals.specs.Handing.{TookSome, HandsOn, HandsOnQuery, HaveIntervals, AreSharesOfMeter, AreSoundIntervals, HaveLying, AreSharesAt, AreSoundLying};
+ghost use Rattle.store_intervals.specs.Handing.{TookSome, HandsOn, HandsOnQuery, HaveIntervals};
+ghost use Rattle.store_intervals.specs.Handing.{AreSharesOfMeter, AreSoundIntervals, HaveLying};
+ghost use Rattle.store_intervals.specs.Handing.{AreSharesAt, AreSoundLying};
 
 use crate::reading::read_share;
 use interval_core::Share;

@@ -5,8 +5,10 @@ ghost use Rattle.store_tables.specs.Content.{Edits, with_row};
 ghost use Rattle.store_tables.specs.Steps.{Steps};
 ghost use Rattle.store_tables.specs.Limits.{IsPlace};
 ghost use Rattle.store_tables.specs.Answer.{IsLast, LastFirst, FirstFirst, every};
-ghost use Rattle.store_tables.specs.Asking.{Asks, Tells, Shows, ShowsFirst, LooksUp};
-ghost use Rattle.store_lists.specs.Rows.{device_columns, device_shown, device_place, device_place_shown, HasDevicePlace, IsSoundDevice, IsSoundAdded};
+ghost use Rattle.store_tables.specs.Asking.{Asks, AsksInside, Tells, Shows, ShowsFirst, LooksUp};
+ghost use Rattle.store_lists.specs.Rows.{device_columns, device_shown, device_place};
+ghost use Rattle.store_lists.specs.Rows.{device_place_shown, HasDevicePlace, IsSoundDevice};
+ghost use Rattle.store_lists.specs.Rows.{IsSoundAdded};
 ghost use Rattle.store_lists.specs.Trees.{devices};
 
 use crate::reading::place;
@@ -71,4 +73,15 @@ pub fn last_device<S: Alter>(conn: &mut Connection<S>) -> Result<Option<u64>, Ro
         None => Ok(None),
         Some(row) => Ok(Some(place(row)?)),
     }
+}
+
+/// The place of the last device inside a transaction, if there is one, in its first column.
+pub fn last_device_rows<S: Alter>(tx: &mut Transaction<'_, S>) -> Result<Vec<Row>, Error>
+    ensures same_reference { tx.new.conn.ghost_name ≡ tx.old.conn.ghost_name }
+    ensures asks { AsksInside S.Store tx.old.conn.now tx.new.conn.now result }
+    ensures shows { Tells S.Store tx.old.conn.now tx.new.conn.now devices device_columns result
+        (λ rows answer.
+        ShowsFirst every (LastFirst device_place) device_place_shown rows answer.items) }
+{
+    tx.query_all("SELECT place FROM devices ORDER BY place DESC LIMIT 1", &[])
 }

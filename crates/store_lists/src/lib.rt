@@ -7,8 +7,10 @@ mod reading;
 mod registers;
 mod rows;
 
-pub use devices::{device_rows, insert_device, last_device};
+pub use devices::{device_rows, insert_device, last_device, last_device_rows};
 pub use points::{point_rows, replace_points};
 pub use reading::{read_device, read_point, read_register};
-pub use registers::{insert_register, last_register, register_count, register_of, register_rows};
+pub use registers::{
+    insert_register, last_register, last_register_rows, register_count, register_of, register_rows,
+};
 pub use rows::{Device, DeviceRow, Point, PointRow, Register, RegisterRow, RegisterScale};

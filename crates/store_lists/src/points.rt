@@ -5,7 +5,8 @@ ghost use Rattle.store_tables.specs.Content.{Edits, with_row, without_where};
 ghost use Rattle.store_tables.specs.Steps.{Steps};
 ghost use Rattle.store_tables.specs.Answer.{FirstFirst};
 ghost use Rattle.store_tables.specs.Asking.{Asks, Tells, Shows};
-ghost use Rattle.store_lists.specs.Rows.{point_columns, point_shown, point_place, is_point_of, with_points, with_list, IsSoundPoint};
+ghost use Rattle.store_lists.specs.Rows.{point_columns, point_shown, point_place, is_point_of};
+ghost use Rattle.store_lists.specs.Rows.{with_points, with_list, IsSoundPoint};
 ghost use Rattle.store_lists.specs.Trees as trees;
 
 use crate::rows::{Point, PointRow};

@@ -4,7 +4,10 @@ ghost use Rattle.sqlite.specs.Order.{column};
 ghost use Rattle.store_tables.specs.Asking.{ReadsRow};
 ghost use Rattle.store_tables.specs.Columns.{whole_in, or_damaged};
 ghost use Rattle.store_tables.specs.Limits.{greatest_place};
-ghost use Rattle.store_lists.specs.Rows.{device_shown, device_in, IsDevice, IsSoundDevice, IsSoundAdded, point_shown, point_in, IsPoint, IsSoundPoint, IsSoundListed, register_shown, register_in, scale_of, IsRegister, IsSoundRegister, IsSoundRegistered};
+ghost use Rattle.store_lists.specs.Rows.{device_shown, device_in, IsDevice, IsSoundDevice};
+ghost use Rattle.store_lists.specs.Rows.{IsSoundAdded, point_shown, point_in, IsPoint};
+ghost use Rattle.store_lists.specs.Rows.{IsSoundPoint, IsSoundListed, register_shown, register_in};
+ghost use Rattle.store_lists.specs.Rows.{scale_of, IsRegister, IsSoundRegister, IsSoundRegistered};
 
 use crate::rows::{Device, DeviceRow, Point, PointRow, Register, RegisterRow, RegisterScale};
 use sqlite::Row;

@@ -5,9 +5,14 @@ ghost use Rattle.sqlite.specs.Held.{state};
 ghost use Rattle.store_tables.specs.Content.{Edits, with_row};
 ghost use Rattle.store_tables.specs.Steps.{Steps};
 ghost use Rattle.store_tables.specs.Limits.{IsPlace};
-ghost use Rattle.store_tables.specs.Answer.{IsFound, IsLast, AnyOrder, LastFirst, FirstFirst, every};
-ghost use Rattle.store_tables.specs.Asking.{Asks, Tells, Shows, ShowsFirst, LooksUp};
-ghost use Rattle.store_lists.specs.Rows.{register_columns, register_shown, register_place, register_place_shown, is_register, is_register_of, IsRegister, HasRegisterPlace, IsRegisterCount, IsSoundRegister, IsSoundRegistered, scale_kind, scale_number};
+ghost use Rattle.store_tables.specs.Answer.{IsFound, IsLast, AnyOrder, LastFirst, FirstFirst};
+ghost use Rattle.store_tables.specs.Answer.{every};
+ghost use Rattle.store_tables.specs.Asking.{Asks, AsksInside, Tells, Shows, ShowsFirst, LooksUp};
+ghost use Rattle.store_lists.specs.Rows.{register_columns, register_shown, register_place};
+ghost use Rattle.store_lists.specs.Rows.{register_place_shown, is_register, is_register_of};
+ghost use Rattle.store_lists.specs.Rows.{IsRegister, HasRegisterPlace, IsRegisterCount};
+ghost use Rattle.store_lists.specs.Rows.{IsSoundRegister, IsSoundRegistered, scale_kind};
+ghost use Rattle.store_lists.specs.Rows.{scale_number};
 ghost use Rattle.store_lists.specs.Trees.{registers};
 
 use crate::reading::{place, read_register};
@@ -157,4 +162,18 @@ pub fn last_register<S: Alter>(conn: &mut Connection<S>) -> Result<Option<u64>, 
         None => Ok(None),
         Some(row) => Ok(Some(place(row)?)),
     }
+}
+
+/// The place of the last register inside a transaction, if there is one, in its first column.
+pub fn last_register_rows<S: Alter>(tx: &mut Transaction<'_, S>) -> Result<Vec<Row>, Error>
+    ensures same_reference { tx.new.conn.ghost_name ≡ tx.old.conn.ghost_name }
+    ensures asks { AsksInside S.Store tx.old.conn.now tx.new.conn.now result }
+    ensures shows { Tells S.Store tx.old.conn.now tx.new.conn.now registers register_columns result
+        (λ rows answer.
+        ShowsFirst every (LastFirst register_place) register_place_shown rows answer.items) }
+{
+    tx.query_all(
+        "SELECT place FROM registers ORDER BY place DESC LIMIT 1",
+        &[],
+    )
 }

@@ -6,7 +6,11 @@ ghost use Rattle.store_tables.specs.Steps.{Steps};
 ghost use Rattle.store_tables.specs.Answer.{IsFound, IsLast, AnyOrder, LastFirst, every};
 ghost use Rattle.store_tables.specs.Asking.{Asks, AsksInside, Tells, ShowsFirst, LooksUp};
 ghost use Rattle.store_tables.specs.Limits.{IsPlace};
-ghost use Rattle.store_meters.specs.Rows.{installed_columns, installed_shown, installed_place_shown, installed_place, is_meter, is_at, IsInstalled, HasInstalledPlace, moved, ended, ended_number, IsSoundLast, IsSoundInstallation, IsSoundInstalled};
+ghost use Rattle.store_meters.specs.Rows.{installed_columns, installed_shown};
+ghost use Rattle.store_meters.specs.Rows.{installed_place_shown, installed_place, is_meter, is_at};
+ghost use Rattle.store_meters.specs.Rows.{IsInstalled, HasInstalledPlace, moved, ended};
+ghost use Rattle.store_meters.specs.Rows.{ended_number, IsSoundLast, IsSoundInstallation};
+ghost use Rattle.store_meters.specs.Rows.{IsSoundInstalled};
 ghost use Rattle.store_meters.specs.Trees.{installations};
 
 use crate::reading::{place, read_installation};
@@ -192,5 +196,21 @@ pub fn installation_rows<S: Alter>(
     tx.query_all(
         "SELECT place, meter, register, ceiling, ended, last_moment, last_raw, last_sf, total FROM installations WHERE meter = ?1 LIMIT 1",
         params![meter],
+    )
+}
+
+/// The place of the last installation inside a transaction, if there is one, in its first column.
+pub fn last_installation_rows<S: Alter>(tx: &mut Transaction<'_, S>) -> Result<Vec<Row>, Error>
+    ensures same_reference { tx.new.conn.ghost_name ≡ tx.old.conn.ghost_name }
+    ensures asks { AsksInside S.Store tx.old.conn.now tx.new.conn.now result }
+    ensures shows { Tells S.Store tx.old.conn.now tx.new.conn.now
+        installations installed_columns result
+        (λ rows answer.
+        ShowsFirst every (LastFirst installed_place)
+        installed_place_shown rows answer.items) }
+{
+    tx.query_all(
+        "SELECT place FROM installations ORDER BY place DESC LIMIT 1",
+        &[],
     )
 }

@@ -4,8 +4,9 @@ ghost use Rattle.sqlite.specs.Held.{state};
 ghost use Rattle.store_tables.specs.Content.{Edits, with_row};
 ghost use Rattle.store_tables.specs.Steps.{Steps};
 ghost use Rattle.store_tables.specs.Answer.{IsFound, AnyOrder};
-ghost use Rattle.store_tables.specs.Asking.{Asks, Tells, ShowsFirst, LooksUp};
-ghost use Rattle.store_meters.specs.Rows.{ranged_columns, range_shown, is_range_of, HasRange, IsRange, IsSoundRanged};
+ghost use Rattle.store_tables.specs.Asking.{Asks, AsksInside, Tells, ShowsFirst, LooksUp};
+ghost use Rattle.store_meters.specs.Rows.{ranged_columns, range_shown, is_range_of, HasRange};
+ghost use Rattle.store_meters.specs.Rows.{IsRange, IsSoundRanged};
 ghost use Rattle.store_meters.specs.Trees.{ranges};
 
 use sqlite::{Alter, Connection, Error, Row, Transaction, params};
@@ -53,4 +54,18 @@ pub fn range_of<S: Alter>(conn: &mut Connection<S>, meter: &str) -> Result<Optio
         None => Ok(None),
         Some(row) => Ok(Some(whole(row, 0, 65_536, 4_294_967_296)?)),
     }
+}
+
+/// The row of a meter inside a transaction, if there is one; `read_range` reads it.
+pub fn range_rows<S: Alter>(tx: &mut Transaction<'_, S>, meter: &str) -> Result<Vec<Row>, Error>
+    ensures same_reference { tx.new.conn.ghost_name ≡ tx.old.conn.ghost_name }
+    ensures asks { AsksInside S.Store tx.old.conn.now tx.new.conn.now result }
+    ensures shows { Tells S.Store tx.old.conn.now tx.new.conn.now ranges ranged_columns result
+        (λ rows answer.
+        ShowsFirst (is_range_of meter.now) AnyOrder range_shown rows answer.items) }
+{
+    tx.query_all(
+        "SELECT \"range\" FROM ranges WHERE meter = ?1 LIMIT 1",
+        params![meter],
+    )
 }

@@ -4,7 +4,9 @@ ghost use Rattle.sqlite.specs.Order.{column};
 ghost use Rattle.store_tables.specs.Asking.{ReadsRow};
 ghost use Rattle.store_tables.specs.Columns.{whole_in, or_damaged};
 ghost use Rattle.store_tables.specs.Limits.{greatest_place};
-ghost use Rattle.store_meters.specs.Rows.{flag_in, last_in, installation_in, installed_shown, IsInstalled, IsSoundInstallation, IsSoundInstalled};
+ghost use Rattle.store_meters.specs.Rows.{range_shown, HasRange, IsRange, IsSoundRanged, flag_in};
+ghost use Rattle.store_meters.specs.Rows.{last_in, installation_in, installed_shown, IsInstalled};
+ghost use Rattle.store_meters.specs.Rows.{IsSoundInstallation, IsSoundInstalled};
 
 use crate::rows::{GREATEST_CEILING, GREATEST_TOTAL, Installation, InstallationRow, LastRow};
 use sqlite::Row;
@@ -73,4 +75,12 @@ pub fn read_installation(row: &Row) -> Result<Installation, RowFault>
         register,
         row: numbers,
     })
+}
+
+/// Reads how many counts a counter has of `range_rows`.
+pub fn read_range(row: &Row) -> Result<u64, RowFault>
+    ensures read { ReadsRow row.now range_shown HasRange IsSoundRanged result }
+    ensures sound { IfOk result IsRange }
+{
+    whole(row, 0, 65_536, 4_294_967_296)
 }

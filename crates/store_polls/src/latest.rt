@@ -4,7 +4,12 @@ ghost use Rattle.std.specs.Prelude.{◌≤◌, IfOk, IfSome};
 ghost use Rattle.store_tables.specs.Limits.{latest_moment};
 ghost use Rattle.store_tables.specs.Answer.{IsLast, LastFirst, every};
 ghost use Rattle.store_tables.specs.Asking.{Asks, Tells, ShowsFirst, LooksUp};
-ghost use Rattle.store_polls.specs.Rows.{poll_columns, start_of, start_shown, HasStart, IsSoundStarted, outcome_columns, outcome_moment, outcome_moment_shown, HasOutcomeMoment, IsSoundOutcome, hold_columns, hold_moment, hold_moment_shown, HasHoldMoment, IsSoundHeld, reply_columns, reply_moment, reply_moment_shown, HasReplyMoment, IsSoundKept};
+ghost use Rattle.store_polls.specs.Rows.{poll_columns, start_of, start_shown, HasStart};
+ghost use Rattle.store_polls.specs.Rows.{IsSoundStarted, outcome_columns, outcome_moment};
+ghost use Rattle.store_polls.specs.Rows.{outcome_moment_shown, HasOutcomeMoment, IsSoundOutcome};
+ghost use Rattle.store_polls.specs.Rows.{hold_columns, hold_moment, hold_moment_shown};
+ghost use Rattle.store_polls.specs.Rows.{HasHoldMoment, IsSoundHeld, reply_columns, reply_moment};
+ghost use Rattle.store_polls.specs.Rows.{reply_moment_shown, HasReplyMoment, IsSoundKept};
 ghost use Rattle.store_polls.specs.Trees.{polls, outcomes, holds, replies};
 
 use crate::reading::moment;

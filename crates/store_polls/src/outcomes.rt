@@ -6,7 +6,8 @@ ghost use Rattle.store_tables.specs.Steps.{Steps};
 ghost use Rattle.store_tables.specs.Limits.{greatest_place};
 ghost use Rattle.store_tables.specs.Answer.{IsFound, AnyOrder};
 ghost use Rattle.store_tables.specs.Asking.{Asks, Tells, ShowsFirst, LooksUp};
-ghost use Rattle.store_polls.specs.Rows.{outcome_columns, outcome_shown, is_outcome_of, IsOutcome, IsSoundOutcome};
+ghost use Rattle.store_polls.specs.Rows.{outcome_columns, outcome_shown, is_outcome_of, IsOutcome};
+ghost use Rattle.store_polls.specs.Rows.{IsSoundOutcome};
 ghost use Rattle.store_polls.specs.Trees.{outcomes};
 
 use crate::reading::outcome;

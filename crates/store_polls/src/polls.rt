@@ -6,7 +6,9 @@ ghost use Rattle.store_tables.specs.Steps.{Steps};
 ghost use Rattle.store_tables.specs.Limits.{greatest_place, IsPlace};
 ghost use Rattle.store_tables.specs.Answer.{IsFound, IsLast, AnyOrder, LastFirst, every};
 ghost use Rattle.store_tables.specs.Asking.{Asks, Tells, ShowsFirst, LooksUp};
-ghost use Rattle.store_polls.specs.Rows.{poll_columns, poll_shown, number_shown, poll_number, is_poll, IsStarted, HasNumber, IsSoundPoll, IsSoundStarted};
+ghost use Rattle.store_polls.specs.Rows.{poll_columns, poll_shown, number_shown, poll_number};
+ghost use Rattle.store_polls.specs.Rows.{is_poll, IsStarted, HasNumber, IsSoundPoll};
+ghost use Rattle.store_polls.specs.Rows.{IsSoundStarted};
 ghost use Rattle.store_polls.specs.Pending.{ShowsPending};
 ghost use Rattle.store_polls.specs.Trees.{polls};
 

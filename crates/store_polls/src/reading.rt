@@ -4,7 +4,10 @@ ghost use Rattle.sqlite.specs.Order.{column};
 ghost use Rattle.store_tables.specs.Asking.{ReadsRow};
 ghost use Rattle.store_tables.specs.Columns.{whole_in, or_damaged};
 ghost use Rattle.store_tables.specs.Limits.{greatest_place, latest_moment, IsPlace};
-ghost use Rattle.store_polls.specs.Rows.{poll_in, poll_shown, IsStarted, IsSoundPoll, IsSoundStarted, greatest_count, malformation_of, lost_of, outcome_of, outcome_in, hold_place_shown, HasHoldPlace, IsSoundHeld, kind_in, same_bytes, repeat_in};
+ghost use Rattle.store_polls.specs.Rows.{poll_in, poll_shown, IsStarted, IsSoundPoll};
+ghost use Rattle.store_polls.specs.Rows.{IsSoundStarted, greatest_count, malformation_of, lost_of};
+ghost use Rattle.store_polls.specs.Rows.{outcome_of, outcome_in, hold_place_shown, HasHoldPlace};
+ghost use Rattle.store_polls.specs.Rows.{IsSoundHeld, kind_in, same_bytes, repeat_in};
 
 use crate::rows::{OutcomeRow, Poll, PollRow, Repeat, ReplyKind};
 use poll_core::{LostCause, Malformation, Outcome};

@@ -6,7 +6,8 @@ ghost use Rattle.store_tables.specs.Steps.{Steps};
 ghost use Rattle.store_tables.specs.Limits.{latest_moment};
 ghost use Rattle.store_tables.specs.Answer.{IsFound, AnyOrder};
 ghost use Rattle.store_tables.specs.Asking.{Asks, Tells, ShowsFirst, LooksUp};
-ghost use Rattle.store_polls.specs.Rows.{reply_columns, reply_shown, is_reply, IsCallNumber, IsRepeat, IsSoundKept};
+ghost use Rattle.store_polls.specs.Rows.{reply_columns, reply_shown, is_reply, IsCallNumber};
+ghost use Rattle.store_polls.specs.Rows.{IsRepeat, IsSoundKept};
 ghost use Rattle.store_polls.specs.Trees.{replies};
 
 use crate::reading::repeat;

@@ -1,0 +1,9 @@
+//! Tests of the file of the books, over databases in memory.
+#![tactic(auto)]
+
+#[cfg(test)]
+mod given;
+#[cfg(test)]
+mod making;
+#[cfg(test)]
+mod opening;

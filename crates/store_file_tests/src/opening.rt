@@ -1,0 +1,109 @@
+//! A file is opened.
+use crate::given::{fault, new_file, number};
+use sqlite::{Connection, Error, MemStore};
+use std::alloc::Global;
+use std::test::Fail;
+use store_files::open;
+
+/// What is done to a new file, and the fault that its opening then answers.
+static FILES: [(&str, u8); 14] = [
+    ("UPDATE meta SET version = 3", 0),
+    ("UPDATE meta SET version = 0", 1),
+    ("UPDATE meta SET version = 1", 1),
+    ("UPDATE meta SET version = 2", 1),
+    ("UPDATE meta SET version = 9", 1),
+    ("UPDATE meta SET version = -3", 1),
+    ("UPDATE meta SET zone = 'x'", 2),
+    ("UPDATE meta SET version = 9, zone = 'x'", 1),
+    ("DELETE FROM meta", 1),
+    ("INSERT INTO meta VALUES (2, 3, 'UTC0')", 1),
+    ("DROP TABLE voids", 1),
+    ("DROP TABLE intervals", 1),
+    ("CREATE TABLE notes (x)", 1),
+    ("BEGIN", 1),
+];
+
+/// A new file, to which this is done.
+fn changed(alloc: Global, change: &str) -> Result<Connection<MemStore>, Error> {
+    let mut conn = new_file(alloc)?;
+    conn.execute_batch(change)?;
+    Ok(conn)
+}
+
+#[test]
+fn other_files_are_refused(rt: HostRuntime) -> Result<(), Fail> {
+    for (change, number) in &FILES {
+        let mut conn = changed(rt.alloc(), change)?;
+        assert_eq!(rt; fault(open(&mut conn)), *number, "{change}");
+    }
+    Ok(())
+}
+
+/// A new file becomes one of version 1 with two meters.
+const FIRST: &str =
+    "DROP TABLE voids; DROP TABLE ranges; UPDATE meta SET version = 1, zone = 'CET-1';
+INSERT INTO devices VALUES (1, 'inv', 1, 5, 1);
+INSERT INTO registers VALUES (1, 'main', 'inv', 3, 40094, 1, 40096);
+INSERT INTO installations VALUES (1, 'm1', 'main', 100000, 1, 2800, 5300, 0, 300000);
+INSERT INTO installations VALUES (2, 'm2', 'main', 100000, 0, 2800, 0, 0, 0);
+INSERT INTO entries VALUES ('m1', 1, 1, 1000, 5000, 0, 0, 0);
+INSERT INTO intervals VALUES ('m1', 900, 177777)";
+
+/// A file of version 1 becomes one of version 2.
+const SECOND: &str =
+    "CREATE TABLE ranges (meter TEXT NOT NULL PRIMARY KEY, \"range\" INTEGER NOT NULL, FOREIGN KEY (meter) REFERENCES installations (meter)) STRICT;
+INSERT INTO ranges VALUES ('m1', 1000000); UPDATE meta SET version = 2";
+
+/// What queries show of the file once it is brought to version 3.
+static BROUGHT: [(&str, i64); 7] = [
+    (
+        "SELECT count(*) FROM meta WHERE version = 3 AND zone = 'CET-1'",
+        1,
+    ),
+    ("SELECT count(*) FROM meta", 1),
+    ("SELECT count(*) FROM voids", 0),
+    ("SELECT count(*) FROM installations", 2),
+    (
+        "SELECT mwh FROM intervals WHERE meter = 'm1' AND start = 900",
+        177_777,
+    ),
+    (
+        "SELECT raw FROM entries WHERE meter = 'm1' AND place = 1",
+        5000,
+    ),
+    (
+        "SELECT count(*) FROM sqlite_schema WHERE type = 'table'",
+        13,
+    ),
+];
+
+#[test]
+fn a_file_of_version_1_is_brought_to_3(rt: HostRuntime) -> Result<(), Fail> {
+    let mut conn = changed(rt.alloc(), FIRST)?;
+    assert_eq!(rt; fault(open(&mut conn)), 0);
+    for (query, shown) in &BROUGHT {
+        assert_eq!(rt; number(&mut conn, query)?, *shown, "{query}");
+    }
+    for meter in &["m1", "m2"] {
+        let query = format!(in rt.alloc(); "SELECT \"range\" FROM ranges WHERE meter = '{meter}'")?;
+        assert_eq!(rt; number(&mut conn, &query)?, 4_294_967_296);
+    }
+    assert_eq!(rt; number(&mut conn, "SELECT count(*) FROM ranges")?, 2);
+    assert_eq!(rt; fault(open(&mut conn)), 0);
+    Ok(())
+}
+
+#[test]
+fn a_file_of_version_2_is_brought_to_3(rt: HostRuntime) -> Result<(), Fail> {
+    let mut conn = changed(rt.alloc(), FIRST)?;
+    conn.execute_batch(SECOND)?;
+    assert_eq!(rt; fault(open(&mut conn)), 0);
+    for (query, shown) in &BROUGHT {
+        assert_eq!(rt; number(&mut conn, query)?, *shown, "{query}");
+    }
+    let kept = "SELECT \"range\" FROM ranges WHERE meter = 'm1'";
+    assert_eq!(rt; number(&mut conn, kept)?, 1_000_000);
+    assert_eq!(rt; number(&mut conn, "SELECT count(*) FROM ranges")?, 1);
+    assert_eq!(rt; fault(open(&mut conn)), 0);
+    Ok(())
+}

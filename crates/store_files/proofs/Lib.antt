@@ -1,0 +1,9 @@
+mod Grown
+mod Texts
+mod Writes
+mod Made
+mod Names
+mod Questions
+mod Ranges
+mod Brought
+mod Told

@@ -1,0 +1,97 @@
+-- What an opening makes of a file of an earlier version.
+use Rattle.std.specs.Prelude.{◌≡◌, ◌≢◌, ℕ, List, [], ◌∷◌, ◌++◌, map, Result, IsTrue, OnOk, OnErr}
+use Rattle.std.specs.List.Sorted.{IsPermutation}
+use Rattle.sqlite.specs.declared.types.Value.{Value}
+use Rattle.sqlite.specs.declared.types.Value.TheVariants.{Null, Int, Real, Text, Blob}
+use Rattle.sqlite.specs.Order.{Row, column}
+use Rattle.sqlite.specs.Effect.{Database}
+use Rattle.sqlite.specs.State.{State, KeepsCommit, Survives}
+use Rattle.store_tables.specs.Content.{Content, Edits, HasRows, AreTables, AreTablesIn}
+use Rattle.store_meters.specs.Rows.{Installed, installed_columns, Ranged, ranged_columns}
+use Rattle.store_meters.specs.Trees.{installations, ranges}
+use Rattle.store_files.specs.declared.layouts.Layout.{Layout}
+use Rattle.store_files.specs.declared.layouts.Layout.TheVariants.{First, Second, Third}
+use Rattle.store_files.specs.Layouts.{version_of, schema_of}
+use Rattle.store_files.specs.Meta.{meta, IsMarked}
+
+-- the number of its tree
+abbrev pub voids : ℕ
+voids = 20
+
+-- The database has the tables of this layout with these rows, tells its version, and this zone.
+pub record IsFile (layout : Layout) (zone : List ℕ) (db : Database) (held : Content) : Type 0 where
+  pub tables : AreTablesIn (schema_of layout) db held
+  pub marked : IsMarked (record { version = version_of layout; zone = zone }) held
+
+-- the counter of a meter of version 1 counts to 2^32
+abbrev pub full_range : Installed → Ranged
+full_range i = record { meter = i.meter; range = 4294967296 }
+
+-- a range for each installation, where there were none
+abbrev pub HasRanges : Layout → (held after : Content) → Type 0
+HasRanges First held after = (is : List Installed) → HasRows installations installed_columns is held → HasRows ranges ranged_columns (map full_range is) after
+HasRanges Second held after = after ranges ≡ held ranges
+HasRanges Third held after = after ranges ≡ held ranges
+
+-- no voids, where there was no table of them
+abbrev pub HasVoids : Layout → (held after : Content) → Type 0
+HasVoids First held after = after voids ≡ []
+HasVoids Second held after = after voids ≡ []
+HasVoids Third held after = after voids ≡ held voids
+
+-- Version 3 and the same zone. All else is as it was.
+pub record IsBrought (layout : Layout) (zone : List ℕ) (held after : Content) : Type 0 where
+  pub marked : IsMarked (record { version = 3; zone = zone }) after
+  pub with_ranges : HasRanges layout held after
+  pub with_voids : HasVoids layout held after
+  pub others : (t : ℕ) → t ≢ meta → t ≢ ranges → t ≢ voids → after t ≡ held t
+
+-- a file of this layout becomes one of version 3
+abbrev pub Brings : Layout → (zone : List ℕ) → Database → Database → Type 0
+Brings layout zone old new = (held : Content) → IsFile layout zone old held → (after : Content) × IsBrought layout zone held after × AreTables new after
+
+-- ---- the meters of a file of version 1, as a question shows them
+
+abbrev pub meter_shown : Installed → Row
+meter_shown i = Text i.meter ∷ []
+
+-- the text of a value, if it is one
+abbrev pub text_in : Value → List ℕ
+text_in Null = []
+text_in (Int n) = []
+text_in (Real x) = []
+text_in (Text t) = t
+text_in (Blob b) = []
+
+abbrev pub range_in : Row → Ranged
+range_in row = record { meter = text_in (column row 0); range = 4294967296 }
+
+-- a range for the meter of each row
+abbrev pub with_ranges : List Row → List Ranged → List Ranged
+with_ranges shown rs = map range_in shown ++ rs
+
+abbrev pub GivesRanges : List Row → Content → Content → Type 0
+GivesRanges shown = Edits ranges ranged_columns (with_ranges shown)
+
+-- ---- one opening
+
+-- what the statements of an opening of a file of version 1 do, where these rows show its meters
+abbrev pub BringsFirst : (shown : List Row) → Database → Database → Type 0
+BringsFirst shown old new =
+    (zone : List ℕ) (held : Content) → IsFile First zone old held → ((is : List Installed) → HasRows installations installed_columns is held → IsPermutation (map meter_shown is) shown)
+    → (after : Content) × IsBrought First zone held after × AreTables new after
+
+abbrev pub BringsSecond : Database → Database → Type 0
+BringsSecond old new = (zone : List ℕ) → Brings Second zone old new
+
+-- What an opening leaves of a connection to a file: the file of version 3, or what there was. A stop leaves one or the other.
+pub record OpensFile {X E : Type 0} (layout : Layout) (zone : List ℕ) (held : Content) (old new : State) (result : Result X E) : Type 0 where
+  pub ok : OnOk result (IsTrue new.is_open × (after : Content) × IsBrought layout zone held after × AreTables new.committed after)
+  pub err : OnErr result (KeepsCommit old new)
+  pub survives : Survives old new (λ trees. (after : Content) × IsBrought layout zone held after × (db : Database) × AreTables db after × (trees ≡ db.trees))
+
+-- an open connection to such a file, with nothing that waits for a commit
+pub record IsOpenTo (layout : Layout) (zone : List ℕ) (held : Content) (s : State) : Type 0 where
+  pub is_open : IsTrue s.is_open
+  pub settled : s.now ≡ s.committed
+  pub file : IsFile layout zone s.committed held

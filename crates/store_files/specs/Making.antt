@@ -1,0 +1,15 @@
+-- What the making of a file leaves.
+use Rattle.std.specs.Prelude.{◌≡◌, ◌≢◌, ℕ, List, []}
+use Rattle.sqlite.specs.Effect.{Database}
+use Rattle.store_tables.specs.Content.{Content, AreTables}
+use Rattle.store_files.specs.Layouts.{no_schema}
+use Rattle.store_files.specs.Meta.{meta, IsMarked}
+
+-- version 3 and this zone, and no other row
+pub record IsNew (zone : List ℕ) (held : Content) : Type 0 where
+  pub marked : IsMarked (record { version = 3; zone = zone }) held
+  pub empty : (t : ℕ) → t ≢ meta → held t ≡ []
+
+-- a database without tables becomes one with new tables
+abbrev pub Makes : (zone : List ℕ) → Database → Database → Type 0
+Makes zone old new = old.schema ≡ no_schema → (held : Content) × IsNew zone held × AreTables new held

@@ -1,0 +1,27 @@
+-- What the row of `meta` tells to whom opens the file, and what the finding of it leaves.
+use Rattle.std.specs.Prelude.{◌≡◌, ◌≢◌, ℕ, Result, OnOk, IfOk, IfErr, IsUtf8}
+use Rattle.sqlite.specs.State.{State, KeepsCommit, Survives, IsUnchanged}
+use Rattle.interval_core.specs.declared.zone.Zone.{Zone}
+use Rattle.interval_core.specs.Zone.{HasRule}
+use Rattle.store_tables.specs.Content.{Content}
+use Rattle.store_files.specs.declared.faults.OpenFault.{OpenFault}
+use Rattle.store_files.specs.declared.faults.OpenFault.TheVariants.{NotOurs, Zone as NoZone}
+use Rattle.store_files.specs.declared.layouts.Layout.{Layout}
+use Rattle.store_files.specs.Layouts.{version_of}
+use Rattle.store_files.specs.Meta.{Meta, IsMarked}
+use Rattle.store_files.specs.Zones.{IsZone}
+
+-- A file that tells another version is not opened, nor one whose zone is none. A file of this version is ours, and its zone is answered.
+pub record Tells (version : ℕ) (m : Meta) (result : Result Zone OpenFault) : Type 0 where
+  pub other : m.version ≢ version → OnOk result ⊥ × IfErr result (λ e. e ≢ NoZone)
+  pub ours : m.version ≡ version → IfErr result (λ e. e ≢ NotOurs)
+  pub zone : IfOk result (HasRule m.zone)
+  pub rule : IsUtf8 m.zone → IsZone m.zone → IfErr result (λ e. e ≢ NoZone)
+  pub none : (IsZone m.zone → ⊥) → OnOk result ⊥
+
+-- The zone is asked for where the tables are those of this layout. The question changes nothing and commits nothing.
+pub record FindsZone (layout : Layout) (held : Content) (old new : State) (result : Result Zone OpenFault) : Type 0 where
+  pub kept : KeepsCommit old new
+  pub unchanged : OnOk result (IsUnchanged old new)
+  pub survives : Survives old new (λ _. ⊥)
+  pub told : (m : Meta) → IsMarked m held → Tells (version_of layout) m result

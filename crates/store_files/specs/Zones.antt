@@ -1,0 +1,7 @@
+-- The texts that are zones.
+use Rattle.std.specs.Prelude.{◌≤◌, ℕ, List, length, IsSome}
+use Rattle.jiff_tz.specs.PosixReader.{read_whole}
+
+-- a POSIX rule of at most 64 bytes
+abbrev pub IsZone : List ℕ → Type 0
+IsZone text = IsSome (read_whole text) × (length text ≤ 64)

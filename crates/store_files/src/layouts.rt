@@ -1,0 +1,79 @@
+//! Which tables a file of the books has, by its version.
+ghost use Rattle.std.specs.Prelude.{◌≡◌, ◌≢◌, ◌↔◌, map, IsTrue, IfSome, IfNone};
+ghost use Rattle.sqlite.specs.Table.{Table};
+ghost use Rattle.store_files.specs.declared.layouts.Layout.{Layout};
+ghost use Rattle.store_files.specs.Layouts.{version_of, IsNamedAs};
+
+use sqlite_schema::schema::{Schema, Table};
+
+/// The layout of a file: version 1 has no ranges and no voids, version 2 has ranges, and version 3 all tables.
+#[derive(Clone, Copy, Debug, PartialEq, Eq)]
+pub enum Layout {
+    First,
+    Second,
+    Third,
+}
+
+impl Layout {
+    /// The version that the file tells of itself.
+    pub fn version(self) -> u64
+        ensures { result ≡ version_of self }
+    {
+        match self {
+            Layout::First => 1,
+            Layout::Second => 2,
+            Layout::Third => 3,
+        }
+    }
+}
+
+/// The tables of version 3, in the order in which they are made.
+const NAMES: [&str; 13] = [
+    "meta",
+    "devices",
+    "points",
+    "registers",
+    "installations",
+    "entries",
+    "polls",
+    "holds",
+    "outcomes",
+    "intervals",
+    "replies",
+    "ranges",
+    "voids",
+];
+
+/// Whether the tables have these names, in this order.
+fn are_named(tables: &[Table], names: &[&str]) -> bool
+    ensures { IsTrue result ↔ (map (λ (t : Table). t.name) tables.now
+        ≡ map (λ name. name.now) names.now) }
+{
+    if tables.len() != names.len() {
+        return false;
+    }
+    for (at, table) in tables.iter().enumerate() {
+        if table.name.as_slice() != names[at].as_bytes() {
+            return false;
+        }
+    }
+    true
+}
+
+/// The layout whose tables these are, by their names.
+pub fn layout_of(schema: &Schema) -> Option<Layout>
+    ensures found { IfSome result (IsNamedAs schema.now) }
+    ensures none { IfNone result ((layout : Layout) → ¬ IsNamedAs schema.now layout) }
+{
+    let tables = schema.tables.as_slice();
+    if are_named(tables, &NAMES) {
+        return Some(Layout::Third);
+    }
+    if are_named(tables, &NAMES[..12]) {
+        return Some(Layout::Second);
+    }
+    if are_named(tables, &NAMES[..11]) {
+        return Some(Layout::First);
+    }
+    None
+}

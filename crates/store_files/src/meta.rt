@@ -1,0 +1,34 @@
+//! The table `meta`.
+ghost use Rattle.std.specs.Prelude.{◌≡◌, ◌≤◌, [], ◌∷◌, IfOk};
+ghost use Rattle.sqlite.specs.Held.{state};
+ghost use Rattle.sqlite.specs.State.{HasCleanDisk};
+ghost use Rattle.store_tables.specs.Content.{Content, Edits, AreTablesIn, with_row, changed_where};
+ghost use Rattle.store_tables.specs.Steps.{Steps};
+ghost use Rattle.store_tables.specs.Answer.{every};
+ghost use Rattle.store_files.specs.declared.layouts.Layout.{Layout as TheLayout};
+ghost use Rattle.store_files.specs.Layouts.{schema_of};
+ghost use Rattle.store_files.specs.Meta.{meta, Meta, meta_columns, meta_shown, with_version};
+ghost use Rattle.store_files.specs.Meta.{IsMarked};
+
+use sqlite::{Alter, Connection, Error, Row, Transaction, params};
+
+/// Marks new tables as those of version 3, with this zone.
+pub(crate) fn insert_meta<S: Alter>(tx: &mut Transaction<'_, S>, zone: &str) -> Result<usize, Error>
+    ensures same_reference { tx.new.conn.ghost_name ≡ tx.old.conn.ghost_name }
+    ensures does { Steps (state S.Store tx.old.conn.now) (state S.Store tx.new.conn.now) result
+        (Edits meta meta_columns (with_row (record { version = 3; zone = zone.now }))) }
+{
+    tx.execute(
+        "INSERT INTO meta (id, version, zone) VALUES (1, 3, ?1)",
+        params![zone],
+    )
+}
+
+/// Marks the tables as those of version 3.
+pub(crate) fn set_version<S: Alter>(tx: &mut Transaction<'_, S>) -> Result<usize, Error>
+    ensures same_reference { tx.new.conn.ghost_name ≡ tx.old.conn.ghost_name }
+    ensures does { Steps (state S.Store tx.old.conn.now) (state S.Store tx.new.conn.now) result
+        (Edits meta meta_columns (changed_where every (with_version 3))) }
+{
+    tx.execute("UPDATE meta SET version = 3", &[])
+}

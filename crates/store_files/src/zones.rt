@@ -1,0 +1,19 @@
+//! The zone of the books' days.
+ghost use Rattle.std.specs.Prelude.{◌≡◌, ◌↔◌, IsOk, IfOk, IfErr};
+ghost use Rattle.interval_core.specs.Zone.{HasRule};
+ghost use Rattle.store_files.specs.Zones.{IsZone};
+
+use crate::faults::OpenFault;
+use interval_core::Zone;
+
+/// The zone that a text spells.
+pub(crate) fn zone_of(text: &str) -> Result<Zone, OpenFault>
+    ensures read { IsOk result ↔ IsZone text.now }
+    ensures value { IfOk result (HasRule text.now) }
+    ensures fault { IfErr result (λ fault. fault ≡ OpenFault.Zone) }
+{
+    match Zone::read(text) {
+        Ok(zone) => Ok(zone),
+        Err(_) => Err(OpenFault::Zone),
+    }
+}
