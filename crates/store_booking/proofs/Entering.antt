@@ -1,0 +1,99 @@
+-- Rows that are entered, and the facts that they record.
+use Rattle.std.proofs.Common.{◌≡◌, ℕ, List, refl, subst}
+use Rattle.office_events.specs.declared.facts.Device.{Device}
+use Rattle.office_events.specs.declared.facts.Register.{Register}
+use Rattle.office_events.specs.declared.facts.HeldReading.{HeldReading}
+use Rattle.office_events.specs.declared.facts.Poll.{Poll}
+use Rattle.office_events.specs.declared.facts.EndedPoll.{EndedPoll}
+use Rattle.office_events.specs.declared.facts.Reply.{Reply}
+use Rattle.office_events.specs.declared.facts.Fact.TheVariants as fact
+use Rattle.office_laws.specs.Steps.{HoldsChangeNothing}
+use Rattle.store_tables.specs.Answer.{every}
+use Rattle.store_tables.specs.Content.{Content, Edits, with_row}
+use Rattle.store_lists.specs.Trees as list_tree
+use Rattle.store_lists.specs.declared.rows.DeviceRow.{DeviceRow}
+use Rattle.store_lists.specs.declared.rows.RegisterRow.{RegisterRow}
+use Rattle.store_lists.specs.Rows.{Added, Registered, device_columns, device_place, register_columns, register_place}
+use Rattle.store_polls.specs.Trees as poll_tree
+use Rattle.store_polls.specs.declared.rows.PollRow.{PollRow}
+use Rattle.store_polls.specs.declared.rows.OutcomeRow.{OutcomeRow}
+use Rattle.store_polls.specs.declared.rows.HoldRow.{HoldRow}
+use Rattle.store_polls.specs.declared.rows.ReplyKind.{ReplyKind}
+use Rattle.store_polls.specs.Rows.{Started, Held, Kept, poll_columns, outcome_columns, hold_columns, hold_place, reply_columns}
+use Rattle.store_facts.specs.Rows.{added, registered, started, outcome_row, held_row, reply_kind, kept}
+use Rattle.store_facts.specs.Recording.{Records, IsNext}
+use Rattle.store_facts.proofs.Recorded.{device_recorded, register_recorded, poll_recorded, outcome_recorded, reply_recorded}
+use Rattle.store_facts.proofs.Held.{hold_recorded}
+
+-- ---- devices
+
+abbrev pub AddsDevice : (name : List ℕ) → DeviceRow → Content → Content → Type 0
+AddsDevice name row = Edits list_tree.devices device_columns (with_row (let d : Added = record { name = name; row = row } in d))
+
+abbrev pub IsNextDevice : ℕ → Content → Content → Type 0
+IsNextDevice = IsNext list_tree.devices device_columns every device_place
+
+pub device_entered : (device : Device) (place : ℕ) (name : List ℕ) (row : DeviceRow) → name ≡ device.name → row ≡ (added place device).row
+    → (before mid after : Content) → IsNextDevice place before mid → AddsDevice name row mid after → Records (fact.Device device) before after
+device_entered device place name row name_is row_is before mid after next adds =
+    let is : (let d : Added = record { name = name; row = row } in d) ≡ added place device = λ i. record { name = name_is i; row = row_is i } in
+    device_recorded device place before after next.behind
+    (subst (λ (d : Added). Edits list_tree.devices device_columns (with_row d) before after) is (subst (λ held. AddsDevice name row held after) next.same adds))
+
+-- ---- registers
+
+abbrev pub AddsRegister : (name device : List ℕ) → RegisterRow → Content → Content → Type 0
+AddsRegister name device row = Edits list_tree.registers register_columns (with_row (let r : Registered = record { name = name; device = device; row = row } in r))
+
+abbrev pub IsNextRegister : ℕ → Content → Content → Type 0
+IsNextRegister = IsNext list_tree.registers register_columns every register_place
+
+pub register_entered : (register : Register) (place : ℕ) (name device : List ℕ) (row : RegisterRow) → name ≡ register.name → device ≡ register.device → row ≡ (registered place register).row
+    → (before mid after : Content) → IsNextRegister place before mid → AddsRegister name device row mid after → Records (fact.Register register) before after
+register_entered register place name device row name_is device_is row_is before mid after next adds =
+    let is : (let r : Registered = record { name = name; device = device; row = row } in r) ≡ registered place register = λ i. record { name = name_is i; device = device_is i; row = row_is i } in
+    register_recorded register place before after next.behind
+    (subst (λ (r : Registered). Edits list_tree.registers register_columns (with_row r) before after) is (subst (λ held. AddsRegister name device row held after) next.same adds))
+
+-- ---- polls
+
+abbrev pub AddsPoll : (device : List ℕ) → PollRow → Content → Content → Type 0
+AddsPoll device row = Edits poll_tree.polls poll_columns (with_row (let p : Started = record { device = device; row = row } in p))
+
+pub poll_entered : (poll : Poll) (device : List ℕ) (row : PollRow) → device ≡ poll.device → row ≡ (started poll).row
+    → (held after : Content) → AddsPoll device row held after → Records (fact.Poll poll) held after
+poll_entered poll device row device_is row_is held after adds =
+    let is : (let p : Started = record { device = device; row = row } in p) ≡ started poll = λ i. record { device = device_is i; row = row_is i } in
+    poll_recorded poll held after (subst (λ (p : Started). Edits poll_tree.polls poll_columns (with_row p) held after) is adds)
+
+abbrev pub AddsOutcome : OutcomeRow → Content → Content → Type 0
+AddsOutcome row = Edits poll_tree.outcomes outcome_columns (with_row row)
+
+pub outcome_entered : (ended : EndedPoll) (row : OutcomeRow) → row ≡ outcome_row ended → (held after : Content) → AddsOutcome row held after → Records (fact.Outcome ended) held after
+outcome_entered ended row is held after adds = outcome_recorded ended held after (subst (λ (o : OutcomeRow). Edits poll_tree.outcomes outcome_columns (with_row o) held after) is adds)
+
+abbrev pub AddsHold : (meter : List ℕ) → HoldRow → Content → Content → Type 0
+AddsHold meter row = Edits poll_tree.holds hold_columns (with_row (let h : Held = record { meter = meter; row = row } in h))
+
+abbrev pub IsNextHold : ℕ → Content → Content → Type 0
+IsNextHold = IsNext poll_tree.holds hold_columns every hold_place
+
+pub hold_entered : HoldsChangeNothing → (held : HeldReading) (place : ℕ) (meter : List ℕ) (row : HoldRow) → meter ≡ held.meter → row ≡ (held_row place held).row
+    → (before mid after : Content) → IsNextHold place before mid → AddsHold meter row mid after → Records (fact.Hold held) before after
+hold_entered law held place meter row meter_is row_is before mid after next adds =
+    let is : (let h : Held = record { meter = meter; row = row } in h) ≡ held_row place held = λ i. record { meter = meter_is i; row = row_is i } in
+    hold_recorded law held place before after next.behind
+    (subst (λ (h : Held). Edits poll_tree.holds hold_columns (with_row h) before after) is (subst (λ content. AddsHold meter row content after) next.same adds))
+
+-- ---- replies
+
+abbrev pub AddsReply : (caller : List ℕ) → (number : ℕ) → (request : List ℕ) → ReplyKind → (moment : ℕ) → Content → Content → Type 0
+AddsReply caller number request kind moment =
+    Edits poll_tree.replies reply_columns (with_row (let k : Kept = record { caller = caller; number = number; request = request; kind = kind; moment = moment } in k))
+
+pub reply_entered : (reply : Reply) (caller request : List ℕ) (kind : ReplyKind) → caller ≡ reply.caller → request ≡ reply.request → kind ≡ reply_kind reply.kind
+    → (held after : Content) → AddsReply caller reply.number request kind reply.at held after → Records (fact.Reply reply) held after
+reply_entered reply caller request kind caller_is request_is kind_is held after adds =
+    let is : (let k : Kept = record { caller = caller; number = reply.number; request = request; kind = kind; moment = reply.at } in k) ≡ kept reply =
+    λ i. record { caller = caller_is i; number = reply.number; request = request_is i; kind = kind_is i; moment = reply.at } in
+    reply_recorded reply held after (subst (λ (k : Kept). Edits poll_tree.replies reply_columns (with_row k) held after) is adds)

@@ -1,0 +1,4 @@
+pub mod Leaving
+pub mod Behind
+pub mod Entering
+pub mod Installing

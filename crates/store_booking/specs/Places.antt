@@ -1,0 +1,29 @@
+-- The place behind the last row, as a query shows that.
+use Rattle.std.specs.Prelude.{ℕ, ◌+◌, nat_le, List, Option, Some, None, Result, Ok, Err, ⊤, if◌then◌else◌}
+use Rattle.std.specs.List.{slice_get}
+use Rattle.sqlite.specs.Order.{Row, column}
+use Rattle.store_tables.specs.declared.faults.RowFault.{RowFault}
+use Rattle.store_tables.specs.declared.faults.RowFault.TheVariants.{Damaged}
+use Rattle.store_tables.specs.Columns.{whole_in, or_damaged, and_then}
+use Rattle.store_tables.specs.Content.{Content}
+use Rattle.store_tables.specs.Limits.{greatest_place}
+
+-- one place on, unless it is the last that there is
+abbrev pub one_on : ℕ → Result ℕ RowFault
+one_on place = if nat_le greatest_place place then Err Damaged else Ok (place + 1)
+
+abbrev pub place_behind : Row → Result ℕ RowFault
+place_behind row = and_then (or_damaged (whole_in 1 greatest_place (column row 0))) one_on
+
+-- the place behind the row that is shown, and 1 where none is
+abbrev pub place_after : Option Row → Result ℕ RowFault
+place_after None = Ok 1
+place_after (Some row) = place_behind row
+
+abbrev pub next_in : List Row → Result ℕ RowFault
+next_in rows = place_after (slice_get rows 0)
+
+-- what is made of the tables goes with the answer
+abbrev pub Answered : {X E : Type 0} → Result X E → (X → Content → Content → Type 0) → Content → Content → Type 0
+Answered (Ok x) Makes = Makes x
+Answered (Err e) Makes = λ held after. ⊤

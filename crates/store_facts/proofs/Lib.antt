@@ -1,0 +1,11 @@
+pub mod GoingLemmas
+pub mod Placed
+pub mod Passing
+pub mod Booked
+pub mod Recorded
+pub mod Energy
+pub mod Entered
+pub mod Held
+pub mod EntryRecorded
+pub mod Opened
+pub mod Listed

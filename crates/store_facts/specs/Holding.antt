@@ -1,0 +1,46 @@
+-- Which facts a connection holds, and which of them a stop leaves.
+use Rattle.std.specs.Prelude.{◌≡◌, ◌⊎◌, ℕ, false, List, [], ◌∷◌, IsTrue}
+use Rattle.sqlite.specs.Tree.{Trees}
+use Rattle.sqlite.specs.Effect.{Database}
+use Rattle.sqlite.specs.Store.{Ghosts}
+use Rattle.sqlite.specs.Held.{Held, state}
+use Rattle.sqlite.specs.State.{HasCleanDisk, KeepsCommit}
+use Rattle.office_events.specs.declared.facts.Fact.{Fact}
+use Rattle.store_tables.specs.Content.{Content, AreTables}
+use Rattle.store_facts.specs.Tables.{AreOf}
+
+-- A database has the tables of these facts.
+pub record HasFacts (zone : List ℕ) (facts : List Fact) (db : Database) : Type 0 where
+  pub held : Content
+  pub tables : AreTables db held
+  pub are : AreOf zone facts held
+
+abbrev pub IsOneOf : List (List Fact) → List Fact → Type 0
+IsOneOf [] facts = ⊥
+IsOneOf (one ∷ left) facts = (facts ≡ one) ⊎ IsOneOf left facts
+
+-- the database of one of these, with these trees
+pub record IsLeft (zone : List ℕ) (left : List (List Fact)) (trees : Trees) : Type 0 where
+  pub facts : List Fact
+  pub one : IsOneOf left facts
+  pub db : Database
+  pub has : HasFacts zone facts db
+  pub same : trees ≡ db.trees
+
+module _ {S : Type 0} (g : Ghosts S) (zone : List ℕ) where
+  -- While the connection is open and its store gave back what was written, the last commit has the tables of these facts.
+  unfoldable pub HoldsFacts : Held S → List Fact → Type 0
+  HoldsFacts h facts =
+      HasCleanDisk (state g h) → IsTrue (state g h).is_open → HasFacts zone facts (state g h).committed
+
+  -- Whatever a stop leaves now has the tables of one of these lists.
+  unfoldable pub LeavesFacts : Held S → List (List Fact) → Type 0
+  LeavesFacts h left = HasCleanDisk (state g h) → (trees : Trees) → (state g h).may_leave trees → IsLeft zone left trees
+
+  -- A look-up outside a transaction commits nothing, and a stop leaves what it left.
+  pub record OnlyLooks (old new : Held S) : Type 0 where
+    pub clean : HasCleanDisk (state g new) → HasCleanDisk (state g old)
+    pub mode : old.in_transaction ≡ false → new.in_transaction ≡ false
+    pub kept : (facts : List Fact) → HoldsFacts old facts → HasCleanDisk (state g new) → KeepsCommit (state g old) (state g new)
+    pub left : (facts : List Fact) → HoldsFacts old facts → HasCleanDisk (state g new)
+        → (trees : Trees) → (state g new).may_leave trees → (state g old).may_leave trees

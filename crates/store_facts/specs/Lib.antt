@@ -1,0 +1,5 @@
+pub mod Rows
+pub mod Tables
+pub mod Holding
+pub mod Going
+pub mod Recording

@@ -1,0 +1,249 @@
+-- The rows that the tables have for facts.
+use Rattle.std.specs.Prelude.{ℕ, ℤ, ◌+◌, ◌≤◌, IsTrue, false, List, [], ◌∷◌, length, Option, Some, None}
+use Rattle.std.specs.List.{find}
+use Rattle.mb_wire.specs.declared.span.ReadFunction.{ReadFunction}
+use Rattle.mb_wire.specs.declared.span.ReadFunction.TheVariants.{HoldingRegisters, InputRegisters}
+use Rattle.energy_core.specs.declared.entries.Entry.{Entry}
+use Rattle.energy_core.specs.declared.entries.Entry.TheVariants as entry
+use Rattle.energy_core.specs.Account.{moment_of, last_of}
+use Rattle.interval_core.specs.declared.shares.Share.{Share}
+use Rattle.meter_journal.specs.Journal.{entries_in}
+use Rattle.meter_journal.specs.declared.lines.EntryRow as journal
+use Rattle.meter_journal.specs.declared.lines.EntryKind as journal_kind
+use Rattle.meter_journal.specs.declared.lines.EntryKind.TheVariants as from
+use Rattle.point_list.specs.declared.point.ListedPoint.{ListedPoint}
+use Rattle.point_list.specs.declared.point.RegisterTable.{RegisterTable}
+use Rattle.point_list.specs.declared.point.RegisterTable.TheVariants.{Holding, Input}
+use Rattle.point_list.specs.Written.{type_text, scale_text}
+use Rattle.office_events.specs.declared.answers.CommandKind.{CommandKind}
+use Rattle.office_events.specs.declared.answers.CommandKind.TheVariants as command
+use Rattle.office_events.specs.declared.facts.Device.{Device}
+use Rattle.office_events.specs.declared.facts.DeviceList.{DeviceList}
+use Rattle.office_events.specs.declared.facts.Register.{Register}
+use Rattle.office_events.specs.declared.facts.ScaleSource.{ScaleSource}
+use Rattle.office_events.specs.declared.facts.ScaleSource.TheVariants as source
+use Rattle.office_events.specs.declared.facts.Opening.{Opening}
+use Rattle.office_events.specs.declared.facts.HeldReading.{HeldReading}
+use Rattle.office_events.specs.declared.facts.VoidedEntry.{VoidedEntry}
+use Rattle.office_events.specs.declared.facts.Poll.{Poll}
+use Rattle.office_events.specs.declared.facts.EndedPoll.{EndedPoll}
+use Rattle.office_events.specs.declared.facts.Reply.{Reply}
+use Rattle.office_events.specs.declared.facts.Fact.{Fact}
+use Rattle.office_events.specs.declared.questions.Installation.{Installation}
+use Rattle.office_rules.specs.Facts.{same, lists_in, opening_of}
+use Rattle.office_rules.specs.Meters.{opened, rows_of, installation_of}
+use Rattle.store_tables.specs.Columns.{is_within}
+use Rattle.store_tables.specs.Limits.{latest_moment}
+use Rattle.store_lists.specs.declared.rows.RegisterScale.{RegisterScale}
+use Rattle.store_lists.specs.declared.rows.RegisterScale.TheVariants as scale
+use Rattle.store_lists.specs.Rows.{Added, Listed, Registered}
+use Rattle.store_meters.specs.declared.rows.LastRow.{LastRow}
+use Rattle.store_meters.specs.Rows.{Installed, Ranged, IsRange, greatest_ceiling}
+use Rattle.store_entries.specs.declared.rows.EntryRow.{EntryRow}
+use Rattle.store_entries.specs.declared.rows.EntryKind.{EntryKind}
+use Rattle.store_entries.specs.declared.rows.EntryKind.TheVariants as kind
+use Rattle.store_entries.specs.Rows.{Entered, Voided}
+use Rattle.store_intervals.specs.Rows.{Interval}
+use Rattle.store_polls.specs.declared.rows.OutcomeRow.{OutcomeRow}
+use Rattle.store_polls.specs.declared.rows.ReplyKind.{ReplyKind}
+use Rattle.store_polls.specs.declared.rows.ReplyKind.TheVariants as reply
+use Rattle.store_polls.specs.Rows.{Started, Held, Kept}
+
+-- Of a list, the latest first, each has its place, which counts from 1.
+abbrev pub placed : {X Y : Type 0} → (row : ℕ → X → Y) → List X → List Y
+placed row [] = []
+placed row (x ∷ xs) = row (length xs + 1) x ∷ placed row xs
+
+-- Of a list in its order the same, so many standing before it.
+abbrev pub placed_on : {X Y : Type 0} → (row : ℕ → X → Y) → (before : ℕ) → List X → List Y
+placed_on row before [] = []
+placed_on row before (x ∷ xs) = row (before + 1) x ∷ placed_on row (before + 1) xs
+
+-- ---- devices, their lists and their registers
+
+abbrev pub added : (place : ℕ) → Device → Added
+added place device = record {
+  name = device.name;
+  row = record { place = place; unit = device.unit; timeout = device.timeout; window = device.window };
+}
+
+-- the function that reads the registers of a table
+abbrev pub function_of : RegisterTable → ReadFunction
+function_of Holding = HoldingRegisters
+function_of Input = InputRegisters
+
+abbrev pub listed : (device : List ℕ) → (place : ℕ) → ListedPoint → Listed
+listed device place point = record {
+  device = device;
+  name = point.name;
+  kind = type_text point.kind;
+  scale = scale_text point.scale;
+  row = record { place = place; function = function_of point.table; area = point.area; address = point.address };
+}
+
+-- the points that were put last for a device, in order
+abbrev pub points_put : Option DeviceList → List ListedPoint
+points_put None = []
+points_put (Some put) = put.list.points
+
+abbrev pub points_of : List Fact → (device : List ℕ) → List ListedPoint
+points_of facts device = points_put (find (λ put. same put.device device) (lists_in facts))
+
+abbrev pub scale_as : ScaleSource → RegisterScale
+scale_as (source.Fixed sf) = scale.Fixed sf
+scale_as (source.Register address) = scale.At address
+
+abbrev pub registered : (place : ℕ) → Register → Registered
+registered place register = record {
+  name = register.name;
+  device = register.device;
+  row = record { place = place; function = register.function; address = register.address; scale = scale_as register.scale };
+}
+
+-- ---- meters
+
+-- an installation where it was opened
+abbrev pub begun : Opening → Installation
+begun opening = record { opening = opening; last = opened opening; total = 0; ended = false }
+
+-- where an installation stands
+abbrev pub last_row : Installation → LastRow
+last_row row = record { moment = row.last.at; raw = row.last.raw; sf = row.last.sf; total = row.total }
+
+abbrev pub installed_as : (place : ℕ) → Installation → Installed
+installed_as place row = record {
+  meter = row.opening.meter;
+  register = row.opening.register;
+  row = record { place = place; ceiling = row.opening.ceiling; is_ended = row.ended; last = last_row row };
+}
+
+abbrev pub installed_row : List Fact → (place : ℕ) → Opening → Installed
+installed_row facts place opening = installed_as place (installation_of facts opening)
+
+-- the tables can have its numbers
+pub record IsSoundOpening (opening : Opening) : Type 0 where
+  pub ceiling : (1 ≤ opening.ceiling) × (opening.ceiling ≤ greatest_ceiling)
+  pub range : IsRange opening.range
+  pub moment : opening.at ≤ latest_moment
+  pub sf : IsTrue (is_within 3 opening.sf)
+
+abbrev pub ranged : Opening → Ranged
+ranged opening = record { meter = opening.meter; range = opening.range }
+
+-- ---- entries: the opening has the place 1
+
+abbrev pub kind_as : journal_kind.EntryKind → EntryKind
+kind_as from.Reading = kind.Reading
+kind_as from.Manual = kind.Manual
+kind_as from.Closing = kind.Closing
+kind_as from.Reset = kind.Reset
+kind_as from.Rescale = kind.Rescale
+
+abbrev pub raw_of : Entry → ℕ
+raw_of (entry.Step at raw rolls) = raw
+raw_of (entry.Change at before after sf) = before
+
+abbrev pub rolls_of : Entry → ℕ
+rolls_of (entry.Step at raw rolls) = rolls
+rolls_of (entry.Change at before after sf) = 0
+
+abbrev pub after_of : Entry → ℕ
+after_of (entry.Step at raw rolls) = 0
+after_of (entry.Change at before after sf) = after
+
+-- an entry, and the scale behind it
+abbrev pub entry_row : (sf : ℤ) → journal.EntryRow → EntryRow
+entry_row sf row = record {
+  place = row.place;
+  kind = kind_as row.kind;
+  moment = moment_of row.entry;
+  raw = raw_of row.entry;
+  rolls = rolls_of row.entry;
+  after = after_of row.entry;
+  sf = sf;
+}
+
+abbrev pub opening_row : Opening → EntryRow
+opening_row opening =
+    record { place = 1; kind = kind.Opening; moment = opening.at; raw = opening.raw; rolls = 0; after = 0; sf = opening.sf }
+
+abbrev pub entered : (meter : List ℕ) → EntryRow → Entered
+entered meter row = record { meter = meter; entry = row }
+
+-- the scale behind the entries that stand
+abbrev pub scale_behind : Opening → List journal.EntryRow → ℤ
+scale_behind opening rows = (last_of (opened opening) (entries_in rows)).sf
+
+-- The opening and these rows after it, each with the scale behind it, the latest first.
+abbrev pub entered_rows : Opening → List journal.EntryRow → List Entered
+entered_rows opening [] = entered opening.meter (opening_row opening) ∷ []
+entered_rows opening (row ∷ rows) =
+    entered opening.meter (entry_row (scale_behind opening (row ∷ rows)) row) ∷ entered_rows opening rows
+
+-- the entries of a meter
+abbrev pub entries_at : List Fact → Option Opening → List Entered
+entries_at facts None = []
+entries_at facts (Some opening) = entered_rows opening (rows_of facts opening)
+
+abbrev pub entries_of : List Fact → (meter : List ℕ) → List Entered
+entries_of facts meter = entries_at facts (opening_of facts meter)
+
+abbrev pub voided : VoidedEntry → Voided
+voided void = record { meter = void.meter; place = void.place; moment = void.at }
+
+abbrev pub interval_of : (meter : List ℕ) → Share → Interval
+interval_of meter share = record { meter = meter; share = share }
+
+-- ---- polls and replies
+
+abbrev pub started : Poll → Started
+started poll = record {
+  device = poll.device;
+  row = record {
+    number = poll.number;
+    unit = poll.unit;
+    started = poll.at;
+    id = poll.id;
+    function = poll.span.function;
+    address = poll.span.address;
+    count = poll.span.count;
+  };
+}
+
+abbrev pub outcome_row : EndedPoll → OutcomeRow
+outcome_row ended = record { poll = ended.poll; moment = ended.at; outcome = ended.outcome }
+
+abbrev pub held_row : (place : ℕ) → HeldReading → Held
+held_row place reading = record {
+  meter = reading.meter;
+  row = record {
+    place = place;
+    poll = reading.poll;
+    moment = reading.at;
+    raw = reading.raw;
+    sf = reading.sf;
+    cause = reading.cause;
+  };
+}
+
+abbrev pub reply_kind : CommandKind → ReplyKind
+reply_kind command.Device = reply.Device
+reply_kind command.List = reply.List
+reply_kind command.Register = reply.Register
+reply_kind command.Install = reply.Install
+reply_kind command.Exchange = reply.Exchange
+reply_kind command.Reset = reply.Reset
+reply_kind command.Rescale = reply.Rescale
+reply_kind command.Manual = reply.Manual
+reply_kind command.Close = reply.Close
+reply_kind command.Void = reply.Void
+reply_kind command.Start = reply.Start
+
+abbrev pub kept : Reply → Kept
+kept given = record {
+  caller = given.caller;
+  number = given.number;
+  request = given.request;
+  kind = reply_kind given.kind;
+  moment = given.at;
+}

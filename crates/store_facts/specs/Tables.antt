@@ -1,0 +1,66 @@
+-- When tables are those of facts.
+use Rattle.std.specs.Prelude.{ℕ, pos, List, [], ◌∷◌, map}
+use Rattle.std.specs.List.{filter}
+use Rattle.std.specs.List.Sorted.{IsPermutation}
+use Rattle.sqlite.specs.declared.types.Value.TheVariants.{Null, Int, Text}
+use Rattle.sqlite.specs.Order.{Row}
+use Rattle.office_events.specs.declared.facts.Fact.{Fact}
+use Rattle.office_rules.specs.Facts.{devices_in, registers_in, openings_in, holds_in, voids_in, replies_in, polls_in, ended_in}
+use Rattle.office_rules.specs.Intervals.{rows_of_meter}
+use Rattle.office_rules.specs.Lawful.{AreLawful}
+use Rattle.store_tables.specs.Content.{Content, HasRows}
+use Rattle.store_lists.specs.Trees as list_tree
+use Rattle.store_lists.specs.Rows.{Listed, device_columns, point_columns, register_columns, is_point_of}
+use Rattle.store_meters.specs.Trees as meter_tree
+use Rattle.store_meters.specs.Rows.{installed_columns, ranged_columns}
+use Rattle.store_entries.specs.Trees as entry_tree
+use Rattle.store_entries.specs.Rows.{Entered, entry_columns, voided_columns, is_of as is_entry_of}
+use Rattle.store_intervals.specs.Trees as interval_tree
+use Rattle.store_intervals.specs.Rows.{Interval, interval_columns, is_of as is_interval_of}
+use Rattle.store_polls.specs.Trees as poll_tree
+use Rattle.store_polls.specs.Rows.{poll_columns, outcome_columns, hold_columns, reply_columns}
+use Rattle.store_facts.specs.Rows.{placed, placed_on, added, listed, points_of, registered, installed_row, ranged, entries_of, voided, interval_of, started, outcome_row, held_row, kept}
+
+-- the table `meta` has one row: the version of the tables, and the zone of the civil days
+abbrev pub meta_tree : ℕ
+meta_tree = 0
+
+abbrev pub meta_columns : (zone : List ℕ) → Row
+meta_columns zone = Int (pos 1) ∷ Null ∷ Int (pos 3) ∷ Text zone ∷ []
+
+-- The points of each device are those of its latest list, in order.
+pub record ArePoints (facts : List Fact) (held : Content) : Type 0 where
+  pub rows : List Listed
+  pub there : HasRows list_tree.points point_columns rows held
+  pub each : (device : List ℕ)
+      → IsPermutation (filter (is_point_of device) rows) (placed_on (listed device) 0 (points_of facts device))
+
+-- The entries of each meter are its opening and what came after.
+pub record AreEntries (facts : List Fact) (held : Content) : Type 0 where
+  pub rows : List Entered
+  pub there : HasRows entry_tree.entries entry_columns rows held
+  pub each : (meter : List ℕ) → IsPermutation (filter (is_entry_of meter) rows) (entries_of facts meter)
+
+-- The rows of each meter have the energy of its intervals.
+pub record AreIntervals (facts : List Fact) (held : Content) : Type 0 where
+  pub rows : List Interval
+  pub there : HasRows interval_tree.intervals interval_columns rows held
+  pub each : (meter : List ℕ)
+      → IsPermutation (filter (is_interval_of meter) rows) (map (interval_of meter) (rows_of_meter facts meter))
+
+-- The tables have the rows of these lawful facts, the latest first, and name this zone.
+pub record AreOf (zone : List ℕ) (facts : List Fact) (held : Content) : Type 0 where
+  pub lawful : AreLawful facts
+  pub meta : HasRows meta_tree meta_columns (zone ∷ []) held
+  pub devices : HasRows list_tree.devices device_columns (placed added (devices_in facts)) held
+  pub points : ArePoints facts held
+  pub registers : HasRows list_tree.registers register_columns (placed registered (registers_in facts)) held
+  pub installations : HasRows meter_tree.installations installed_columns (placed (installed_row facts) (openings_in facts)) held
+  pub ranges : HasRows meter_tree.ranges ranged_columns (map ranged (openings_in facts)) held
+  pub entries : AreEntries facts held
+  pub voids : HasRows entry_tree.voids voided_columns (map voided (voids_in facts)) held
+  pub polls : HasRows poll_tree.polls poll_columns (map started (polls_in facts)) held
+  pub holds : HasRows poll_tree.holds hold_columns (placed held_row (holds_in facts)) held
+  pub outcomes : HasRows poll_tree.outcomes outcome_columns (map outcome_row (ended_in facts)) held
+  pub intervals : AreIntervals facts held
+  pub replies : HasRows poll_tree.replies reply_columns (map kept (replies_in facts)) held

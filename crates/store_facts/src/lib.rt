@@ -1,0 +1,11 @@
+//! The facts of the office in the tables of the books: which rows stand for which facts.
+#![tactic(auto)]
+
+mod names;
+mod rows;
+
+pub use names::text;
+pub use rows::{
+    begun_row, device_row, entry_row, hold_row, is_sound_opening, last_row, opening_row,
+    outcome_row, poll_row, register_row, reply_kind,
+};

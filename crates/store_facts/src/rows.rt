@@ -1,0 +1,221 @@
+//! The rows of facts.
+ghost use Rattle.std.specs.Prelude.{◌≡◌, ◌≤◌, true};
+ghost use Rattle.store_tables.specs.Limits.{IsPlace, latest_moment};
+ghost use Rattle.store_lists.specs.Rows.{IsSoundDevice, IsSoundRegister, IsSoundScale};
+ghost use Rattle.store_meters.specs.Rows.{IsSoundInstallation};
+ghost use Rattle.store_entries.specs.Rows.{IsSoundEntry};
+ghost use Rattle.store_polls.specs.Rows.{IsSoundPoll};
+ghost use Rattle.store_facts.specs.Rows.{IsSoundOpening};
+ghost use Rattle.store_facts.specs.Rows as rows;
+
+use energy_core::{Entry, Last};
+use meter_journal::EntryKind;
+use office_events::{
+    CommandKind, Device, EndedPoll, HeldReading, Opening, Poll, Register, ScaleSource,
+};
+use store_entries::EntryRow;
+use store_lists::{DeviceRow, RegisterRow, RegisterScale};
+use store_meters::{GREATEST_CEILING, InstallationRow, LastRow};
+use store_polls::{HoldRow, OutcomeRow, PollRow, ReplyKind};
+use store_tables::LATEST_MOMENT;
+
+/// A device at a place.
+pub fn device_row(device: Device, place: u64) -> DeviceRow
+    ensures row { result ≡ (rows.added place device).row }
+    ensures sound { IsPlace place → IsSoundDevice result }
+{
+    DeviceRow {
+        place,
+        unit: device.unit,
+        timeout: device.timeout.seconds() as u8,
+        window: device.window.polls() as u8,
+    }
+}
+
+fn scale(source: ScaleSource) -> RegisterScale
+    ensures { result ≡ rows.scale_as source }
+{
+    match source {
+        ScaleSource::Fixed(sf) => RegisterScale::Fixed(sf),
+        ScaleSource::Register(address) => RegisterScale::At(address),
+    }
+}
+
+/// A register at a place.
+pub fn register_row(register: Register, place: u64) -> RegisterRow
+    ensures row { result ≡ (rows.registered place register).row }
+    ensures sound { IsPlace place → register.address ≤ 65534
+        → IsSoundScale (rows.scale_as register.scale) → IsSoundRegister result }
+{
+    RegisterRow {
+        place,
+        function: register.function,
+        address: register.address,
+        scale: scale(register.scale),
+    }
+}
+
+/// Where an installation stands, with its whole energy in mWh.
+pub fn last_row(last: Last, total: u64) -> LastRow
+    ensures { result ≡ record { moment = last.at; raw = last.raw; sf = last.sf; total = total } }
+{
+    LastRow {
+        moment: last.at,
+        raw: last.raw,
+        sf: last.sf,
+        total,
+    }
+}
+
+fn kind(kind: EntryKind) -> store_entries::EntryKind
+    ensures { result ≡ rows.kind_as kind }
+{
+    match kind {
+        EntryKind::Reading => store_entries::EntryKind::Reading,
+        EntryKind::Manual => store_entries::EntryKind::Manual,
+        EntryKind::Closing => store_entries::EntryKind::Closing,
+        EntryKind::Reset => store_entries::EntryKind::Reset,
+        EntryKind::Rescale => store_entries::EntryKind::Rescale,
+    }
+}
+
+/// An entry at a place, and the scale factor behind it.
+pub fn entry_row(of: EntryKind, entry: Entry, place: u64, sf: i16) -> EntryRow
+    ensures { result ≡ rows.entry_row sf
+        (record { place = place; kind = of; entry = entry; stands = true }) }
+{
+    match entry {
+        Entry::Step { at, raw, rolls } => EntryRow {
+            place,
+            kind: kind(of),
+            moment: at,
+            raw,
+            rolls,
+            after: 0,
+            sf,
+        },
+        Entry::Change {
+            at,
+            before,
+            after,
+            ..
+        } => EntryRow {
+            place,
+            kind: kind(of),
+            moment: at,
+            raw: before,
+            rolls: 0,
+            after,
+            sf,
+        },
+    }
+}
+
+/// Whether the tables can have the numbers of an opening.
+pub fn is_sound_opening(opening: &Opening) -> bool
+    ensures { result ≡ true → IsSoundOpening opening.now }
+{
+    1 <= opening.ceiling
+        && opening.ceiling <= GREATEST_CEILING
+        && 65_536 <= opening.range
+        && opening.range <= 4_294_967_296
+        && opening.at <= LATEST_MOMENT
+        && -3 <= opening.sf
+        && opening.sf <= 3
+}
+
+/// An installation at a place, where it was opened.
+pub fn begun_row(opening: &Opening, place: u64) -> InstallationRow
+    ensures row { result ≡ (rows.installed_as place (rows.begun opening.now)).row }
+    ensures sound { IsPlace place → IsSoundOpening opening.now → IsSoundInstallation result }
+{
+    let opening = *opening;
+    InstallationRow {
+        place,
+        ceiling: opening.ceiling,
+        is_ended: false,
+        last: LastRow {
+            moment: opening.at,
+            raw: opening.raw,
+            sf: opening.sf,
+            total: 0,
+        },
+    }
+}
+
+/// The entry of an opening, which has the place 1.
+pub fn opening_row(opening: &Opening) -> EntryRow
+    ensures row { result ≡ rows.opening_row opening.now }
+    ensures sound { IsSoundOpening opening.now → IsSoundEntry result }
+{
+    let opening = *opening;
+    EntryRow {
+        place: 1,
+        kind: store_entries::EntryKind::Opening,
+        moment: opening.at,
+        raw: opening.raw,
+        rolls: 0,
+        after: 0,
+        sf: opening.sf,
+    }
+}
+
+/// A poll.
+pub fn poll_row(poll: Poll) -> PollRow
+    ensures row { result ≡ (rows.started poll).row }
+    ensures sound { IsPlace poll.number → poll.at ≤ latest_moment → IsSoundPoll result }
+{
+    PollRow {
+        number: poll.number,
+        unit: poll.unit,
+        started: poll.at,
+        id: poll.id,
+        function: poll.span.function,
+        address: poll.span.address,
+        count: poll.span.count,
+    }
+}
+
+/// How a poll ended.
+pub fn outcome_row(ended: EndedPoll) -> OutcomeRow
+    ensures { result ≡ rows.outcome_row ended }
+{
+    OutcomeRow {
+        poll: ended.poll,
+        moment: ended.at,
+        outcome: ended.outcome,
+    }
+}
+
+/// A held reading at a place.
+pub fn hold_row(held: HeldReading, place: u64) -> HoldRow
+    ensures { result ≡ (rows.held_row place held).row }
+{
+    HoldRow {
+        place,
+        poll: held.poll,
+        moment: held.at,
+        raw: held.raw,
+        sf: held.sf,
+        cause: held.cause,
+    }
+}
+
+/// What was done by a command.
+pub fn reply_kind(kind: CommandKind) -> ReplyKind
+    ensures { result ≡ rows.reply_kind kind }
+{
+    match kind {
+        CommandKind::Device => ReplyKind::Device,
+        CommandKind::List => ReplyKind::List,
+        CommandKind::Register => ReplyKind::Register,
+        CommandKind::Install => ReplyKind::Install,
+        CommandKind::Exchange => ReplyKind::Exchange,
+        CommandKind::Reset => ReplyKind::Reset,
+        CommandKind::Rescale => ReplyKind::Rescale,
+        CommandKind::Manual => ReplyKind::Manual,
+        CommandKind::Close => ReplyKind::Close,
+        CommandKind::Void => ReplyKind::Void,
+        CommandKind::Start => ReplyKind::Start,
+    }
+}
