@@ -14,10 +14,12 @@ use office_lists::ListBooks;
 /// Books in memory. The call of one number is refused, as by a store; no other fails but for want of memory.
 #[derive(Drop)]
 pub struct FailingBooks {
-    books: ListBooks,
-    calls: u64,
-    failing: u64,
-    faults: u64,
+    pub(crate) books: ListBooks,
+    pub(crate) calls: u64,
+    pub(crate) failing: u64,
+    pub(crate) faults: u64,
+    /// Whether a call that hands rows on is refused only when all of them were handed on.
+    pub(crate) rows_come_first: bool,
 }
 
 impl FailingBooks {
@@ -37,6 +39,7 @@ impl FailingBooks {
             calls: 0,
             failing,
             faults: 0,
+            rows_come_first: false,
         }
     }
 
@@ -157,6 +160,10 @@ impl Books for FailingBooks {
         meter: &Name,
         sink: &mut K,
     ) -> Result<(), BooksFault> {
+        if self.rows_come_first {
+            self.books.intervals(meter, sink)?;
+            return self.called();
+        }
         self.called()?;
         self.books.intervals(meter, sink)
     }
@@ -166,6 +173,10 @@ impl Books for FailingBooks {
         register: &Name,
         sink: &mut K,
     ) -> Result<(), BooksFault> {
+        if self.rows_come_first {
+            self.books.register_intervals(register, sink)?;
+            return self.called();
+        }
         self.called()?;
         self.books.register_intervals(register, sink)
     }

@@ -2,5 +2,6 @@
 #![tactic(auto)]
 
 mod failing;
+mod late;
 
 pub use failing::FailingBooks;

@@ -1,6 +1,6 @@
 -- What is found by its key.
-use Rattle.std.proofs.Common.{◌≡◌, ℕ, ◌==◌, ◌&&◌, Bool, true, false, List, reverse, Option, Some, None, refl, sym, ap, ◌∙◌, Result, Ok, Err, IfOk}
-use Rattle.std.specs.List.{find, filter, filter_map, slice_get}
+use Rattle.std.proofs.Common.{◌≡◌, ℕ, ◌==◌, ◌&&◌, Bool, true, false, List, reverse, length, Option, Some, None, refl, ap, ◌∙◌, Result, Ok, Err, IfOk}
+use Rattle.std.specs.List.{filter_map, slice_get}
 use Rattle.std.specs.Option.{option_and_then, option_map}
 use Rattle.office_events.specs.declared.facts.Register.{Register}
 use Rattle.office_events.specs.declared.facts.Opening.{Opening}
@@ -9,17 +9,16 @@ use Rattle.office_events.specs.declared.facts.Reply.{Reply}
 use Rattle.office_events.specs.declared.facts.Fact.{Fact}
 use Rattle.office_events.specs.declared.facts.Fact.TheVariants as fact
 use Rattle.planned_list.specs.Lists.{Planned}
-use Rattle.office_books.specs.declared.repeats.Repeat.{Repeat}
 use Rattle.office_books.specs.Repeats.{as_repeat, repeat_of}
-use Rattle.office_rules.specs.Facts.{same, if_some, as_list, as_register, as_opening, as_reply, register_of, registers_of, installed_at, list_of, reply_of}
+use Rattle.office_rules.specs.Facts.{same, if_some, as_list, as_register, as_opening, as_reply, register_of, registers_of, installed_at, list_of}
 use Rattle.office_rules.specs.Intervals.{installations_at}
 use Rattle.list_tables.specs.declared.keys.Key.{Key}
 use Rattle.list_tables.specs.declared.places.Kind.{Kind}
 use Rattle.list_tables.specs.declared.places.Kind.TheVariants.{DeviceLists, Registers, DeviceRegisters, RegisterOpenings, Replies}
 use Rattle.list_tables.specs.Keys.{named, numbered}
 use Rattle.list_tables.specs.Places.{has_key, places_of, latest_place}
-use Rattle.list_tables.specs.Placed.{listed, repeated, register_at, opening_at, list_at, repeat_at}
-use Rattle.list_tables.proofs.Standing.{passes, all_at, latest_at}
+use Rattle.list_tables.specs.Placed.{register_at, opening_at, list_at, repeat_at}
+use Rattle.list_tables.proofs.Standing.{passes, all_at, latest_at, counted_at}
 
 and_true : (b : Bool) → (b && true) ≡ b
 and_true true = refl
@@ -105,6 +104,10 @@ register_found held name = latest_at as_register (has_key Registers (named name)
 pub registers_found : (held : List Fact) (device : List ℕ)
     → filter_map (register_at (reverse held)) (reverse (places_of (has_key DeviceRegisters (named device)) held)) ≡ registers_of held device
 registers_found held device = all_at as_register (has_key DeviceRegisters (named device)) (λ (r : Register). same r.device device) (by_device device) held
+
+pub registers_counted : (held : List Fact) (device : List ℕ)
+    → length (reverse (places_of (has_key DeviceRegisters (named device)) held)) ≡ length (registers_of held device)
+registers_counted held device = counted_at as_register (has_key DeviceRegisters (named device)) (λ (r : Register). same r.device device) (by_device device) held
 
 pub opening_found : (held : List Fact) (register : List ℕ)
     → option_and_then (opening_at (reverse held)) (latest_place (has_key RegisterOpenings (named register)) held) ≡ installed_at held register

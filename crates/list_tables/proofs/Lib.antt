@@ -11,3 +11,4 @@ pub mod Passing
 pub mod Known
 pub mod Numbered
 pub mod Joined
+pub mod Waiting

@@ -1,6 +1,5 @@
 -- One more fact for the meters.
-use Rattle.std.proofs.Common.{◌≡◌, ℕ, ◌+◌, ◌≤◌, ◌<◌, Bool, true, false, cond, ◌&&◌, List, [], ◌∷◌, ◌++◌, reverse, length, Option, Some, None, Result, Ok, refl, sym, ap, subst, ◌∙◌}
-use Rattle.std.specs.List.{find, cons_option}
+use Rattle.std.proofs.Common.{◌≡◌, ℕ, ◌+◌, ◌≤◌, ◌<◌, Bool, true, false, cond, ◌&&◌, List, [], ◌∷◌, reverse, length, Option, Some, None, Result, Ok, refl, sym, ap, subst, ◌∙◌}
 use Rattle.std.specs.Option.{option_map}
 use Rattle.std.specs.Ordering.{is_eq}
 use Rattle.std.specs.BTreeMap.{get, get_by, UpdatesBy}
@@ -25,7 +24,7 @@ use Rattle.office_events.specs.declared.facts.Fact.{Fact}
 use Rattle.office_events.specs.declared.facts.Fact.TheVariants as fact
 use Rattle.office_events.specs.declared.questions.Installation.{Installation}
 use Rattle.office_books.specs.Sound.{IsSound}
-use Rattle.office_rules.specs.Facts.{same, as_opening, openings_in, opening_of}
+use Rattle.office_rules.specs.Facts.{same, openings_in, opening_of}
 use Rattle.office_rules.specs.Lawful.{AreLawful, LineFits}
 use Rattle.office_rules.specs.Meters.{line_of, opened, installed, journal_of, rows_of, is_ended, standing, installation_of}
 use Rattle.office_laws.specs.Laws.{IsRecorded, JournalsFit}

@@ -1,20 +1,13 @@
 -- Rows out of facts, one fact after the other.
-use Rattle.std.proofs.Common.{◌≡◌, ℕ, suc, ◌+◌, ◌<◌, ◌≤◌, ◌==◌, Bool, true, false, cond, ◌&&◌, ◌||◌, List, [], ◌∷◌, length, refl, sym, ap, subst, ◌∙◌, inl, inr, Option, Some, None, arith}
-use Rattle.std.specs.List.{cons_option}
+use Rattle.std.proofs.Common.{◌≡◌, ℕ, suc, ◌+◌, ◌<◌, ◌≤◌, ◌==◌, ◌&&◌, List, [], ◌∷◌, length, refl, sym, ap, subst, ◌∙◌, inl, inr, Option, Some, None, arith}
 use Rattle.std.specs.Option.{option_map}
 use Rattle.std.proofs.lemmas.Bool.{cases_Bool, cond-true, cond-false, eqb-true}
 use Rattle.energy_core.specs.declared.entries.Last.{Last}
 use Rattle.energy_core.specs.Account.{last_of}
 use Rattle.meter_journal.specs.declared.lines.EntryRow.{EntryRow}
-use Rattle.meter_journal.specs.declared.lines.Installed.{Installed}
 use Rattle.meter_journal.specs.Journal as journal
-use Rattle.meter_journal.specs.Fitting.{AreFitting, VoidFits}
 use Rattle.meter_journal.specs.Lists.{AreNumbered}
-use Rattle.office_events.specs.declared.facts.Opening.{Opening}
-use Rattle.office_events.specs.declared.facts.Fact.{Fact}
-use Rattle.office_events.specs.declared.facts.Fact.TheVariants as fact
-use Rattle.office_rules.specs.Facts.{same}
-use Rattle.office_rules.specs.Meters.{held_line, opened, installed, journal_of, rows_of, is_ended}
+use Rattle.office_rules.specs.Meters.{rows_of}
 
 rolled_place : (last : Last) (row : EntryRow) → (journal.rolled last row).place ≡ row.place
 rolled_place last row =

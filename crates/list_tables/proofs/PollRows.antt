@@ -1,5 +1,5 @@
 -- Tables of polls, one fact after the other.
-use Rattle.std.proofs.Common.{◌≡◌, ◌⊎◌, ℕ, suc, ◌+◌, ◌-◌, ◌<◌, ◌≤◌, ◌==◌, Bool, true, false, cond, ◌&&◌, not, List, [], ◌∷◌, ◌++◌, map, reverse, length, get_or, Option, Some, None, refl, sym, ap, subst, ◌∙◌, inl, inr, arith}
+use Rattle.std.proofs.Common.{◌≡◌, ◌⊎◌, ℕ, ◌+◌, ◌-◌, ◌<◌, ◌≤◌, ◌==◌, Bool, true, false, cond, ◌&&◌, not, List, [], ◌∷◌, ◌++◌, map, reverse, length, get_or, Option, None, refl, sym, ap, ◌∙◌, inl, inr, arith}
 use Rattle.std.specs.Prelude.{is_some, slice_set}
 use Rattle.std.specs.List.{find, filter, slice_get}
 use Rattle.std.specs.Option.{option_map}
@@ -14,7 +14,7 @@ use Rattle.office_events.specs.declared.facts.EndedPoll.{EndedPoll}
 use Rattle.office_events.specs.declared.facts.Fact.{Fact}
 use Rattle.office_events.specs.declared.facts.Fact.TheVariants as fact
 use Rattle.office_events.specs.declared.questions.PollRow.{PollRow}
-use Rattle.office_rules.specs.Facts.{polls_in, pending_in, poll_of, ends_of, end_of}
+use Rattle.office_rules.specs.Facts.{polls_in, pending_in, ends_of, end_of}
 use Rattle.office_rules.specs.Headline.{AreNumbered}
 use Rattle.office_rules.specs.Lawful.{AreLawful, PollFits, EndFits}
 use Rattle.office_rules.specs.Readings.{poll_row, poll_row_of}

@@ -1,5 +1,5 @@
 -- Keys that are the same.
-use Rattle.std.proofs.Common.{◌≡◌, ℕ, ◌==◌, ◌&&◌, Bool, true, false, cond, List, refl, sym, ap, ◌∙◌, arith}
+use Rattle.std.proofs.Common.{◌≡◌, ℕ, ◌==◌, ◌&&◌, Bool, true, false, List, refl, ap, ◌∙◌, arith}
 use Rattle.std.specs.Ordering.{is_eq, nat_cmp, ordering_then}
 use Rattle.std.specs.Cmp.Lexicographic.{slice_cmp}
 use Rattle.std.specs.declared.cmp.Ordering.{Ordering}
@@ -8,7 +8,7 @@ use Rattle.std.proofs.lemmas.Bool.{eqb-true}
 use Rattle.std.proofs.lemmas.Bool.Decides.{nat_tests}
 use Rattle.std.proofs.lemmas.Map.Text.{is_eq-slice_cmp}
 use Rattle.office_rules.specs.Facts.{same}
-use Rattle.office_laws.proofs.Lookups.{same_text, same_itself}
+use Rattle.office_laws.proofs.Lookups.{same_text}
 use Rattle.list_tables.specs.declared.keys.Key.{Key}
 use Rattle.list_tables.specs.Keys.{key_cmp, is_same_key, numbered}
 

@@ -1,7 +1,7 @@
 -- What stands at the places of facts.
-use Rattle.std.proofs.Common.{◌≡◌, ℕ, ◌<◌, ◌≤◌, ◌-◌, ◌==◌, ◌&&◌, Bool, true, false, cond, List, [], ◌∷◌, ◌++◌, reverse, length, Option, Some, None, refl, sym, ap, ◌∙◌, inl, inr, arith}
+use Rattle.std.proofs.Common.{◌≡◌, ℕ, ◌<◌, ◌≤◌, ◌-◌, Bool, true, false, cond, List, [], ◌∷◌, reverse, length, Option, Some, None, refl, sym, ap, ◌∙◌, inl, inr, suc, arith}
 use Rattle.std.specs.List.{find, filter, filter_map, cons_option, slice_get}
-use Rattle.std.specs.Option.{option_and_then, option_map}
+use Rattle.std.specs.Option.{option_and_then}
 use Rattle.std.proofs.lemmas.Bool.{cases_Bool, cond-true, cond-false}
 use Rattle.std.proofs.lemmas.List.{length-reverse}
 use Rattle.office_events.specs.declared.facts.Fact.{Fact}
@@ -140,6 +140,26 @@ pub latest_at : {Y : Type 0} (h : Fact → Option Y) (p : Fact → Bool) (q : Y 
 latest_at h p q is held =
     and_then_twice (slice_get (reverse held)) h (slice_get (places_of p held) 0)
     ∙ ap (option_and_then h) (first_at p held) ∙ first_of_kind h p q is held
+
+count_step : {Y : Type 0} (q : Y → Bool) (o : Option Y) (b : Bool) (n : ℕ) (ns : List ℕ) (ys : List Y) → b ≡ passes q o → length ns ≡ length (filter q ys)
+    → length (cond b (n ∷ ns) ns) ≡ length (filter q (cons_option o ys))
+count_step q None b n ns ys is so = ap (λ (c : Bool). length (cond c (n ∷ ns) ns)) is ∙ so
+count_step q (Some y) b n ns ys is so = ap (λ (c : Bool). length (cond c (n ∷ ns) ns)) is ∙ both (q y)
+  where
+    both : (c : Bool) → length (cond c (n ∷ ns) ns) ≡ length (cond c (y ∷ filter q ys) (filter q ys))
+    both true = ap suc so
+    both false = so
+
+count_at : {Y : Type 0} (h : Fact → Option Y) (p : Fact → Bool) (q : Y → Bool) → ((f : Fact) → p f ≡ passes q (h f)) → (held : List Fact)
+    → length (places_of p held) ≡ length (filter q (filter_map h held))
+count_at h p q is [] = refl
+count_at h p q is (f ∷ held) = count_step q (h f) (p f) (length held) (places_of p held) (filter_map h held) (is f) (count_at h p q is held)
+
+-- how many of a kind pass, by their places
+pub counted_at : {Y : Type 0} (h : Fact → Option Y) (p : Fact → Bool) (q : Y → Bool) → ((f : Fact) → p f ≡ passes q (h f)) → (held : List Fact)
+    → length (reverse (places_of p held)) ≡ length (reverse (filter q (filter_map h held)))
+counted_at h p q is held =
+    length-reverse (places_of p held) ∙ count_at h p q is held ∙ sym (length-reverse (filter q (filter_map h held)))
 
 -- the last in order is the first in reverse
 pub last_in_turn : {X : Type 0} (xs ys : List X) → ys ≡ reverse xs → slice_get ys (length ys - 1) ≡ slice_get xs 0

@@ -1,5 +1,5 @@
 -- Tables that grow with the facts.
-use Rattle.std.specs.Prelude.{◌≤◌, ℕ, List, reverse, take, length}
+use Rattle.std.specs.Prelude.{◌≤◌, List, reverse, take, length}
 use Rattle.office_events.specs.declared.facts.Fact.{Fact}
 use Rattle.list_tables.specs.declared.table.Kept.{Kept}
 

@@ -1,5 +1,6 @@
 pub mod Accounts
 pub mod Growing
+pub mod Handing
 pub mod Keys
 pub mod Meters
 pub mod Moving

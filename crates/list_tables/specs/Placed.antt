@@ -1,5 +1,5 @@
 -- What stands at a place of facts, from 0 on, in the order in which they came.
-use Rattle.std.specs.Prelude.{ℕ, List, Option, Some, None}
+use Rattle.std.specs.Prelude.{ℕ, List, Option}
 use Rattle.std.specs.List.{slice_get}
 use Rattle.std.specs.Option.{option_and_then, option_map}
 use Rattle.office_events.specs.declared.facts.Register.{Register}

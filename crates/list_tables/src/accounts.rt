@@ -1,19 +1,22 @@
 //! Where a meter stands behind rows that may be any.
-ghost use Rattle.std.specs.Prelude.{◌≡◌, ◌≤◌, ◌<◌, ◌*◌, ◌^◌, true, Some, None, IsTrue, IfOk, IfSome};
+ghost use Rattle.std.specs.Prelude.{◌≡◌, ◌≤◌, ◌<◌, ◌*◌, ◌^◌, true, Some, None, IsTrue, IfSome};
 ghost use Rattle.energy_core.specs.Account.{IsScale};
 ghost use Rattle.meter_journal.specs.Books as books;
 ghost use Rattle.meter_journal.specs.Intervals.{rows_of_steps};
 ghost use Rattle.meter_journal.specs.Journal.{entries_in};
 ghost use Rattle.meter_journal.specs.Lists as lists;
+ghost use Rattle.office_books.specs.Rows.{TakesAll};
 ghost use Rattle.office_books.specs.Sound.{IsSound};
 ghost use Rattle.office_rules.specs.Meters as meters;
 ghost use Rattle.list_tables.specs.Accounts.{HasNumbers};
+ghost use Rattle.list_tables.specs.Handing.{TakesSome};
 
+use crate::handing::hand_rows;
 use energy_core::{Last, Ranged, Terms, accounts_are_sound, enter, entered_is_booked};
 use interval_core::Share;
-use meter_journal::{EntryRow, Installed, Tally, interval_rows, tally_behind};
+use meter_journal::{EntryRow, Installed, Tally, tally_behind};
+use office_books::RowSink;
 use office_events::{Installation, Opening};
-use std::alloc::{AllocError, Global};
 
 /// Whether the rows that stand have an account.
 fn have_account(meter: &Installed, rows: &[EntryRow]) -> bool
@@ -102,23 +105,16 @@ pub(crate) fn standing(opening: &Opening, rows: &[EntryRow], ended: bool) -> Opt
     })
 }
 
-/// The interval rows of these rows; none if they have no account.
-pub(crate) fn shares(
-    alloc: Global,
-    opening: &Opening,
-    rows: &[EntryRow],
-) -> Result<Vec<Share>, AllocError>
-    ensures { let es = entries_in (lists.latest_first rows.now) in
-        HasNumbers opening.now → books.HasAccount (meters.installed opening.now) es
-        → IfOk result (λ v. v.items
-        ≡ rows_of_steps (books.steps_after (meters.installed opening.now) es)) }
+/// Hands on the interval rows of these rows; some or none if they have no account.
+pub(crate) fn hand_on<K: RowSink<Share>>(opening: &Opening, rows: &[EntryRow], sink: &mut K)
+    ensures whole { let es = entries_in (lists.latest_first rows.now) in
+        let meter = meters.installed opening.now in
+        HasNumbers opening.now → books.HasAccount meter es
+        → TakesAll K.takes sink.old (rows_of_steps (books.steps_after meter es)) sink.new }
+    ensures some { TakesSome K.takes sink.old sink.new }
 {
-    if !has_numbers(opening) {
-        return Ok(Vec::new(alloc));
+    if has_numbers(opening) {
+        let meter = installed(opening);
+        hand_rows(&meter, rows, sink);
     }
-    let meter = installed(opening);
-    if !have_account(&meter, rows) {
-        return Ok(Vec::new(alloc));
-    }
-    interval_rows(alloc, &meter, rows)
 }

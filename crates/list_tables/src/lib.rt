@@ -2,6 +2,7 @@
 #![tactic(auto)]
 
 mod accounts;
+mod handing;
 mod keys;
 mod meter;
 mod meters;

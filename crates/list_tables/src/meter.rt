@@ -1,10 +1,11 @@
 //! A meter as it stands.
-ghost use Rattle.std.specs.Prelude.{◌≡◌, ◌∷◌, ◌++◌, ◌≤◌, ◌<◌, ◌*◌, ◌^◌, List, [], ◌+◌, length, take, IsTrue, IfOk, OnOk, OnErr, IfSome};
+ghost use Rattle.std.specs.Prelude.{◌≡◌, ◌∷◌, ◌++◌, ◌≤◌, ◌<◌, ◌*◌, ◌^◌, List, [], ◌+◌, length, take, IsTrue, OnOk, OnErr, IfSome};
 ghost use Rattle.std.specs.Option.{option_map};
 ghost use Rattle.energy_core.specs.Account.{IsScale};
 ghost use Rattle.meter_journal.specs.Journal as journal;
 ghost use Rattle.meter_journal.specs.Journal.{row_at};
 ghost use Rattle.meter_journal.specs.Lists as lists;
+ghost use Rattle.office_books.specs.Rows.{TakesAll};
 ghost use Rattle.office_books.specs.Sound.{IsSound};
 ghost use Rattle.office_events.specs.declared.facts.Fact.{Fact};
 ghost use Rattle.office_events.specs.declared.facts.Opening.{Opening};
@@ -13,15 +14,16 @@ ghost use Rattle.office_laws.specs.Steps.{moved_by};
 ghost use Rattle.office_rules.specs.Intervals.{rows_of_opening};
 ghost use Rattle.office_rules.specs.Lawful.{AreLawful};
 ghost use Rattle.office_rules.specs.Meters.{place_in, rows_of};
+ghost use Rattle.list_tables.specs.Handing.{TakesSome};
 ghost use Rattle.list_tables.specs.Moving.{MayEnter};
 
-use crate::accounts::{shares, standing};
+use crate::accounts::{hand_on, standing};
 use energy_core::Last;
 use interval_core::Share;
 use meter_journal::{
     EntryKind, EntryRow, find_row, journals_are_kept, places_were_kept, row_behind, strike,
 };
-use office_books::enter;
+use office_books::{RowSink, enter};
 use office_events::{BookedEntry, EntryPlace, Installation, Opening};
 use office_laws::{installations_are_in_range, journals_fit};
 use std::alloc::{AllocError, Global};
@@ -198,15 +200,16 @@ impl Meter {
         })
     }
 
-    /// Its energy by quarter hours.
-    pub(crate) fn shares(&self, alloc: Global) -> Result<Vec<Share>, AllocError>
-        ensures { (held : List Fact) (opening : Opening) → AreLawful held → IsRecorded held opening
-            → IsAsSaid held opening self.now
-            → IfOk result (λ v. v.items ≡ rows_of_opening held opening) }
+    /// Hands on its energy by quarter hours.
+    pub(crate) fn hand_on<K: RowSink<Share>>(&self, sink: &mut K)
+        ensures whole { (held : List Fact) (opening : Opening) → AreLawful held
+            → IsRecorded held opening → IsAsSaid held opening self.now
+            → TakesAll K.takes sink.old (rows_of_opening held opening) sink.new }
+        ensures some { TakesSome K.takes sink.old sink.new }
     {
         journals_fit();
         journals_are_kept();
         installations_are_in_range();
-        shares(alloc, &self.row.opening, &self.rows)
+        hand_on(&self.row.opening, &self.rows, sink);
     }
 }

@@ -1,10 +1,12 @@
 //! The meters, by name.
-ghost use Rattle.std.specs.Prelude.{◌≡◌, List, [], OnOk, OnErr, IfOk, IfSome};
+ghost use Rattle.std.specs.Prelude.{◌≡◌, List, [], OnOk, OnErr, IfSome};
 ghost use Rattle.office_events.specs.declared.facts.Fact.{Fact};
+ghost use Rattle.office_books.specs.Rows.{TakesAll};
 ghost use Rattle.office_books.specs.Sound.{IsSound};
 ghost use Rattle.office_rules.specs.Intervals.{rows_of_meter};
 ghost use Rattle.office_rules.specs.Lawful.{AreLawful};
 ghost use Rattle.office_rules.specs.Meters.{meter_of, entry_at};
+ghost use Rattle.list_tables.specs.Handing.{TakesSome};
 ghost use Rattle.list_tables.specs.Moving.{HasEntered, IsSame, HasStruck};
 
 use crate::keys::Key;
@@ -13,6 +15,7 @@ use crate::places::named;
 use crate::table::Table;
 use interval_core::Share;
 use meter_journal::journals_are_kept;
+use office_books::RowSink;
 use office_events::{BookedEntry, EntryPlace, Fact, Installation, Name, Opening, VoidedEntry};
 use office_laws::{
     entries_move_on, holds_change_nothing, installations_are_in_range, journals_fit,
@@ -105,16 +108,17 @@ impl Meters {
         meter.placed(place)
     }
 
-    /// The energy of a meter by quarter hours.
-    pub(crate) fn shares(&self, alloc: Global, name: &Name) -> Result<Vec<Share>, AllocError>
-        ensures { (held : List Fact) → AreLawful held → AreMeters self.now held
-            → IfOk result (λ v. v.items ≡ rows_of_meter held name.now) }
+    /// Hands on the energy of a meter by quarter hours.
+    pub(crate) fn hand_on<K: RowSink<Share>>(&self, name: &Name, sink: &mut K)
+        ensures whole { (held : List Fact) → AreLawful held → AreMeters self.now held
+            → TakesAll K.takes sink.old (rows_of_meter held name.now) sink.new }
+        ensures some { TakesSome K.takes sink.old sink.new }
     {
         let key = named(name);
         let Some(meter) = self.meters.get(&key) else {
-            return Ok(Vec::new(alloc));
+            return;
         };
-        meter.shares(alloc)
+        meter.hand_on(sink);
     }
 }
 

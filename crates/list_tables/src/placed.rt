@@ -79,20 +79,6 @@ pub(crate) fn registers_at(
         .collect(alloc)
 }
 
-/// The openings at places.
-pub(crate) fn openings_at(
-    alloc: Global,
-    facts: &[Fact],
-    places: &[usize],
-) -> Result<Vec<Opening>, AllocError>
-    ensures { IfOk result (λ v. v.items ≡ filter_map (spots.opening_at facts.now) places.now) }
-{
-    places
-        .iter()
-        .filter_map(|place| opening_at(facts, *place))
-        .collect(alloc)
-}
-
 /// The point list that a fact puts.
 fn as_list(fact: &Fact) -> Result<Option<PlannedList>, AllocError>
     ensures { IfOk result (λ list. list ≡ spots.listed fact.now) }

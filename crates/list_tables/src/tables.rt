@@ -1,23 +1,25 @@
 //! All tables of some facts.
-ghost use Rattle.std.specs.Prelude.{◌≡◌, List, [], reverse, length, IfOk, IfSome, OnOk};
+ghost use Rattle.std.specs.Prelude.{◌≡◌, ◌∷◌, List, [], reverse, length, IfOk, IfSome, OnOk};
 ghost use Rattle.office_events.specs.declared.facts.Fact.{Fact};
 ghost use Rattle.office_rules.specs.Facts.{polls_in, pending_in, list_of, register_of, registers_of, installed_at};
 ghost use Rattle.office_books.specs.Repeats.{repeat_of};
 ghost use Rattle.office_books.specs.Sound.{IsSound};
-ghost use Rattle.office_rules.specs.Intervals.{installations_at, rows_of_meter, rows_of_register};
+ghost use Rattle.office_books.specs.Rows.{TakesAll};
+ghost use Rattle.office_rules.specs.Intervals.{rows_of_meter, rows_of_register};
 ghost use Rattle.office_rules.specs.Lawful.{AreLawful};
 ghost use Rattle.office_rules.specs.Meters.{meter_of, installation_at, entry_at};
 ghost use Rattle.office_rules.specs.Readings.{poll_row_of};
 ghost use Rattle.list_tables.specs.Growing.{latest_first};
+ghost use Rattle.list_tables.specs.Handing.{TakesSome, rows_at};
 
 use crate::keys::Key;
 use crate::meters::Meters;
-use crate::placed::{list_at, opening_at, openings_at, register_at, registers_at, repeat_at};
+use crate::placed::{list_at, opening_at, register_at, registers_at, repeat_at};
 use crate::places::{Kind, Places, named};
 use crate::polls::{Pending, Polls};
 use crate::table::Kept;
 use interval_core::Share;
-use office_books::Repeat;
+use office_books::{Repeat, RowSink};
 use office_events::{
     EntryPlace, Fact, Installation, Name, Opening, PlannedList, Poll, PollRow, Register,
 };
@@ -131,6 +133,14 @@ impl Tables {
         registers_at(alloc, facts, self.device_registers.table.all(named(device)))
     }
 
+    /// How many registers a device has. This takes no memory.
+    pub fn register_count(&self, device: &Name) -> usize
+        ensures { (held : List Fact) → AreWhole self.now held
+            → result ≡ length (registers_of held device.now) }
+    {
+        self.device_registers.table.all(named(device)).len()
+    }
+
     /// The latest opening at a register.
     pub fn installed(&self, facts: &[Fact], register: &Name) -> Option<Opening>
         ensures { (held : List Fact) → facts.now ≡ reverse held → AreWhole self.now held
@@ -194,44 +204,52 @@ impl Tables {
         self.meters.table.entry(meter, place)
     }
 
-    /// The energy of a meter by quarter hours, in order of their starts.
-    pub fn intervals(&self, alloc: Global, meter: &Name) -> Result<Vec<Share>, AllocError>
-        ensures { (held : List Fact) → AreLawful held → AreWhole self.now held
-            → IfOk result (λ v. v.items ≡ rows_of_meter held meter.now) }
+    /// Hands on the energy of a meter by quarter hours, in order of their starts. This takes no memory.
+    pub fn intervals<K: RowSink<Share>>(&self, meter: &Name, sink: &mut K)
+        ensures whole { (held : List Fact) → AreLawful held → AreWhole self.now held
+            → TakesAll K.takes sink.old (rows_of_meter held meter.now) sink.new }
+        ensures some { TakesSome K.takes sink.old sink.new }
     {
-        self.meters.table.shares(alloc, meter)
+        self.meters.table.hand_on(meter, sink);
     }
 
-    /// The openings at a register, in their order.
-    fn openings_of(
-        &self,
-        alloc: Global,
-        facts: &[Fact],
-        register: &Name,
-    ) -> Result<Vec<Opening>, AllocError>
-        ensures { (held : List Fact) → facts.now ≡ reverse held → AreWhole self.now held
-            → IfOk result (λ v. v.items ≡ installations_at held register.now) }
-    {
-        openings_at(alloc, facts, self.openings.table.all(named(register)))
-    }
-
-    /// The energy of a register by quarter hours, installation after installation.
-    pub fn register_intervals(
-        &self,
-        alloc: Global,
-        facts: &[Fact],
-        register: &Name,
-    ) -> Result<Vec<Share>, AllocError>
-        ensures { (held : List Fact) → facts.now ≡ reverse held → AreLawful held
+    /// Hands on the energy of the installation that was opened at a place of the facts, if one was.
+    fn hand_on_at<K: RowSink<Share>>(&self, facts: &[Fact], place: usize, sink: &mut K)
+        ensures whole { (held : List Fact) → facts.now ≡ reverse held → AreLawful held
             → AreWhole self.now held
-            → IfOk result (λ v. v.items ≡ rows_of_register held register.now) }
+            → TakesAll K.takes sink.old (rows_at held facts.now (place ∷ [])) sink.new }
+        ensures some { TakesSome K.takes sink.old sink.new }
     {
-        let openings = self.openings_of(alloc, facts, register)?;
-        let mut all = Vec::new(alloc);
-        for opening in &openings {
-            let mut rows = self.intervals(alloc, &opening.meter)?;
-            all.append(&mut rows)?;
+        match opening_at(facts, place) {
+            Some(opening) => self.intervals(&opening.meter, sink),
+            None => {}
         }
-        Ok(all)
+    }
+
+    /// Hands on the energy of the installations that were opened at these places, one after the other.
+    fn hand_on_all<K: RowSink<Share>>(&self, facts: &[Fact], places: &[usize], sink: &mut K)
+        ensures whole { (held : List Fact) → facts.now ≡ reverse held → AreLawful held
+            → AreWhole self.now held
+            → TakesAll K.takes sink.old (rows_at held facts.now places.now) sink.new }
+        ensures some { TakesSome K.takes sink.old sink.new }
+    {
+        for place in places {
+            self.hand_on_at(facts, *place, sink);
+        }
+    }
+
+    /// Hands on the energy of a register by quarter hours, installation after installation. This takes no memory.
+    pub fn register_intervals<K: RowSink<Share>>(
+        &self,
+        facts: &[Fact],
+        register: &Name,
+        sink: &mut K,
+    )
+        ensures whole { (held : List Fact) → facts.now ≡ reverse held → AreLawful held
+            → AreWhole self.now held
+            → TakesAll K.takes sink.old (rows_of_register held register.now) sink.new }
+        ensures some { TakesSome K.takes sink.old sink.new }
+    {
+        self.hand_on_all(facts, self.openings.table.all(named(register)), sink);
     }
 }

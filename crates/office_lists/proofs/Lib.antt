@@ -1,2 +1,4 @@
 pub mod Adding
+pub mod Counting
+pub mod Handed
 pub mod Reading

@@ -7,6 +7,8 @@ use Rattle.office_books.specs.Ledgers.{KeepsFacts}
 use Rattle.list_tables.specs.declared.tables.Tables.{Tables}
 use Rattle.list_tables.specs.Whole.{HaveCome, AreWhole}
 use Rattle.office_lists.specs.declared.list_books.ListBooks.{ListBooks}
+use Rattle.office_lists.specs.declared.figures.Figures.{Figures}
+use Rattle.office_lists.specs.Figures.{AreFigures}
 use Rattle.office_lists.specs.Listed.{AreListed, ledger_of}
 use Rattle.office_lists.proofs.Adding.{one_still}
 
@@ -15,9 +17,9 @@ in_turn : (books : ListBooks) (facts held : List Fact) → facts ≡ books.facts
 in_turn books facts held is listed = ap reverse (is ∙ listed.facts) ∙ reverse-reverse held
 
 -- books whose tables alone have come further hold what they held
-pub keeps_facts : (old new : ListBooks) (facts : List Fact) → new.facts.items ≡ old.facts.items → facts ≡ old.facts.items
+pub keeps_facts : (old new : ListBooks) (facts : List Fact) → new.facts.items ≡ old.facts.items → new.figures ≡ old.figures → facts ≡ old.facts.items
     → (AreLawful (reverse facts) → HaveCome old.tables facts → HaveCome new.tables facts) → KeepsFacts (ledger_of old) (ledger_of new)
-keeps_facts old new facts same is further = record { facts = still; left = one_still old new still }
+keeps_facts old new facts same figures is further = record { facts = still; left = one_still old new still }
   where
     still : (held : List Fact) → AreListed old held → AreListed new held
     still held listed = record {
@@ -25,6 +27,7 @@ keeps_facts old new facts same is further = record { facts = still; left = one_s
       facts = same ∙ listed.facts;
       tables = subst (HaveCome new.tables) (is ∙ sym same)
           (further (subst AreLawful (sym (in_turn old facts held is listed)) listed.lawful) (subst (HaveCome old.tables) (sym is) listed.tables));
+      figures = subst (λ (f : Figures). AreFigures f held) (sym figures) listed.figures;
     }
 
 -- what the tables then say is what the facts say

@@ -1,2 +1,3 @@
+pub mod Figures
 pub mod Looking
 pub mod Listed

@@ -1,16 +1,24 @@
 -- What books of a list hold.
 use Rattle.std.specs.Prelude.{◌≡◌, ◌⊎◌, List, [], ◌∷◌, reverse}
 use Rattle.list_tables.specs.Whole.{HaveCome}
-use Rattle.office_books.specs.Ledgers.{Ledger}
+use Rattle.office_books.specs.Ledgers.{Ledger, with_facts}
 use Rattle.office_events.specs.declared.facts.Fact.{Fact}
+use Rattle.office_lists.specs.Figures.{AreFigures}
 use Rattle.office_lists.specs.declared.list_books.ListBooks.{ListBooks}
 use Rattle.office_rules.specs.Lawful.{AreLawful}
 
--- The facts are lawful, the list has them, the earliest first, and the tables say what they say, as far as they have come.
+-- The facts are lawful, the list has them, the earliest first, the tables say what they say, as far as they have come, and
+-- the figures are theirs.
 pub record AreListed (books : ListBooks) (held : List Fact) : Type 0 where
   pub lawful : AreLawful held
   pub facts : books.facts.items ≡ reverse held
   pub tables : HaveCome books.tables books.facts.items
+  pub figures : AreFigures books.figures held
+
+-- with these facts behind the others, figures that were those of the list are so again
+abbrev pub GoOn : (facts : List Fact) → (old new : ListBooks) → Type 0
+GoOn facts old new = (held : List Fact) → old.facts.items ≡ reverse held → AreFigures old.figures held
+    → AreFigures new.figures (with_facts facts held)
 
 -- one of these lists of facts is held
 abbrev pub HasOne : ListBooks → List (List Fact) → Type 0

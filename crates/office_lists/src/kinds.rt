@@ -1,9 +1,9 @@
 //! Each kind of fact.
-ghost use Rattle.std.specs.Prelude.{◌≡◌};
-ghost use Rattle.office_rules.specs.Facts.{as_device, as_opening, moment_in};
+ghost use Rattle.std.specs.Prelude.{◌≡◌, ◌∷◌, [], length};
+ghost use Rattle.office_rules.specs.Facts.{as_device, openings_in, moment_in};
 
 use energy_core::Entry;
-use office_events::{Device, Fact, Opening};
+use office_events::{Device, Fact};
 
 pub(crate) fn device_in(fact: &Fact) -> Option<Device>
     ensures { result ≡ as_device fact.now }
@@ -22,11 +22,12 @@ pub(crate) fn device_in(fact: &Fact) -> Option<Device>
     }
 }
 
-pub(crate) fn opening_in(fact: &Fact) -> Option<Opening>
-    ensures { result ≡ as_opening fact.now }
+/// How many installations a fact opens: one or none.
+pub(crate) fn openings(fact: &Fact) -> usize
+    ensures { result ≡ length (openings_in (fact.now ∷ [])) }
 {
     match fact {
-        Fact::Opening(opening) => Some(*opening),
+        Fact::Opening(_) => 1,
         Fact::Device(_)
         | Fact::List(_)
         | Fact::Register(_)
@@ -35,7 +36,7 @@ pub(crate) fn opening_in(fact: &Fact) -> Option<Opening>
         | Fact::Void(_)
         | Fact::Poll(_)
         | Fact::Outcome(_)
-        | Fact::Reply(_) => None,
+        | Fact::Reply(_) => 0,
     }
 }
 

@@ -1,7 +1,7 @@
 //! Books in memory.
 #![tactic(auto)]
 
-mod handing;
+mod figures;
 mod kinds;
 mod list_books;
 mod lookups;

@@ -5,7 +5,7 @@ ghost use Rattle.office_events.specs.declared.facts.Fact.{Fact};
 ghost use Rattle.list_tables.specs.Whole.{AreWhole};
 ghost use Rattle.office_lists.specs.Listed.{AreListed};
 
-use crate::handing::hand_on;
+use crate::figures::Figures;
 use crate::lookups;
 use interval_core::{Share, Zone};
 use list_tables::Tables;
@@ -15,18 +15,19 @@ use office_events::{
 };
 use std::alloc::Global;
 
-/// Books in memory: a list of the facts, in the order in which they came, and tables of what they say. They have no
+/// Books in memory: a list of the facts, in the order in which they came, tables of what they say, and figures. They have no
 /// store, and so never answer `BooksFault::Store`: a call fails only for want of memory, and then changes nothing.
 #[derive(Drop)]
 pub struct ListBooks {
     facts: Vec<Fact>,
     zone: Zone,
     tables: Tables,
+    figures: Figures,
 }
 
 impl ListBooks {
     ghost use Rattle.office_books.specs.Ledgers.{KeepsFacts};
-    ghost use Rattle.office_lists.specs.Listed.{ledger_of};
+    ghost use Rattle.office_lists.specs.Listed.{ledger_of, GoOn};
 
     /// Books that hold nothing yet.
     pub fn new(alloc: Global, zone: Zone) -> ListBooks
@@ -37,6 +38,7 @@ impl ListBooks {
             facts: Vec::new(alloc),
             zone,
             tables: Tables::new(alloc),
+            figures: Figures::new(),
         }
     }
 
@@ -46,6 +48,7 @@ impl ListBooks {
         ensures whole { (held : List Fact) → AreListed self.old held
             → OnOk result (AreWhole self.new.tables held) }
         ensures facts { self.new.facts ≡ self.old.facts }
+        ensures figures { self.new.figures ≡ self.old.figures }
         ensures zone { self.new.zone ≡ self.old.zone }
         ensures memory { IfErr result (λ e. e ≡ Memory) }
     {
@@ -56,14 +59,18 @@ impl ListBooks {
     /// Adds facts behind the others: all of them or, where memory is wanting, none.
     fn add(&mut self, facts: Vec<Fact>) -> Result<(), BooksFault>
         ensures ok { OnOk result (self.new.facts.items ≡ self.old.facts.items ++ facts.items) }
+        ensures figures { OnOk result (GoOn facts.items self.old self.new) }
         ensures err { OnErr result (self.new.facts.items ≡ self.old.facts.items) }
+        ensures same_figures { OnErr result (self.new.figures ≡ self.old.figures) }
         ensures zone { self.new.zone ≡ self.old.zone }
         ensures tables { self.new.tables ≡ self.old.tables }
         ensures memory { IfErr result (λ e. e ≡ Memory) }
         ensures nothing { facts.items ≡ [] → IsOk result }
     {
+        let figures = self.figures.after_all(&facts);
         let mut more = facts;
         self.facts.append(&mut more)?;
+        self.figures = figures;
         Ok(())
     }
 }
@@ -106,9 +113,7 @@ impl Books for ListBooks {
 
     fn register_count(&mut self, device: &Name) -> Result<usize, BooksFault> {
         self.catch_up()?;
-        let alloc = *self.facts.allocator();
-        let registers = self.tables.registers(alloc, &self.facts, device)?;
-        Ok(registers.len())
+        Ok(self.tables.register_count(device))
     }
 
     fn meter(&mut self, name: &Name) -> Result<Option<Installation>, BooksFault> {
@@ -122,9 +127,7 @@ impl Books for ListBooks {
     }
 
     fn installation_count(&mut self) -> Result<usize, BooksFault> {
-        let alloc = *self.facts.allocator();
-        let openings = lookups::all_openings(alloc, &self.facts)?;
-        Ok(openings.len())
+        Ok(self.figures.installations)
     }
 
     fn entry(&mut self, meter: &Name, place: u64) -> Result<Option<EntryPlace>, BooksFault> {
@@ -149,7 +152,7 @@ impl Books for ListBooks {
     }
 
     fn latest(&mut self) -> Result<u64, BooksFault> {
-        Ok(lookups::latest(&self.facts))
+        Ok(self.figures.latest)
     }
 
     fn repeat(
@@ -168,9 +171,7 @@ impl Books for ListBooks {
         sink: &mut K,
     ) -> Result<(), BooksFault> {
         self.catch_up()?;
-        let alloc = *self.facts.allocator();
-        let rows = self.tables.intervals(alloc, meter)?;
-        hand_on(&rows, sink);
+        self.tables.intervals(meter, sink);
         Ok(())
     }
 
@@ -180,11 +181,7 @@ impl Books for ListBooks {
         sink: &mut K,
     ) -> Result<(), BooksFault> {
         self.catch_up()?;
-        let alloc = *self.facts.allocator();
-        let rows = self
-            .tables
-            .register_intervals(alloc, &self.facts, register)?;
-        hand_on(&rows, sink);
+        self.tables.register_intervals(&self.facts, register, sink);
         Ok(())
     }
 

@@ -1,11 +1,11 @@
 //! What stands in a list of facts, the earliest first.
 ghost use Rattle.std.specs.Prelude.{◌≡◌, reverse, IfOk};
 ghost use Rattle.std.specs.List.{filter_map};
-ghost use Rattle.office_rules.specs.Facts.{as_device, as_opening, devices_in, latest_in};
+ghost use Rattle.office_rules.specs.Facts.{as_device, devices_in};
 ghost use Rattle.office_lists.specs.Looking.{latest_first};
 
-use crate::kinds::{device_in, moment, opening_in};
-use office_events::{Device, Fact, Opening};
+use crate::kinds::device_in;
+use office_events::{Device, Fact};
 use std::alloc::{AllocError, Global};
 
 /// All devices of these facts.
@@ -24,25 +24,4 @@ pub(crate) fn devices(alloc: Global, facts: &[Fact]) -> Result<Vec<Device>, Allo
 {
     let devices = all_devices(alloc, facts)?;
     Ok(devices)
-}
-
-/// All openings of these facts, in their order.
-pub(crate) fn all_openings(alloc: Global, facts: &[Fact]) -> Result<Vec<Opening>, AllocError>
-    ensures { IfOk result (λ v. v.items ≡ filter_map as_opening facts.now) }
-{
-    facts
-        .iter()
-        .filter_map(|fact| opening_in(fact))
-        .collect(alloc)
-}
-
-/// The greatest moment.
-pub(crate) fn latest(facts: &[Fact]) -> u64
-    ensures { result ≡ latest_in (latest_first facts.now) }
-{
-    let mut latest = 0;
-    for fact in facts {
-        latest = moment(fact).max(latest);
-    }
-    latest
 }

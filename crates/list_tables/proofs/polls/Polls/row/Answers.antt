@@ -1,4 +1,4 @@
-use Rattle.std.proofs.Common.{◌≡◌, ◌∙◌, ◌-◌, ◌<◌, List, Some, length, sym, ap, arith, inl, inr}
+use Rattle.std.proofs.Common.{◌∙◌, ◌-◌, ◌<◌, List, Some, length, sym, ap, arith, inl, inr}
 use Rattle.std.proofs.lemmas.Option.{slice_get-get_or}
 use Rattle.office_events.specs.declared.questions.PollRow.{PollRow}
 use Rattle.list_tables.proofs.PollRows.{row_found, row_absent}

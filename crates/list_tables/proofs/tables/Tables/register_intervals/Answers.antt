@@ -1,17 +1,23 @@
-use Rattle.std.proofs.Common.{◌<◌, ◌∙◌, length, ap, arith}
-use Rattle.office_rules.specs.Intervals.{rows_of_opening, rows_of_installed}
-use Rattle.office_laws.proofs.Journals.{found}
-use Rattle.list_tables.proofs.Joined.{recorded_there, more_rows}
+use Rattle.std.proofs.Common.{◌∙◌, List, reverse, ap, subst}
+use Rattle.std.specs.List.{flat_map}
+use Rattle.interval_core.specs.declared.shares.Share.{Share}
+use Rattle.office_books.specs.Rows.{TakesAll}
+use Rattle.office_events.specs.declared.facts.Fact.{Fact}
+use Rattle.office_rules.specs.Intervals.{rows_of_opening}
+use Rattle.list_tables.specs.declared.keys.Key.{Key}
+use Rattle.list_tables.specs.declared.places.Kind.TheVariants.{RegisterOpenings}
+use Rattle.list_tables.specs.Handing.{rows_at}
+use Rattle.list_tables.specs.Places.{has_key, places_of}
+use Rattle.list_tables.proofs.Found.{openings_found}
 use Rattle.list_tables.proofs.tables.Tables.register_intervals.Goals as goal
 
-pub loop-opening-preserved : goal.loop-opening-preserved
-loop-opening-preserved c = λ held is lawful whole.
-    let so = c.loop-opening.invariant held is lawful whole in
-    let inside : c.loop-opening.opening-index < length c.deref-opening-items.result.now = omega (arith, c.loop-opening-test.true, c.loop-opening.auto.opening-index-end) in
-    let recorded =
-    recorded_there held c.args.register.now c.deref-opening-items.result.now c.loop-opening.opening-index c.opening-item.result so.0 c.opening-item.is inside in (
-      so.0,
-      more_rows (rows_of_opening held) c.deref-opening-items.result.now c.loop-opening.opening-index c.opening-item.result
-          c.loop-opening.all.items c.in_ok-rows.rows.items c.append.new.self.items c.opening-item.is inside c.in_ok-append.ensures.items so.1
-          (c.in_ok-rows.ensures held lawful whole ∙ ap (rows_of_installed held) (found held c.opening-item.result lawful recorded)),
-    )
+pub returns-clause-whole : goal.returns-clause-whole
+returns-clause-whole g c = λ held is lawful whole.
+    let P : List Share → Type 0 = λ rows. TakesAll g.K.RowSink.takes c.args.sink.now rows c.hand_on_all.new.sink in
+    subst P
+    (ap (λ (fs : List Fact). rows_at held fs c.all.result.now) is
+    ∙ ap (rows_at held (reverse held))
+    (c.all.ensures RegisterOpenings held whole.openings
+    ∙ ap (λ (key : Key). reverse (places_of (has_key RegisterOpenings key) held)) c.named.ensures)
+    ∙ ap (flat_map (rows_of_opening held)) (openings_found held c.args.register.now))
+    (c.hand_on_all.ensures.whole held is lawful whole)

@@ -1,4 +1,4 @@
-use Rattle.std.proofs.Common.{◌∙◌, List, ℕ, reverse, ap}
+use Rattle.std.proofs.Common.{◌∙◌, List, reverse, ap}
 use Rattle.std.specs.List.{filter_map}
 use Rattle.office_events.specs.declared.facts.Fact.{Fact}
 use Rattle.list_tables.specs.declared.keys.Key.{Key}

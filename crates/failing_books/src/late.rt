@@ -1,0 +1,28 @@
+//! Books that fail behind the last row.
+ghost use Rattle.std.specs.Prelude.{◌≡◌};
+
+use crate::failing::FailingBooks;
+use office_books::Books;
+use office_lists::ListBooks;
+
+impl FailingBooks {
+    ghost use Rattle.std.specs.Prelude.{◌≡◌, List};
+    ghost use Rattle.office_events.specs.declared.facts.Fact.{Fact};
+    ghost use Rattle.office_lists.specs.Listed.{ledger_of};
+
+    /// As `new`, but where the call that fails hands rows on, it does so before it is refused.
+    pub fn after_rows(books: ListBooks, failing: u64) -> FailingBooks
+        ensures holds { (held : List Fact) → (ledger_of books).holds held
+            → (⟦<FailingBooks as Books>⟧.ledger result).holds held }
+        ensures zone { (⟦<FailingBooks as Books>⟧.ledger result).zone ≡ (ledger_of books).zone }
+        ensures faults { (⟦<FailingBooks as Books>⟧.ledger result).fault_count ≡ 0 }
+    {
+        FailingBooks {
+            books,
+            calls: 0,
+            failing,
+            faults: 0,
+            rows_come_first: true,
+        }
+    }
+}

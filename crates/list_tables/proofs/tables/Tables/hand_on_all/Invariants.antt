@@ -1,0 +1,14 @@
+use Rattle.std.proofs.Common.{◌≡◌, List, reverse, take}
+use Rattle.office_books.specs.Rows.{TakesAll}
+use Rattle.office_events.specs.declared.facts.Fact.{Fact}
+use Rattle.office_rules.specs.Lawful.{AreLawful}
+use Rattle.list_tables.specs.Handing.{TakesSome, rows_at}
+use Rattle.list_tables.specs.Whole.{AreWhole}
+use Rattle.list_tables.proofs.tables.Tables.hand_on_all.Given as goal
+
+abbrev pub invariant-loop-place : goal.invariant-loop-place
+invariant-loop-place g l = record {
+  whole : (held : List Fact) → l.facts ≡ reverse held → AreLawful held → AreWhole l.self held
+      → TakesAll g.K.RowSink.takes l.fn.sink (rows_at held l.facts (take l.place-index l.places)) l.sink;
+  some : TakesSome g.K.RowSink.takes l.fn.sink l.sink;
+}

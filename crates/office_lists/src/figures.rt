@@ -1,0 +1,52 @@
+//! Figures that go on with the facts, so that nobody has to walk these.
+ghost use Rattle.std.specs.Prelude.{◌≤◌, ◌<◌, ◌+◌, ◌∷◌, List, [], length};
+ghost use Rattle.office_books.specs.Ledgers.{with_facts};
+ghost use Rattle.office_events.specs.declared.facts.Fact.{Fact};
+ghost use Rattle.office_lists.specs.Figures.{AreFigures};
+
+use crate::kinds::{moment, openings};
+use office_events::Fact;
+
+/// How many meters were installed, and the greatest moment.
+#[derive(Clone, Copy)]
+pub(crate) struct Figures {
+    pub(crate) installations: usize,
+    pub(crate) latest: u64,
+}
+
+impl Figures {
+    /// The figures of no facts.
+    pub(crate) fn new() -> Figures
+        ensures { AreFigures result [] }
+    {
+        Figures {
+            installations: 0,
+            latest: 0,
+        }
+    }
+
+    /// The figures after one fact more.
+    fn after(&self, fact: &Fact) -> Figures
+        ensures { (held : List Fact) → AreFigures self.now held
+            → length held < 18446744073709551615
+            → AreFigures result (fact.now ∷ held) }
+    {
+        Figures {
+            installations: self.installations.saturating_add(openings(fact)),
+            latest: moment(fact).max(self.latest),
+        }
+    }
+
+    /// The figures after these facts.
+    pub(crate) fn after_all(&self, facts: &[Fact]) -> Figures
+        ensures { (held : List Fact) → AreFigures self.now held
+            → length held + length facts.now ≤ 18446744073709551615
+            → AreFigures result (with_facts facts.now held) }
+    {
+        let mut figures = *self;
+        for fact in facts {
+            figures = figures.after(fact);
+        }
+        figures
+    }
+}
