@@ -1,6 +1,8 @@
-ghost use Rattle.std.specs.Prelude.{◌≡◌, ℕ, ◌≤◌, ◌<◌, ◌+◌, ◌*◌, ◌^◌, pos, negsuc, ◌≤ℤ◌, List, ◌∷◌, IfOk};
+ghost use Rattle.std.specs.Prelude.{◌≡◌, ℕ, ◌≤◌, ◌<◌, ◌+◌, ◌*◌, ◌^◌, pos, negsuc, ◌≤ℤ◌, List, ◌∷◌};
+ghost use Rattle.std.specs.Prelude.{IfOk};
 ghost use Rattle.energy_core.specs.Entering.{entered, is_beyond, has_bad_scale, fault_number};
-ghost use Rattle.energy_core.specs.Account.{moment_of, reached, after, IsAccount, intervals_touched};
+ghost use Rattle.energy_core.specs.Account.{moment_of, reached, after, IsAccount};
+ghost use Rattle.energy_core.specs.Account.{intervals_touched};
 ghost use Rattle.energy_core.specs.declared.entries.Last.{Last};
 ghost use Rattle.energy_core.specs.declared.entries.Entry.{Entry};
 
@@ -114,7 +116,8 @@ pub fn enter<C: Counter>(
     ensures booked { result ≡ entered (C.range counter.now) terms.now.total last.now entry.now }
     ensures account { let range = C.range counter.now in
         (opening : Last) (es : List Entry) → IsAccount range opening es last.now terms.now.total
-        → IfOk result (λ r. IsAccount range opening (entry.now ∷ es) r.0 (terms.now.total + r.1.mwh)) }
+        → IfOk result (λ r. IsAccount range opening (entry.now ∷ es) r.0
+        (terms.now.total + r.1.mwh)) }
 
     // what the next call requires
     ensures total { IfOk result (λ r. terms.now.total + r.1.mwh ≤ 4 * 10 ^ 18) }

@@ -1,4 +1,6 @@
-ghost use Rattle.energy_core.specs.Laws.{StepsAddUp, StepsAreTheWhole, EnteredIsBooked, AcceptedIsPlausible, AcceptedIsEntered, AccountsBegin, AccountsGoOn, AccountsAreSound, ReadingsKeepAccounts};
+ghost use Rattle.energy_core.specs.Laws.{StepsAddUp, StepsAreTheWhole, EnteredIsBooked};
+ghost use Rattle.energy_core.specs.Laws.{AcceptedIsPlausible, AcceptedIsEntered, AccountsBegin};
+ghost use Rattle.energy_core.specs.Laws.{AccountsGoOn, AccountsAreSound, ReadingsKeepAccounts};
 ghost use Rattle.energy_core.specs.TrueRun.{TruthIsBooked};
 
 /// The energies of the steps of an installation add up to its whole energy.

@@ -1,7 +1,8 @@
 // The civil days of interval rows, by the clocks of a zone.
 use crate::shares::{shares_of, step};
 use energy_core::Step;
-use interval_core::{DayFault, DayFold, DayTotal, Share, Zone, write_day};
+use interval_core::{DayFault, DayFold, DayTotal, Share, Zone};
+use row_text::write_day;
 use std::alloc::Global;
 use std::io;
 use std::process::Abort;

@@ -3,7 +3,6 @@
 
 mod day;
 mod laws;
-mod report;
 mod shares;
 mod spread;
 mod totals;
@@ -14,7 +13,6 @@ pub use jiff::civil::Date as Day;
 pub use laws::{
     accounts_add_up, accounts_are_one, accounts_ignore_order, shares_add_up, zones_are_one,
 };
-pub use report::write_day;
 pub use shares::{INTERVAL, Share, Shares};
 pub use totals::{DayFold, DayTotal, by_day};
 pub use zone::{Zone, ZoneFault};

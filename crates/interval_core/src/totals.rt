@@ -1,4 +1,6 @@
-ghost use Rattle.std.specs.Prelude.{◌≡◌, ◌+◌, ◌-◌, ◌≤◌, ◌<◌, ◌^◌, ◌++◌, ◌∷◌, [], List, Option, Some, None, map, length, All, Contains, IsOk, IfOk, IfErr, OnOk, OnErr};
+ghost use Rattle.std.specs.Prelude.{◌≡◌, ◌+◌, ◌-◌, ◌≤◌, ◌<◌, ◌^◌, ◌++◌, ◌∷◌, [], List, Option};
+ghost use Rattle.std.specs.Prelude.{Some, None, map, length, All, Contains, IsOk, IfOk, IfErr};
+ghost use Rattle.std.specs.Prelude.{OnOk, OnErr};
 ghost use Rattle.std.specs.Option.{ForSome};
 ghost use Rattle.std.specs.List.Sorted.{IsNonDecreasingBy};
 ghost use Rattle.jiff.specs.Words.{epoch_day};
@@ -76,8 +78,10 @@ impl DayFold {
     pub fn push(&mut self, start: u64, mwh: u64, zone: &Zone) -> Result<(), DayFault>
         requires moment { start ≤ 4102444800 }
         requires not_back { ForSome self.old.latest (λ latest. latest ≤ start) }
-        ensures taken { (rows : List Share) → HasTaken zone.now rows self.old → energy_of rows + mwh < 2 ^ 128
-            → OnOk result (HasTaken zone.now (rows ++ record { start = start; mwh = mwh } ∷ []) self.new) }
+        ensures taken { (rows : List Share) → HasTaken zone.now rows self.old
+            → energy_of rows + mwh < 2 ^ 128
+            → OnOk result (HasTaken zone.now
+            (rows ++ record { start = start; mwh = mwh } ∷ []) self.new) }
         ensures latest { OnOk result (self.new.latest ≡ Some start) }
         ensures known { Contains (days_of self.old.accounts) (day_at zone.now start) → IsOk result }
         ensures err { OnErr result (self.new ≡ self.old) }
@@ -95,7 +99,8 @@ impl DayFold {
 pub fn by_day(alloc: Global, rows: &[Share], zone: &Zone) -> Result<Vec<DayTotal>, DayFault>
     requires never_back { IsNonDecreasingBy (λ row. row.start) rows.now }
     requires moments { All (λ row. row.start ≤ 4102444800) rows.now }
-    ensures accounts { IfOk result (λ totals. AreAccounts zone.now rows.now (map account_of totals.items)) }
+    ensures accounts { IfOk result
+        (λ totals. AreAccounts zone.now rows.now (map account_of totals.items)) }
     ensures memory { IfErr result (λ fault. fault ≡ DayFault.Memory) }
 {
     let mut fold = DayFold::new(alloc);
@@ -108,7 +113,8 @@ pub fn by_day(alloc: Global, rows: &[Share], zone: &Zone) -> Result<Vec<DayTotal
 /// The place of the first day that is not before `day`. It looks from the end, where rows in order have theirs.
 fn place_of(totals: &[DayTotal], day: Date) -> usize
     ensures within { result ≤ length totals.now }
-    ensures place { AreInOrder (map account_of totals.now) → IsPlace (epoch_day day) (map account_of totals.now) result }
+    ensures place { AreInOrder (map account_of totals.now)
+        → IsPlace (epoch_day day) (map account_of totals.now) result }
 {
     let mut place = totals.len();
     while place > 0 && day <= totals[place - 1].day {
@@ -135,8 +141,10 @@ fn find_day(totals: &[DayTotal], day: Date) -> Result<usize, usize>
 fn add(totals: &mut Vec<DayTotal>, day: Date, is_new: bool, mwh: u64) -> Result<(), AllocError>
     requires in_order { AreInOrder (map account_of totals.old.items) }
     requires counts { All (λ total. total.count < 2 ^ 32 - 1) totals.old.items }
-    ensures ok { OnOk result (IsAdded (epoch_day day) is_new mwh (map account_of totals.old.items) (map account_of totals.new.items)) }
-    ensures known { Contains (days_of (map account_of totals.old.items)) (epoch_day day) → IsOk result }
+    ensures ok { OnOk result (IsAdded (epoch_day day) is_new mwh (map account_of totals.old.items)
+        (map account_of totals.new.items)) }
+    ensures known { Contains (days_of (map account_of totals.old.items)) (epoch_day day)
+        → IsOk result }
     ensures err { OnErr result (totals.new.items ≡ totals.old.items) }
 {
     match find_day(totals, day) {

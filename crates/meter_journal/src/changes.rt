@@ -1,6 +1,7 @@
 //! Laws of what one more line changes in the books of a meter. Each function's clause is the law; its body calls the law
 //! below that it stands on, or is empty.
-ghost use Rattle.meter_journal.specs.Changes.{EntriesGoOn, PlacesWereKept, RowsLieWithin, SharesMoveEnergy, VoidsGoNoFurther};
+ghost use Rattle.meter_journal.specs.Changes.{EntriesGoOn, PlacesWereKept, RowsLieWithin};
+ghost use Rattle.meter_journal.specs.Changes.{SharesMoveEnergy, VoidsGoNoFurther};
 ghost use Rattle.meter_journal.specs.Voids.{VoidsChangeTwoRows};
 
 use interval_core::shares_add_up;

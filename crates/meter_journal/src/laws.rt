@@ -1,6 +1,8 @@
 //! Laws of journals, over every one that may come about. Each function's clause is the law; its body calls the law below
 //! that it stands on, or is empty.
-ghost use Rattle.meter_journal.specs.Laws.{JournalsBalance, JournalsAreKept, IntervalRowsAreAccounts, IntervalRowsAddUp, TruthIsKept, RowsStand, StandingEntriesFit, VoidsLeaveNoTrace};
+ghost use Rattle.meter_journal.specs.Laws.{JournalsBalance, JournalsAreKept};
+ghost use Rattle.meter_journal.specs.Laws.{IntervalRowsAreAccounts, IntervalRowsAddUp, TruthIsKept};
+ghost use Rattle.meter_journal.specs.Laws.{RowsStand, StandingEntriesFit, VoidsLeaveNoTrace};
 
 use interval_core::{accounts_add_up, shares_add_up};
 

@@ -1,5 +1,6 @@
 //! A meter's rows in a list, the oldest first.
-ghost use Rattle.std.specs.Prelude.{◌≡◌, ◌+◌, ◌≤◌, ◌<◌, ◌++◌, length, take, drop, find, IfSome, IfNone, None};
+ghost use Rattle.std.specs.Prelude.{◌≡◌, ◌+◌, ◌≤◌, ◌<◌, ◌++◌, length, take, drop, find, IfSome};
+ghost use Rattle.std.specs.Prelude.{IfNone, None};
 ghost use Rattle.energy_core.specs.Account.{last_of};
 ghost use Rattle.meter_journal.specs.Journal as journal;
 ghost use Rattle.meter_journal.specs.Fitting as fitting;

@@ -1,5 +1,5 @@
--- When two lists of facts are the same books: each table has the same rows.
-use Rattle.std.specs.Prelude.{◌≡◌, ℕ, List}
+-- When two lists of facts are the same books: each table has the same rows, and so has each meter that was installed.
+use Rattle.std.specs.Prelude.{◌≡◌, ℕ, List, Contains}
 use Rattle.std.specs.List.Sorted.{IsPermutation}
 use Rattle.office_events.specs.declared.facts.Opening.{Opening}
 use Rattle.office_events.specs.declared.facts.Fact.{Fact}
@@ -11,7 +11,7 @@ pub record AreSame (facts others : List Fact) : Type 0 where
   pub lists : (device : List ℕ) → list_of facts device ≡ list_of others device
   pub registers : registers_in facts ≡ registers_in others
   pub openings : openings_in facts ≡ openings_in others
-  pub entries : (opening : Opening) → rows_of facts opening ≡ rows_of others opening
+  pub entries : (opening : Opening) → Contains (openings_in facts) opening → rows_of facts opening ≡ rows_of others opening
   pub holds : IsPermutation (holds_in facts) (holds_in others)
   pub voids : IsPermutation (voids_in facts) (voids_in others)
   pub polls : polls_in facts ≡ polls_in others

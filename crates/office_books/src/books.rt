@@ -13,7 +13,8 @@ use office_events::{
 pub trait Books: Drop {
     ghost use Rattle.std.specs.Prelude.{◌≡◌, ℕ, List, reverse, length};
     ghost use Rattle.office_events.specs.declared.facts.Fact.{Fact};
-    ghost use Rattle.office_rules.specs.Facts.{devices_in, register_of, registers_of, list_of, openings_in, polls_in, pending_in, latest_in};
+    ghost use Rattle.office_rules.specs.Facts.{devices_in, register_of, registers_of, list_of};
+    ghost use Rattle.office_rules.specs.Facts.{openings_in, polls_in, pending_in, latest_in};
     ghost use Rattle.office_rules.specs.Meters.{meter_of, installation_at, entry_at};
     ghost use Rattle.office_rules.specs.Readings.{poll_row_of};
     ghost use Rattle.office_rules.specs.Intervals.{rows_of_meter, rows_of_register};
@@ -37,7 +38,8 @@ pub trait Books: Drop {
 
     /// By this law what they hold are all tables: two lists of facts that they hold differ in no row.
     fn tables_are_held(&self)
-        ensures { (held others : List Fact) → (ledger self.now).is_clean → (ledger self.now).holds held
+        ensures { (held others : List Fact) → (ledger self.now).is_clean
+            → (ledger self.now).holds held
             → (ledger self.now).holds others → AreSame held others };
 
     /// The devices, in the order in which they were added.

@@ -41,7 +41,8 @@ pub fn enter(row: &Installation, entry: &Entry) -> Installation
         → entered row.now.opening.range row.now.total row.now.last entry.now ≡ Ok (last, step)
         → (result.last ≡ last) × (result.total ≡ row.now.total + step.mwh) }
     ensures refused { (fault : TermFault)
-        → entered row.now.opening.range row.now.total row.now.last entry.now ≡ Err fault → result ≡ row.now }
+        → entered row.now.opening.range row.now.total row.now.last entry.now ≡ Err fault
+        → result ≡ row.now }
 {
     let Some(counter) = Ranged::new(row.opening.range) else {
         unreachable!()

@@ -15,7 +15,7 @@ use Rattle.office_events.specs.declared.events.Event.{Event}
 use Rattle.office_events.specs.declared.events.Event.TheVariants as event
 use Rattle.office_rules.specs.Facts.{same, is_named, poll_limit, polls_in}
 use Rattle.office_rules.specs.Sessions as sessions
-use Rattle.office_rules.specs.Sessions.{command_in, line_of, lines_added, with_happenings, start_by, sends_on, sends_at}
+use Rattle.office_rules.specs.Sessions.{command_in, line_of, with_happenings, start_by, sends_on, sends_at}
 use Rattle.office_rules.specs.History.{History, facts_of, lines_of, next_poll, spans_by, added_by, polls_from, sends_from}
 use Rattle.office_rules.specs.Notes as notes
 use Rattle.office_rules.specs.Notes.{frames_from}
@@ -96,13 +96,6 @@ starts_on lines c given place i is ready found here =
     let got : line_of lines (sessions.started_on c) ≡ slice_get lines i =
     ap (line_of lines) (sym is) ∙ found ∙ ap (option_and_then (slice_get lines)) here in
     record { line = it.0; found = it.1; there = sym got ∙ it.1 }
-
-pub no_place : (lines : List sessions.Line) (c : Command) (given : Option (List ℕ)) (place : Option ℕ) → given ≡ sessions.started_on c
-    → is_ready (line_of lines (sessions.started_on c)) ≡ true → line_of lines given ≡ option_and_then (slice_get lines) place → place ≡ None → ⊥
-no_place lines c given place is ready found here =
-    let it = a_line (line_of lines (sessions.started_on c)) ready in
-    let none : line_of lines (sessions.started_on c) ≡ None = ap (line_of lines) (sym is) ∙ found ∙ ap (option_and_then (slice_get lines)) here in
-    let never : Some it.0 ≡ None = sym it.1 ∙ none in absurd (cc)
 
 pub keeps_at : (now : List Line) (lines : List sessions.Line) (i : ℕ) (line : sessions.Line) (d : Line) → KeepsLines now lines → slice_get lines i ≡ Some line
     → KeepsLine (get_or now i d) line

@@ -1,15 +1,13 @@
 //! The facts that a command adds.
-ghost use Rattle.std.specs.Prelude.{◌≡◌, ℕ, ◌++◌, [], ◌∷◌, false, List, None, Some, Option, IfOk};
-ghost use Rattle.std.specs.Option.{option_map, option_and_then, option_to_list};
+ghost use Rattle.std.specs.Prelude.{◌≡◌, false, Some, Option, IfOk};
+ghost use Rattle.std.specs.Option.{option_to_list};
 ghost use Rattle.office_events.specs.declared.facts.Fact.{Fact};
 ghost use Rattle.office_events.specs.declared.facts.Fact.TheVariants as fact;
 ghost use Rattle.office_events.specs.declared.commands.Command.TheVariants as command;
-ghost use Rattle.office_rules.specs.Sessions as sessions;
-ghost use Rattle.office_rules.specs.History as history;
-ghost use Rattle.office_rules.specs.History.{added_by};
 ghost use Rattle.office_rules.specs.Refusals.{is_start};
 ghost use Rattle.office_lines.specs.Ranges.{IsCommandInRange};
 ghost use Rattle.office_books.specs.Ledgers.{Finds, OnlyReads};
+ghost use Rattle.office_commands.specs.Adding.{AreAdded};
 
 use crate::meters::{
     close_by, closing_by, installed_by, manual_by, open_meter, opening_by, rescale_by, reset_by,
@@ -40,7 +38,7 @@ fn exchanged<B: Books>(
 ) -> Result<Vec<Fact>, BooksFault>
     requires range { IsCommandInRange moment (command.Exchange exchange.now) }
     ensures found { Finds (B.ledger books.old) (B.ledger books.new) result
-        (λ held facts. (number : ℕ) (kept : List sessions.Line) → facts.items ≡ added_by number moment kept held (command.Exchange exchange.now)) }
+        (λ held facts. AreAdded moment (command.Exchange exchange.now) held facts.items) }
     ensures reads { OnlyReads (B.ledger books.old) (B.ledger books.new) result }
 {
     let closed = open_meter(books, &exchange.register)?;
@@ -61,7 +59,7 @@ pub fn facts_by<B: Books>(
     requires range { IsCommandInRange moment command.now }
     requires no_start { is_start command.now ≡ false }
     ensures found { Finds (B.ledger books.old) (B.ledger books.new) result
-        (λ held facts. (number : ℕ) (kept : List sessions.Line) → facts.items ≡ added_by number moment kept held command.now) }
+        (λ held facts. AreAdded moment command.now held facts.items) }
     ensures reads { OnlyReads (B.ledger books.old) (B.ledger books.new) result }
 {
     match command {

@@ -2,16 +2,15 @@
 ghost use Rattle.std.specs.Prelude.{◌≡◌, ◌≤◌, ◌+◌, ◌++◌, [], true, false, List, Some, OnOk, OnErr, vec_len, vec_capacity};
 ghost use Rattle.std.specs.Option.{option_to_list};
 ghost use Rattle.office_events.specs.declared.commands.Command.TheVariants as commands;
-ghost use Rattle.office_events.specs.declared.events.Event.{Event};
 ghost use Rattle.office_rules.specs.Sessions as sessions;
 ghost use Rattle.office_rules.specs.Sessions.{command_in, started_on, new_line, lines_added};
-ghost use Rattle.office_rules.specs.History.{History, lines_of};
-ghost use Rattle.office_rules.specs.Refusals.{IsAccepted, is_start};
+ghost use Rattle.office_rules.specs.Refusals.{is_start};
 ghost use Rattle.office_lines.specs.Keeping.{KeepsLines};
+ghost use Rattle.office_lines.specs.Places.{AsksOnLine, StartsOnLine, has_line};
 ghost use Rattle.office_lines.specs.Ranges.{IsCommandInRange, AsksInRange};
-ghost use Rattle.office_lawful.specs.Laws.{IsPast, PutsPlanned};
+ghost use Rattle.office_lawful.specs.Laws.{PutsPlanned};
 ghost use Rattle.office_books.specs.Ledgers.{GoesOn};
-ghost use Rattle.office_commands.specs.Carrying.{AsksCommand, Carries, replies_by};
+ghost use Rattle.office_commands.specs.Carrying.{AsksCommand, CarriesEvent, CarriesOut};
 
 use crate::records::record;
 use crate::registers::device_by;
@@ -26,7 +25,7 @@ use poll_core::{each_once, one_event_more};
 use std::alloc::Global;
 
 /// That a list that a command puts is planned.
-fn puts_planned(command: &Command)
+pub fn puts_planned(command: &Command)
     ensures { PutsPlanned (Some command.now) }
 {
     match command {
@@ -77,9 +76,8 @@ fn add_device<B: Books>(
 ) -> Result<Done, BooksFault>
     requires range { IsCommandInRange moment command.now }
     requires adds { command.now ≡ commands.AddDevice add.now }
-    ensures carried { (past : History) (e : Event) → IsPast past → KeepsLines lines.old.items (lines_of past) → IsAccepted past moment e
-        → command_in e ≡ Some command.now → replies_by moment e ≡ option_to_list reply
-        → Carries (B.ledger books.old) (B.ledger books.new) lines.new.items past moment e result }
+    ensures carried { CarriesOut (B.ledger books.old) (B.ledger books.new) lines.old.items
+        lines.new.items moment command.now (option_to_list reply) result }
     ensures unchanged { OnErr result (lines.new.items ≡ lines.old.items) }
     ensures goes { GoesOn (B.ledger books.old) (B.ledger books.new) result }
 {
@@ -104,9 +102,8 @@ fn note<B: Books>(
     requires range { IsCommandInRange moment command.now }
     requires no_start { is_start command.now ≡ false }
     requires no_line { lines_added (Some command.now) ≡ [] }
-    ensures carried { (past : History) (e : Event) → IsPast past → KeepsLines lines.now (lines_of past) → IsAccepted past moment e
-        → command_in e ≡ Some command.now → replies_by moment e ≡ option_to_list reply
-        → Carries (B.ledger books.old) (B.ledger books.new) lines.now past moment e result }
+    ensures carried { CarriesOut (B.ledger books.old) (B.ledger books.new) lines.now lines.now
+        moment command.now (option_to_list reply) result }
     ensures goes { GoesOn (B.ledger books.old) (B.ledger books.new) result }
 {
     facts_are_lawful();
@@ -126,10 +123,10 @@ fn start_at<B: Books>(
 ) -> Result<Done, BooksFault>
     requires start { is_start command.now ≡ true }
     requires device { device.now ≡ started_on command.now }
+    requires there { has_line lines.old device.now ≡ true }
     requires limit { moment ≤ 4102444800 }
-    ensures carried { (past : History) (e : Event) → IsPast past → KeepsLines lines.old (lines_of past) → IsAccepted past moment e
-        → command_in e ≡ Some command.now → replies_by moment e ≡ option_to_list reply
-        → Carries (B.ledger books.old) (B.ledger books.new) lines.new past moment e result }
+    ensures carried { CarriesOut (B.ledger books.old) (B.ledger books.new) lines.old lines.new
+        moment command.now (option_to_list reply) result }
     ensures unchanged { OnErr result (lines.new ≡ lines.old) }
     ensures goes { GoesOn (B.ledger books.old) (B.ledger books.new) result }
 {
@@ -138,8 +135,7 @@ fn start_at<B: Books>(
     one_event_more();
     puts_planned(command);
     let Some(place) = place_of(lines, device) else {
-        // The device of an accepted start is there.
-        return Err(BooksFault::Memory);
+        unreachable!()
     };
     start(alloc, &mut lines[place], books, moment, command, reply)
 }
@@ -155,9 +151,9 @@ fn obey<B: Books>(
 ) -> Result<Done, BooksFault>
     requires range { IsCommandInRange moment command.now }
     requires limit { moment ≤ 4102444800 }
-    ensures carried { (past : History) (e : Event) → IsPast past → KeepsLines lines.old.items (lines_of past) → IsAccepted past moment e
-        → command_in e ≡ Some command.now → replies_by moment e ≡ option_to_list reply
-        → Carries (B.ledger books.old) (B.ledger books.new) lines.new.items past moment e result }
+    requires there { StartsOnLine lines.old.items command.now }
+    ensures carried { CarriesOut (B.ledger books.old) (B.ledger books.new) lines.old.items
+        lines.new.items moment command.now (option_to_list reply) result }
     ensures unchanged { OnErr result (lines.new.items ≡ lines.old.items) }
     ensures goes { GoesOn (B.ledger books.old) (B.ledger books.new) result }
 {
@@ -193,8 +189,9 @@ pub fn carry_out<B: Books>(
     requires asks { AsksCommand event.now }
     requires range { AsksInRange moment (command_in event.now) }
     requires limit { moment ≤ 4102444800 }
-    ensures carried { (past : History) → IsPast past → KeepsLines lines.old.items (lines_of past) → IsAccepted past moment event.now
-        → Carries (B.ledger books.old) (B.ledger books.new) lines.new.items past moment event.now result }
+    requires there { AsksOnLine lines.old.items (command_in event.now) }
+    ensures carried { CarriesEvent (B.ledger books.old) (B.ledger books.new) lines.old.items
+        lines.new.items moment event.now result }
     ensures unchanged { OnErr result (lines.new.items ≡ lines.old.items) }
     ensures goes { GoesOn (B.ledger books.old) (B.ledger books.new) result }
 {

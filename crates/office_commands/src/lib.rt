@@ -11,6 +11,6 @@ mod results;
 mod rounds;
 mod starting;
 
-pub use carrying::carry_out;
+pub use carrying::{carry_out, puts_planned};
 pub use office_starting::Outgoing;
 pub use results::Done;

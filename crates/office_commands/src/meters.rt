@@ -1,14 +1,14 @@
 //! Meters that are installed, corrected and closed.
-ghost use Rattle.std.specs.Prelude.{◌≡◌, ◌≤◌, ◌++◌, [], ◌∷◌, false, List, None, Some, Option, IfOk};
-ghost use Rattle.std.specs.Option.{option_map, option_and_then, option_to_list};
+ghost use Rattle.std.specs.Prelude.{◌≡◌, false, None, Some, Option};
+ghost use Rattle.std.specs.Option.{option_and_then, option_to_list};
 ghost use Rattle.office_events.specs.declared.facts.Fact.{Fact};
-ghost use Rattle.office_events.specs.declared.facts.Fact.TheVariants as fact;
 ghost use Rattle.office_events.specs.declared.commands.Command.TheVariants as command;
 ghost use Rattle.office_rules.specs.Meters.{open_at};
 ghost use Rattle.office_rules.specs.History as history;
 ghost use Rattle.office_rules.specs.Refusals.{asks_bad_field, asks_bad_scale};
 ghost use Rattle.office_lines.specs.Ranges.{FitsCounter};
 ghost use Rattle.office_books.specs.Ledgers.{Finds, OnlyReads};
+ghost use Rattle.office_commands.specs.Adding as adding;
 
 use energy_core::Entry;
 use office_books::{Books, BooksFault};
@@ -136,7 +136,7 @@ pub fn close_by(moment: u64, row: &Installation, close: &Close) -> Fact
 
 /// That an entry stands no more.
 pub fn void_by(moment: u64, void: &VoidEntry) -> Option<Fact>
-    ensures { result ≡ option_map (λ meter. fact.Void (record { meter = meter; place = void.now.place; at = moment })) void.now.meter }
+    ensures { result ≡ adding.void_by moment void.now }
 {
     Some(Fact::Void(VoidedEntry {
         meter: void.meter?,

@@ -1,5 +1,5 @@
 //! Commands that are recorded, and change no line.
-ghost use Rattle.std.specs.Prelude.{◌≡◌, ◌++◌, ℕ, [], false, List, Option, IfOk};
+ghost use Rattle.std.specs.Prelude.{◌≡◌, ◌++◌, [], false, List, Option, IfOk};
 ghost use Rattle.std.specs.Option.{option_to_list};
 ghost use Rattle.office_events.specs.declared.facts.Fact.{Fact};
 ghost use Rattle.office_events.specs.declared.answers.Answer.TheVariants as answers;
@@ -36,7 +36,8 @@ pub fn book<B: Books>(
     facts: Vec<Fact>,
     reply: Option<Fact>,
 ) -> Result<(), BooksFault>
-    ensures { Tries (B.ledger books.old) (B.ledger books.new) (facts.items ++ option_to_list reply) result }
+    ensures { Tries (B.ledger books.old) (B.ledger books.new)
+        (facts.items ++ option_to_list reply) result }
 {
     let all = with_reply(facts, reply)?;
     books.book(all)
@@ -53,8 +54,8 @@ pub fn record<B: Books>(
     requires range { IsCommandInRange moment command.now }
     requires no_start { is_start command.now ≡ false }
     ensures books { (kept : List sessions.Line) (held : List Fact)
-        → AreLawful (facts_obeyed moment kept held command.now (option_to_list reply))
-        → Moves (B.ledger books.old) (B.ledger books.new) held (facts_obeyed moment kept held command.now (option_to_list reply)) result }
+        → let later = facts_obeyed moment kept held command.now (option_to_list reply) in
+        AreLawful later → Moves (B.ledger books.old) (B.ledger books.new) held later result }
     ensures goes { GoesOn (B.ledger books.old) (B.ledger books.new) result }
     ensures answer { IfOk result (λ done. done.answer ≡ answers.Done (kind_of command.now)) }
     ensures sent { IfOk result (λ done. done.outgoing ≡ []) }

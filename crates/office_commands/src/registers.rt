@@ -1,11 +1,10 @@
 //! Devices and registers that are added.
-ghost use Rattle.std.specs.Prelude.{◌≡◌, [], ◌∷◌, false, IfOk, Option};
-ghost use Rattle.std.specs.Option.{option_map, option_and_then, option_to_list};
-ghost use Rattle.office_events.specs.declared.facts.Fact.TheVariants as fact;
+ghost use Rattle.std.specs.Prelude.{◌≡◌, false, IfOk, Option};
 ghost use Rattle.office_events.specs.declared.commands.Command.TheVariants as command;
 ghost use Rattle.office_rules.specs.Sessions as sessions;
 ghost use Rattle.office_rules.specs.History as history;
 ghost use Rattle.office_rules.specs.Refusals.{asks_bad_field, asks_bad_scale};
+ghost use Rattle.office_commands.specs.Adding as adding;
 
 use mb_wire::ReadFunction;
 use office_events::{
@@ -29,7 +28,7 @@ pub fn device_by(add: &AddDevice) -> Option<Device>
 
 /// The point list that a command puts.
 pub fn list_by(put: &PutList) -> Result<Option<Fact>, AllocError>
-    ensures { IfOk result (λ added. added ≡ option_map (λ device. fact.List (record { device = device; list = put.now.list })) put.now.device) }
+    ensures { IfOk result (λ added. added ≡ adding.list_by put.now) }
 {
     let Some(device) = put.device else {
         return Ok(None);
@@ -52,7 +51,7 @@ fn function_by(function: u64) -> ReadFunction
 pub fn register_by(add: &AddRegister) -> Option<Fact>
     requires field { asks_bad_field 0 (command.AddRegister add.now) ≡ false }
     requires scale { asks_bad_scale (command.AddRegister add.now) ≡ false }
-    ensures { result ≡ option_and_then (λ name. option_map (λ device. history.register_by add.now name device) add.now.device) add.now.name }
+    ensures { result ≡ adding.register_by add.now }
 {
     let scale = match add.scale {
         GivenScale::Fixed(sf) => ScaleSource::Fixed(sf as i16),

@@ -1,16 +1,13 @@
 //! Commands that start polls.
-ghost use Rattle.std.specs.Prelude.{◌≡◌, ◌≤◌, ◌++◌, [], true, List, length, OnOk, OnErr, IfOk};
+ghost use Rattle.std.specs.Prelude.{◌≡◌, ◌≤◌, true, OnOk, OnErr, IfOk};
 ghost use Rattle.std.specs.Option.{option_to_list};
-ghost use Rattle.office_events.specs.declared.facts.Fact.{Fact};
-ghost use Rattle.office_events.specs.declared.answers.Answer.TheVariants as answers;
 ghost use Rattle.office_rules.specs.Lawful.{AreLawful};
-ghost use Rattle.office_rules.specs.Sessions as sessions;
-ghost use Rattle.office_rules.specs.History.{next_poll, spans_by};
-ghost use Rattle.office_rules.specs.Refusals.{is_start, reads_in_all};
+ghost use Rattle.office_rules.specs.Refusals.{is_start};
 ghost use Rattle.office_lines.specs.Keeping.{KeepsLine};
-ghost use Rattle.office_books.specs.Ledgers.{GoesOn, Moves, with_facts};
-ghost use Rattle.office_starting.specs.Starts.{IsBefore, line_sent};
-ghost use Rattle.office_commands.specs.Carrying.{polls_by, frames_by, sends_by, line_by};
+ghost use Rattle.office_books.specs.Ledgers.{GoesOn, Moves};
+ghost use Rattle.office_starting.specs.Starts.{IsBefore};
+ghost use Rattle.office_commands.specs.Carrying.{WhereStarted, facts_started, start_answer};
+ghost use Rattle.office_commands.specs.Carrying.{frames_by, line_by};
 
 use crate::records::book;
 use crate::results::Done;
@@ -32,19 +29,18 @@ pub fn start<B: Books>(
 ) -> Result<Done, BooksFault>
     requires start { is_start command.now ≡ true }
     requires limit { moment ≤ 4102444800 }
-    ensures books { (kept : sessions.Line) (held : List Fact) → KeepsLine line.old kept
-        → next_poll held ≤ 4611686018427387905
-        → AreLawful (with_facts (polls_by moment kept held command.now ++ option_to_list reply) held)
-        → Moves (B.ledger books.old) (B.ledger books.new) held (with_facts (polls_by moment kept held command.now ++ option_to_list reply) held) result }
-    ensures stands { (kept : sessions.Line) (held : List Fact) → KeepsLine line.old kept → IsBefore moment kept
-        → next_poll held ≤ 4611686018427387905 → (B.ledger books.old).holds held → (B.ledger books.new).is_clean
-        → OnOk result (KeepsLine line.new (line_by moment kept held command.now)) }
-    ensures answer { (kept : sessions.Line) (held : List Fact) → KeepsLine line.old kept
-        → next_poll held ≤ 4611686018427387905 → (B.ledger books.old).holds held → (B.ledger books.new).is_clean
-        → IfOk result (λ done. done.answer ≡ answers.Started (next_poll held) (length (sends_by moment kept held command.now)) (reads_in_all held command.now)) }
-    ensures sent { (kept : sessions.Line) (held : List Fact) → KeepsLine line.old kept → IsBefore moment kept
-        → next_poll held ≤ 4611686018427387905 → (B.ledger books.old).holds held → (B.ledger books.new).is_clean
-        → IfOk result (λ done. done.outgoing ≡ frames_by moment kept held command.now) }
+    ensures books { WhereStarted line.old (λ kept held.
+        let later = facts_started moment kept held command.now (option_to_list reply) in
+        AreLawful later → Moves (B.ledger books.old) (B.ledger books.new) held later result) }
+    ensures stands { WhereStarted line.old (λ kept held. IsBefore moment kept
+        → (B.ledger books.old).holds held → (B.ledger books.new).is_clean
+        → OnOk result (KeepsLine line.new (line_by moment kept held command.now))) }
+    ensures answer { WhereStarted line.old (λ kept held.
+        (B.ledger books.old).holds held → (B.ledger books.new).is_clean
+        → IfOk result (λ done. done.answer ≡ start_answer moment kept held command.now)) }
+    ensures sent { WhereStarted line.old (λ kept held. IsBefore moment kept
+        → (B.ledger books.old).holds held → (B.ledger books.new).is_clean
+        → IfOk result (λ done. done.outgoing ≡ frames_by moment kept held command.now)) }
     ensures goes { GoesOn (B.ledger books.old) (B.ledger books.new) result }
     ensures unchanged { OnErr result (line.new ≡ line.old) }
 {

@@ -1,6 +1,8 @@
 -- A run, one more event at its end.
 use Rattle.std.proofs.Common.{◌≡◌, ◌↔◌, ◌||◌, ℕ, ◌+◌, ◌<◌, Bool, true, false, List, [], ◌∷◌, ◌++◌, take, length, ◌≤◌, get_or, Result, Err, refl, ap, sym, subst, ◌∙◌, arith, take_all}
+use Rattle.std.specs.Prelude.{All, IfErr}
 use Rattle.std.proofs.lemmas.List.{take_more}
+use Rattle.std.proofs.lemmas.List.Elements.{All-append, All-cons, All-nil}
 use Rattle.office_events.specs.declared.answers.Answer.{Answer}
 use Rattle.office_events.specs.declared.events.Event.{Event}
 use Rattle.office_events.specs.declared.refusals.Refusal.{Refusal}
@@ -9,7 +11,7 @@ use Rattle.office_rules.specs.History.{History, Opened}
 use Rattle.office_rules.specs.Refusals.{with_answer}
 use Rattle.office_books.specs.Ledgers.{Ledger}
 use Rattle.office_core.specs.declared.office.Office.{Office}
-use Rattle.office_core.specs.Failing.{Counts, is_failure, stops}
+use Rattle.office_core.specs.Failing.{Counts, IsNotForWantOfDay, is_failure, stops}
 use Rattle.office_core.specs.Leaving.{BooksStand}
 use Rattle.office_core.specs.Standing.{After, Stands, books_in, is_stopped}
 use Rattle.office_core.specs.Taking.{IsAnswer, IsTold, IsQuiet, SettlesNothing, Ends, failures_of}
@@ -69,6 +71,13 @@ counts_push : (before between after : ℕ) (fed : List Answered) (one : Answered
 counts_push before between after [] one h k = (after, rw (sym h) k, refl)
 counts_push before between after (f ∷ fed) one h k = (h.0, h.1, counts_push h.0 between after fed one h.2 k)
 
+-- none of them was refused since a row has no civil day
+abbrev pub HasItsDay : Answered → Type 0
+HasItsDay fed = IfErr fed.result IsNotForWantOfDay
+
+no_day_push : (fed : List Answered) (one : Answered) → All HasItsDay fed → HasItsDay one → All HasItsDay (fed ++ one ∷ [])
+no_day_push fed one h k = All-append HasItsDay fed (one ∷ []) h (All-cons HasItsDay one [] k (All-nil HasItsDay))
+
 -- How far a run has come with these events.
 pub record SoFar {B : Type 0} (ledger : B → Ledger) (books : B) (opened : ℕ) (fed : List Answered) (office : Office B) : Type 0 where
   pub stands : (past : History) → BooksStand (ledger books) past → (ledger (books_in office)).is_clean
@@ -78,6 +87,7 @@ pub record SoFar {B : Type 0} (ledger : B → Ledger) (books : B) (opened : ℕ)
   pub told : (past : History) → BooksStand (ledger books) past → (ledger (books_in office)).is_clean
       → TellsOfLast (Opened opened ∷ past) fed office
   pub stops : StopsInTurn false (is_stopped office) fed
+  pub no_day : All HasItsDay fed
   pub counts : CountInTurn (ledger books).fault_count (ledger (books_in office)).fault_count fed
   pub clean : (ledger (books_in office)).is_clean → (ledger books).is_clean
   pub zone : (ledger (books_in office)).zone ≡ (ledger books).zone
@@ -116,6 +126,7 @@ further ledger books opened fed old new one so feeds = record {
       told_push (Opened opened ∷ past) fed one new
       (feeds.told (history_after (Opened opened ∷ past) fed) (so.stands past stood (feeds.ends.clean clean)) clean);
   stops = rw feeds.ends.stops (stops_push false (is_stopped old) fed one so.stops feeds.ends.stopped);
+  no_day = no_day_push fed one so.no_day feeds.ends.no_day;
   counts = counts_push _ _ _ fed one so.counts feeds.ends.counts;
   clean = λ clean. so.clean (feeds.ends.clean clean);
   zone = feeds.ends.zone ∙ so.zone;

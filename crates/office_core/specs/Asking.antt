@@ -51,11 +51,12 @@ rows_in (Some rows) = rows
 
 -- The energy of a meter by quarter hours, where there is a meter of the name.
 abbrev pub intervals_of : List Fact → (meter : Option (List ℕ)) → Option (List Share)
-intervals_of facts meter = option_map (rows_of_opening facts) (option_and_then (opening_of facts) meter)
+intervals_of facts meter =
+    option_map (rows_of_opening facts) (option_and_then (opening_of facts) meter)
 
 -- Rows are asked for. What the sink took begins those that are there, and at Ok is all of them.
-pub record HandsRows {S T : Type 0} (takes : S → T → S → Type 0) (rows : Option (List T)) (before after : ℕ)
-    (from to : S) (result : Result (Unit {0}) Refusal) : Type 0 where
+pub record HandsRows {S T : Type 0} (takes : S → T → S → Type 0) (rows : Option (List T))
+    (before after : ℕ) (from to : S) (result : Result (Unit {0}) Refusal) : Type 0 where
   pub answer : IsFound (is_there rows) before after result
   pub begun : TakesFirst takes from (rows_in rows) to
   pub whole : OnOk result (TakesAll takes from (rows_in rows) to)
@@ -67,24 +68,27 @@ AreDaysNamed zone facts (Some register) days = AreDaysOf zone facts register day
 
 -- The sink took the days of a register, one for each civil day on which one of its interval rows begins, in order. A number
 -- of 64 bits counts them.
-pub record TakesDays {S : Type 0} (takes : S → DayTotal → S → Type 0) (zone : Zone) (facts : List Fact)
-    (register : Option (List ℕ)) (from to : S) : Type 0 where
+pub record TakesDays {S : Type 0} (takes : S → DayTotal → S → Type 0) (zone : Zone)
+    (facts : List Fact) (register : Option (List ℕ)) (from to : S) : Type 0 where
   pub days : List DayTotal
   pub are : AreDaysNamed zone facts register (map account_of days)
   pub few : length days < 2 ^ 64
   pub took : TakesAll takes from days to
 
 -- Days are asked for. The sink took all of them at Ok, and else none.
-pub record HandsDays {S : Type 0} (takes : S → DayTotal → S → Type 0) (zone : Zone) (facts : List Fact)
-    (register : Option (List ℕ)) (before after : ℕ) (from to : S) (result : Result (Unit {0}) Refusal) : Type 0 where
+pub record HandsDays {S : Type 0} (takes : S → DayTotal → S → Type 0) (zone : Zone)
+    (facts : List Fact) (register : Option (List ℕ)) (before after : ℕ) (from to : S)
+    (result : Result (Unit {0}) Refusal) : Type 0 where
   pub answer : IsFound (is_there (option_and_then (register_of facts) register)) before after result
   pub whole : OnOk result (TakesDays takes zone facts register from to)
   pub none : OnErr result (to ≡ from)
 
 -- Books tell what the facts that they hold say, if no wrong answer of a store was taken as true: a row, rows, or days.
-abbrev pub FoundIn : {T : Type 0} → (old new : Ledger) → Result T Refusal → (List Fact → Option T) → Type 0
+abbrev pub FoundIn : {T : Type 0} → (old new : Ledger) → Result T Refusal → (List Fact → Option T)
+    → Type 0
 FoundIn old new result row =
-    (held : List Fact) → old.holds held → new.is_clean → IsFound (row held) old.fault_count new.fault_count result
+    (held : List Fact) → old.holds held → new.is_clean
+    → IsFound (row held) old.fault_count new.fault_count result
 
 abbrev pub RowsIn : {S T : Type 0} → (S → T → S → Type 0) → (old new : Ledger) → (from to : S)
     → Result (Unit {0}) Refusal → (List Fact → Option (List T)) → Type 0
@@ -99,11 +103,13 @@ DaysIn takes old new from to result register =
     → HandsDays takes old.zone held register old.fault_count new.fault_count from to result
 
 -- the days of a register, as a list, where the facts are lawful; or it failed outside
-abbrev pub AddsUp : (old new : Ledger) → (register : List ℕ) → Result (Vec DayTotal Global) Refusal → Type 0
+abbrev pub AddsUp : (old new : Ledger) → (register : List ℕ)
+    → Result (Vec DayTotal Global) Refusal → Type 0
 AddsUp old new register result =
     (held : List Fact) → AreLawful held → old.holds held → new.is_clean
     → MatchResult result
-    (λ days. AreDaysOf old.zone held register (map account_of days.items) × (new.fault_count ≡ old.fault_count))
+    (λ days. AreDaysOf old.zone held register (map account_of days.items)
+    × (new.fault_count ≡ old.fault_count))
     (IsOutside old.fault_count new.fault_count)
 
 -- So does the office, by the facts of what it accepted.
@@ -112,13 +118,16 @@ abbrev pub Tells : {B T : Type 0} → (B → Ledger) → (old new : Office B) �
 Tells ledger old new result row = After ledger old new (λ past.
     IsFound (row (facts_of past)) (failures_of ledger old) (failures_of ledger new) result)
 
-abbrev pub TellsRows : {B S T : Type 0} → (S → T → S → Type 0) → (B → Ledger) → (old new : Office B) → (from to : S)
-    → Result (Unit {0}) Refusal → (List Fact → Option (List T)) → Type 0
+abbrev pub TellsRows : {B S T : Type 0} → (S → T → S → Type 0) → (B → Ledger)
+    → (old new : Office B) → (from to : S) → Result (Unit {0}) Refusal
+    → (List Fact → Option (List T)) → Type 0
 TellsRows takes ledger old new from to result rows = After ledger old new (λ past.
-    HandsRows takes (rows (facts_of past)) (failures_of ledger old) (failures_of ledger new) from to result)
+    HandsRows takes (rows (facts_of past))
+    (failures_of ledger old) (failures_of ledger new) from to result)
 
-abbrev pub TellsDays : {B S : Type 0} → (S → DayTotal → S → Type 0) → (B → Ledger) → (old new : Office B)
-    → (from to : S) → Result (Unit {0}) Refusal → (register : Option (List ℕ)) → Type 0
+abbrev pub TellsDays : {B S : Type 0} → (S → DayTotal → S → Type 0) → (B → Ledger)
+    → (old new : Office B) → (from to : S) → Result (Unit {0}) Refusal
+    → (register : Option (List ℕ)) → Type 0
 TellsDays takes ledger old new from to result register = After ledger old new (λ past.
     HandsDays takes (ledger (books_in old)).zone (facts_of past) register
     (failures_of ledger old) (failures_of ledger new) from to result)
@@ -156,7 +165,8 @@ pub record Asks {T : Type 0} (old new : Ledger) (result : Result T Refusal) : Ty
 
 -- It leaves the office as it was: it stands where it stood, and tells and sends what it did. It is refused as stopped
 -- exactly where the office had stopped, and stops none.
-pub record OnlyAsks {B T : Type 0} (ledger : B → Ledger) (old new : Office B) (result : Result T Refusal) : Type 0 where
+pub record OnlyAsks {B T : Type 0} (ledger : B → Ledger) (old new : Office B)
+    (result : Result T Refusal) : Type 0 where
   pub stands : (past : History) → Stands ledger past old → Stands ledger past new
   pub notes : notes_in new ≡ notes_in old
   pub outgoing : outgoing_in new ≡ outgoing_in old

@@ -48,7 +48,8 @@ as_refusal fault.Zone = refusal.Store store.NoDay
 as_refusal fault.Memory = refusal.Memory
 
 -- What the sink has at the end: the days of these accounts, or its failure.
-abbrev pub EndsAs : Option DayFault → List DayAccount → Result (Vec DayTotal Global) Refusal → Type 0
+abbrev pub EndsAs : Option DayFault → List DayAccount → Result (Vec DayTotal Global) Refusal
+    → Type 0
 EndsAs None accounts (Ok days) = map account_of days.items ≡ accounts
 EndsAs None accounts (Err why) = ⊥
 EndsAs (Some fault) accounts (Ok days) = ⊥

@@ -21,7 +21,8 @@ Decides past at e (Some given) = given ≡ response_of past at e
 
 abbrev pub Decided : (old new : Ledger) → List Line → (latest at : ℕ) → Event
     → Result (Option (Result Answer Refusal)) BooksFault → Type 0
-Decided old new kept latest at e result = (past : History) → latest ≡ latest_of past → KeepsLines kept (lines_of past)
+Decided old new kept latest at e result =
+    (past : History) → latest ≡ latest_of past → KeepsLines kept (lines_of past)
     → old.holds (facts_of past) → new.is_clean → IfOk result (Decides past at e)
 
 -- An event of a device is decided without the books: it is accepted where nothing speaks against it, whatever they

@@ -9,7 +9,7 @@ use Rattle.office_events.specs.declared.refusals.StoreCause.TheVariants as store
 use Rattle.office_books.specs.Faults.{one_more}
 use Rattle.office_core.specs.Events.{is_command}
 
--- A refusal for what does not lie in the event, over the count of the books' failures before and after: the books
+-- A refusal for what does not lie in what was asked, over the count of the books' failures before and after: the books
 -- failed, and it is one more; or there was no memory, or the office had stopped, and it is the same.
 abbrev pub IsOutside : (before after : ℕ) → Refusal → Type 0
 IsOutside before after (refusal.Store why) = after ≡ one_more before
@@ -21,12 +21,18 @@ abbrev pub FailsOutside : {T : Type 0} → (before after : ℕ) → Result T Ref
 FailsOutside before after (Ok x) = ⊥
 FailsOutside before after (Err why) = IsOutside before after why
 
+-- The count goes up by one exactly where the books failed.
+abbrev pub CountsFailures : {T : Type 0} → (before after : ℕ) → Result T Refusal → Type 0
+CountsFailures before after (Ok x) = after ≡ before
+CountsFailures before after (Err (refusal.Store why)) = after ≡ one_more before
+CountsFailures before after (Err _) = after ≡ before
+
 -- Of the store's causes, that it can number no more polls may lie in the event.
 abbrev pub StoreCounts : (before after : ℕ) → StoreCause → Type 0
 StoreCounts before after store.Refused = (after ≡ one_more before) ⊎ (after ≡ before)
 StoreCounts before after _ = after ≡ one_more before
 
--- How the count of the books' failures goes on, whatever the books hold.
+-- So the count goes on where an event was answered, whatever the books hold.
 abbrev pub Counts : {T : Type 0} → (before after : ℕ) → Result T Refusal → Type 0
 Counts before after (Ok x) = after ≡ before
 Counts before after (Err (refusal.Store why)) = StoreCounts before after why
@@ -37,14 +43,14 @@ abbrev pub IsNotStopped : Refusal → Type 0
 IsNotStopped refusal.Stopped = ⊥
 IsNotStopped _ = Unit {0}
 
--- a reason other than that a row has no civil day
+-- a reason other than that a row has no civil day: of the store's causes, another
 abbrev pub IsOfStore : StoreCause → Type 0
 IsOfStore store.NoDay = ⊥
 IsOfStore _ = Unit {0}
 
-abbrev pub NeedsNoDay : Refusal → Type 0
-NeedsNoDay (refusal.Store cause) = IsOfStore cause
-NeedsNoDay _ = Unit {0}
+abbrev pub IsNotForWantOfDay : Refusal → Type 0
+IsNotForWantOfDay (refusal.Store cause) = IsOfStore cause
+IsNotForWantOfDay _ = Unit {0}
 
 -- the books failed, or there was no memory
 abbrev pub is_failure : {T : Type 0} → Result T Refusal → Bool

@@ -8,13 +8,14 @@ use Rattle.office_rules.specs.Refusals.{opening_refusal_of}
 use Rattle.office_lines.specs.declared.lines.Line.{Line}
 use Rattle.office_lines.specs.Keeping.{KeepsLines}
 use Rattle.office_books.specs.Ledgers.{Ledger}
-use Rattle.office_core.specs.Failing.{Counts, IsNotStopped, IsOutside, NeedsNoDay}
+use Rattle.office_core.specs.Failing.{CountsFailures, IsNotStopped, IsOutside, IsNotForWantOfDay}
 use Rattle.office_core.specs.Leaving.{BooksStand}
 
 -- An opening is refused as its definition says, or it failed outside; the books stand as they did.
 pub record IsNotOpened (past : History) (at : ℕ) (old new : Ledger) (why : Refusal) : Type 0 where
   pub books : BooksStand new past
-  pub reason : ((opening_refusal_of (facts_of past) at ≡ Some why) × (new.fault_count ≡ old.fault_count))
+  pub reason :
+      ((opening_refusal_of (facts_of past) at ≡ Some why) × (new.fault_count ≡ old.fault_count))
       ⊎ IsOutside old.fault_count new.fault_count why
 
 -- The books stand after the opening, and there is a line for each device.
@@ -22,15 +23,17 @@ pub record IsReopened (past : History) (at : ℕ) (new : Ledger) (lines : List L
   pub books : BooksStand new (Opened at ∷ past)
   pub keeps : KeepsLines lines (lines_of (Opened at ∷ past))
 
-abbrev pub Reopens : History → (at : ℕ) → (old new : Ledger) → Result (Vec Line Global) Refusal → Type 0
+abbrev pub Reopens : History → (at : ℕ) → (old new : Ledger) → Result (Vec Line Global) Refusal
+    → Type 0
 Reopens past at old new (Ok lines) = IsReopened past at new lines.items
 Reopens past at old new (Err why) = IsNotOpened past at old new why
 
--- Whatever the books hold: the count of their failures, that a wrong answer of a store that was taken as true stays
--- one, and the zone. It isn't refused since an office had stopped, nor since a row has no civil day.
+-- Whatever the books hold: the count of their failures goes up by those alone, a wrong answer of a store that was taken
+-- as true stays one, and so does the zone. It isn't refused since an office had stopped, nor since a row has no civil
+-- day.
 pub record Passed {T : Type 0} (old new : Ledger) (result : Result T Refusal) : Type 0 where
-  pub counts : Counts old.fault_count new.fault_count result
+  pub counts : CountsFailures old.fault_count new.fault_count result
   pub clean : new.is_clean → old.is_clean
   pub zone : new.zone ≡ old.zone
   pub not_stopped : IfErr result IsNotStopped
-  pub no_day : IfErr result NeedsNoDay
+  pub no_day : IfErr result IsNotForWantOfDay

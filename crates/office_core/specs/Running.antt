@@ -1,6 +1,6 @@
 -- A run of events: where it leaves the office, what each event was answered, and what is recorded in the end.
 use Rattle.std.specs.Prelude.{◌≡◌, ◌↔◌, ◌||◌, ℕ, Bool, true, false}
-use Rattle.std.specs.Prelude.{List, [], ◌∷◌, length, Result, Err, IfOk}
+use Rattle.std.specs.Prelude.{List, [], ◌∷◌, length, Result, Err, IfOk, IfErr, All}
 use Rattle.office_events.specs.declared.answers.Answer.{Answer}
 use Rattle.office_events.specs.declared.events.Event.{Event}
 use Rattle.office_events.specs.declared.refusals.Refusal.{Refusal}
@@ -11,7 +11,7 @@ use Rattle.office_lawful.specs.Laws.{IsPast, AreTrue}
 use Rattle.office_books.specs.Ledgers.{Ledger}
 use Rattle.office_core.specs.declared.office.Office.{Office}
 use Rattle.office_core.specs.declared.results.Run.{Run}
-use Rattle.office_core.specs.Failing.{Counts, is_failure, stops}
+use Rattle.office_core.specs.Failing.{Counts, IsNotForWantOfDay, is_failure, stops}
 use Rattle.office_core.specs.Headline.{HeadlineHolds}
 use Rattle.office_core.specs.Leaving.{BooksStand}
 use Rattle.office_core.specs.Standing.{Stands, books_in, notes_in, outgoing_in, is_stopped}
@@ -103,11 +103,12 @@ pub record IsRecorded (books : Ledger) (history : History) : Type 0 where
   pub headline : HeadlineHolds history
   pub laws : AreTrue history
 
--- Whatever the books hold, each event has its answer, and the office stops and counts failures with each; a wrong
--- answer of a store that was taken as true stays one, and so does the zone.
+-- Whatever the books hold, each event has its answer, none is refused since a row has no civil day, and the office stops
+-- and counts failures with each; a wrong answer of a store that was taken as true stays one, and so does the zone.
 pub record EndsInTurn {B : Type 0} (ledger : B → Ledger)
     (books : B) (events : List (ℕ × Event)) (run : Run B) : Type 0 where
   pub each : length run.results.items ≡ length events
+  pub no_day : All (λ fed. IfErr fed.result IsNotForWantOfDay) (events_of events run)
   pub stops : StopsInTurn false (is_stopped run.office) (events_of events run)
   pub counts : CountInTurn (ledger books).fault_count
       (ledger (books_in run.office)).fault_count (events_of events run)

@@ -26,7 +26,8 @@ pub record Goes {B : Type 0} (past : History) (office : Office B) : Type 0 where
   pub lines : KeepsLines office.lines.items (lines_of past)
 
 -- The office stands after what it accepted: its books hold the facts of that. Once it has stopped only its books stand.
-pub record Stands {B : Type 0} (ledger : B → Ledger) (past : History) (office : Office B) : Type 0 where
+pub record Stands {B : Type 0} (ledger : B → Ledger) (past : History)
+    (office : Office B) : Type 0 where
   pub books : BooksStand (ledger office.books) past
   pub goes : office.stopped ≡ false → Goes past office
 

@@ -13,7 +13,7 @@ use Rattle.office_books.specs.Ledgers.{Ledger}
 use Rattle.office_settling.specs.Settling.{SettleNothing}
 use Rattle.office_core.specs.declared.office.Office.{Office}
 use Rattle.office_core.specs.Events.{is_command}
-use Rattle.office_core.specs.Failing.{Counts, FailsOutside, IsNotStopped, NeedsNoDay, is_failure, stops}
+use Rattle.office_core.specs.Failing.{Counts, FailsOutside, IsNotStopped, IsNotForWantOfDay, is_failure, stops}
 use Rattle.office_core.specs.Leaving.{BooksStand}
 use Rattle.office_core.specs.Standing.{Goes, books_in, is_stopped, notes_in, outgoing_in}
 
@@ -22,13 +22,14 @@ abbrev pub failures_of : {B : Type 0} → (B → Ledger) → Office B → ℕ
 failures_of ledger office = (ledger office.books).fault_count
 
 -- An event is answered as its definition says, and the count of the books' failures stays; or it failed outside.
-abbrev pub IsAnswer : History → (at : ℕ) → Event → (before after : ℕ) → Result Answer Refusal → Type 0
+abbrev pub IsAnswer : History → (at : ℕ) → Event → (before after : ℕ) → Result Answer Refusal
+    → Type 0
 IsAnswer past at e before after result =
     ((result ≡ response_of past at e) × (after ≡ before)) ⊎ FailsOutside before after result
 
 -- What the office tells is of this event alone: its outcomes and readings, and the frames that it wants sent.
-pub record IsTold {B : Type 0} (past : History) (at : ℕ) (e : Event) (result : Result Answer Refusal)
-    (office : Office B) : Type 0 where
+pub record IsTold {B : Type 0} (past : History) (at : ℕ) (e : Event)
+    (result : Result Answer Refusal) (office : Office B) : Type 0 where
   pub notes : notes_in office ≡ notes_after past at e result
   pub outgoing : outgoing_in office ≡ outgoing_after past at e result
 
@@ -38,7 +39,7 @@ pub record IsTold {B : Type 0} (past : History) (at : ℕ) (e : Event) (result :
 pub record Ends {B : Type 0} (ledger : B → Ledger) (old new : Office B) (e : Event)
     (result : Result Answer Refusal) : Type 0 where
   pub stopped : (result ≡ Err refusal.Stopped) ↔ (is_stopped old ≡ true)
-  pub no_day : IfErr result NeedsNoDay
+  pub no_day : IfErr result IsNotForWantOfDay
   pub stops : is_stopped new ≡ (is_stopped old || stops e result)
   pub counts : Counts (ledger (books_in old)).fault_count (ledger (books_in new)).fault_count result
   pub clean : (ledger (books_in new)).is_clean → (ledger (books_in old)).is_clean
@@ -55,7 +56,8 @@ pub record IsQuiet {B : Type 0} (old new : Office B) (result : Result Answer Ref
   pub books : books_in new ≡ books_in old
 
 -- An event may be taken: the office stands, has told nothing of it, and a list that it puts is planned.
-pub record MayTake {B : Type 0} (ledger : B → Ledger) (past : History) (e : Event) (office : Office B) : Type 0 where
+pub record MayTake {B : Type 0} (ledger : B → Ledger) (past : History) (e : Event)
+    (office : Office B) : Type 0 where
   pub books : BooksStand (ledger office.books) past
   pub goes : Goes past office
   pub planned : PutsPlanned (command_in e)
@@ -63,9 +65,10 @@ pub record MayTake {B : Type 0} (ledger : B → Ledger) (past : History) (e : Ev
   pub outgoing : outgoing_in office ≡ []
 
 -- It was taken: it is answered and told, and the books stand after it; so does the office, where it doesn't stop.
-pub record Takes {B : Type 0} (ledger : B → Ledger) (past : History) (at : ℕ) (e : Event) (old new : Office B)
-    (result : Result Answer Refusal) : Type 0 where
-  pub answer : IsAnswer past at e (ledger (books_in old)).fault_count (ledger (books_in new)).fault_count result
+pub record Takes {B : Type 0} (ledger : B → Ledger) (past : History) (at : ℕ) (e : Event)
+    (old new : Office B) (result : Result Answer Refusal) : Type 0 where
+  pub answer : IsAnswer past at e
+      (ledger (books_in old)).fault_count (ledger (books_in new)).fault_count result
   pub books : BooksStand (ledger (books_in new)) (with_answer past at e result)
   pub goes : stops e result ≡ false → Goes (with_answer past at e result) new
   pub told : IsTold past at e result new
@@ -80,7 +83,8 @@ TakesAny ledger at e old new result =
 abbrev pub TakesAccepted : {B : Type 0} → (B → Ledger) → (at : ℕ) → Event → (old new : Office B)
     → Result Answer Refusal → Type 0
 TakesAccepted ledger at e old new result =
-    (past : History) → MayTake ledger past e old → IsAccepted past at e → (ledger (books_in new)).is_clean
+    (past : History) → MayTake ledger past e old → IsAccepted past at e
+    → (ledger (books_in new)).is_clean
     → Takes ledger past at e old new result
 
 -- The count of the books' failures rises by those alone, whatever they hold; a wrong answer of a store that was taken
@@ -93,4 +97,4 @@ pub record Passes {B : Type 0} (ledger : B → Ledger) (old new : Office B)
   pub zone : (ledger (books_in new)).zone ≡ (ledger (books_in old)).zone
   pub stopped : is_stopped new ≡ is_stopped old
   pub not_stopped : IfErr result IsNotStopped
-  pub no_day : IfErr result NeedsNoDay
+  pub no_day : IfErr result IsNotForWantOfDay

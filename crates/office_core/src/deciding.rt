@@ -1,6 +1,7 @@
 //! How an event is decided before anything is done.
-ghost use Rattle.std.specs.Prelude.{◌≡◌, None, Some, false, IfOk, IfSome};
+ghost use Rattle.std.specs.Prelude.{◌≡◌, None, false, IfOk, IfSome};
 ghost use Rattle.office_rules.specs.Sessions.{command_in};
+ghost use Rattle.office_lines.specs.Places.{AsksOnLine};
 ghost use Rattle.office_lines.specs.Ranges.{IsInRange};
 ghost use Rattle.office_lawful.specs.Laws.{PutsPlanned};
 ghost use Rattle.office_books.specs.Ledgers.{OnlyReads};
@@ -9,7 +10,8 @@ ghost use Rattle.office_core.specs.Failing as failing;
 ghost use Rattle.office_core.specs.Deciding.{Decided, DecidesAlone, IsNoChange};
 
 use office_books::{Books, BooksFault};
-use office_events::{Answer, Command, Event, Refusal};
+use office_commands::puts_planned;
+use office_events::{Answer, Event, Refusal};
 use office_lines::Line;
 use office_refusing::{kept, refusal};
 
@@ -34,30 +36,8 @@ pub fn is_failure(given: &Result<Answer, Refusal>) -> bool
     matches!(given, Err(Refusal::Store(_)) | Err(Refusal::Memory))
 }
 
-/// That a list that a command puts is planned.
-fn command_puts_planned(command: &Command)
-    ensures { PutsPlanned (Some command.now) }
-{
-    match command {
-        Command::PutList(put) => {
-            let _planned = put.list.points();
-        }
-        Command::AddDevice(_) => {}
-        Command::AddRegister(_) => {}
-        Command::Install(_) => {}
-        Command::Exchange(_) => {}
-        Command::Reset(_) => {}
-        Command::Rescale(_) => {}
-        Command::Manual(_) => {}
-        Command::Close(_) => {}
-        Command::Void(_) => {}
-        Command::StartPoll(_) => {}
-        Command::StartRound(_) => {}
-    }
-}
-
 /// That a list that an event puts is planned.
-pub fn puts_planned(event: &Event)
+pub fn asks_planned(event: &Event)
     ensures { PutsPlanned (command_in event.now) }
 {
     match event {
@@ -65,8 +45,8 @@ pub fn puts_planned(event: &Event)
         Event::Bytes(_, _) => {}
         Event::Tick => {}
         Event::Gone(_, _) => {}
-        Event::Command(command) => command_puts_planned(command),
-        Event::Asked(asked) => command_puts_planned(&asked.command),
+        Event::Command(command) => puts_planned(command),
+        Event::Asked(asked) => puts_planned(&asked.command),
     }
 }
 
@@ -82,6 +62,8 @@ pub fn decide<B: Books>(
         event.now result }
     ensures reads { OnlyReads (B.ledger books.old) (B.ledger books.new) result }
     ensures in_range { IfOk result (λ given. given ≡ None → IsInRange latest moment event.now) }
+    ensures there { IfOk result (λ given. given ≡ None
+        → AsksOnLine lines.now (command_in event.now)) }
     ensures unchanged { IfOk result (λ given. IfSome given IsNoChange) }
     ensures alone { events.is_command event.now ≡ false
         → DecidesAlone books.old books.new lines.now latest moment event.now result }

@@ -8,11 +8,12 @@ ghost use Rattle.office_rules.specs.Meters.{meter_of};
 ghost use Rattle.office_rules.specs.Readings.{poll_row_of};
 ghost use Rattle.office_rules.specs.Refusals.{refusal_of, with_answer};
 ghost use Rattle.office_rules.specs.Sessions.{command_in};
+ghost use Rattle.office_lines.specs.Places.{AsksOnLine};
 ghost use Rattle.office_lines.specs.Ranges.{AsksInRange};
 ghost use Rattle.office_core.specs.Asking.{OnlyAsks, TakesRows, intervals_of};
 ghost use Rattle.office_core.specs.Asking.{Tells, TellsDays, TellsRows};
 ghost use Rattle.office_core.specs.Events as events;
-ghost use Rattle.office_core.specs.Failing.{NeedsNoDay};
+ghost use Rattle.office_core.specs.Failing.{IsNotForWantOfDay};
 ghost use Rattle.office_core.specs.Leaving.{BooksStand};
 ghost use Rattle.office_core.specs.Reopening.{IsNotOpened, Passed};
 ghost use Rattle.office_core.specs.Standing.{After, IsFresh, Stands};
@@ -20,7 +21,7 @@ ghost use Rattle.office_core.specs.Standing.{books_in, is_stopped, notes_in, out
 ghost use Rattle.office_core.specs.Taking.{Ends, IsAnswer, IsQuiet, IsTold, SettlesNothing};
 ghost use Rattle.office_core.specs.Taking.{MayTake, Passes, TakesAccepted, TakesAny, failures_of};
 
-use crate::deciding::{decide, is_command, is_failure, puts_planned};
+use crate::deciding::{asks_planned, decide, is_command, is_failure};
 use crate::opening::reopen;
 use crate::questions;
 use interval_core::{DayTotal, Share};
@@ -98,6 +99,7 @@ impl<B: Books> Office<B> {
     fn obey(&mut self, moment: u64, event: &Event) -> Result<Answer, Refusal>
         requires asks { events.is_command event.now ≡ true }
         requires range { AsksInRange moment (command_in event.now) }
+        requires there { AsksOnLine self.old.lines.items (command_in event.now) }
         requires limit { moment ≤ moment_limit }
         ensures takes { TakesAccepted B.ledger moment event.now self.old self.new result }
         ensures passes { Passes B.ledger self.old self.new result }
@@ -153,7 +155,7 @@ impl<B: Books> Office<B> {
         if self.stopped {
             return Err(Refusal::Stopped);
         }
-        puts_planned(event);
+        asks_planned(event);
         let answer = self.take(moment, event);
         self.stopped = !is_command(event) && is_failure(&answer);
         answer
@@ -164,7 +166,7 @@ impl<B: Books> Office<B> {
         ensures found { Tells B.ledger self.old self.new result
             (λ facts. option_and_then (meter_of facts) name.now) }
         ensures asks { OnlyAsks B.ledger self.old self.new result }
-        ensures no_day { IfErr result NeedsNoDay }
+        ensures no_day { IfErr result IsNotForWantOfDay }
     {
         if self.stopped {
             return Err(Refusal::Stopped);
@@ -177,7 +179,7 @@ impl<B: Books> Office<B> {
         ensures found { Tells B.ledger self.old self.new result
             (λ facts. poll_row_of facts number) }
         ensures asks { OnlyAsks B.ledger self.old self.new result }
-        ensures no_day { IfErr result NeedsNoDay }
+        ensures no_day { IfErr result IsNotForWantOfDay }
     {
         if self.stopped {
             return Err(Refusal::Stopped);
@@ -195,7 +197,7 @@ impl<B: Books> Office<B> {
             (λ facts. intervals_of facts meter.now) }
         ensures puts { TakesRows K.takes sink.old sink.new }
         ensures asks { OnlyAsks B.ledger self.old self.new result }
-        ensures no_day { IfErr result NeedsNoDay }
+        ensures no_day { IfErr result IsNotForWantOfDay }
     {
         if self.stopped {
             return Err(Refusal::Stopped);

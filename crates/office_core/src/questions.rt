@@ -6,7 +6,7 @@ ghost use Rattle.office_rules.specs.Readings.{poll_row_of};
 ghost use Rattle.office_books.specs.Rows.{TakesAll};
 ghost use Rattle.office_core.specs.Asking.{AddsUp, Asks, DaysIn, FoundIn, RowsIn, TakesRows};
 ghost use Rattle.office_core.specs.Asking.{answered, intervals_of};
-ghost use Rattle.office_core.specs.Failing.{NeedsNoDay};
+ghost use Rattle.office_core.specs.Failing.{IsNotForWantOfDay};
 
 use crate::day_sink::DaySink;
 use interval_core::{DayTotal, Share};
@@ -31,7 +31,7 @@ pub fn meter<B: Books>(books: &mut B, name: &Option<Name>) -> Result<Installatio
     ensures found { FoundIn (B.ledger books.old) (B.ledger books.new) result
         (λ held. option_and_then (meter_of held) name.now) }
     ensures asks { Asks (B.ledger books.old) (B.ledger books.new) result }
-    ensures no_day { IfErr result NeedsNoDay }
+    ensures no_day { IfErr result IsNotForWantOfDay }
 {
     let Some(name) = name else {
         return Err(Refusal::NotFound);
@@ -44,7 +44,7 @@ pub fn poll<B: Books>(books: &mut B, number: u64) -> Result<PollRow, Refusal>
     ensures found { FoundIn (B.ledger books.old) (B.ledger books.new) result
         (λ held. poll_row_of held number) }
     ensures asks { Asks (B.ledger books.old) (B.ledger books.new) result }
-    ensures no_day { IfErr result NeedsNoDay }
+    ensures no_day { IfErr result IsNotForWantOfDay }
 {
     found(books.poll(number))
 }
@@ -59,7 +59,7 @@ pub fn intervals<B: Books, K: RowSink<Share>>(
         (λ held. intervals_of held meter.now) }
     ensures puts { TakesRows K.takes sink.old sink.new }
     ensures asks { Asks (B.ledger books.old) (B.ledger books.new) result }
-    ensures no_day { IfErr result NeedsNoDay }
+    ensures no_day { IfErr result IsNotForWantOfDay }
 {
     let Some(name) = meter else {
         return Err(Refusal::NotFound);

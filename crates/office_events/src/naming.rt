@@ -1,5 +1,6 @@
 //! Names of devices, registers and meters.
-ghost use Rattle.std.specs.Prelude.{◌≡◌, ℕ, ◌≤◌, ◌-◌, ◌++◌, ◌↔◌, List, length, take, drop, replicate, IsTrue, IsSome, IfSome};
+ghost use Rattle.std.specs.Prelude.{◌≡◌, ℕ, ◌≤◌, ◌-◌, ◌++◌, ◌↔◌, List, length, take, drop};
+ghost use Rattle.std.specs.Prelude.{replicate, IsTrue, IsSome, IfSome};
 ghost use Rattle.std.specs.List.{list_all};
 ghost use Rattle.std.specs.Str.{bytes_eq};
 ghost use Rattle.office_events.specs.Names as specs_names;
@@ -14,7 +15,8 @@ pub struct Name {
 }
 
 impl Model for Name {
-    ghost use Rattle.std.specs.Prelude.{◌≡◌, ℕ, ◌≤◌, ◌-◌, ◌++◌, List, length, take, drop, replicate, true};
+    ghost use Rattle.std.specs.Prelude.{◌≡◌, ℕ, ◌≤◌, ◌-◌, ◌++◌, List, length, take, drop};
+    ghost use Rattle.std.specs.Prelude.{replicate, true};
     ghost use Rattle.office_events.specs.Names.{is_name};
 
     ghost Value = { List ℕ };
@@ -22,9 +24,13 @@ impl Model for Name {
     ghost view = { λ n. take n.len n.bytes };
 
     // Behind the bytes of the name come zeros.
-    ghost invariant = { λ n. (n.len ≤ 16) × (take n.len n.bytes ++ replicate (16 - length (take n.len n.bytes)) 0 ≡ n.bytes) × (length (take n.len n.bytes) ≡ n.len) × (length n.bytes ≡ 16) × (is_name (take n.len n.bytes) ≡ true) };
+    ghost invariant = { λ n. (n.len ≤ 16)
+        × (take n.len n.bytes ++ replicate (16 - length (take n.len n.bytes)) 0 ≡ n.bytes)
+        × (length (take n.len n.bytes) ≡ n.len) × (length n.bytes ≡ 16)
+        × (is_name (take n.len n.bytes) ≡ true) };
 
-    ghost inverse = { λ text. record { bytes = text ++ replicate (16 - length text) 0; len = length text } };
+    ghost inverse = { λ text.
+        record { bytes = text ++ replicate (16 - length text) 0; len = length text } };
 
     ghost inverse_ok = { λ n h i. record { bytes = h.1 i; len = h.2 i } };
 }

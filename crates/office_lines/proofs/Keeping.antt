@@ -10,7 +10,6 @@ use Rattle.poll_core.specs.Standing as standing
 use Rattle.office_events.specs.declared.facts.Device.{Device}
 use Rattle.office_rules.specs.Facts.{is_named}
 use Rattle.office_rules.specs.Sessions as sessions
-use Rattle.office_rules.specs.Refusals.{can_start}
 use Rattle.office_lines.specs.declared.lines.Line.{Line}
 use Rattle.office_lines.specs.Keeping.{KeepsPresent, KeepsLine, KeepsLines}
 
@@ -96,12 +95,3 @@ present_line given kept lines i d b is inside found keeps =
     let (line, got, keeps_line) = keeps_at kept lines i d keeps inside in
     is ∙ some_present line.device (get_or kept i d).session line.present keeps_line.session
     ∙ ap (λ (o : Option sessions.Line). is_some (option_and_then (λ line. line.present) o)) (sym (found ∙ got))
-
--- a poll can start if the line's session can start one
-pub startable_line : (given : Option (List ℕ)) (kept : List Line) (lines : List sessions.Line) (i : ℕ) (d : Line) (b : Bool)
-    → ((device : Device) (present : Option (List session.Event)) → KeepsPresent device (get_or kept i d).session present → b ≡ sessions.is_startable device present)
-    → i < length kept → sessions.line_of lines given ≡ slice_get lines i → KeepsLines kept lines
-    → b ≡ can_start lines given
-startable_line given kept lines i d b is inside found keeps =
-    let (line, got, keeps_line) = keeps_at kept lines i d keeps inside in
-    rw (found ∙ got) (is line.device line.present keeps_line.session)

@@ -7,7 +7,8 @@ use Rattle.office_rules.specs.Sessions as sessions
 use Rattle.office_lines.specs.declared.lines.Line.{Line}
 
 -- a kept session stands after all that happened on the device's present session, on the device's terms
-pub record KeepsSession (device : Device) (kept : standing.State) (events : List session.Event) : Type 0 where
+pub record KeepsSession (device : Device) (kept : standing.State)
+    (events : List session.Event) : Type 0 where
   pub stands : standing.Stands kept events
   pub timeout : kept.timeout ≡ device.timeout
   pub window : kept.window ≡ device.window
@@ -28,3 +29,8 @@ KeepsLines [] [] = Unit {0}
 KeepsLines (kept ∷ rest) (line ∷ lines) = KeepsLine kept line × KeepsLines rest lines
 KeepsLines [] (line ∷ lines) = ⊥
 KeepsLines (kept ∷ rest) [] = ⊥
+
+-- What is answered of kept lines is what the definition says of those that they keep.
+abbrev pub IsOfKept : {T : Type 0} → List Line → T → (List sessions.Line → T) → Type 0
+IsOfKept kept result says =
+    (lines : List sessions.Line) → KeepsLines kept lines → result ≡ says lines

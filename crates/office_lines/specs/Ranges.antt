@@ -29,7 +29,8 @@ AsksInRange at (Some c) = IsCommandInRange at c
 
 -- the caller of a request has a name, and its number is none too great
 abbrev pub IsRequestInRange : Event → Type 0
-IsRequestInRange (event.Asked asked) = (is_some asked.caller ≡ true) × (asked.number ≤ request_limit)
+IsRequestInRange (event.Asked asked) =
+    (is_some asked.caller ≡ true) × (asked.number ≤ request_limit)
 IsRequestInRange _ = Unit {0}
 
 -- The moment of an event isn't before that of the latest accepted one, nor past the limit, and all its numbers are in their ranges.

@@ -5,4 +5,4 @@ mod lines;
 mod places;
 
 pub use lines::Line;
-pub use places::{can_start, has_device, is_connected, is_named, place_of};
+pub use places::{has_device, is_connected, is_named, place_of};

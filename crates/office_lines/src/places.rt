@@ -1,17 +1,13 @@
-//! Where the line of a device stands, and how its session does.
-ghost use Rattle.std.specs.Prelude.{◌≡◌, ◌<◌, length, IfSome, List, Option, slice_get, is_some};
-ghost use Rattle.std.specs.List.{position};
+//! Where the line of a device stands, and whether it has a session.
+ghost use Rattle.std.specs.Prelude.{◌≡◌, ◌<◌, length, IfSome, List, slice_get, is_some};
 ghost use Rattle.std.specs.Option.{option_and_then};
-ghost use Rattle.poll_core.specs.Settling as session;
-ghost use Rattle.office_events.specs.declared.facts.Device.{Device};
 ghost use Rattle.office_rules.specs.Facts as facts;
 ghost use Rattle.office_rules.specs.Sessions as sessions;
-ghost use Rattle.office_rules.specs.Refusals as refusals;
-ghost use Rattle.office_lines.specs.Keeping.{KeepsLines, KeepsPresent};
+ghost use Rattle.office_lines.specs.Keeping.{IsOfKept, KeepsLines};
+ghost use Rattle.office_lines.specs.Places.{has_line, place_in};
 
 use crate::lines::Line;
 use office_events::{Device, Name};
-use poll_core::Session;
 
 /// Whether what was handed in for a name is that of the device.
 pub fn is_named(given: &Option<Name>, device: &Device) -> bool
@@ -25,7 +21,7 @@ pub fn is_named(given: &Option<Name>, device: &Device) -> bool
 
 /// The first line whose device has the name.
 fn position_of(lines: &[Line], given: &Option<Name>) -> Option<usize>
-    ensures { result ≡ position (λ line. facts.is_named given.now line.device.name) lines.now }
+    ensures { result ≡ place_in lines.now given.now }
 {
     lines.iter().position(|line| is_named(given, &line.device))
 }
@@ -33,6 +29,7 @@ fn position_of(lines: &[Line], given: &Option<Name>) -> Option<usize>
 /// Where the line of the device of a name stands.
 pub fn place_of(lines: &[Line], given: &Option<Name>) -> Option<usize>
     ensures inside { IfSome result (λ i. i < length lines.now) }
+    ensures there { is_some result ≡ has_line lines.now given.now }
     ensures found { (kept : List sessions.Line) → KeepsLines lines.now kept
         → sessions.line_of kept given.now ≡ option_and_then (slice_get kept) result }
 {
@@ -41,38 +38,17 @@ pub fn place_of(lines: &[Line], given: &Option<Name>) -> Option<usize>
 
 /// Whether a device has the name.
 pub fn has_device(lines: &[Line], given: &Option<Name>) -> bool
-    ensures { (kept : List sessions.Line) → KeepsLines lines.now kept → result ≡ is_some (sessions.line_of kept given.now) }
+    ensures { IsOfKept lines.now result (λ stood. is_some (sessions.line_of stood given.now)) }
 {
     place_of(lines, given).is_some()
 }
 
 /// Whether a device of the name is connected.
 pub fn is_connected(lines: &[Line], given: &Option<Name>) -> bool
-    ensures { (kept : List sessions.Line) → KeepsLines lines.now kept → result ≡ is_some (sessions.present_of kept given.now) }
+    ensures { IsOfKept lines.now result (λ stood. is_some (sessions.present_of stood given.now)) }
 {
     match place_of(lines, given) {
         None => false,
         Some(place) => lines[place].session.is_some(),
-    }
-}
-
-/// Whether a session can start a poll now.
-fn is_startable(kept: &Option<Session>) -> bool
-    ensures { (device : Device) (present : Option (List session.Event)) → KeepsPresent device kept.now present
-        → result ≡ sessions.is_startable device present }
-{
-    match kept {
-        None => false,
-        Some(session) => session.ready().count > 0,
-    }
-}
-
-/// Whether a poll can be started on the session of a device.
-pub fn can_start(lines: &[Line], given: &Option<Name>) -> bool
-    ensures { (kept : List sessions.Line) → KeepsLines lines.now kept → result ≡ refusals.can_start kept given.now }
-{
-    match place_of(lines, given) {
-        None => false,
-        Some(place) => is_startable(&lines[place].session),
     }
 }

@@ -18,7 +18,7 @@ use Rattle.office_rules.specs.Refusals.{is_ready}
 use Rattle.office_lines.specs.declared.lines.Line.{Line}
 use Rattle.office_lines.specs.Keeping.{KeepsPresent, KeepsSession, KeepsLines}
 use Rattle.office_lines.proofs.Keeping.{keeps_at}
-use Rattle.office_refusing.specs.Rounds.{HasRoom, HasRoomOn}
+use Rattle.office_refusing.specs.Rounds.{HasRoomFor, HasRoomOn}
 
 some_is_none : {X : Type 0} (o : Option X) → IsSome o → is_none o ≡ false
 some_is_none None h = absurd (cc)
@@ -97,11 +97,12 @@ room_kept device kept (Some events) id count keeps ready =
 -- the room of a device is that of its line's session
 pub room_found : (given : Option (List ℕ)) (kept : List Line) (lines : List sessions.Line) (i : ℕ) (d : Line) (count : ℕ)
     → ((device : Device) (present : Option (List session.Event)) → KeepsPresent device (get_or kept i d).session present → HasRoomOn device present count)
-    → i < length kept → line_of lines given ≡ slice_get lines i → KeepsLines kept lines → HasRoom lines given count
+    → i < length kept → line_of lines given ≡ slice_get lines i → KeepsLines kept lines → HasRoomFor lines given count
 room_found given kept lines i d count on inside found keeps =
     let (line, got, keeps_line) = keeps_at kept lines i d keeps inside in
     let room = on line.device line.present keeps_line.session in
     record {
+      known = ap (λ (o : Option sessions.Line). is_none o) (found ∙ got);
       starts = ap is_ready (found ∙ got) ∙ room.starts;
       sends = λ number at spans. ap (λ (o : Option sessions.Line). length (sends_from number at spans o)) (found ∙ got) ∙ room.sends number at spans;
     }

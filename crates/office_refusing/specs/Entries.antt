@@ -23,24 +23,32 @@ is_faulty None e why = false
 is_faulty (Some row) e why = has_fault row e why
 
 -- Whether an entry that comes so is refused for a reason.
-abbrev pub speaks_of_entry : Arrival → (off_scale off_limits : Bool) → Installation → Entry → Refusal → Bool
+abbrev pub speaks_of_entry : Arrival → (off_scale off_limits : Bool) → Installation → Entry
+    → Refusal → Bool
 speaks_of_entry arrival off_scale off_limits row e refusal.ClockBack = arrival.is_back
 speaks_of_entry arrival off_scale off_limits row e refusal.BadScale = off_scale
-speaks_of_entry arrival off_scale off_limits row e refusal.NegativeStep = is_faulty (if_open row) e fault.NegativeStep
-speaks_of_entry arrival off_scale off_limits row e refusal.NotLater = is_faulty (if_open row) e fault.NotLater
-speaks_of_entry arrival off_scale off_limits row e refusal.SpanTooLong = is_faulty (if_open row) e fault.SpanTooLong
-speaks_of_entry arrival off_scale off_limits row e refusal.TotalFull = is_faulty (if_open row) e fault.TotalFull
+speaks_of_entry arrival off_scale off_limits row e refusal.NegativeStep =
+    is_faulty (if_open row) e fault.NegativeStep
+speaks_of_entry arrival off_scale off_limits row e refusal.NotLater =
+    is_faulty (if_open row) e fault.NotLater
+speaks_of_entry arrival off_scale off_limits row e refusal.SpanTooLong =
+    is_faulty (if_open row) e fault.SpanTooLong
+speaks_of_entry arrival off_scale off_limits row e refusal.TotalFull =
+    is_faulty (if_open row) e fault.TotalFull
 speaks_of_entry arrival off_scale off_limits row e refusal.Ended = row.ended
 speaks_of_entry arrival off_scale off_limits row e refusal.Limit =
     arrival.is_beyond || off_limits || is_faulty (if_open row) e fault.NotBelowRange
 speaks_of_entry arrival off_scale off_limits row e _ = false
 
-abbrev pub entry_refusal : Arrival → (off_scale off_limits : Bool) → Installation → Entry → Option Refusal
-entry_refusal arrival off_scale off_limits row e = find (speaks_of_entry arrival off_scale off_limits row e) reasons
+abbrev pub entry_refusal : Arrival → (off_scale off_limits : Bool) → Installation → Entry
+    → Option Refusal
+entry_refusal arrival off_scale off_limits row e =
+    find (speaks_of_entry arrival off_scale off_limits row e) reasons
 
 -- What holds where an entry is not refused: it comes in range, so do the command's numbers, and a counter of 32 bits can show the
 -- entry's.
-pub record IsEntryInRange (arrival : Arrival) (off_scale off_limits : Bool) (e : Entry) : Type 0 where
+pub record IsEntryInRange (arrival : Arrival) (off_scale off_limits : Bool)
+    (e : Entry) : Type 0 where
   pub not_back : arrival.is_back ≡ false
   pub within : arrival.is_beyond ≡ false
   pub scale : off_scale ≡ false

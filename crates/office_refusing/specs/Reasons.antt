@@ -17,7 +17,8 @@ use Rattle.office_lines.specs.Ranges.{IsCommandInRange}
 
 -- how an event comes after the latest accepted one, and how a request does
 abbrev pub arrival_of : (latest at : ℕ) → Arrival
-arrival_of latest at = record { moment = at; is_back = nat_lt at latest; is_beyond = nat_lt moment_limit at }
+arrival_of latest at =
+    record { moment = at; is_back = nat_lt at latest; is_beyond = nat_lt moment_limit at }
 
 abbrev pub request_arrival : (latest at : ℕ) → Asked → Arrival
 request_arrival latest at asked = record {
@@ -33,7 +34,8 @@ comes_wrongly arrival refusal.Limit = arrival.is_beyond
 comes_wrongly arrival _ = false
 
 abbrev pub speaks_against : List sessions.Line → List Fact → Arrival → Command → Refusal → Bool
-speaks_against lines facts arrival c why = comes_wrongly arrival why || asks_wrongly lines facts arrival.moment c why
+speaks_against lines facts arrival c why =
+    comes_wrongly arrival why || asks_wrongly lines facts arrival.moment c why
 
 -- Why a command is refused, if it is: for the first reason that speaks against it.
 abbrev pub refusal_under : List sessions.Line → List Fact → Arrival → Command → Option Refusal
@@ -44,7 +46,8 @@ abbrev pub IsWhy : Arrival → Command → List Fact → Option Refusal → Type
 IsWhy arrival c facts r = (lines : List sessions.Line) → r ≡ refusal_under lines facts arrival c
 
 abbrev pub IsWhyAmong : List Line → Arrival → Command → List Fact → Option Refusal → Type 0
-IsWhyAmong kept arrival c facts r = (lines : List sessions.Line) → KeepsLines kept lines → r ≡ refusal_under lines facts arrival c
+IsWhyAmong kept arrival c facts r =
+    (lines : List sessions.Line) → KeepsLines kept lines → r ≡ refusal_under lines facts arrival c
 
 -- It comes neither too early nor out of range, and its numbers are in their ranges.
 pub record ComesInRange (arrival : Arrival) (c : Command) : Type 0 where
@@ -64,4 +67,5 @@ speaks_of_session arrival is_unknown is_busy refusal.Busy = is_busy
 speaks_of_session arrival is_unknown is_busy why = comes_wrongly arrival why
 
 abbrev pub session_refusal : Arrival → (is_unknown is_busy : Bool) → Option Refusal
-session_refusal arrival is_unknown is_busy = find (speaks_of_session arrival is_unknown is_busy) reasons
+session_refusal arrival is_unknown is_busy =
+    find (speaks_of_session arrival is_unknown is_busy) reasons

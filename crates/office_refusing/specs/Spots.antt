@@ -26,8 +26,10 @@ entry_in spot.Opening = None
 entry_in (spot.Entry place) = Some place
 
 -- this is at the place of the meter
-pub record IsAt (facts : List Fact) (meter : Option (List ℕ)) (place : ℕ) (found : Spot) : Type 0 where
-  pub there : is_nothing found ≡ not (has_place facts place (option_and_then (opening_of facts) meter))
+pub record IsAt (facts : List Fact) (meter : Option (List ℕ)) (place : ℕ)
+    (found : Spot) : Type 0 where
+  pub there : is_nothing found
+      ≡ not (has_place facts place (option_and_then (opening_of facts) meter))
   pub entry : entry_in found ≡ option_and_then (λ m. entry_at facts m place) meter
 
 -- the meter's numbers before the entry are in their ranges
@@ -39,7 +41,8 @@ IsSoundSpot _ = Unit {0}
 abbrev pub speaks_of_void : Arrival → Spot → Refusal → Bool
 speaks_of_void arrival found refusal.NotFound = is_nothing found
 speaks_of_void arrival found refusal.NotVoidable = is_not_voidable (entry_in found)
-speaks_of_void arrival found (refusal.NotPlausible why) = is_held_for why (verdict_at (entry_in found))
+speaks_of_void arrival found (refusal.NotPlausible why) =
+    is_held_for why (verdict_at (entry_in found))
 speaks_of_void arrival found why = comes_wrongly arrival why
 
 abbrev pub void_refusal : Arrival → Spot → Option Refusal

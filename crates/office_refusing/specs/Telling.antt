@@ -11,8 +11,10 @@ use Rattle.office_books.specs.Ledgers.{Ledger}
 use Rattle.office_refusing.specs.Asking.{IsOfSession}
 
 -- It is why the event is refused after whatever was accepted, if that left these lines and facts.
-abbrev pub TellsWhy : (old new : Ledger) → List Line → (latest at : ℕ) → Event → Result (Option Refusal) BooksFault → Type 0
-TellsWhy old new kept latest at e result = (past : History) → latest ≡ latest_of past → KeepsLines kept (lines_of past)
+abbrev pub TellsWhy : (old new : Ledger) → List Line → (latest at : ℕ) → Event
+    → Result (Option Refusal) BooksFault → Type 0
+TellsWhy old new kept latest at e result =
+    (past : History) → latest ≡ latest_of past → KeepsLines kept (lines_of past)
     → old.holds (facts_of past) → new.is_clean → IfOk result (λ r. r ≡ refusal_of past at e)
 
 -- Why an event of a device is refused lies in the devices alone, whatever the books hold.

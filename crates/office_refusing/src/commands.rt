@@ -1,5 +1,6 @@
 //! Why a command is refused.
-ghost use Rattle.std.specs.Prelude.{◌≡◌, IfOk, IsOk};
+ghost use Rattle.std.specs.Prelude.{◌≡◌, None, IfOk, IsOk};
+ghost use Rattle.office_lines.specs.Places.{StartsOnLine};
 ghost use Rattle.office_books.specs.Ledgers.{Finds, OnlyReads};
 ghost use Rattle.office_refusing.specs.Asking.{IsOfDevices};
 ghost use Rattle.office_refusing.specs.Reasons.{IsWhyAmong, Befits};
@@ -27,6 +28,7 @@ pub fn refusal_of_command<B: Books>(
         (IsWhyAmong lines.now arrival.now asked.now) }
     ensures reads { OnlyReads (B.ledger books.old) (B.ledger books.new) result }
     ensures befits { IfOk result (Befits arrival.now asked.now) }
+    ensures there { IfOk result (λ why. why ≡ None → StartsOnLine lines.now asked.now) }
     ensures quiet { IsOfDevices asked.now → (books.new ≡ books.old) × IsOk result }
 {
     match asked {

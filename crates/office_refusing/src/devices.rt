@@ -2,9 +2,8 @@
 ghost use Rattle.std.specs.Prelude.{◌≡◌, List, nat_le, length};
 ghost use Rattle.office_events.specs.declared.commands.Command.TheVariants as command;
 ghost use Rattle.office_events.specs.declared.facts.Fact.{Fact};
-ghost use Rattle.office_rules.specs.Sessions as sessions;
 ghost use Rattle.office_rules.specs.Refusals.{device_limit};
-ghost use Rattle.office_lines.specs.Keeping.{KeepsLines};
+ghost use Rattle.office_lines.specs.Keeping.{IsOfKept};
 ghost use Rattle.office_refusing.specs.Reasons.{IsWhyAmong, Befits};
 
 use crate::arrivals::Arrival;
@@ -14,8 +13,7 @@ use office_lines::{Line, has_device};
 
 /// Whether there are as many devices as there may be.
 fn are_all(lines: &[Line]) -> bool
-    ensures { (kept : List sessions.Line) → KeepsLines lines.now kept
-        → result ≡ nat_le device_limit (length kept) }
+    ensures { IsOfKept lines.now result (λ stood. nat_le device_limit (length stood)) }
 {
     64 <= lines.len()
 }

@@ -2,6 +2,8 @@
 ghost use Rattle.std.specs.Prelude.{◌≡◌, IfOk, IfSome, IsOk, None};
 ghost use Rattle.office_books.specs.Ledgers.{OnlyReads};
 ghost use Rattle.office_refusing.specs.Asking.{AsksNoBooks, IsOfDevice, IsOfEvent};
+ghost use Rattle.office_rules.specs.Sessions.{command_in};
+ghost use Rattle.office_lines.specs.Places.{AsksOnLine};
 ghost use Rattle.office_lines.specs.Ranges.{IsInRange};
 ghost use Rattle.office_refusing.specs.Telling.{TellsAlone, TellsWhy};
 
@@ -27,6 +29,7 @@ pub fn refusal<B: Books>(
     ensures reads { OnlyReads (B.ledger books.old) (B.ledger books.new) result }
     ensures of_event { IfOk result (λ r. IfSome r IsOfEvent) }
     ensures in_range { IfOk result (λ r. r ≡ None → IsInRange latest moment event.now) }
+    ensures there { IfOk result (λ r. r ≡ None → AsksOnLine lines.now (command_in event.now)) }
     ensures quiet { AsksNoBooks event.now → (books.new ≡ books.old) × IsOk result }
     ensures alone { IsOfDevice event.now → TellsAlone lines.now latest moment event.now result }
 {

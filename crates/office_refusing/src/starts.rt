@@ -1,5 +1,5 @@
 //! Why polls are not started.
-ghost use Rattle.std.specs.Prelude.{◌≡◌, ◌+◌, List, Option, Some, IfOk, length, nat_lt};
+ghost use Rattle.std.specs.Prelude.{◌≡◌, ◌+◌, List, Option, Some, None, IfOk, is_some, length, nat_lt};
 ghost use Rattle.std.specs.Option.{option_and_then};
 ghost use Rattle.poll_core.specs.Settling as session;
 ghost use Rattle.office_events.specs.declared.commands.Command.TheVariants as command;
@@ -8,6 +8,7 @@ ghost use Rattle.office_rules.specs.Facts.{list_of, polls_in, poll_limit};
 ghost use Rattle.office_rules.specs.Sessions as sessions;
 ghost use Rattle.office_rules.specs.History.{round_spans};
 ghost use Rattle.office_lines.specs.Keeping.{KeepsLines, KeepsPresent};
+ghost use Rattle.office_lines.specs.Places.{StartsOnLine, has_line};
 ghost use Rattle.office_books.specs.Ledgers.{Finds, OnlyReads};
 ghost use Rattle.office_refusing.specs.Reasons.{IsWhyAmong, Befits};
 ghost use Rattle.office_refusing.specs.Rounds.{HasRoom, HasRoomOn};
@@ -15,13 +16,13 @@ ghost use Rattle.office_refusing.specs.Rounds.{HasRoom, HasRoomOn};
 use crate::arrivals::Arrival;
 use office_books::{Books, BooksFault};
 use office_events::{Name, PlannedList, Refusal, StartPoll, StartRound, StoreCause};
-use office_lines::{Line, has_device, place_of};
+use office_lines::{Line, place_of};
 use poll_core::Session;
 
-/// How many polls can be started in a row on a session.
+/// How many polls can be started in a row on a session; none where a device has no session.
 fn session_room(kept: &Option<Session>) -> u64
-    ensures { (device : Device) (present : Option (List session.Event)) → KeepsPresent device kept.now present
-        → HasRoomOn device present result }
+    ensures { (device : Device) (present : Option (List session.Event))
+        → KeepsPresent device kept.now present → HasRoomOn device present result }
 {
     match kept {
         None => 0,
@@ -29,14 +30,15 @@ fn session_room(kept: &Option<Session>) -> u64
     }
 }
 
-/// How many polls can be started in a row on the session of a device.
-fn room(lines: &[Line], given: &Option<Name>) -> u64
-    ensures { (kept : List sessions.Line) → KeepsLines lines.now kept
+/// How many polls can be started in a row on the session of the device of a name; `None` where there is no such device.
+fn room(lines: &[Line], given: &Option<Name>) -> Option<u64>
+    ensures there { is_some result ≡ has_line lines.now given.now }
+    ensures room { (kept : List sessions.Line) → KeepsLines lines.now kept
         → HasRoom kept given.now result }
 {
     match place_of(lines, given) {
-        None => 0,
-        Some(place) => session_room(&lines[place].session),
+        None => None,
+        Some(place) => Some(session_room(&lines[place].session)),
     }
 }
 
@@ -80,14 +82,15 @@ pub fn start_poll<B: Books>(
         (IsWhyAmong lines.now arrival.now (command.StartPoll start.now)) }
     ensures reads { OnlyReads (B.ledger books.old) (B.ledger books.new) result }
     ensures befits { IfOk result (Befits arrival.now (command.StartPoll start.now)) }
+    ensures there { IfOk result (λ why. why ≡ None
+        → StartsOnLine lines.now (command.StartPoll start.now)) }
 {
-    if !has_device(lines, &start.device) {
+    let Some(room) = room(lines, &start.device) else {
         return Ok(Some(Refusal::NotFound));
-    }
+    };
     if arrival.is_back {
         return Ok(Some(Refusal::ClockBack));
     }
-    let room = room(lines, &start.device);
     if room == 0 {
         return Ok(Some(Refusal::Busy));
     }
@@ -111,17 +114,18 @@ pub fn start_round<B: Books>(
         (IsWhyAmong lines.now arrival.now (command.StartRound start.now)) }
     ensures reads { OnlyReads (B.ledger books.old) (B.ledger books.new) result }
     ensures befits { IfOk result (Befits arrival.now (command.StartRound start.now)) }
+    ensures there { IfOk result (λ why. why ≡ None
+        → StartsOnLine lines.now (command.StartRound start.now)) }
 {
-    if !has_device(lines, &start.device) {
+    let Some(room) = room(lines, &start.device) else {
         return Ok(Some(Refusal::NotFound));
-    }
+    };
     let Some(list) = list_at(books, &start.device)? else {
         return Ok(Some(Refusal::NotFound));
     };
     if arrival.is_back {
         return Ok(Some(Refusal::ClockBack));
     }
-    let room = room(lines, &start.device);
     if room == 0 {
         return Ok(Some(Refusal::Busy));
     }

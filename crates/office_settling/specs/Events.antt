@@ -29,7 +29,8 @@ pub record Settles (past : History) (at : ℕ) (e : Event) (old new : Ledger) (a
       told.items ≡ notes_of (next_poll (facts_of past)) at e (lines_of past) (facts_of past))
 
 -- The call succeeds, asks no books, and tells nothing.
-pub record IsQuiet {B : Type 0} (old new : B) (result : Result (Vec Note Global) BooksFault) : Type 0 where
+pub record IsQuiet {B : Type 0} (old new : B)
+    (result : Result (Vec Note Global) BooksFault) : Type 0 where
   pub ok : IsOk result
   pub told : IfOk result (λ told. told.items ≡ [])
   pub books : new ≡ old

@@ -1,14 +1,12 @@
 //! The reads of a list that the session of a device lets through, one after the other.
-ghost use Rattle.std.specs.Prelude.{◌≡◌, ◌≤◌, ◌++◌, ℕ, List, [], None, map, length, IfOk};
+ghost use Rattle.std.specs.Prelude.{◌≡◌, ◌≤◌, ◌++◌, None, map, length, IfOk};
 ghost use Rattle.std.specs.List.{flat_map};
-ghost use Rattle.poll_core.specs.Settling as session;
-ghost use Rattle.poll_core.specs.Standing.{last_moment};
 ghost use Rattle.office_rules.specs.Sessions as sessions;
-ghost use Rattle.office_rules.specs.Sessions.{sends_on, start_by};
-ghost use Rattle.office_rules.specs.History.{poll_by};
+ghost use Rattle.office_rules.specs.Sessions.{start_by};
 ghost use Rattle.office_rules.specs.Notes.{frame_of};
 ghost use Rattle.office_lines.specs.Keeping.{KeepsLine, KeepsSession};
-ghost use Rattle.office_starting.specs.Starts.{polls_of, frames_of, line_sent, IsBefore};
+ghost use Rattle.office_starting.specs.Starts.{CountsSends, GivesPolls, IsBefore, WhereSent};
+ghost use Rattle.office_starting.specs.Starts.{polls_of, frames_of, line_sent};
 
 use crate::outgoing::Outgoing;
 use mb_wire::ReadSpan;
@@ -21,8 +19,7 @@ use std::alloc::{AllocError, Global};
 fn count_on(kept: &Session, device: &Device, spans: &[ReadSpan]) -> usize
     ensures few { result ≤ 16 }
     ensures inside { result ≤ length spans.now }
-    ensures count { (number at : ℕ) (events : List session.Event) → KeepsSession device.now kept.now events
-        → result ≡ length (sends_on number at device.now events spans.now) }
+    ensures count { CountsSends device.now kept.now spans.now result }
 {
     kept.ready()
         .count
@@ -40,8 +37,7 @@ fn poll_facts(
     spans: &[ReadSpan],
 ) -> Result<Vec<Fact>, AllocError>
     requires { number ≤ 4611686018427387905 }
-    ensures { (events : List session.Event) → KeepsSession device.now kept.now events
-        → IfOk result (λ facts. facts.items ≡ map (poll_by moment device.now) (sends_on number moment device.now events spans.now)) }
+    ensures { GivesPolls device.now kept.now number moment spans.now result }
 {
     let mut facts = Vec::new(alloc);
     let mut id = kept.ready().id;
@@ -89,10 +85,10 @@ fn start_each(
     requires number { number ≤ 4611686018427387905 }
     requires limit { moment ≤ 4102444800 }
     requires rests { kept.old.settling ≡ None }
-    ensures keeps { (events : List session.Event) → KeepsSession device.now kept.old events → last_moment events ≤ moment
-        → KeepsSession device.now kept.new (events ++ map (start_by moment device.now) (sends_on number moment device.now events spans.now)) }
-    ensures sent { (events : List session.Event) → KeepsSession device.now kept.old events → last_moment events ≤ moment
-        → result ≡ flat_map (frame_of device.now) (sends_on number moment device.now events spans.now) }
+    ensures keeps { WhereSent device.now kept.old number moment spans.now (λ events sends.
+        KeepsSession device.now kept.new (events ++ map (start_by moment device.now) sends)) }
+    ensures sent { WhereSent device.now kept.old number moment spans.now (λ events sends.
+        result ≡ flat_map (frame_of device.now) sends) }
     ensures rests { kept.new.settling ≡ None }
 {
     let mut outgoing = Outgoing::none();

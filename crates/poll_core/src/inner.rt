@@ -1,5 +1,6 @@
 // The fields of a session, and its steps.
-ghost use Rattle.std.specs.Prelude.{◌≡◌, ℕ, ◌+◌, ◌≤◌, ◌<◌, List, [], ◌∷◌, ◌++◌, length, take, Some, None, is_some, true, false, if◌then◌else◌, OnOk, OnErr, IfOk};
+ghost use Rattle.std.specs.Prelude.{◌≡◌, ℕ, ◌+◌, ◌≤◌, ◌<◌, List, [], ◌∷◌, ◌++◌, length, take, Some};
+ghost use Rattle.std.specs.Prelude.{None, is_some, true, false, if◌then◌else◌, OnOk, OnErr, IfOk};
 ghost use Rattle.std.specs.Result.{result_err};
 ghost use Rattle.mb_wire.specs.Requests.{request_bytes};
 ghost use Rattle.mb_wire.specs.Reader.{spelling};
@@ -39,7 +40,8 @@ pub struct Step {
 // Writes the frame that asks for a span of registers.
 fn write_request(id: u16, unit: u8, span: ReadSpan, out: &mut [u8; 260]) -> usize
     ensures size { result ≡ 12 }
-    ensures written { take result out.new ≡ spelling id unit (request_bytes (request_of (span_view span))) }
+    ensures written { take result out.new
+        ≡ spelling id unit (request_bytes (request_of (span_view span))) }
 {
     let mut pdu = [0; 253];
     let count = encode_request(&span.request(), &mut pdu);
@@ -89,12 +91,16 @@ impl Inner {
         ensures refused { (events : List Event) → Stands (state_of self.old) events →
             result_err result ≡ start_fault self.old.timeout self.old.window events moment }
         ensures started { (events : List Event) → Stands (state_of self.old) events →
-            OnOk result (After (state_of self.new) events (Start moment poll unit (span_view span)) [] None) }
+            OnOk result
+            (After (state_of self.new) events (Start moment poll unit (span_view span)) [] None) }
         ensures settling { self.new.settling ≡ self.old.settling }
         ensures last { OnOk result (self.new.last ≡ moment) }
-        ensures terms { (self.new.timeout ≡ self.old.timeout) × (self.new.window ≡ self.old.window) }
+        ensures terms { (self.new.timeout ≡ self.old.timeout)
+            × (self.new.window ≡ self.old.window) }
         ensures size { IfOk result (λ n. n ≡ 12) }
-        ensures written { IfOk result (λ n. take n out.new ≡ spelling self.old.next unit (request_bytes (request_of (span_view span)))) }
+        ensures written { IfOk result
+            (λ n. take n out.new ≡ spelling self.old.next unit
+            (request_bytes (request_of (span_view span)))) }
         ensures err { OnErr result ((self.new ≡ self.old) × (out.new ≡ out.old)) }
     {
         if self.polls.len() >= self.window {
@@ -134,12 +140,16 @@ impl Inner {
     pub fn tick(&mut self, moment: u64) -> Option<SettledPoll>
         requires { IsSound self.old }
         ensures sound { IsSound self.new }
-        ensures terms { (self.new.timeout ≡ self.old.timeout) × (self.new.window ≡ self.old.window) }
+        ensures terms { (self.new.timeout ≡ self.old.timeout)
+            × (self.new.window ≡ self.old.window) }
         ensures last { self.new.last ≡ moment }
         ensures settling { self.new.settling ≡ call_if result Call.Tick }
-        ensures less { is_some result ≡ true → length self.new.polls.items < length self.old.polls.items }
-        ensures told { (events : List Event) (told : List (ℕ × Settlement)) → Before (state_of self.old) events (Tick moment) told →
-            After (state_of self.new) events (Tick moment) told (told_of result self.new.reader.frame) }
+        ensures less { is_some result ≡ true
+            → length self.new.polls.items < length self.old.polls.items }
+        ensures told { (events : List Event) (told : List (ℕ × Settlement))
+            → Before (state_of self.old) events (Tick moment) told →
+            After (state_of self.new) events (Tick moment) told
+            (told_of result self.new.reader.frame) }
         ensures held { CanTell result self.new.reader.frame }
     {
         self.last = moment;
@@ -151,12 +161,16 @@ impl Inner {
     pub fn close(&mut self, moment: u64, closing: Closing) -> Option<SettledPoll>
         requires { IsSound self.old }
         ensures sound { IsSound self.new }
-        ensures terms { (self.new.timeout ≡ self.old.timeout) × (self.new.window ≡ self.old.window) }
+        ensures terms { (self.new.timeout ≡ self.old.timeout)
+            × (self.new.window ≡ self.old.window) }
         ensures last { self.new.last ≡ moment }
         ensures settling { self.new.settling ≡ call_if result (Call.Close closing) }
-        ensures less { is_some result ≡ true → length self.new.polls.items < length self.old.polls.items }
-        ensures told { (events : List Event) (told : List (ℕ × Settlement)) → Before (state_of self.old) events (Close moment closing) told →
-            After (state_of self.new) events (Close moment closing) told (told_of result self.new.reader.frame) }
+        ensures less { is_some result ≡ true
+            → length self.new.polls.items < length self.old.polls.items }
+        ensures told { (events : List Event) (told : List (ℕ × Settlement))
+            → Before (state_of self.old) events (Close moment closing) told →
+            After (state_of self.new) events (Close moment closing) told
+            (told_of result self.new.reader.frame) }
         ensures held { CanTell result self.new.reader.frame }
     {
         self.last = moment;
@@ -169,15 +183,18 @@ impl Inner {
     pub fn next(&mut self, moment: u64, piece: &[u8]) -> Step
         requires { IsSound self.old }
         ensures sound { IsSound self.new }
-        ensures terms { (self.new.timeout ≡ self.old.timeout) × (self.new.window ≡ self.old.window) }
+        ensures terms { (self.new.timeout ≡ self.old.timeout)
+            × (self.new.window ≡ self.old.window) }
         ensures taken { result.taken ≤ length piece.now }
         ensures last { self.new.last ≡ moment }
         ensures settling { self.new.settling ≡ call_if result.settled Call.Piece }
-        ensures less { is_some result.settled ≡ true → length self.new.polls.items < length self.old.polls.items }
+        ensures less { is_some result.settled ≡ true
+            → length self.new.polls.items < length self.old.polls.items }
         ensures all { is_some result.settled ≡ false → result.taken ≡ length piece.now }
         ensures told { (events : List Event) (bytes : List ℕ) (told : List (ℕ × Settlement)) →
             Before (state_of self.old) events (Piece moment bytes) told →
-            After (state_of self.new) events (Piece moment (bytes ++ take result.taken piece.now)) told (told_of result.settled self.new.reader.frame) }
+            After (state_of self.new) events (Piece moment (bytes ++ take result.taken piece.now))
+            told (told_of result.settled self.new.reader.frame) }
         ensures held { CanTell result.settled self.new.reader.frame }
     {
         one_reading();

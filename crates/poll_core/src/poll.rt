@@ -19,7 +19,13 @@ impl Model for PendingPoll {
 
     ghost Value = { polls.Poll };
 
-    ghost view = { λ p. record { number = p.number; id = p.id; unit = p.unit; span = span_view p.span; deadline = p.deadline } };
+    ghost view = { λ p. record {
+      number = p.number;
+      id = p.id;
+      unit = p.unit;
+      span = span_view p.span;
+      deadline = p.deadline;
+    } };
 }
 
 impl PendingPoll {
@@ -29,7 +35,13 @@ impl PendingPoll {
     ghost use Rattle.poll_core.specs.Polls.{due, has_id};
 
     pub fn new(number: u64, id: u16, unit: u8, span: ReadSpan, deadline: u64) -> Self
-        ensures { result ≡ record { number = number; id = id; unit = unit; span = span_view span; deadline = deadline } }
+        ensures { result ≡ record {
+          number = number;
+          id = id;
+          unit = unit;
+          span = span_view span;
+          deadline = deadline;
+        } }
     {
         PendingPoll {
             number,

@@ -1,12 +1,15 @@
 // One device's polling session.
-ghost use Rattle.std.specs.Prelude.{◌≡◌, ℕ, ◌+◌, ◌≤◌, ◌<◌, ◌⊎◌, ◌↔◌, List, [], ◌∷◌, ◌++◌, length, take, Some, None, is_some, IsTrue, true, false, IsErr, OnOk, OnErr, IfOk, IfSome};
+ghost use Rattle.std.specs.Prelude.{◌≡◌, ℕ, ◌+◌, ◌≤◌, ◌<◌, ◌⊎◌, ◌↔◌, List, [], ◌∷◌, ◌++◌, length};
+ghost use Rattle.std.specs.Prelude.{take, Some, None, is_some, IsTrue, true, false, IsErr, OnOk};
+ghost use Rattle.std.specs.Prelude.{OnErr, IfOk, IfSome};
 ghost use Rattle.std.specs.Result.{result_err};
 ghost use Rattle.std.specs.Borrow.{sem};
 ghost use Rattle.std.specs.Io.BufRead.{Rests};
 ghost use Rattle.mb_wire.specs.Requests.{request_bytes};
 ghost use Rattle.mb_wire.specs.Reader.{spelling, spelled, fields_of};
 ghost use Rattle.mb_wire.specs.Spans.{request_of, span_view};
-ghost use Rattle.poll_core.specs.Settling.{Settlement, Event, Start, Piece, Tick, Close, Silent, answer};
+ghost use Rattle.poll_core.specs.Settling.{Settlement, Event, Start, Piece, Tick, Close, Silent};
+ghost use Rattle.poll_core.specs.Settling.{answer};
 ghost use Rattle.poll_core.specs.Steps.{told_by, HasFrame, CanTell};
 ghost use Rattle.poll_core.specs.Inside.{told_of};
 ghost use Rattle.std.specs.Option.{option_map};
@@ -80,7 +83,8 @@ impl Session {
         ensures id { result.id ≡ self.now.next }
         ensures room { HasRoom self.now result.count }
         ensures few { result.count ≤ self.now.window }
-        ensures ready { (events : List Event) → Stands self.now events → IsReady self.now.timeout self.now.window events result.id result.count }
+        ensures ready { (events : List Event) → Stands self.now events
+            → IsReady self.now.timeout self.now.window events result.id result.count }
     {
         Ready {
             id: self.inner.next,
@@ -104,11 +108,14 @@ impl Session {
             result_err result ≡ start_fault self.old.timeout self.old.window events moment }
         ensures started { (events : List Event) → Stands self.old events →
             OnOk result (After self.new events (Start moment poll unit (span_view span)) [] None) }
-        ensures terms { (self.new.timeout ≡ self.old.timeout) × (self.new.window ≡ self.old.window) }
+        ensures terms { (self.new.timeout ≡ self.old.timeout)
+            × (self.new.window ≡ self.old.window) }
         ensures rests { self.new.settling ≡ None }
         ensures last { OnOk result (self.new.last ≡ moment) }
         ensures size { IfOk result (λ n. n ≡ 12) }
-        ensures written { IfOk result (λ n. take n out.new ≡ spelling self.old.next unit (request_bytes (request_of (span_view span)))) }
+        ensures written { IfOk result
+            (λ n. take n out.new ≡ spelling self.old.next unit
+            (request_bytes (request_of (span_view span)))) }
         ensures err { OnErr result ((self.new ≡ self.old) × (out.new ≡ out.old)) }
     {
         self.inner.start(moment, poll, unit, span, out)
@@ -119,10 +126,13 @@ impl Session {
         requires limit { moment ≤ 4102444800 }
         requires call { IsCall Call.Piece self.old moment }
         ensures* after { sem 𝓛 (Rests the_row self.entry (λ new. OnErr result (new ≡ self.old)
-            × IfOk result (λ turn. TellsPiece self.old new moment (take turn.taken piece.now) (option_map settled_of turn.settled)))) }
+            × IfOk result (λ turn.
+            TellsPiece self.old new moment (take turn.taken piece.now)
+            (option_map settled_of turn.settled)))) }
         ensures back { IsErr result ↔ (moment < self.old.last) }
         ensures taken { IfOk result (λ turn. turn.taken ≤ length piece.now) }
-        ensures all { IfOk result (λ turn. is_some turn.settled ≡ false → turn.taken ≡ length piece.now) }
+        ensures all { IfOk result
+            (λ turn. is_some turn.settled ≡ false → turn.taken ≡ length piece.now) }
         ensures reply { IfOk result (λ turn. IfSome turn.settled LendsReply) }
     {
         let step = self.advance(moment, piece)?;
@@ -134,11 +144,14 @@ impl Session {
 
     fn advance(&mut self, moment: u64, piece: &[u8]) -> Result<Step, ClockBack>
         ensures err { OnErr result (self.new ≡ self.old) }
-        ensures told { IfOk result (λ step. TellsPiece self.old self.new moment (take step.taken piece.now) (told_of step.settled self.new.reader.frame)) }
+        ensures told { IfOk result
+            (λ step. TellsPiece self.old self.new moment (take step.taken piece.now)
+            (told_of step.settled self.new.reader.frame)) }
         ensures back { IsErr result ↔ (moment < self.old.last) }
         ensures held { IfOk result (λ step. CanTell step.settled self.new.reader.frame) }
         ensures taken { IfOk result (λ step. step.taken ≤ length piece.now) }
-        ensures all { IfOk result (λ step. is_some step.settled ≡ false → step.taken ≡ length piece.now) }
+        ensures all { IfOk result
+            (λ step. is_some step.settled ≡ false → step.taken ≡ length piece.now) }
     {
         if moment < self.inner.last {
             return Err(ClockBack);
@@ -151,7 +164,8 @@ impl Session {
         requires limit { moment ≤ 4102444800 }
         requires call { IsCall Call.Tick self.old moment }
         ensures* after { sem 𝓛 (Rests the_row self.entry (λ new. OnErr result (new ≡ self.old)
-            × IfOk result (λ settled. TellsEvent self.old new (Tick moment) (option_map settled_of settled)))) }
+            × IfOk result (λ settled.
+            TellsEvent self.old new (Tick moment) (option_map settled_of settled)))) }
         ensures back { IsErr result ↔ (moment < self.old.last) }
         ensures reply { IfOk result (λ settled. IfSome settled LendsReply) }
     {
@@ -161,7 +175,9 @@ impl Session {
 
     fn tick_once(&mut self, moment: u64) -> Result<Option<SettledPoll>, ClockBack>
         ensures err { OnErr result (self.new ≡ self.old) }
-        ensures told { IfOk result (λ taken. TellsEvent self.old self.new (Tick moment) (told_of taken self.new.reader.frame)) }
+        ensures told { IfOk result
+            (λ taken. TellsEvent self.old self.new (Tick moment)
+            (told_of taken self.new.reader.frame)) }
         ensures held { IfOk result (λ taken. CanTell taken self.new.reader.frame) }
         ensures back { IsErr result ↔ (moment < self.old.last) }
     {
@@ -176,7 +192,8 @@ impl Session {
         requires limit { moment ≤ 4102444800 }
         requires call { IsCall (Call.Close closing) self.old moment }
         ensures* after { sem 𝓛 (Rests the_row self.entry (λ new. OnErr result (new ≡ self.old)
-            × IfOk result (λ settled. TellsEvent self.old new (Close moment closing) (option_map settled_of settled)))) }
+            × IfOk result (λ settled.
+            TellsEvent self.old new (Close moment closing) (option_map settled_of settled)))) }
         ensures back { IsErr result ↔ (moment < self.old.last) }
         ensures reply { IfOk result (λ settled. IfSome settled LendsReply) }
     {
@@ -190,7 +207,9 @@ impl Session {
         closing: Closing,
     ) -> Result<Option<SettledPoll>, ClockBack>
         ensures err { OnErr result (self.new ≡ self.old) }
-        ensures told { IfOk result (λ taken. TellsEvent self.old self.new (Close moment closing) (told_of taken self.new.reader.frame)) }
+        ensures told { IfOk result
+            (λ taken. TellsEvent self.old self.new (Close moment closing)
+            (told_of taken self.new.reader.frame)) }
         ensures held { IfOk result (λ taken. CanTell taken self.new.reader.frame) }
         ensures back { IsErr result ↔ (moment < self.old.last) }
     {
@@ -250,7 +269,8 @@ fn silent<'a>(poll: u64) -> Settled<'a>
 
 // What a frame with the poll's id gives it.
 fn answered<'a>(poll: &PendingPoll, frame: Frame<'a>) -> Settled<'a>
-    ensures told { (bytes : List ℕ) → spelled frame.entry ≡ fields_of bytes → settled_of result ≡ (poll.now.number, answer poll.now bytes) }
+    ensures told { (bytes : List ℕ) → spelled frame.entry ≡ fields_of bytes
+        → settled_of result ≡ (poll.now.number, answer poll.now bytes) }
     ensures reply { LendsReply result }
 {
     let number = poll.number();

@@ -1,9 +1,11 @@
 // The table of pending polls.
-ghost use Rattle.std.specs.Prelude.{◌≡◌, ℕ, ◌+◌, ◌≤◌, ◌<◌, List, length, take, true, false, ◌%◌, IsSome, Option};
+ghost use Rattle.std.specs.Prelude.{◌≡◌, ℕ, ◌+◌, ◌≤◌, ◌<◌, List, length, take, true, false, ◌%◌};
+ghost use Rattle.std.specs.Prelude.{IsSome, Option};
 ghost use Rattle.std.specs.List.{filter, list_any};
 ghost use Rattle.mb_wire.specs.Frames.{IsOwn, is_bad};
 ghost use Rattle.poll_core.specs.Polls.{due, has_id};
-ghost use Rattle.poll_core.specs.Steps.{AreApart, TakesOut, TellsOwed, FindsFirst, FindsBy, Finds, OneLess, CanTell};
+ghost use Rattle.poll_core.specs.Steps.{AreApart, TakesOut, TellsOwed, FindsFirst, FindsBy, Finds};
+ghost use Rattle.poll_core.specs.Steps.{OneLess, CanTell};
 
 use crate::outcome::LostCause;
 use crate::poll::{PendingPoll, SettledBy, SettledPoll};
@@ -112,7 +114,8 @@ fn take_framed(reader: &FrameReader, polls: &mut Table) -> Option<PendingPoll>
     requires apart { AreApart polls.old.items }
     ensures apart { AreApart polls.new.items }
     ensures less { OneLess polls.old.items result polls.new.items }
-    ensures found { (frame : List ℕ) → reader.now.frame ≡ Some frame → IsOwn frame → FindsBy frame polls.old.items result polls.new.items }
+    ensures found { (frame : List ℕ) → reader.now.frame ≡ Some frame → IsOwn frame
+        → FindsBy frame polls.old.items result polls.new.items }
 {
     let Some(frame) = reader.frame() else {
         unreachable!()
@@ -138,7 +141,8 @@ pub fn feed_until(reader: &mut FrameReader, polls: &mut Table, piece: &[u8]) -> 
     ensures clean { IsSome result.poll → result.is_garbled ≡ false }
     ensures held { IsSome result.poll → IsSome reader.new.frame }
     ensures garbled { is_bad reader.new.rest ≡ result.is_garbled }
-    ensures found { Finds reader.old.rest (take result.taken piece.now) polls.old.items result.poll reader.new polls.new.items }
+    ensures found { Finds reader.old.rest
+        (take result.taken piece.now) polls.old.items result.poll reader.new polls.new.items }
 {
     let mut at = 0;
     'feeds: loop {

@@ -24,6 +24,6 @@ returns-clause-carried g c = λ past e is_past keeps accepted in_e replies.
     c.args.command.now (option_to_list c.args.reply) c.start.result c.in-Some.place on c.requires.start apart keeps
     (c.start.ensures.books on.line (facts_of past) line it.few
     (polls_lawful c.args.moment (lines_of past) (facts_of past) c.args.command.now (option_to_list c.args.reply) on.line c.requires.start on.found lawful))
-    (c.start.ensures.stands on.line (facts_of past) line early it.few)
+    (c.start.ensures.stands on.line (facts_of past) line it.few early)
     (c.start.ensures.answer on.line (facts_of past) line it.few)
-    (c.start.ensures.sent on.line (facts_of past) line early it.few))
+    (c.start.ensures.sent on.line (facts_of past) line it.few early))

@@ -1,0 +1,29 @@
+-- The facts that a command adds.
+use Rattle.std.specs.Prelude.{◌≡◌, ℕ, List, Option}
+use Rattle.std.specs.Option.{option_map, option_and_then}
+use Rattle.office_events.specs.declared.commands.Command.{Command}
+use Rattle.office_events.specs.declared.commands.AddRegister.{AddRegister}
+use Rattle.office_events.specs.declared.commands.PutList.{PutList}
+use Rattle.office_events.specs.declared.commands.VoidEntry.{VoidEntry}
+use Rattle.office_events.specs.declared.facts.Fact.{Fact}
+use Rattle.office_events.specs.declared.facts.Fact.TheVariants as fact
+use Rattle.office_rules.specs.Sessions as sessions
+use Rattle.office_rules.specs.History as history
+
+-- These are the facts that a command adds, whatever the lines and the number of the next poll.
+abbrev pub AreAdded : (at : ℕ) → Command → (held facts : List Fact) → Type 0
+AreAdded at c held facts =
+    (number : ℕ) (lines : List sessions.Line) → facts ≡ history.added_by number at lines held c
+
+-- the void that a command makes, and the list and the register that one adds, where their names are names
+abbrev pub void_by : (at : ℕ) → VoidEntry → Option Fact
+void_by at c =
+    option_map (λ meter. fact.Void (record { meter = meter; place = c.place; at = at })) c.meter
+
+abbrev pub list_by : PutList → Option Fact
+list_by c = option_map (λ device. fact.List (record { device = device; list = c.list })) c.device
+
+abbrev pub register_by : AddRegister → Option Fact
+register_by c =
+    option_and_then (λ name. option_map (λ device. history.register_by c name device) c.device)
+    c.name

@@ -1,0 +1,167 @@
+-- One more event of a round.
+use Rattle.std.proofs.Common.{◌≡◌, inl, ℕ, ◌+◌, ◌-◌, Bool, List, [], ◌∷◌, ◌++◌, Option, Result, Ok, Err, refl, sym, ap, ◌∙◌, subst, arith}
+use Rattle.std.specs.List.{count_by}
+use Rattle.std.proofs.KnownBytes.{Appends-trans}
+use Rattle.std.specs.Io.KnownBytes.{Appends}
+use Rattle.sun_points.specs.Writing.{GotPart}
+use Rattle.script_text.proofs.Got.{got_both}
+use Rattle.socket_link.specs.Clocks.{Tells}
+use Rattle.office_events.specs.declared.answers.Answer.{Answer}
+use Rattle.office_events.specs.declared.answers.Note.{Note}
+use Rattle.office_events.specs.declared.events.Event.{Event}
+use Rattle.office_events.specs.declared.refusals.Refusal.{Refusal}
+use Rattle.office_rules.specs.History.{History, Fed, latest_of}
+use Rattle.office_rules.specs.Notes.{notes_after}
+use Rattle.office_rules.specs.Refusals.{with_answer}
+use Rattle.office_books.specs.Ledgers.{Ledger}
+use Rattle.office_core.specs.Running.{Answered}
+use Rattle.office_core.specs.Standing.{notes_in}
+use Rattle.office_core.specs.declared.office.Office.{Office}
+use Rattle.office_rounds.specs.Course.{Does, endings_of, first_by, first_poll, is_ending, next_in, planned_by, polls_ended, reads_started, started_by}
+use Rattle.office_rounds.specs.Rounds.{Desk}
+use Rattle.office_rounds.specs.Stepping.{Broken, Counts, FeedStops, Feeds, GoesOn, Going, IsTaken, IsUnprinted, Prints, Told, counted, latest_behind}
+use Rattle.office_rounds.specs.Telling.{history_behind, text_behind, told_text}
+use Rattle.office_rounds.specs.declared.fault.RoundFault.{RoundFault}
+use Rattle.office_rounds.specs.declared.fault.RoundFault.TheVariants.{Refused, Link, Output, TurnsUsed}
+use Rattle.office_rounds.specs.declared.progress.Progress.{Progress}
+use Rattle.office_rounds.proofs.Timely.{of_round, one_accepted}
+
+abbrev pub fed_one : (at : ℕ) → Event → Result Answer Refusal → Answered
+fed_one at e result = record { at = at; event = e; result = result }
+
+-- what a round counts of an accepted event
+pub record Notes (old new : Progress) (at : ℕ) (given : Answer) (notes : List Note) (endings : ℕ) : Type 0 where
+  pub device : new.device ≡ old.device
+  pub latest : new.latest ≡ at
+  pub first : new.first ≡ first_by old.first given
+  pub started : new.started ≡ counted (old.started + started_by given)
+  pub planned : new.planned ≡ planned_by old.planned given
+  pub endings_are : endings ≡ count_by (is_ending old.first) notes
+  pub ended : new.ended ≡ counted (old.ended + endings)
+
+counted_more : (m n : ℕ) → counted (counted m + n) ≡ counted (m + n)
+counted_more m n = omega arith
+
+counts_more : (device : Option (List ℕ)) (past : History) (fed : List Answered) (old new : Progress) (at : ℕ) (e : Event) (given : Answer)
+    (notes : List Note) (endings : ℕ) → Counts device past fed old → Notes old new at given notes endings
+    → notes ≡ notes_after (history_behind past fed) at e (Ok given)
+    → with_answer (history_behind past fed) at e (Ok given) ≡ Fed at e ∷ history_behind past fed
+    → (endings ≡ endings_of past fed (fed_one at e (Ok given))) × Counts device past (fed_one at e (Ok given) ∷ fed) new
+counts_more device past fed old new at e given notes endings counts noted told accepted =
+    let ends : endings ≡ endings_of past fed (fed_one at e (Ok given)) =
+    noted.endings_are ∙ ap (λ first. count_by (is_ending first) notes) counts.first ∙ ap (count_by (is_ending (first_poll fed))) told in (
+      ends,
+      record {
+        device_is = noted.device ∙ counts.device_is;
+        latest = noted.latest ∙ sym (ap latest_of accepted);
+        first = noted.first ∙ ap (λ first. first_by first given) counts.first;
+        started = noted.started ∙ ap (λ n. counted (n + started_by given)) counts.started ∙ counted_more (reads_started fed) (started_by given);
+        planned = noted.planned ∙ ap (λ n. planned_by n given) counts.planned;
+        ended = noted.ended ∙ ap (λ n. counted (n + endings)) counts.ended ∙ counted_more (polls_ended past fed) endings
+            ∙ ap (λ n. counted (polls_ended past fed + n)) ends;
+      },
+    )
+
+-- an accepted event goes on
+pub goes_on : {B : Type 0} (ledger : B → Ledger) (device : Option (List ℕ)) (past : History) (begun was now : Desk) (before office : Office B)
+    (fed : List Answered) (old new : Progress) (at : ℕ) (e : Event) (given : Answer) (endings : ℕ)
+    → Going ledger device past begun was before fed old → Does device (next_in past fed) e → Tells was.moments now.moments at
+    → IsTaken ledger (history_behind past fed) at e (Ok given) was now office
+    → Appends was.printed now.printed (told_text (history_behind past fed) at e (Ok given))
+    → Notes old new at given (notes_in office) endings
+    → GoesOn ledger device past begun now office fed (fed_one at e (Ok given)) new endings
+goes_on ledger device past begun was now before office fed old new at e given endings going does tells taken printed noted =
+    let accepted = one_accepted (history_behind past fed) at e was.failures now.failures given (of_round device (next_in past fed) e does) taken.answer in
+    let counts = counts_more device past fed old new at e given (notes_in office) endings going.counts noted taken.told.notes accepted in
+    record {
+      going = record {
+        leaves = record { stands = taken.stands; answered = (was.failures, going.leaves.answered, taken.answer) };
+        next = (going.next, does, refl);
+        timed = (was.moments, going.timed, tells);
+        printed = Appends-trans begun.printed was.printed now.printed (text_behind past fed) _ going.printed printed;
+        counts = counts.1;
+      };
+      told = taken.told.outgoing;
+      ended = counts.0;
+    }
+
+-- a refused one breaks the round off
+pub breaks_off : {B : Type 0} (ledger : B → Ledger) (device : Option (List ℕ)) (past : History) (begun was now : Desk) (before office : Office B)
+    (fed : List Answered) (old new : Progress) (at : ℕ) (e : Event) (why : Refusal)
+    → Going ledger device past begun was before fed old → Does device (next_in past fed) e → Tells was.moments now.moments at
+    → IsTaken ledger (history_behind past fed) at e (Err why) was now office → Appends was.printed now.printed []
+    → new.device ≡ old.device → new.latest ≡ old.latest
+    → Broken ledger device past begun now office (fed_one at e (Err why) ∷ fed) new (Refused why)
+breaks_off ledger device past begun was now before office fed old new at e why going does tells taken printed same latest = record {
+  leaves = record { stands = taken.stands; answered = (was.failures, going.leaves.answered, taken.answer) };
+  course = inl (going.next, does, refl);
+  timed = (was.moments, going.timed, tells);
+  printed = Appends-trans begun.printed was.printed now.printed (text_behind past fed) [] going.printed printed;
+  device_is = same ∙ going.counts.device_is;
+  latest = latest ∙ going.counts.latest;
+}
+
+pub part_more : (a b c : Option (List ℕ)) (x y : List ℕ) → Appends a b x → GotPart y b c → GotPart (x ++ y) a c
+part_more a b c x y first second =
+    let failed : Result (Unit {0}) (Unit {0}) = Err tt in got_both failed a b c x y (x ++ y) first second refl
+
+-- so does one that is not printed
+pub unprinted : {B : Type 0} (ledger : B → Ledger) (device : Option (List ℕ)) (past : History) (begun was now : Desk) (before office : Office B)
+    (fed : List Answered) (old new : Progress) (at : ℕ) (e : Event)
+    → Going ledger device past begun was before fed old → Does device (next_in past fed) e → Tells was.moments now.moments at
+    → (taken : IsUnprinted ledger (history_behind past fed) at e was now office) → new.device ≡ old.device → new.latest ≡ at
+    → Broken ledger device past begun now office (fed_one at e (Ok taken.given) ∷ fed) new Output
+unprinted ledger device past begun was now before office fed old new at e going does tells taken same latest =
+    let accepted = one_accepted (history_behind past fed) at e was.failures now.failures taken.given (of_round device (next_in past fed) e does) taken.taken.answer in
+    record {
+      leaves = record { stands = taken.taken.stands; answered = (was.failures, going.leaves.answered, taken.taken.answer) };
+      course = (going.next, does, refl);
+      timed = (was.moments, going.timed, tells);
+      printed = part_more begun.printed was.printed now.printed (text_behind past fed) _ going.printed taken.printed;
+      device_is = same ∙ going.counts.device_is;
+      latest = latest ∙ sym (ap latest_of accepted);
+    }
+
+pub fed_printed : {B : Type 0} (ledger : B → Ledger) (past : History) (at : ℕ) (e : Event) (given : Answer) (was now : Desk) (office : Office B)
+    (text : List ℕ) (result : Result Answer RoundFault) → IsTaken ledger past at e (Ok given) was now office
+    → Prints given text was.printed now.printed result → text ≡ told_text past at e (Ok given) → Feeds ledger past at e was now office result
+fed_printed ledger past at e given was now office text (Ok told) taken h is =
+    let P : Answer → Type 0 = λ x.
+    IsTaken ledger past at e (Ok x) was now office × Appends was.printed now.printed (told_text past at e (Ok x)) in
+    let Q : List ℕ → Type 0 = λ x. Appends was.printed now.printed x in
+    subst P (sym h.0) (taken, subst Q is h.1)
+fed_printed ledger past at e given was now office text (Err (Refused why)) taken h is = absurd h
+fed_printed ledger past at e given was now office text (Err Link) taken h is = absurd h
+fed_printed ledger past at e given was now office text (Err Output) taken h is =
+    let Q : List ℕ → Type 0 = λ x. GotPart x was.printed now.printed in
+    record { given = given; taken = taken; printed = subst Q is h }
+fed_printed ledger past at e given was now office text (Err TurnsUsed) taken h is = absurd h
+
+-- an event that broke the round off
+pub told_broken : {B : Type 0} (ledger : B → Ledger) (device : Option (List ℕ)) (past : History) (begun was now : Desk) (before office : Office B)
+    (fed : List Answered) (old new : Progress) (at : ℕ) (e : Event) (cause : RoundFault)
+    → Going ledger device past begun was before fed old → Does device (next_in past fed) e → Tells was.moments now.moments at
+    → Feeds ledger (history_behind past fed) at e was now office (Err cause) → new.device ≡ old.device
+    → new.latest ≡ latest_behind cause at old.latest
+    → (one : Answered) × (one.event ≡ e) × Told ledger device past begun now office fed one new (Err cause)
+told_broken ledger device past begun was now before office fed old new at e (Refused why) going does tells feeds same latest = (
+  fed_one at e (Err why),
+  refl,
+  (breaks_off ledger device past begun was now before office fed old new at e why going does tells feeds.0 feeds.1 same latest, refl),
+)
+told_broken ledger device past begun was now before office fed old new at e Link going does tells feeds same latest = absurd feeds
+told_broken ledger device past begun was now before office fed old new at e Output going does tells feeds same latest = (
+  fed_one at e (Ok feeds.given),
+  refl,
+  (unprinted ledger device past begun was now before office fed old new at e going does tells feeds same latest, tt),
+)
+told_broken ledger device past begun was now before office fed old new at e TurnsUsed going does tells feeds same latest = absurd feeds
+
+-- what is printed was accepted
+pub printed_stops : (was : Bool) (e : Event) (given : Answer) (text : List ℕ) (a b : Option (List ℕ)) (result : Result Answer RoundFault)
+    (now : Bool) → Prints given text a b result → FeedStops was e result now
+printed_stops was e given text a b (Ok told) now h = tt
+printed_stops was e given text a b (Err (Refused why)) now h = absurd h
+printed_stops was e given text a b (Err Link) now h = absurd h
+printed_stops was e given text a b (Err Output) now h = tt
+printed_stops was e given text a b (Err TurnsUsed) now h = absurd h

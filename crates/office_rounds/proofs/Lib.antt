@@ -1,0 +1,10 @@
+pub mod Absent
+pub mod Timely
+pub mod Wires
+pub mod Nexts
+pub mod Goings
+pub mod Stages
+pub mod Connecting
+pub mod Closings
+pub mod Overs
+pub mod Wholes

@@ -1,0 +1,117 @@
+-- A round from its connection on.
+use Rattle.std.proofs.Common.{◌≡◌, inl, inr, ℕ, List, [], ◌∷◌, Option, Result, Ok, Err, refl, sym, subst}
+use Rattle.std.proofs.KnownBytes.{Appends-nil, Consumes-nil}
+use Rattle.office_events.specs.declared.answers.Answer.{Answer}
+use Rattle.office_events.specs.declared.answers.Answer.TheVariants as answer
+use Rattle.office_events.specs.declared.events.Event.TheVariants as event
+use Rattle.office_events.specs.declared.refusals.Refusal.{Refusal}
+use Rattle.office_rules.specs.History.{History}
+use Rattle.office_rules.specs.Notes.{outgoing_after}
+use Rattle.office_books.specs.Ledgers.{Ledger}
+use Rattle.office_core.specs.Running.{Answered}
+use Rattle.office_core.specs.declared.office.Office.{Office}
+use Rattle.office_rounds.specs.Faults.{OfOffice, is_link_fault}
+use Rattle.office_rounds.specs.Passing.{CountsFailures}
+use Rattle.mb_wire.specs.Links.{risen}
+use Rattle.office_rounds.specs.Rounds.{Desk, IsToldOf, Rounds, Wire, passage}
+use Rattle.office_rounds.specs.Stepping.{Broken, Closes, Connects, IsWired, connection}
+use Rattle.office_rounds.specs.declared.fault.RoundFault.{RoundFault}
+use Rattle.office_rounds.specs.declared.fault.RoundFault.TheVariants.{Refused, Link, Output, TurnsUsed}
+use Rattle.office_rounds.specs.declared.progress.Progress.{Progress}
+use Rattle.office_rounds.proofs.Overs.{is_broken_off}
+use Rattle.office_rounds.proofs.Wires.{appends_nothing, part_of_all}
+
+-- a connection wants nothing sent
+no_frames : (h : History) (at : ℕ) (d : Option (List ℕ)) (given : Answer) → outgoing_after h at (event.Connected d) (Ok given) ≡ []
+no_frames h at d answer.Noted = refl
+no_frames h at d (answer.Done kind) = refl
+no_frames h at d (answer.Again kind) = refl
+no_frames h at d (answer.Started first count of) = refl
+
+pub wired_connected : (past : History) (at : ℕ) (device : Option (List ℕ)) (given : Answer) (w : Wire)
+    → IsWired {X = Unit {0}} past w w (connection device at (Ok given) ∷ []) (Ok tt)
+wired_connected past at device given w = record {
+  taken = Consumes-nil w.remaining;
+  given = appends_nothing w.given w.given [] _ (Appends-nil w.given) (no_frames past at device given);
+}
+
+pub wired_unprinted : (past : History) (at : ℕ) (device : Option (List ℕ)) (given : Answer) (w : Wire)
+    → IsWired {X = Unit {0}} past w w (connection device at (Ok given) ∷ []) (Err Output)
+wired_unprinted past at device given w =
+    let wired = wired_connected past at device given w in
+    record { taken = wired.taken; given = part_of_all w.given w.given _ wired.given }
+
+-- The connection was refused.
+pub unconnected : {B : Type 0} (ledger : B → Ledger) (device : Option (List ℕ)) (past : History) (begun now : Desk) (w : Wire)
+    (office : Office B) (round : Progress) (why : Refusal) → Connects ledger device past begun now office round (Err (Refused why))
+    → Rounds ledger device past (passage begun now w w) office (Err (Refused why))
+unconnected ledger device past begun now w office round why h =
+    inl (record { at = h.0; leaves = h.1; timed = h.2; same = refl; printed = h.3 })
+
+-- It was told, and not printed.
+pub unprinted : {B : Type 0} (ledger : B → Ledger) (device : Option (List ℕ)) (past : History) (begun was now : Desk) (w : Wire)
+    (before office : Office B) (round : Progress) (fault : RoundFault) → (h : Connects ledger device past begun was before round (Err Output))
+    → Closes ledger device past begun now office (connection device h.0 (Ok h.1.0) ∷ []) Output fault
+    → Rounds ledger device past (passage begun now w w) office (Err fault)
+unprinted ledger device past begun was now w before office round fault h closes =
+    inr (is_broken_off ledger device past begun was now w w before office (connection device h.0 (Ok h.1.0) ∷ []) round Output fault h.1.1
+    (wired_unprinted past h.0 device h.1.0 w) closes)
+
+pub unprinted_as : {B : Type 0} (ledger : B → Ledger) (device : Option (List ℕ)) (past : History) (begun was now : Desk) (w : Wire)
+    (before office : Office B) (round : Progress) (cause fault : RoundFault) → cause ≡ Output
+    → Connects ledger device past begun was before round (Err cause)
+    → ((fed : List Answered) → Broken ledger device past begun was before fed round cause → Closes ledger device past begun now office fed cause fault)
+    → Rounds ledger device past (passage begun now w w) office (Err fault)
+unprinted_as ledger device past begun was now w before office round cause fault is h closes =
+    let P : RoundFault → Type 0 = λ f.
+    Connects ledger device past begun was before round (Err f)
+    → ((fed : List Answered) → Broken ledger device past begun was before fed round f → Closes ledger device past begun now office fed f fault)
+    → Rounds ledger device past (passage begun now w w) office (Err fault) in
+    subst P (sym is)
+    (λ told shuts. unprinted ledger device past begun was now w before office round fault told (shuts (connection device told.0 (Ok told.1.0) ∷ []) told.1.1))
+    h closes
+
+pub connects_same : {B : Type 0} (ledger : B → Ledger) (device same : Option (List ℕ)) (past : History) (begun now : Desk) (office : Office B)
+    (round : Progress) (result : Result (Unit {0}) RoundFault) → same ≡ device → Connects ledger same past begun now office round result
+    → Connects ledger device past begun now office round result
+connects_same ledger device same past begun now office round result equal h =
+    let P : Option (List ℕ) → Type 0 = λ d. Connects ledger d past begun now office round result in subst P equal h
+
+-- The takes are used up.
+abbrev pub IsUsed : Result (Unit {0}) RoundFault → Type 0
+IsUsed result = result ≡ Err TurnsUsed
+
+-- That is told only where it broke the round off.
+pub told_used : (fault told : RoundFault) → IsToldOf fault told → IsUsed (Err told) → IsUsed (Err fault)
+told_used fault told (inl is) h = cc
+told_used fault told (inr is) h = absurd (cc)
+
+pub not_used : (fault told : RoundFault) → OfOffice {X = Unit {0}} (Err fault) → IsToldOf fault told → IsUsed (Err told) → ⊥
+not_used (Refused why) told of is h = let so = told_used (Refused why) told is h in absurd (cc)
+not_used Link told of is h = absurd of
+not_used Output told of is h = let so = told_used Output told is h in absurd (cc)
+not_used TurnsUsed told of is h = absurd of
+
+failures_by : (fault told : RoundFault) (before after : ℕ) → told ≡ fault → CountsFailures {X = Unit {0}} (Err fault) before after
+    → CountsFailures {X = Unit {0}} (Err told) before after
+failures_by fault told before after is h =
+    let P : RoundFault → Type 0 = λ f. CountsFailures {X = Unit {0}} (Err f) before after in subst P (sym is) h
+
+-- The link's failures, where a round was broken off and closed.
+pub counts_failures : (fault told : RoundFault) (before after : ℕ) → after ≡ risen (is_link_fault {X = Unit {0}} (Err fault)) before
+    → IsToldOf fault told → CountsFailures {X = Unit {0}} (Err told) before after
+counts_failures (Refused why) told before after h (inl is) = failures_by (Refused why) told before after is h
+counts_failures (Refused why) told before after h (inr is) = failures_by Output told before after is (inl h)
+counts_failures Link told before after h (inl is) = failures_by Link told before after is h
+counts_failures Link told before after h (inr is) = failures_by Output told before after is (inr h)
+counts_failures Output told before after h (inl is) = failures_by Output told before after is (inl h)
+counts_failures Output told before after h (inr is) = failures_by Output told before after is (inl h)
+counts_failures TurnsUsed told before after h (inl is) = failures_by TurnsUsed told before after is h
+counts_failures TurnsUsed told before after h (inr is) = failures_by Output told before after is (inl h)
+
+pub kept_failures : (fault told : RoundFault) (count : ℕ) → OfOffice {X = Unit {0}} (Err fault) → IsToldOf fault told
+    → CountsFailures {X = Unit {0}} (Err told) count count
+kept_failures (Refused why) told count of is = counts_failures (Refused why) told count count refl is
+kept_failures Link told count of is = absurd of
+kept_failures Output told count of is = counts_failures Output told count count refl is
+kept_failures TurnsUsed told count of is = absurd of

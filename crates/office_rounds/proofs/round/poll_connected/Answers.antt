@@ -1,0 +1,15 @@
+use Rattle.std.proofs.Common.{subst, ℕ}
+use Rattle.office_rounds.specs.Course.{StartFrom, Take}
+use Rattle.office_rounds.specs.Passing.{AreAtMost}
+use Rattle.office_rounds.proofs.Stages.{compose}
+use Rattle.office_rounds.proofs.round.poll_connected.Goals as goal
+
+pub returns-in-Ok-clause-steps : goal.returns-in-Ok-clause-steps
+returns-in-Ok-clause-steps g c =
+    compose g.B.Books.ledger _ _ _ (λ round fed past. StartFrom round.started) c.in-Ok.field-0 (λ done. Take) (λ round fed past. Take) _ _ c.in-Ok.ensures.steps (λ round fed past e. e) c.take_turns.ensures.steps
+    c.take_turns.ensures.lasts.clean
+
+pub returns-in-Ok-clause-takes : goal.returns-in-Ok-clause-takes
+returns-in-Ok-clause-takes g c =
+    let P : ℕ → Type 0 = λ n. AreAtMost 100000 n (g.L.Link.taken c.take_turns.new.link) in
+    subst P c.in-Ok.ensures.takes c.take_turns.ensures.takes

@@ -1,0 +1,144 @@
+-- What a round feeds next, behind what it fed.
+use Rattle.std.specs.Prelude.{◌≡◌, ℕ, ◌+◌, ◌==◌, nat_lt, nat_le, Bool, false, List, [], ◌∷◌, Option, None, Some, Result, Ok, Err, IsOk, if◌then◌else◌}
+use Rattle.std.specs.List.{count_by}
+use Rattle.poll_core.specs.declared.outcome.Closing.TheVariants as closing
+use Rattle.office_events.specs.declared.answers.Answer.{Answer}
+use Rattle.office_events.specs.declared.answers.Answer.TheVariants as answer
+use Rattle.office_events.specs.declared.answers.Note.{Note}
+use Rattle.office_events.specs.declared.answers.Note.TheVariants as note
+use Rattle.office_events.specs.declared.commands.Command.TheVariants as command
+use Rattle.office_events.specs.declared.events.Event.{Event}
+use Rattle.office_events.specs.declared.events.Event.TheVariants as event
+use Rattle.office_events.specs.declared.refusals.Refusal.{Refusal}
+use Rattle.office_rules.specs.History.{History}
+use Rattle.office_rules.specs.Notes.{notes_after}
+use Rattle.office_core.specs.Running.{Answered}
+use Rattle.office_rounds.specs.Telling.{history_behind}
+
+-- What a start tells: the number of its first poll, how many reads it started, and how many the plan has.
+abbrev pub first_by : Option ℕ → Answer → Option ℕ
+first_by (Some first) given = Some first
+first_by None answer.Noted = None
+first_by None (answer.Done kind) = None
+first_by None (answer.Again kind) = None
+first_by None (answer.Started first count of) = Some first
+
+abbrev pub started_by : Answer → ℕ
+started_by answer.Noted = 0
+started_by (answer.Done kind) = 0
+started_by (answer.Again kind) = 0
+started_by (answer.Started first count of) = count
+
+abbrev pub planned_by : ℕ → Answer → ℕ
+planned_by planned answer.Noted = planned
+planned_by planned (answer.Done kind) = planned
+planned_by planned (answer.Again kind) = planned
+planned_by planned (answer.Started first count of) = of
+
+-- So it is with an answer, and a refusal tells nothing.
+abbrev pub first_after : Option ℕ → Result Answer Refusal → Option ℕ
+first_after first (Ok given) = first_by first given
+first_after first (Err why) = first
+
+abbrev pub started_after : ℕ → Result Answer Refusal → ℕ
+started_after started (Ok given) = started + started_by given
+started_after started (Err why) = started
+
+abbrev pub planned_after : ℕ → Result Answer Refusal → ℕ
+planned_after planned (Ok given) = planned_by planned given
+planned_after planned (Err why) = planned
+
+-- the first poll of a round, once it has started one
+abbrev pub first_poll : List Answered → Option ℕ
+first_poll [] = None
+first_poll (one ∷ earlier) = first_after (first_poll earlier) one.result
+
+-- how many reads it has started
+abbrev pub reads_started : List Answered → ℕ
+reads_started [] = 0
+reads_started (one ∷ earlier) = started_after (reads_started earlier) one.result
+
+-- how many reads the plan has
+abbrev pub reads_planned : List Answered → ℕ
+reads_planned [] = 0
+reads_planned (one ∷ earlier) = planned_after (reads_planned earlier) one.result
+
+-- the note tells how a poll ended, and it is one from the first of the round on
+abbrev pub is_from : (first : Option ℕ) → ℕ → Bool
+is_from None poll = false
+is_from (Some first) poll = nat_le first poll
+
+abbrev pub is_ending : (first : Option ℕ) → Note → Bool
+is_ending first (note.Outcome poll outcome) = is_from first poll
+is_ending first (note.Reading meter raw rolls step) = false
+is_ending first (note.Held meter raw cause) = false
+
+-- how many polls of the round ended with an event
+abbrev pub endings_of : (past : History) → (earlier : List Answered) → Answered → ℕ
+endings_of past earlier one =
+    count_by (is_ending (first_poll earlier)) (notes_after (history_behind past earlier) one.at one.event one.result)
+
+-- how many of its polls have ended
+abbrev pub polls_ended : (past : History) → List Answered → ℕ
+polls_ended past [] = 0
+polls_ended past (one ∷ earlier) = polls_ended past earlier + endings_of past earlier one
+
+-- What is next: the connection is told; the reads from a number on are started; the device is gone, since all have ended;
+-- something is taken from the link; or the round is over.
+pub data Next : Type 0 where
+  Connect : Next
+  StartFrom : (read : ℕ) → Next
+  Leave : Next
+  Take : Next
+  Over : Next
+
+-- The reads that are left are started. Where none is left and all have ended, the device is gone.
+abbrev pub next_left : (started ended planned : ℕ) → Next
+next_left started ended planned =
+    if nat_lt started planned then StartFrom started
+    else if nat_le planned ended then Leave
+    else Take
+
+-- So it is behind an event with which a poll of the round has ended.
+abbrev pub next_after : (endings started ended planned : ℕ) → Next
+next_after endings started ended planned = if endings == 0 then Take else next_left started ended planned
+
+-- Behind the connection the reads are started from the first on.
+abbrev pub next_behind : Event → Next → Next
+next_behind (event.Connected given) next = StartFrom 0
+next_behind (event.Bytes given piece) next = next
+next_behind event.Tick next = next
+next_behind (event.Gone given closing) next = Over
+next_behind (event.Command c) next = next
+next_behind (event.Asked asked) next = next
+
+abbrev pub next_in : (past : History) → List Answered → Next
+next_in past [] = Connect
+next_in past (one ∷ earlier) = next_behind one.event (next_after (endings_of past earlier one)
+    (reads_started (one ∷ earlier)) (polls_ended past (one ∷ earlier)) (reads_planned (one ∷ earlier)))
+
+-- What is taken from the link: a piece, a tick where nothing came, or the end.
+abbrev pub IsTaken : (device : Option (List ℕ)) → Event → Type 0
+IsTaken device (event.Connected given) = ⊥
+IsTaken device (event.Bytes given piece) = given ≡ device
+IsTaken device event.Tick = Unit {0}
+IsTaken device (event.Gone given cause) = (given ≡ device) × (cause ≡ closing.Gone)
+IsTaken device (event.Command c) = ⊥
+IsTaken device (event.Asked asked) = ⊥
+
+abbrev pub start_from : (device : Option (List ℕ)) → ℕ → Event
+start_from device read = event.Command (command.StartRound (record { device = device; from = read }))
+
+-- the event does what is next
+abbrev pub Does : (device : Option (List ℕ)) → Next → Event → Type 0
+Does device Connect e = e ≡ event.Connected device
+Does device (StartFrom read) e = e ≡ start_from device read
+Does device Leave e = e ≡ event.Gone device closing.Gone
+Does device Take e = IsTaken device e
+Does device Over e = ⊥
+
+-- Each of these was next behind those before it, and was accepted.
+abbrev pub AreNext : (device : Option (List ℕ)) → (past : History) → List Answered → Type 0
+AreNext device past [] = Unit {0}
+AreNext device past (one ∷ earlier) =
+    AreNext device past earlier × Does device (next_in past earlier) one.event × IsOk one.result

@@ -1,0 +1,7 @@
+pub mod Faults
+pub mod Telling
+pub mod Course
+pub mod Rounds
+pub mod Passing
+pub mod Taking
+pub mod Stepping

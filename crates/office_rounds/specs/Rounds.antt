@@ -1,0 +1,147 @@
+-- What a round leaves: the office, what was taken from the link and given to it, and what was printed.
+use Rattle.std.specs.Prelude.{◌≡◌, ◌⊎◌, ℕ, nat_lt, true, ◌||◌, List, [], ◌∷◌, Option, Some, Result, Ok, Err, if◌then◌else◌}
+use Rattle.std.specs.Io.KnownBytes.{Appends, Consumes}
+use Rattle.socket_link.specs.Clocks.{Tells}
+use Rattle.poll_core.specs.declared.outcome.Closing.TheVariants as closing
+use Rattle.office_events.specs.declared.events.Event.TheVariants as event
+use Rattle.office_events.specs.declared.refusals.Refusal.{Refusal}
+use Rattle.office_events.specs.declared.refusals.Refusal.TheVariants as refusal
+use Rattle.office_rules.specs.Facts.{moment_limit}
+use Rattle.office_rules.specs.Headline.{pending_on}
+use Rattle.office_rules.specs.History.{History, latest_of, lines_of}
+use Rattle.office_rules.specs.Sessions.{Line, line_of}
+use Rattle.office_books.specs.Ledgers.{Ledger}
+use Rattle.office_core.specs.Running.{Answered}
+use Rattle.office_core.specs.Standing.{Stands, is_stopped}
+use Rattle.office_core.specs.declared.office.Office.{Office}
+use Rattle.office_rounds.specs.Course.{AreNext, Does, Over, next_in}
+use Rattle.office_rounds.specs.Faults.{AreGiven, IsPrinted}
+use Rattle.office_rounds.specs.Telling.{AreAnswered, AreTimed, frames_behind, history_behind, pieces_behind, text_behind}
+use Rattle.office_rounds.specs.declared.fault.RoundFault.{RoundFault}
+use Rattle.office_rounds.specs.declared.fault.RoundFault.TheVariants.{Refused, Link, Output, TurnsUsed}
+
+-- what is known of the writer and the clock, and how often the books have failed
+pub record Desk : Type 0 where
+  pub printed : Option (List ℕ)
+  pub moments : Option (List ℕ)
+  pub failures : ℕ
+
+abbrev pub desk : (printed moments : Option (List ℕ)) → (failures : ℕ) → Desk
+desk printed moments failures = record { printed = printed; moments = moments; failures = failures }
+
+-- what is known of the link
+pub record Wire : Type 0 where
+  pub remaining : Option (List ℕ)
+  pub given : Option (List ℕ)
+
+abbrev pub wire : (remaining given : Option (List ℕ)) → Wire
+wire remaining given = record { remaining = remaining; given = given }
+
+-- a round from its beginning
+pub record Passage : Type 0 where
+  pub begun : Desk
+  pub ended : Desk
+  pub from : Wire
+  pub to : Wire
+
+abbrev pub passage : (begun ended : Desk) → (from to : Wire) → Passage
+passage begun ended from to = record { begun = begun; ended = ended; from = from; to = to }
+
+-- The office stands behind the events that were fed, each answered as its definition says.
+pub record IsFed {B : Type 0} (ledger : B → Ledger) (past : History) (begun now : Desk) (office : Office B)
+    (fed : List Answered) : Type 0 where
+  pub stands : Stands ledger (history_behind past fed) office
+  pub answered : AreAnswered past begun.failures now.failures fed
+
+-- none of the device's polls waits
+abbrev pub NoneWaits : (device : Option (List ℕ)) → History → Type 0
+NoneWaits device history = (line : Line) → line_of (lines_of history) device ≡ Some line → pending_on line ≡ []
+
+-- So it is, unless the office has stopped, since the books or memory failed.
+abbrev pub IsSettled : {B : Type 0} → (device : Option (List ℕ)) → History → Office B → Type 0
+IsSettled device history office = (is_stopped office ≡ true) ⊎ NoneWaits device history
+
+-- The round came to its end: all that was next was fed, and the device is gone. What was taken are the pieces that were
+-- fed, what was given are the frames that the office wanted sent, and what it told was printed.
+pub record IsRound {B : Type 0} (ledger : B → Ledger) (device : Option (List ℕ)) (past : History) (through : Passage)
+    (office : Office B) : Type 0 where
+  pub fed : List Answered
+  pub leaves : IsFed ledger past through.begun through.ended office fed
+  pub next : AreNext device past fed
+  pub over : next_in past fed ≡ Over
+  pub timed : AreTimed through.begun.moments through.ended.moments fed
+  pub taken : Consumes through.from.remaining through.to.remaining (pieces_behind fed)
+  pub given : Appends through.from.given through.to.given (frames_behind past fed)
+  pub printed : Appends through.begun.printed through.ended.printed (text_behind past fed)
+  pub settled : IsSettled device (history_behind past fed) office
+
+-- The connection was refused: nothing else was fed, taken, given or printed.
+pub record IsNotConnected {B : Type 0} (ledger : B → Ledger) (device : Option (List ℕ)) (past : History) (through : Passage)
+    (office : Office B) (why : Refusal) : Type 0 where
+  pub at : ℕ
+  pub leaves : IsFed ledger past through.begun through.ended office
+      (record { at = at; event = event.Connected device; result = Err why } ∷ [])
+  pub timed : Tells through.begun.moments through.ended.moments at
+  pub same : through.to ≡ through.from
+  pub printed : Appends through.begun.printed through.ended.printed []
+
+-- the latest of these events was next behind the others, and was refused
+abbrev pub IsRefused : (device : Option (List ℕ)) → (past : History) → Refusal → List Answered → Type 0
+IsRefused device past why [] = ⊥
+IsRefused device past why (one ∷ earlier) =
+    AreNext device past earlier × Does device (next_in past earlier) one.event × (one.result ≡ Err why)
+
+-- What was fed until the round was broken off: all that was next, and where the office refused, the event that it
+-- refused; or there was no memory for a piece.
+abbrev pub BreaksOff : (device : Option (List ℕ)) → (past : History) → RoundFault → List Answered → Type 0
+BreaksOff device past (Refused why) fed = IsRefused device past why fed ⊎ (AreNext device past fed × (why ≡ refusal.Memory))
+BreaksOff device past Link fed = AreNext device past fed
+BreaksOff device past Output fed = AreNext device past fed
+BreaksOff device past TurnsUsed fed = AreNext device past fed
+
+-- The moment at which the device is gone then: the clock's, or where that was set back, or is past the last moment of
+-- all, that of the latest event.
+abbrev pub gone_at : (latest moment : ℕ) → ℕ
+gone_at latest moment = if nat_lt moment latest || nat_lt moment_limit moment then latest else moment
+
+pub record IsGoneAt (past : History) (begun now : Option (List ℕ)) (earlier : List Answered) (at : ℕ) : Type 0 where
+  pub between : Option (List ℕ)
+  pub timed : AreTimed begun between earlier
+  pub moment : ℕ
+  pub told : Tells between now moment
+  pub is : at ≡ gone_at (latest_of (history_behind past earlier)) moment
+
+-- the fault that broke the round off is told, or that a writing failed thereafter
+abbrev pub IsToldOf : (cause fault : RoundFault) → Type 0
+IsToldOf cause fault = (fault ≡ cause) ⊎ (fault ≡ Output)
+
+-- The round was broken off: what was fed until then was next, and the last thing that was fed is that the device is gone,
+-- as by a failed read or write. Whether the office accepts that changes nothing of the fault.
+pub record IsBrokenOff {B : Type 0} (ledger : B → Ledger) (device : Option (List ℕ)) (past : History) (through : Passage)
+    (office : Office B) (fault : RoundFault) : Type 0 where
+  pub cause : RoundFault
+  pub told : IsToldOf cause fault
+  pub earlier : List Answered
+  pub course : BreaksOff device past cause earlier
+  pub gone : Answered
+  pub event : gone.event ≡ event.Gone device closing.Failed
+  pub leaves : IsFed ledger past through.begun through.ended office (gone ∷ earlier)
+  pub timed : IsGoneAt past through.begun.moments through.ended.moments earlier gone.at
+  pub taken : Consumes through.from.remaining through.to.remaining (pieces_behind earlier)
+  pub given : AreGiven {X = Unit {0}} (Err cause) (frames_behind past earlier) through.from.given through.to.given
+  pub printed : IsPrinted {X = Unit {0}} (Err fault) (text_behind past (gone ∷ earlier)) through.begun.printed through.ended.printed
+  pub settled : IsSettled device (history_behind past (gone ∷ earlier)) office
+
+abbrev pub IsNotConnectedBy : {B : Type 0} → (B → Ledger) → (device : Option (List ℕ)) → History → Passage → Office B
+    → RoundFault → Type 0
+IsNotConnectedBy ledger device past through office (Refused why) = IsNotConnected ledger device past through office why
+IsNotConnectedBy ledger device past through office Link = ⊥
+IsNotConnectedBy ledger device past through office Output = ⊥
+IsNotConnectedBy ledger device past through office TurnsUsed = ⊥
+
+-- what a round does
+abbrev pub Rounds : {B : Type 0} → (B → Ledger) → (device : Option (List ℕ)) → (past : History) → Passage → Office B
+    → Result (Unit {0}) RoundFault → Type 0
+Rounds ledger device past through office (Ok x) = IsRound ledger device past through office
+Rounds ledger device past through office (Err fault) =
+    IsNotConnectedBy ledger device past through office fault ⊎ IsBrokenOff ledger device past through office fault

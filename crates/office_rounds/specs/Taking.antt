@@ -1,0 +1,67 @@
+-- What a turn of a round brings from the link, and what its takes count.
+use Rattle.std.specs.Prelude.{◌≡◌, ◌⊎◌, ◌==◌, if◌then◌else◌, ℕ, Bool, true, false, List, [], length, Option, Some, Result, Ok, Err}
+use Rattle.mb_wire.specs.Links.{risen}
+use Rattle.mb_wire.specs.declared.link.LastTake.{LastTake}
+use Rattle.mb_wire.specs.declared.link.LinkFailed.{LinkFailed}
+use Rattle.mb_wire.specs.declared.link.Took.{Took}
+use Rattle.mb_wire.specs.declared.link.Took.TheVariants.{Bytes, End, Idle}
+use Rattle.poll_core.specs.declared.outcome.Closing.TheVariants as closing
+use Rattle.office_events.specs.declared.events.Event.{Event}
+use Rattle.office_events.specs.declared.events.Event.TheVariants as event
+use Rattle.office_events.specs.declared.refusals.Refusal.TheVariants as refusal
+use Rattle.office_rounds.specs.Course.{Next, Over, Take}
+use Rattle.office_rounds.specs.Telling.{piece_in}
+use Rattle.office_rounds.specs.declared.fault.RoundFault.{RoundFault}
+use Rattle.office_rounds.specs.declared.fault.RoundFault.TheVariants.{Refused, Link, Output, TurnsUsed}
+
+-- a round is over, or takes on
+abbrev pub over_or_take : Bool → Next
+over_or_take true = Over
+over_or_take false = Take
+
+-- what is next behind an event that was taken: nothing behind the end, a take where no poll has ended, else this
+abbrev pub next_by : (is_end : Bool) → (endings : ℕ) → Next → Next
+next_by true endings next = Over
+next_by false endings next = if endings == 0 then Take else next
+
+-- what the answer of a take is to the office: a piece of the device, that it is gone at the end, a tick where nothing came
+abbrev pub IsEventOf : (device : Option (List ℕ)) → Result Took LinkFailed → Event → Type 0
+IsEventOf device (Ok (Bytes count)) e = (piece : List ℕ) × (length piece ≡ count) × (e ≡ event.Bytes device piece)
+IsEventOf device (Ok End) e = e ≡ event.Gone device closing.Gone
+IsEventOf device (Ok Idle) e = e ≡ event.Tick
+IsEventOf device (Err failed) e = ⊥
+
+-- the last take had room for 260 bytes, and was answered so
+abbrev pub IsLast : Option LastTake → Result Took LinkFailed → Type 0
+IsLast last answer = last ≡ Some (record { room = 260; answer = answer })
+
+-- One take, and the event of its answer; or none, since there was no memory for a piece.
+abbrev pub Brings : (device : Option (List ℕ)) → Result Event RoundFault → (before after : ℕ) → Option LastTake → Type 0
+Brings device (Ok e) before after last =
+    (after ≡ risen true before) × ((answer : Result Took LinkFailed) × IsLast last answer × IsEventOf device answer e)
+Brings device (Err (Refused why)) before after last = (after ≡ before) × (why ≡ refusal.Memory)
+Brings device (Err Link) before after last = (after ≡ risen true before) × IsLast last (Err (record {}))
+Brings device (Err Output) before after last = ⊥
+Brings device (Err TurnsUsed) before after last = ⊥
+
+-- the bytes of the event
+abbrev pub brought : Result Event RoundFault → List ℕ
+brought (Ok e) = piece_in e
+brought (Err fault) = []
+
+-- the link has come to its end
+abbrev pub is_end : Event → Bool
+is_end (event.Connected given) = false
+is_end (event.Bytes given piece) = false
+is_end event.Tick = false
+is_end (event.Gone given cause) = true
+is_end (event.Command c) = false
+is_end (event.Asked asked) = false
+
+-- how a turn counts the takes
+abbrev pub TurnTakes : {X : Type 0} → Result X RoundFault → (before after : ℕ) → Type 0
+TurnTakes (Ok x) before after = after ≡ risen true before
+TurnTakes (Err (Refused why)) before after = (after ≡ risen true before) ⊎ (after ≡ before)
+TurnTakes (Err Link) before after = after ≡ risen true before
+TurnTakes (Err Output) before after = after ≡ risen true before
+TurnTakes (Err TurnsUsed) before after = ⊥
