@@ -7,7 +7,3 @@ mod answers;
 mod commands;
 #[cfg(test)]
 mod lines;
-#[cfg(test)]
-mod office;
-#[cfg(test)]
-mod replies;

@@ -4,8 +4,6 @@ use http_reply::Outlet;
 use interval_core::{DayTotal, Share};
 use jiff::civil::date;
 use mb_wire::MemoryLink;
-use report_lines::{write_end, write_share};
-use std::test::Fail;
 
 static ROWS: [Share; 2] = [
     Share {
@@ -31,17 +29,6 @@ fn intervals_are_told(rt: HostRuntime) {
     put_end(2, &mut outlet);
     assert!(rt; outlet.finish().is_ok());
     assert_eq!(rt; link.given(), INTERVALS);
-}
-
-#[test]
-fn intervals_are_printed(rt: HostRuntime) -> Result<(), Fail> {
-    let mut printed = Vec::new(rt.alloc());
-    for row in &ROWS {
-        write_share(row, &mut printed)?;
-    }
-    write_end(2, &mut printed)?;
-    assert_eq!(rt; printed.as_slice(), INTERVALS);
-    Ok(())
 }
 
 static DAYS: &[u8] =

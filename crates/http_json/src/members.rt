@@ -1,5 +1,6 @@
 // Members by name.
-ghost use Rattle.std.specs.Prelude.{◌≡◌, true, false, pos, option_map, is_some, IfOk, IfErr, Some, None};
+ghost use Rattle.std.specs.Prelude.{◌≡◌, true, false, pos, option_map, is_some, IfOk, IfErr, Some};
+ghost use Rattle.std.specs.Prelude.{None};
 ghost use Rattle.serde_json.specs.View.{view};
 ghost use Rattle.serde_json.specs.Find.{get};
 ghost use Rattle.http_json.specs.Members.{is_below_zero, is_of_kind, text, whole, Optional};

@@ -1,7 +1,8 @@
 // The bodies that install meters and change what they show.
 ghost use Rattle.serde_json.specs.View.{view};
 ghost use Rattle.http_json.specs.Members.{Reads};
-ghost use Rattle.http_json.specs.Tables.{exchange_members, fault_of, install_members, rescale_members, reset_members};
+ghost use Rattle.http_json.specs.Tables.{exchange_members, fault_of, install_members};
+ghost use Rattle.http_json.specs.Tables.{rescale_members, reset_members};
 ghost use Rattle.http_json.specs.Commands.{IsExchange, IsInstall, IsRescale, IsReset};
 
 use crate::body::{Body, BodyFault};

@@ -32,7 +32,8 @@ rows_begun line (row ∷ rows) = text_head ++ flat_map line (row ∷ rows)
 -- A report ends with the count of its rows. A refusal is the whole reply where no row was put before; else it cuts the
 -- report off there.
 abbrev pub EndsReport : Report → Result (Unit {0}) Refusal → Outgoing → Option Refusal → Type 0
-EndsReport report (Ok x) out cut = Puts report.out out (head_before report.count ++ end_line report.count) × (cut ≡ None)
+EndsReport report (Ok x) out cut =
+    Puts report.out out (head_before report.count ++ end_line report.count) × (cut ≡ None)
 EndsReport report (Err why) out cut =
     (report.count ≡ 0 → Puts report.out out (reply_bytes (refused why)) × (cut ≡ None))
     × (0 < report.count → (out ≡ report.out) × (cut ≡ Some why))

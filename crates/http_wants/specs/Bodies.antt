@@ -8,5 +8,7 @@ use Rattle.office_events.specs.declared.commands.Command.{Command}
 
 -- Where memory is not wanting, the body of a route's request gives one command, or one fault.
 abbrev pub BodiesGiveOne : Type 0
-BodiesGiveOne = (at : Route) (name : Option (List ℕ)) (body : List ℕ) (one other : Result Command CommandFault)
-    → Gives at name body one → Gives at name body other → one ≢ Err Memory → other ≢ Err Memory → one ≡ other
+BodiesGiveOne =
+    (at : Route) (name : Option (List ℕ)) (body : List ℕ) (one other : Result Command CommandFault)
+    → Gives at name body one → Gives at name body other
+    → one ≢ Err Memory → other ≢ Err Memory → one ≡ other

@@ -45,12 +45,14 @@ pub record IsToldOff (table : Table) (bytes text : List ℕ) : Type 0 where
 pub record IsQuestion (table : Table) (bytes : List ℕ) (found : Found) : Type 0 where
   pub asks : is_question found.route ≡ true
   pub nothing : AsksNothing table bytes
-  pub reply : (office : Office) → IsReply office table bytes (reply_bytes (question_reply office found.route (name_of found)))
+  pub reply : (office : Office)
+      → IsReply office table bytes (reply_bytes (question_reply office found.route (name_of found)))
 
 -- the office is asked to change something, and what it answers is the reply
 pub record IsAskedFor (table : Table) (bytes : List ℕ) (asked : Asked) : Type 0 where
   pub asks : AsksOffice table bytes asked
-  pub reply : (office : Office) → IsReply office table bytes (reply_bytes (row_reply done_text (office.asked asked)))
+  pub reply : (office : Office)
+      → IsReply office table bytes (reply_bytes (row_reply done_text (office.asked asked)))
 
 -- A body gives no command for this reason; or memory was wanting, which says nothing of the request.
 abbrev pub IsNoCommand : Table → (bytes : List ℕ) → CommandFault → Type 0

@@ -175,16 +175,16 @@ module _ {B : Type 0} (ledger : B → Ledger) (past : History) (at : ℕ) (read 
       })
 
   -- one for which they failed later
-  cut_served : (why : Refusal) (text put missing : List ℕ) (from to out : Outgoing) (cut : Option Refusal) → IsOutside (failures_of ledger old) (failures_of ledger new) why
+  cut_served : (why : Refusal) (text put rows : List ℕ) (count : ℕ) (from to out : Outgoing) (cut : Option Refusal) → IsOutside (failures_of ledger old) (failures_of ledger new) why
       → AsksNothing routes read
       → ((office : Office) → AnswersAt (ledger (books_in old)).zone past at office → IsReply office routes read text)
-      → Stands ledger past new → text ≡ put ++ missing → sending.Puts from to put → (out ≡ to) × (cut ≡ Some why) → Puts ledger past at read old new from out cut
-  cut_served why text put missing from to out cut outside nothing replies stands is puts ends =
+      → Stands ledger past new → text ≡ put ++ (rows ++ end_line count) → sending.Puts from to put → (out ≡ to) × (cut ≡ Some why) → Puts ledger past at read old new from out cut
+  cut_served why text put rows count from to out cut outside nothing replies stands is puts ends =
       subst (Puts ledger past at read old new from out) (sym ends.1) (record {
         put = put;
         serves = record {
           reply = text;
-          is_put = (missing, is);
+          is_put = record { rows = rows; count = count; lacks = is };
           later = past;
           served = (record { replies = replies; asked = None; asks = nothing; accepts = refl }, outside);
           stands = stands;
@@ -204,7 +204,7 @@ module _ {B : Type 0} (ledger : B → Ledger) (past : History) (at : ℕ) (read 
       let first = row ∷ rest in
       let begun = first_put line start lines first none took in
       let some : 0 < lines.count = some_rows (length rest) lines.count (count_from start.count (length first) lines.count none begun.counts) in
-      cut_served why (text_head ++ report_text line rows) (text_head ++ flat_map line first) (flat_map line (drop n rows) ++ end_line (length rows))
+      cut_served why (text_head ++ report_text line rows) (text_head ++ flat_map line first) (flat_map line (drop n rows)) (length rows)
       start.out lines.out out cut outside nothing replies stands (missing_is line rows first n row rest is refl) begun.puts (ends.1 some)
 
   -- the rows of a meter

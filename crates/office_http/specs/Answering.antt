@@ -36,15 +36,19 @@ abbrev pub IsRegister : List Fact → (name : Option (List ℕ)) → Type 0
 IsRegister facts name = option_and_then (register_of facts) name ≡ None → ⊥
 
 -- Days are those of a register, by the clocks of the zone; of a name that is no register there are none.
-pub record AnswersDays (zone : Zone) (facts : List Fact) (answer : Option (List ℕ) → Result (List DayTotal) Refusal) : Type 0 where
+pub record AnswersDays (zone : Zone) (facts : List Fact)
+    (answer : Option (List ℕ) → Result (List DayTotal) Refusal) : Type 0 where
   pub known : (name : Option (List ℕ)) (days : List DayTotal) → IsRegister facts name
       → AreDaysNamed zone facts name (map account_of days) → answer name ≡ Ok days
-  pub unknown : (name : Option (List ℕ)) → option_and_then (register_of facts) name ≡ None → answer name ≡ Err refusal.NotFound
+  pub unknown : (name : Option (List ℕ)) → option_and_then (register_of facts) name ≡ None
+      → answer name ≡ Err refusal.NotFound
 
 -- Each question is answered by the facts of what was accepted, and a command as its definition says.
 pub record AnswersAt (zone : Zone) (past : History) (at : ℕ) (office : Office) : Type 0 where
-  pub meter : (name : Option (List ℕ)) → office.meter name ≡ or_not_found (option_and_then (meter_of (facts_of past)) name)
+  pub meter : (name : Option (List ℕ))
+      → office.meter name ≡ or_not_found (option_and_then (meter_of (facts_of past)) name)
   pub poll : (number : ℕ) → office.poll number ≡ or_not_found (poll_row_of (facts_of past) number)
-  pub intervals : (name : Option (List ℕ)) → office.intervals name ≡ or_not_found (intervals_of (facts_of past) name)
+  pub intervals : (name : Option (List ℕ))
+      → office.intervals name ≡ or_not_found (intervals_of (facts_of past) name)
   pub days : AnswersDays zone (facts_of past) office.days
   pub asked : (asked : Asked) → office.asked asked ≡ told (response_of past at (event.Asked asked))

@@ -45,7 +45,8 @@ is_link_fault (Err TurnsUsed) = false
 is_link_fault (Err Cut) = false
 
 -- How a request ends to which a reply was put: a give failed, or it was cut off, or all is well.
-abbrev pub ended : (sent : Result (Unit {0}) LinkFailed) → (cut : Option Refusal) → Result (Unit {0}) HandleFault
+abbrev pub ended : (sent : Result (Unit {0}) LinkFailed) → (cut : Option Refusal)
+    → Result (Unit {0}) HandleFault
 ended (Err failed) cut = Err Write
 ended (Ok x) None = Ok x
 ended (Ok x) (Some why) = Err Cut
@@ -67,7 +68,8 @@ pub record Passage : Type 0 where
   pub later_given : Option (List ℕ)
   pub last : Option LastTake
 
-abbrev pub passage : (remaining later_remaining given later_given : Option (List ℕ)) → Option LastTake → Passage
+abbrev pub passage : (remaining later_remaining given later_given : Option (List ℕ)) → Option LastTake
+    → Passage
 passage remaining later_remaining given later_given last = record {
   remaining = remaining;
   later_remaining = later_remaining;
@@ -82,7 +84,8 @@ StopsReading read last = (read ≡ []) ⊎ TakesWhatLacks (GoesOn routes) [] rea
 
 -- A reply is answered to what was read. Of what was put of it all was given, or at Write a beginning.
 pub record GivesReply {B : Type 0} (ledger : B → Ledger) (past : History) (at : ℕ) (old new : Office B)
-    (given later_given : Option (List ℕ)) (read : List ℕ) (result : Result (Unit {0}) HandleFault) : Type 0 where
+    (given later_given : Option (List ℕ)) (read : List ℕ) (result : Result (Unit {0}) HandleFault)
+    : Type 0 where
   pub cut : Option Refusal
   pub sent : Result (Unit {0}) LinkFailed
   pub ends : result ≡ ended sent cut
@@ -94,7 +97,8 @@ pub record GivesReply {B : Type 0} (ledger : B → Ledger) (past : History) (at 
 pub record Replies {B : Type 0} (ledger : B → Ledger) (at : ℕ) (old new : Office B) (link : Passage)
     (read : List ℕ) (result : Result (Unit {0}) HandleFault) : Type 0 where
   pub stops : StopsReading read link.last
-  pub replies : After ledger old new (λ past. GivesReply ledger past at old new link.given link.later_given read result)
+  pub replies : After ledger old new (λ past.
+      GivesReply ledger past at old new link.given link.later_given read result)
 
 -- What was read holds no request and no bad head: nothing was given, and the office is as it was.
 pub record ReadsOn {B : Type 0} (old new : Office B) (link : Passage) (read : List ℕ) : Type 0 where
@@ -102,8 +106,8 @@ pub record ReadsOn {B : Type 0} (old new : Office B) (link : Passage) (read : Li
   pub nothing : Keeps link.given link.later_given
   pub unchanged : new ≡ old
 
-abbrev pub Does : {B : Type 0} → (B → Ledger) → (at : ℕ) → (old new : Office B) → Passage → (read : List ℕ)
-    → Result (Unit {0}) HandleFault → Type 0
+abbrev pub Does : {B : Type 0} → (B → Ledger) → (at : ℕ) → (old new : Office B) → Passage
+    → (read : List ℕ) → Result (Unit {0}) HandleFault → Type 0
 Does ledger at old new link read (Ok x) = Replies ledger at old new link read (Ok x)
 Does ledger at old new link read (Err Write) = Replies ledger at old new link read (Err Write)
 Does ledger at old new link read (Err Cut) = Replies ledger at old new link read (Err Cut)
@@ -120,12 +124,15 @@ pub record Handles {B : Type 0} (ledger : B → Ledger) (at : ℕ) (old new : Of
 
 -- The count of the link's failures rises by one exactly where it was the link that failed, and its takes are used up only
 -- where there were 100,000 of them. The counts stay at 2^64 - 1.
-pub record CountsLink (result : Result (Unit {0}) HandleFault) (failed later_failed taken later_taken : ℕ) : Type 0 where
+pub record CountsLink (result : Result (Unit {0}) HandleFault) (failed later_failed taken later_taken : ℕ)
+    : Type 0 where
   pub failures : later_failed ≡ risen (is_link_fault result) failed
-  pub turns : result ≡ Err TurnsUsed → (count : ℕ) → taken ≡ min count (2 ^ 64 - 1) → later_taken ≡ min (count + 100000) (2 ^ 64 - 1)
+  pub turns : result ≡ Err TurnsUsed → (count : ℕ) → taken ≡ min count (2 ^ 64 - 1)
+      → later_taken ≡ min (count + 100000) (2 ^ 64 - 1)
 
 -- There was no memory for a request: once a head was read, or a bad one, that is replied, and no office is asked.
-pub record RepliesBare (link : Passage) (read : List ℕ) (result : Result (Unit {0}) HandleFault) : Type 0 where
+pub record RepliesBare (link : Passage) (read : List ℕ) (result : Result (Unit {0}) HandleFault)
+    : Type 0 where
   pub sent : Result (Unit {0}) LinkFailed
   pub ends : result ≡ ended sent None
   pub stops : StopsReading read link.last

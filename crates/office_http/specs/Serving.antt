@@ -11,7 +11,7 @@ use Rattle.office_core.specs.Failing.{IsOutside}
 use Rattle.office_core.specs.Standing.{After, Stands, books_in, is_stopped}
 use Rattle.office_core.specs.Taking.{failures_of}
 use Rattle.office_core.specs.declared.office.Office.{Office as Run}
-use Rattle.report_lines.specs.Lines.{days_text, intervals_text}
+use Rattle.report_lines.specs.Lines.{days_text, end_line, intervals_text}
 use Rattle.http_reply.specs.Sending as sending
 use Rattle.http_reply.specs.Sending.{OnlyGives, Outgoing}
 use Rattle.http_route.specs.Routes.{routes}
@@ -29,10 +29,12 @@ Asks read (Some asked) = AsksOffice routes read asked
 -- what the office has accepted once this was asked
 abbrev pub with_asked : History → (at : ℕ) → Option Asked → History
 with_asked past at None = past
-with_asked past at (Some asked) = with_answer past at (event.Asked asked) (response_of past at (event.Asked asked))
+with_asked past at (Some asked) =
+    with_answer past at (event.Asked asked) (response_of past at (event.Asked asked))
 
 -- The reply is what the office answers, by the facts of what it accepted; and it has accepted what the bytes ask.
-pub record IsAnswered (zone : Zone) (past : History) (at : ℕ) (read reply : List ℕ) (later : History) : Type 0 where
+pub record IsAnswered (zone : Zone) (past : History) (at : ℕ) (read reply : List ℕ) (later : History)
+    : Type 0 where
   pub replies : (office : Office) → AnswersAt zone past at office → IsReply office routes read reply
   pub asked : Option Asked
   pub asks : Asks read asked
@@ -47,30 +49,38 @@ pub record IsUnavailable (past : History) (before after : ℕ) (reply : List ℕ
 
 -- What is replied, over the count of the books' failures before and after. A reply is cut off where the books fail while
 -- its rows are handed on.
-abbrev pub IsServed : Zone → (past : History) → (at : ℕ) → (read : List ℕ) → (before after : ℕ) → (cut : Option Refusal)
-    → (reply : List ℕ) → (later : History) → Type 0
+abbrev pub IsServed : Zone → (past : History) → (at : ℕ) → (read : List ℕ) → (before after : ℕ)
+    → (cut : Option Refusal) → (reply : List ℕ) → (later : History) → Type 0
 IsServed zone past at read before after None reply later =
-    (IsAnswered zone past at read reply later × (after ≡ before)) ⊎ IsUnavailable past before after reply later
+    (IsAnswered zone past at read reply later × (after ≡ before))
+    ⊎ IsUnavailable past before after reply later
 IsServed zone past at read before after (Some why) reply later =
     IsAnswered zone past at read reply later × IsOutside before after why
+
+-- A reply that is cut off lacks rows, or none of them, and its last line, which counts them.
+pub record IsCutOff (put reply : List ℕ) : Type 0 where
+  pub rows : List ℕ
+  pub count : ℕ
+  pub lacks : reply ≡ put ++ (rows ++ end_line count)
 
 -- what was put is the reply, or where it was cut off a beginning of it
 abbrev pub IsPut : (cut : Option Refusal) → (put reply : List ℕ) → Type 0
 IsPut None put reply = reply ≡ put
-IsPut (Some why) put reply = (missing : List ℕ) × (reply ≡ put ++ missing)
+IsPut (Some why) put reply = IsCutOff put reply
 
 -- A reply is answered to the bytes that were read, or what was put of it, and the office stands after what it has accepted.
-pub record Serves {B : Type 0} (ledger : B → Ledger) (past : History) (at : ℕ) (read : List ℕ) (old new : Run B)
-    (cut : Option Refusal) (put : List ℕ) : Type 0 where
+pub record Serves {B : Type 0} (ledger : B → Ledger) (past : History) (at : ℕ) (read : List ℕ)
+    (old new : Run B) (cut : Option Refusal) (put : List ℕ) : Type 0 where
   pub reply : List ℕ
   pub is_put : IsPut cut put reply
   pub later : History
-  pub served : IsServed (ledger (books_in old)).zone past at read (failures_of ledger old) (failures_of ledger new) cut reply later
+  pub served : IsServed (ledger (books_in old)).zone past at read
+      (failures_of ledger old) (failures_of ledger new) cut reply later
   pub stands : Stands ledger later new
 
 -- it was put to an outlet
-pub record Puts {B : Type 0} (ledger : B → Ledger) (past : History) (at : ℕ) (read : List ℕ) (old new : Run B)
-    (from to : Outgoing) (cut : Option Refusal) : Type 0 where
+pub record Puts {B : Type 0} (ledger : B → Ledger) (past : History) (at : ℕ) (read : List ℕ)
+    (old new : Run B) (from to : Outgoing) (cut : Option Refusal) : Type 0 where
   pub put : List ℕ
   pub serves : Serves ledger past at read old new cut put
   pub puts : sending.Puts from to put
@@ -83,8 +93,8 @@ pub record Lasts {B : Type 0} (ledger : B → Ledger) (old new : Run B) : Type 0
   pub zone : (ledger (books_in new)).zone ≡ (ledger (books_in old)).zone
 
 -- So a call serves what was read: by a reply that it puts to the outlet, and gives nothing else to its link.
-pub record PutsReply {B : Type 0} (ledger : B → Ledger) (at : ℕ) (read : List ℕ) (old new : Run B) (from to : Outgoing)
-    (cut : Option Refusal) : Type 0 where
+pub record PutsReply {B : Type 0} (ledger : B → Ledger) (at : ℕ) (read : List ℕ) (old new : Run B)
+    (from to : Outgoing) (cut : Option Refusal) : Type 0 where
   pub serves : After ledger old new (λ past. Puts ledger past at read old new from to cut)
   pub gives : OnlyGives from to
   pub lasts : Lasts ledger old new
@@ -97,8 +107,10 @@ pub record IsPollAsked (read : List ℕ) (number : Option ℕ) : Type 0 where
 -- So it is with the interval rows of a meter, and the days of a register.
 pub record AreIntervalsAsked (read : List ℕ) (meter : Option (List ℕ)) : Type 0 where
   pub nothing : AsksNothing routes read
-  pub replies : (office : Office) → IsReply office routes read (reply_bytes (lines_reply intervals_text (office.intervals meter)))
+  pub replies : (office : Office)
+      → IsReply office routes read (reply_bytes (lines_reply intervals_text (office.intervals meter)))
 
 pub record AreDaysAsked (read : List ℕ) (register : Option (List ℕ)) : Type 0 where
   pub nothing : AsksNothing routes read
-  pub replies : (office : Office) → IsReply office routes read (reply_bytes (lines_reply days_text (office.days register)))
+  pub replies : (office : Office)
+      → IsReply office routes read (reply_bytes (lines_reply days_text (office.days register)))
