@@ -10,9 +10,9 @@ trap 'rm -rf "$room"' EXIT
 passed=0
 failed=0
 
-# is WHAT STATUS OUT ERR: holds the last run to what is wanted
+# is WHAT STATUS OUT ERR: holds the last run to what is wanted; of standard error its first line
 is() {
-    if [ "$status" = "$2" ] && [ "$(cat "$room/out")" = "$3" ] && [ "$(cat "$room/err")" = "$4" ]; then
+    if [ "$status" = "$2" ] && [ "$(cat "$room/out")" = "$3" ] && [ "$(head -n 1 "$room/err")" = "$4" ]; then
         passed=$((passed + 1))
     else
         failed=$((failed + 1))
@@ -20,43 +20,102 @@ is() {
     fi
 }
 
-# script TEXT: runs it, and keeps what comes
-script() {
-    printf "$1" | "$program" > "$room/out" 2> "$room/err"
+# run TEXT WORDS..: runs the program on a text, and keeps what comes
+run() {
+    text=$1
+    shift
+    printf "$text" | "$program" "$@" > "$room/out" 2> "$room/err"
     status=$?
 }
 
-script ''
+run ''
 is 'no input' 0 '' ''
-script '# a comment\n\n1000 tick\r\n1000 tick'
+run '# a comment\n\n1000 tick\r\n1000 tick'
 is 'lines that are skipped, a carriage return, a last line with no end' 0 "$(printf 'ok\nok')" ''
-script '1000 device inv 300 5 1\n'
+run '1000 device inv 300 5 1\n'
 is 'a refusal is an answer' 0 'refused 12' ''
-script 'x\n'
+run 'x\n'
 is 'a line that fits no form' 1 'bad line 1' ''
-script '1000 tick\n\n1000  tick\n1000 tick\n'
+run '1000 tick\n\n1000  tick\n1000 tick\n'
 is 'lines before it are carried out, and none after' 1 "$(printf 'ok\nbad line 3')" ''
 
-head -c 4194304 /dev/zero | tr '\0' '#' | "$program" > "$room/out" 2> "$room/err"
-status=$?
-is 'an input at its limit' 0 '' ''
-head -c 4194305 /dev/zero | tr '\0' '#' | "$program" > "$room/out" 2> "$room/err"
-status=$?
-is 'an input past its limit' 1 'too long' ''
+for words in '' replay plan chain; do
+    if [ "$words" = plan ]; then
+        limit="$(printf 'row 1 fault 2')"
+        ends=1
+    elif [ "$words" = chain ]; then
+        limit='fault 1'
+        ends=1
+    else
+        limit=''
+        ends=0
+    fi
+    head -c 4194304 /dev/zero | tr '\0' '#' | "$program" $words > "$room/out" 2> "$room/err"
+    status=$?
+    is "$words: an input at its limit" "$ends" "$limit" ''
+    head -c 4194305 /dev/zero | tr '\0' '#' | "$program" $words > "$room/out" 2> "$room/err"
+    status=$?
+    is "$words: an input past its limit" 1 'too long' ''
+    "$program" $words < "$room" > "$room/out" 2> "$room/err"
+    status=$?
+    is "$words: a read that fails" 3 '' 'failed'
+done
 
-: | "$program" nothing > "$room/out" 2> "$room/err"
-status=$?
-: > "$room/err"
-is 'wrong words' 2 '' ''
+run '1000 tick\n' replay
+is 'replay' 0 'ok' ''
+run '1000 tick\n' replay --zone CET-1CEST,M3.5.0,M10.5.0/3
+is 'replay in a zone' 0 'ok' ''
+run '1000 tick\n' replay --zone nowhere
+is 'a text that is no zone' 2 '' \
+    "error: invalid value 'nowhere' for '--zone <TEXT>': no POSIX time zone, as UTC0 or CET-1CEST,M3.5.0,M10.5.0/3"
 
-"$program" < "$room" > "$room/out" 2> "$room/err"
+run 'name,function,address,count,type,scale\n' plan
+is 'plan: a header that is another' 1 'row 1 fault 2' ''
+run '40000 53756e53ffff\n' chain
+is 'chain' 0 "$(printf 'base 40000\nend 40002')" ''
+run '40000 53756e53\n' chain
+is 'chain: a word that lacks' 1 'fault 2 40002' ''
+run '65536\n' chain
+is 'chain: a bad line' 1 'bad line 1' ''
+
+run 'area holding 0 1\nx\n' stand-in --port 1 --connections 1
+is 'stand-in: a bad line' 1 'bad line 2' ''
+run '' stand-in --port 1 --connections 1 --host 192.0.2.1
+is 'stand-in: an address of another' 3 '' 'failed'
+run '' stand-in --port 65536 --connections 1
+is 'stand-in: a port out of range' 2 '' "error: invalid value '65536' for '--port <N>': not a number from 1 to 65535"
+
+for words in help --help -h 'help replay' 'plan --help' 'stand-in -h' 'help help'; do
+    run '' $words
+    [ -s "$room/out" ] || status=none
+    : > "$room/out"
+    is "$words" 0 '' ''
+done
+
+run '' nothing
+is 'no such command' 2 '' "error: unrecognized subcommand 'nothing'"
+run '' plan more
+is 'a word too many' 2 '' "error: unexpected argument 'more' found"
+run '' --version
+is 'no such option' 2 '' "error: unexpected argument '--version' found"
+"$program" "$(printf '\377')" > "$room/out" 2> "$room/err"
 status=$?
-is 'a read that fails' 3 '' 'failed'
+is 'a word that is not in UTF-8' 2 '' 'error: the words are not in UTF-8'
+
+for words in 'create --db x --zone UTC0' 'report --db x --register r' 'serve --db x --port 1 --connections 1' \
+    'round --db x --device d --port 1' loop 'run --db x --listen 1 --every 1 --devices d=h:1'; do
+    run '' $words
+    is "${words%% *}: not there yet" 3 '' 'failed'
+done
+
 if [ -w /dev/full ]; then
     printf '1000 tick\n' | "$program" > /dev/full 2> "$room/err"
     status=$?
     : > "$room/out"
     is 'a write that fails' 3 '' 'failed'
+    "$program" help > /dev/full 2> "$room/err"
+    status=$?
+    is 'help that can not be written' 3 '' 'failed'
 fi
 
 echo "$passed passed, $failed failed"

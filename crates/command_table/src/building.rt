@@ -2,7 +2,8 @@
 ghost use Rattle.std.specs.Prelude.{◌≡◌, IfOk, false};
 ghost use Rattle.clap.specs.Words.{app_of, new_app, rule_of};
 ghost use Rattle.clap.specs.declared.builder.command.Command.TheViews.{out-Command as fields_of};
-ghost use Rattle.command_table.specs.Table.{command_app, option_rule, program_app, with_command, with_commands, with_option, with_options};
+ghost use Rattle.command_table.specs.Table.{command_app, option_rule, program_app, with_command};
+ghost use Rattle.command_table.specs.Table.{with_commands, with_option, with_options};
 
 use crate::tables::{CommandText, OptionText, ProgramText, Value};
 use clap::{Arg, ArgAction, Command};
@@ -44,7 +45,8 @@ fn with_options<'a>(
     options: &'a [OptionText<'a>],
 ) -> Result<Command<'a>, AllocError>
     requires local { (fields_of command).has_globals ≡ false }
-    ensures app { IfOk result (λ c. app_of c ≡ with_options (app_of command.entry) options.entry.now) }
+    ensures app { IfOk result
+        (λ c. app_of c ≡ with_options (app_of command.entry) options.entry.now) }
     ensures local { IfOk result (λ c. (fields_of c).has_globals ≡ false) }
 {
     let mut command = command;
@@ -83,7 +85,8 @@ fn with_commands<'a>(
     program: Command<'a>,
     commands: &'a [CommandText<'a>],
 ) -> Result<Command<'a>, AllocError>
-    ensures { IfOk result (λ c. app_of c ≡ with_commands (app_of program.entry) commands.entry.now) }
+    ensures { IfOk result (λ c. app_of c
+        ≡ with_commands (app_of program.entry) commands.entry.now) }
 {
     let mut program = program;
     for command in commands {

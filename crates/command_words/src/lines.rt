@@ -3,7 +3,8 @@ ghost use Rattle.std.specs.Prelude.{◌≡◌};
 ghost use Rattle.clap.specs.Words.{subcommand_rows_of};
 ghost use Rattle.word_values.specs.Devices.{places_of};
 ghost use Rattle.word_values.specs.Given.{given};
-ghost use Rattle.command_words.specs.Lines.{command_in, create_in, devices_at, line_in, report_in, round_in, run_in, seen, serve_in, stand_in_in};
+ghost use Rattle.command_words.specs.Lines.{command_in, create_in, devices_at, line_in, report_in};
+ghost use Rattle.command_words.specs.Lines.{round_in, run_in, seen, serve_in, stand_in_in};
 ghost use Rattle.command_words.specs.Options.{Reads, rows_in};
 
 use crate::faults::ValueFault;

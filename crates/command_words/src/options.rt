@@ -1,7 +1,8 @@
 // The values of a command's options.
 ghost use Rattle.std.specs.Prelude.{◌≡◌, ◌≤◌, IfOk, option_map};
 ghost use Rattle.word_values.specs.Numbers.{number_up_to};
-ghost use Rattle.command_words.specs.Options.{Reads, is_set, number_at, number_if, rows_in, text_at, text_or};
+ghost use Rattle.command_words.specs.Options.{Reads, is_set, number_at, number_if, rows_in};
+ghost use Rattle.command_words.specs.Options.{text_at, text_or};
 
 use crate::faults::ValueFault;
 use crate::table::NumberOption;
@@ -30,7 +31,8 @@ pub fn number<'a>(
     found: &ArgMatches<'a>,
     option: NumberOption<'static>,
 ) -> Result<u32, ValueFault<'a>>
-    ensures value { Reads (λ number. number) (number_at option.entry.most option.entry.name.now (rows_in found.now)) result }
+    ensures value { Reads (λ number. number)
+        (number_at option.entry.most option.entry.name.now (rows_in found.now)) result }
     ensures within { IfOk result (λ number. number ≤ option.entry.most) }
 {
     let word = text(found, option.name)?;
@@ -42,7 +44,8 @@ pub fn number_if<'a>(
     found: &ArgMatches<'a>,
     option: NumberOption<'static>,
 ) -> Result<Option<u32>, ValueFault<'a>>
-    ensures { Reads (λ number. number) (number_if option.entry.most option.entry.name.now (rows_in found.now)) result }
+    ensures { Reads (λ number. number)
+        (number_if option.entry.most option.entry.name.now (rows_in found.now)) result }
 {
     match value(found, option.name) {
         Some(word) => Ok(Some(number_in(option, word)?)),

@@ -101,7 +101,7 @@ static SCRIPTS: [(&str, &str); 11] = [
         "1000 device inv 1 5 2\n1000 connect inv\n1000 start inv 3 0 1\n1000 start inv 3 1 1\n1005 tick\n",
         "ok\nok\nstarted 1 1 1 000000000006010300000001\nstarted 2 1 1 000100000006010300010001\npoll 1 silent\npoll 2 silent\nok\n",
     ),
-    // a range of a million counts, one below the least, and a day of 23 hours
+    // a range of a million counts, one turn by hand, and a day of 23 hours
     (
         "0 device d 1 5 1\n0 register r d 3 0 0\n0 install r m 999900 0 1000 1000000\n900 manual r 100 1\nmeter m\n900 install r n 0 0 1 65535\n",
         "ok\nok\nok\nok\nmeter m last 100 sf 0 at 900 total 200000 open\nrefused 2\n",

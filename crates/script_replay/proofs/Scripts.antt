@@ -7,11 +7,12 @@ use Rattle.command_io.specs.declared.status.Status.{Status}
 use Rattle.command_io.specs.declared.status.Status.TheVariants.{Fine, Refused, Failed}
 use Rattle.interval_core.specs.declared.zone.Zone.{Zone}
 use Rattle.office_events.specs.declared.refusals.Refusal.{Refusal}
+use Rattle.office_events.specs.declared.refusals.Refusal.TheVariants as refusal
 use Rattle.office_lists.specs.Listed.{AreListed, ledger_of}
 use Rattle.office_lists.specs.declared.list_books.ListBooks.{ListBooks}
 use Rattle.office_rules.specs.History.{History, Opened, facts_of}
 use Rattle.office_rules.specs.Refusals.{opening_refusal_of}
-use Rattle.office_core.specs.Failing.{IsOutside}
+use Rattle.office_core.specs.Failing.{IsNotStopped, IsOutside}
 use Rattle.office_core.specs.Leaving.{BooksStand, MayBeLeft}
 use Rattle.office_core.specs.Reopening.{IsNotOpened}
 use Rattle.office_books.specs.Ledgers.{Ledger}
@@ -20,8 +21,8 @@ use Rattle.std.specs.declared.io.Error.{Error}
 use Rattle.std.proofs.KnownBytes.{Appends-nil, Appends-trans}
 use Rattle.script_lines.specs.Forms.{IsLine}
 use Rattle.script_lines.specs.declared.script.ScriptLine.{ScriptLine}
-use Rattle.command_io.specs.Input.{most_bytes}
-use Rattle.script_text.specs.AnswerText.{bad_line, too_long}
+use Rattle.command_io.specs.Input.{EndsUnread, TellsTooLong, most_bytes, too_long}
+use Rattle.script_text.specs.AnswerText.{bad_line}
 use Rattle.sun_points.specs.Writing.{GotPart}
 use Rattle.script_replay.proofs.Replies.{fails_in_memory}
 use Rattle.office_core.specs.Standing.{Stands}
@@ -30,7 +31,7 @@ use Rattle.script_words.specs.Words.{words_of}
 use Rattle.script_replay.specs.Lines.{BadPrints, LineBegins, LinePrints, WordsPrint}
 use Rattle.script_replay.specs.Running.{InputRuns, LineRan, LineRuns, MayCarryOut, TextRuns, stage_of}
 use Rattle.script_replay.specs.Scripts.{ReplayBegins, ReplayPrints, ScriptBegins, ScriptPrints, TextBegins, TextPrints}
-use Rattle.script_replay.specs.Stages.{NoOffice, Stage, beginning}
+use Rattle.script_replay.specs.Stages.{Fails, Stage, beginning}
 
 -- Whatever the rest of the lines prints from here, all of them print it behind what was printed before; and so where the run
 -- is broken off.
@@ -98,14 +99,36 @@ empty_books books listed = record {
   leaves = record { left = [] ∷ []; may = inl listed; each = All-cons (MayBeLeft []) [] [] (inl refl) (All-nil (MayBeLeft [])) };
 }
 
+-- what may fail in memory, the office's stop aside
+memory_alone : (why : Refusal) → IsNotStopped why → Fails {T = Unit {0}} (Err why) → why ≡ refusal.Memory
+memory_alone refusal.NotFound goes fails = absurd fails
+memory_alone refusal.Exists goes fails = absurd fails
+memory_alone refusal.ClockBack goes fails = absurd fails
+memory_alone refusal.BadScale goes fails = absurd fails
+memory_alone refusal.NegativeStep goes fails = absurd fails
+memory_alone refusal.NotLater goes fails = absurd fails
+memory_alone refusal.SpanTooLong goes fails = absurd fails
+memory_alone refusal.TotalFull goes fails = absurd fails
+memory_alone refusal.Ended goes fails = absurd fails
+memory_alone refusal.Busy goes fails = absurd fails
+memory_alone refusal.Reused goes fails = absurd fails
+memory_alone refusal.Limit goes fails = absurd fails
+memory_alone (refusal.Store cause) goes fails = absurd fails
+memory_alone refusal.Memory goes fails = refl
+memory_alone refusal.Stopped goes fails = absurd goes
+memory_alone refusal.NotVoidable goes fails = absurd fails
+memory_alone (refusal.NotPlausible cause) goes fails = absurd fails
+
 -- an opening over such books is refused only for want of memory
-pub no_office : (why : Refusal) (old new : Ledger) → old.fault_count ≡ 0 → new.fault_count ≡ 0 → IsNotOpened [] 0 old new why → NoOffice why
-no_office why old new before after not_opened = no_office_for why old.fault_count new.fault_count before after not_opened.reason
+pub refused_for_memory : (why : Refusal) (old new : Ledger) → old.fault_count ≡ 0 → new.fault_count ≡ 0 → IsNotStopped why
+    → IsNotOpened [] 0 old new why → why ≡ refusal.Memory
+refused_for_memory why old new before after goes not_opened =
+    memory_alone why goes (fails_for why old.fault_count new.fault_count before after not_opened.reason)
   where
-    no_office_for : (why : Refusal) (m n : ℕ) → m ≡ 0 → n ≡ 0
-        → ((opening_refusal_of (facts_of []) 0 ≡ Some why) × (n ≡ m)) ⊎ IsOutside m n why → NoOffice why
-    no_office_for why m n before after (inl refused) = absurd (let e : None ≡ Some why = refused.0 in cc)
-    no_office_for why m n before after (inr outside) =
+    fails_for : (why : Refusal) (m n : ℕ) → m ≡ 0 → n ≡ 0
+        → ((opening_refusal_of (facts_of []) 0 ≡ Some why) × (n ≡ m)) ⊎ IsOutside m n why → Fails {T = Unit {0}} (Err why)
+    fails_for why m n before after (inl refused) = absurd (let e : None ≡ Some why = refused.0 in cc)
+    fails_for why m n before after (inr outside) =
         let here : IsOutside 0 n why = rw before at outside in
         let both : IsOutside 0 0 why = rw after at here in
         fails_in_memory {T = Unit {0}} (Err why) both
@@ -168,7 +191,7 @@ script_begun now (first ∷ lines) printed status (inr (here, rest, next, prints
     inr (here, rest, next, prints, script_begun next lines rest status more, is)
 
 text_begun : (zone : Zone) (text printed : List ℕ) (status : Status) → TextPrints zone text printed status → TextBegins zone text printed
-text_begun zone text printed status (inl (why, none, is, refused)) = inl (why, none, ([], sym is ∙ sym (append-nil printed)))
+text_begun zone text printed status (inl (is, refused)) = inl ([], sym is ∙ sym (append-nil printed))
 text_begun zone text printed status (inr prints) = inr (script_begun (beginning zone) (speaking_lines text) printed status prints)
 
 pub input_begun : (zone : Zone) (input printed : List ℕ) (status : Status) → ReplayPrints zone input printed status
@@ -183,10 +206,10 @@ nothing_begins : (now : Stage) (lines : List Line) → ScriptBegins now lines []
 nothing_begins now [] = refl
 nothing_begins now (first ∷ lines) = inl (inl refl)
 
-pub nothing_written : (zone : Zone) (input : List ℕ) (o : Option (List ℕ)) → InputRuns zone input Failed o o
-nothing_written zone input o = (
+nothing_written : (zone : Zone) (input : List ℕ) (o o' : Option (List ℕ)) → Appends o o' [] → InputRuns zone input Failed o o'
+nothing_written zone input o o' none = (
   [],
-  Appends-nil o,
+  none,
   record { long = λ long. (too_long, refl); text = λ short. inr (nothing_begins (beginning zone) (speaking_lines input)) },
 )
 
@@ -212,20 +235,25 @@ text_ran zone text input status o o' same short runs =
     ran zone text Refused o o' short runs = (runs.0, runs.1, short_prints zone text runs.0 Refused short runs.2)
     ran zone text Failed o o' short runs = (runs.0, runs.1, short_begins zone text runs.0 short runs.2)
 
-pub too_long_told : (zone : Zone) (input : List ℕ) (o o' : Option (List ℕ)) → most_bytes < length input → Appends o o' too_long
-    → InputRuns zone input Refused o o'
-too_long_told zone input o o' long got =
-    (too_long, got, record { long = λ again. (refl, refl); text = λ short. absurd (omega (arith, short, long)) })
+long_told : (zone : Zone) (input : List ℕ) (status : Status) (o o' : Option (List ℕ)) → most_bytes < length input → TellsTooLong status o o'
+    → InputRuns zone input status o o'
+long_told zone input Fine o o' long told = absurd told
+long_told zone input Refused o o' long told =
+    (too_long, told, record { long = λ again. (refl, refl); text = λ short. absurd (omega (arith, short, long)) })
+long_told zone input Failed o o' long told =
+    (told.0, told.3, record { long = λ again. (told.1, told.2); text = λ short. absurd (omega (arith, short, long)) })
 
-pub too_long_begun : (zone : Zone) (input : List ℕ) (o o' : Option (List ℕ)) → most_bytes < length input → GotPart too_long o o'
-    → InputRuns zone input Failed o o'
-too_long_begun zone input o o' long got =
-    (got.0, got.3, record { long = λ again. (got.1, got.2); text = λ short. absurd (omega (arith, short, long)) })
+-- an input that was not read
+pub unread_ran : (zone : Zone) (input : List ℕ) (status : Status) (o o' : Option (List ℕ)) → EndsUnread input status o o'
+    → InputRuns zone input status o o'
+unread_ran zone input status o o' (inl long) = long_told zone input status o o' long.0 long.1
+unread_ran zone input status o o' (inr (failed, none)) = unread status failed
+  where
+    unread : (ended : Status) → ended ≡ Failed → InputRuns zone input ended o o'
+    unread Fine is = absurd (let e : Fine ≡ Failed = is in cc)
+    unread Refused is = absurd (let e : Refused ≡ Failed = is in cc)
+    unread Failed is = nothing_written zone input o o' none
 
 pub if_some : {X : Type 0} (o : Option X) (P Q : X → Type 0) → IfSome o P → ((x : X) → P x → Q x) → IfSome o Q
 if_some None P Q h f = tt
 if_some (Some x) P Q h f = f x h
-
-pub if_any : {X : Type 0} (o : Option X) (Q : X → Type 0) → ((x : X) → Q x) → IfSome o Q
-if_any None Q f = tt
-if_any (Some x) Q f = f x

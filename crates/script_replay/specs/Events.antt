@@ -21,7 +21,8 @@ use Rattle.script_lines.specs.declared.script.GivenStart.{GivenStart}
 use Rattle.script_replay.specs.Stages.{Stage, Fails, TellsStop, after_reply}
 use Rattle.script_text.specs.AnswerText.{accepted_text, fault_line, refused_line}
 
--- The office replies as its definition says, or it failed. What settles nothing in an office that goes on never fails.
+-- The office replies as its definition says, or it failed. What settles nothing in an office that goes
+-- on never fails.
 pub record IsReply (now : Stage) (at : ℕ) (e : Event) (reply : Result Answer Refusal) : Type 0 where
   pub answer : (reply ≡ response_of now.past at e) ⊎ Fails reply
   pub stops : TellsStop now reply
@@ -29,11 +30,13 @@ pub record IsReply (now : Stage) (at : ℕ) (e : Event) (reply : Result Answer R
 
 -- The notes of an accepted event and its answer, or the number of the refusal.
 abbrev pub reply_text : History → (at : ℕ) → Event → Result Answer Refusal → List ℕ
-reply_text past at e (Ok given) = accepted_text given (notes_after past at e (Ok given)) (outgoing_after past at e (Ok given))
+reply_text past at e (Ok given) =
+    accepted_text given (notes_after past at e (Ok given)) (outgoing_after past at e (Ok given))
 reply_text past at e (Err why) = refused_line why
 
 -- An event prints the office's reply.
-pub record EventPrints (now : Stage) (at : ℕ) (e : Event) (printed : List ℕ) (next : Stage) : Type 0 where
+pub record EventPrints (now : Stage) (at : ℕ) (e : Event) (printed : List ℕ) (next : Stage)
+    : Type 0 where
   pub reply : Result Answer Refusal
   pub is : IsReply now at e reply
   pub text : printed ≡ reply_text now.past at e reply
@@ -53,10 +56,13 @@ pub record IsRefused (now : Stage) (printed : List ℕ) (next : Stage) : Type 0 
   pub text : printed ≡ refused_line refusal.Limit
   pub same : next ≡ now
 
--- A start prints the office's reply to it, where its numbers are registers that can be read, and else that it is refused.
-abbrev pub StartPrints : Stage → (at : ℕ) → GivenStart → (printed : List ℕ) → (next : Stage) → Type 0
+-- A start prints the office's reply to it, where its numbers are registers that can be read, and else
+-- that it is refused.
+abbrev pub StartPrints : Stage → (at : ℕ) → GivenStart → (printed : List ℕ) → (next : Stage)
+    → Type 0
 StartPrints now at start printed next =
-    ((span : ReadSpan) × IsSpanOf start span × EventPrints now at (start_event start span) printed next)
+    ((span : ReadSpan) × IsSpanOf start span
+    × EventPrints now at (start_event start span) printed next)
     ⊎ ((IsSpan start.function start.address start.count → ⊥) × IsRefused now printed next)
 
 -- the faulty rows of a text
@@ -80,5 +86,6 @@ pub record FaultsPrint (now : Stage) (text printed : List ℕ) (next : Stage) : 
 -- A list prints the office's reply to it, or else each of its faulty rows.
 abbrev pub ListPrints : Stage → (at : ℕ) → GivenList → (printed : List ℕ) → (next : Stage) → Type 0
 ListPrints now at list printed next =
-    ((planned : Planned) × IsListOf list.text planned × EventPrints now at (list_event list planned) printed next)
+    ((planned : Planned) × IsListOf list.text planned
+    × EventPrints now at (list_event list planned) printed next)
     ⊎ FaultsPrint now list.text printed next

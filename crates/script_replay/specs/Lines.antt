@@ -22,10 +22,12 @@ LinePrints now (line.Meter name) printed next =
     RowPrints now (option_and_then (meter_of (facts_of now.past)) name) meter_line printed next
 LinePrints now (line.Intervals name) printed next = IntervalsPrint now name printed next
 LinePrints now (line.Days name) printed next = DaysPrint now name printed next
-LinePrints now (line.Poll number) printed next = RowPrints now (poll_row_of (facts_of now.past) number) poll_line printed next
+LinePrints now (line.Poll number) printed next =
+    RowPrints now (poll_row_of (facts_of now.past) number) poll_line printed next
 
 -- Words that are a line of a script, carried out.
-pub record WordsPrint (now : Stage) (words : List (List ℕ)) (printed : List ℕ) (next : Stage) : Type 0 where
+pub record WordsPrint (now : Stage) (words : List (List ℕ)) (printed : List ℕ) (next : Stage)
+    : Type 0 where
   pub said : ScriptLine
   pub is : IsLine words said
   pub prints : LinePrints now said printed next
@@ -43,4 +45,5 @@ BeginsText part text = (rest : List ℕ) × (text ≡ part ++ rest)
 abbrev pub LineBegins : Stage → Line → (part : List ℕ) → Type 0
 LineBegins now first part =
     (part ≡ []) ⊎ ((printed : List ℕ) × BeginsText part printed
-    × (BadPrints first printed ⊎ ((next : Stage) × WordsPrint now (words_of first.text) printed next)))
+    × (BadPrints first printed
+    ⊎ ((next : Stage) × WordsPrint now (words_of first.text) printed next)))

@@ -23,8 +23,9 @@ stage_of past office =
     record { past = past; stopped = is_stopped office; zone = (ledger_of (books_in office)).zone }
 
 -- The text of this was written, or a part of it where a write failed; the office stands after it.
-pub record IsCarriedOut (Prints : Stage → List ℕ → Stage → Type 0) (past : History) (office office' : Office ListBooks)
-    (result : Result (Unit {0}) Error) (output output' : Option (List ℕ)) : Type 0 where
+pub record IsCarriedOut (Prints : Stage → List ℕ → Stage → Type 0) (past : History)
+    (office office' : Office ListBooks) (result : Result (Unit {0}) Error)
+    (output output' : Option (List ℕ)) : Type 0 where
   pub printed : List ℕ
   pub after : History
   pub prints : Prints (stage_of past office) printed (stage_of after office')
@@ -32,30 +33,35 @@ pub record IsCarriedOut (Prints : Stage → List ℕ → Stage → Type 0) (past
   pub stands : Stands ledger_of after office'
 
 -- It was carried out, or memory was wanting before anything was written.
-abbrev pub MayCarryOut : (Stage → List ℕ → Stage → Type 0) → History → (office office' : Office ListBooks)
-    → Result (Unit {0}) Error → (output output' : Option (List ℕ)) → Type 0
+abbrev pub MayCarryOut : (Stage → List ℕ → Stage → Type 0) → History
+    → (office office' : Office ListBooks) → Result (Unit {0}) Error
+    → (output output' : Option (List ℕ)) → Type 0
 MayCarryOut Prints past office office' result output output' =
-    IsCarriedOut Prints past office office' result output output' ⊎ (IsErr result × Appends output output' [])
+    IsCarriedOut Prints past office office' result output output'
+    ⊎ (IsErr result × Appends output output' [])
 
 -- whoever asks carries something out, after every past after which the office stood
 abbrev pub CarriesOut : (Stage → List ℕ → Stage → Type 0) → (office office' : Office ListBooks)
     → Result (Unit {0}) Error → (output output' : Option (List ℕ)) → Type 0
 CarriesOut Prints office office' result output output' =
-    (past : History) → Stands ledger_of past office → IsCarriedOut Prints past office office' result output output'
+    (past : History) → Stands ledger_of past office
+    → IsCarriedOut Prints past office office' result output output'
 
 -- A line was carried out.
 pub record LineRan (past : History) (line : Line) (office office' : Office ListBooks)
     (output output' : Option (List ℕ)) : Type 0 where
   pub printed : List ℕ
   pub after : History
-  pub prints : WordsPrint (stage_of past office) (words_of line.text) printed (stage_of after office')
+  pub prints : WordsPrint (stage_of past office) (words_of line.text) printed
+      (stage_of after office')
   pub appended : Appends output output' printed
   pub stands : Stands ledger_of after office'
 
--- It was carried out, or the run ends with a status: it has none of the forms, or it was broken off.
-abbrev pub LineRuns : History → Line → (office office' : Office ListBooks) → Result (Unit {0}) Status
-    → (output output' : Option (List ℕ)) → Type 0
-LineRuns past line office office' (Ok done) output output' = LineRan past line office office' output output'
+-- It was carried out, or the run ends with a status: it has none of the forms, or was broken off.
+abbrev pub LineRuns : History → Line → (office office' : Office ListBooks)
+    → Result (Unit {0}) Status → (output output' : Option (List ℕ)) → Type 0
+LineRuns past line office office' (Ok done) output output' =
+    LineRan past line office office' output output'
 LineRuns past line office office' (Err Fine) output output' = ⊥
 LineRuns past line office office' (Err Refused) output output' =
     (printed : List ℕ) × Appends output output' printed × BadPrints line printed
@@ -65,14 +71,19 @@ LineRuns past line office office' (Err Failed) output output' =
 -- What was written is all that is printed, or a beginning of it where the run failed.
 abbrev pub Writes : (Prints : List ℕ → Status → Type 0) → (Begins : List ℕ → Type 0) → Status
     → (output output' : Option (List ℕ)) → Type 0
-Writes Prints Begins Fine output output' = (printed : List ℕ) × Appends output output' printed × Prints printed Fine
-Writes Prints Begins Refused output output' = (printed : List ℕ) × Appends output output' printed × Prints printed Refused
-Writes Prints Begins Failed output output' = (part : List ℕ) × Appends output output' part × Begins part
+Writes Prints Begins Fine output output' =
+    (printed : List ℕ) × Appends output output' printed × Prints printed Fine
+Writes Prints Begins Refused output output' =
+    (printed : List ℕ) × Appends output output' printed × Prints printed Refused
+Writes Prints Begins Failed output output' =
+    (part : List ℕ) × Appends output output' part × Begins part
 
 abbrev pub TextRuns : Zone → (text : List ℕ) → Status → (output output' : Option (List ℕ)) → Type 0
-TextRuns zone text status output output' = Writes (TextPrints zone text) (TextBegins zone text) status output output'
+TextRuns zone text status output output' =
+    Writes (TextPrints zone text) (TextBegins zone text) status output output'
 
-abbrev pub InputRuns : Zone → (input : List ℕ) → Status → (output output' : Option (List ℕ)) → Type 0
+abbrev pub InputRuns : Zone → (input : List ℕ) → Status → (output output' : Option (List ℕ))
+    → Type 0
 InputRuns zone input status output output' =
     Writes (ReplayPrints zone input) (ReplayBegins zone input) status output output'
 
@@ -84,6 +95,7 @@ HoldsPart (Some held) (Some holds) text = (rest : List ℕ) × (held ++ text ≡
 
 -- What a run leaves with the writer that it was given.
 abbrev pub Replays : Zone → (input : List ℕ) → Status → (output output' : Option (List ℕ)) → Type 0
-Replays zone input Failed output output' = (part : List ℕ) × HoldsPart output output' part × ReplayBegins zone input part
+Replays zone input Failed output output' =
+    (part : List ℕ) × HoldsPart output output' part × ReplayBegins zone input part
 Replays zone input status output output' =
     (printed : List ℕ) × Appends output output' printed × ReplayPrints zone input printed status

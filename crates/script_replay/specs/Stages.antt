@@ -9,7 +9,8 @@ use Rattle.office_rules.specs.History.{History, Opened}
 use Rattle.office_rules.specs.Refusals.{with_answer}
 use Rattle.office_core.specs.Failing.{stops}
 
--- What the office has accepted, whether it has stopped, and by the clocks of which zone it tells days.
+-- What the office has accepted, whether it has stopped, and by the clocks of which zone it tells
+-- days.
 pub record Stage : Type 0 where
   pub past : History
   pub stopped : Bool
@@ -25,10 +26,6 @@ Fails (Err refusal.Memory) = Unit {0}
 Fails (Err refusal.Stopped) = Unit {0}
 Fails _ = ⊥
 
--- why an office over books in memory that hold nothing is not opened
-abbrev pub NoOffice : Refusal → Type 0
-NoOffice why = Fails {T = Unit {0}} (Err why)
-
 -- That the office has stopped is told exactly where it has.
 abbrev pub TellsStop : {T : Type 0} → Stage → Result T Refusal → Type 0
 TellsStop now reply = (reply ≡ Err refusal.Stopped) ↔ (now.stopped ≡ true)
@@ -36,4 +33,8 @@ TellsStop now reply = (reply ≡ Err refusal.Stopped) ↔ (now.stopped ≡ true)
 -- where the script stands after an event was answered
 abbrev pub after_reply : Stage → (at : ℕ) → Event → Result Answer Refusal → Stage
 after_reply now at e reply =
-    record { past = with_answer now.past at e reply; stopped = now.stopped || stops e reply; zone = now.zone }
+    record {
+      past = with_answer now.past at e reply;
+      stopped = now.stopped || stops e reply;
+      zone = now.zone;
+    }

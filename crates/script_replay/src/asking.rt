@@ -84,7 +84,8 @@ pub(crate) fn tell_days<W: Write>(
 
 // How many rows there were, or why there are no more.
 fn write_last<W: Write>(told: Result<(), Refusal>, count: u64, output: &mut W) -> io::Result<()>
-    ensures { GotText result (last_line count told) (W.contents output.old) (W.contents output.new) }
+    ensures { GotText result (last_line count told)
+        (W.contents output.old) (W.contents output.new) }
 {
     match told {
         Ok(()) => write_end(count, output),

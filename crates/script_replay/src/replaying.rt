@@ -15,10 +15,11 @@ pub struct Replayed<W> {
     pub output: W,
 }
 
-/// Runs a script over an office in memory, which is opened at moment 0 and tells days by the clocks of the zone, and prints
-/// the answer of each line. `refused N` is an answer, and the script goes on; a line that is none prints `bad line N` and
-/// ends the run. An input of more than 4,194,304 bytes prints `too long` alone. The input is read whole before its first
-/// line is carried out; what is printed is given out in pieces of some 8 KiB, and at the end.
+/// Runs a script over an office in memory, which is opened at moment 0 and tells days by the clocks of the
+/// zone, and prints the answer of each line. `refused N` is an answer, and the script goes on; a line that
+/// is none prints `bad line N` and ends the run. An input of more than 4,194,304 bytes prints `too long`
+/// alone. The input is read whole before its first line is carried out; what is printed is given out in
+/// pieces of some 8 KiB, and at the end.
 pub fn replay<R: Read, W: Write>(alloc: Global, zone: Zone, input: &mut R, output: W) -> Replayed<W>
     ensures { IfSome (R.remaining input.old) (λ all.
         Replays zone all result.status (W.contents output) (W.contents result.output)) }

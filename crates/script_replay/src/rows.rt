@@ -6,7 +6,8 @@ use office_books::RowSink;
 use row_text::{write_day, write_interval};
 use std::io::Write;
 
-/// Writes a line for each row, and counts them. It keeps that a write failed, and drops the rows that come after it.
+/// Writes a line for each row, and counts them. It keeps that a write failed, and drops the rows that come
+/// after it.
 #[derive(Drop)]
 pub struct Rows<'o, W> {
     pub(crate) output: &'o mut W,
@@ -33,10 +34,10 @@ impl<'o, W: Write> Rows<'o, W> {
 }
 
 impl<'o, W: Write> RowSink<Share> for Rows<'o, W> {
-    ghost use Rattle.row_text.specs.Rows.{interval_line};
+    ghost use Rattle.row_text.specs.Rows.{share_line};
     ghost use Rattle.script_replay.specs.Rows.{WritesRow};
 
-    ghost takes = { λ old row new. WritesRow W.contents (interval_line row) old new };
+    ghost takes = { λ old row new. WritesRow W.contents (share_line row) old new };
 
     fn put(&mut self, row: Share) {
         if self.failed {

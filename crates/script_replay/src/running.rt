@@ -3,11 +3,11 @@ ghost use Rattle.script_replay.specs.Running.{InputRuns, TextRuns};
 ghost use Rattle.std.specs.Prelude.{IfSome};
 
 use crate::carrying::run_line;
-use command_io::{InputLines, ReadFault, Status, read_whole};
+use command_io::{InputLines, Status, read_input};
 use interval_core::Zone;
 use office_core::Office;
 use office_lists::ListBooks;
-use script_text::{write_refusal, write_too_long};
+use script_text::write_refusal;
 use std::alloc::Global;
 use std::io::{Read, Write};
 
@@ -44,13 +44,8 @@ pub(crate) fn run_input<R: Read, W: Write>(
     ensures { IfSome (R.remaining input.old) (λ all.
         InputRuns zone all result (W.contents output.old) (W.contents output.new)) }
 {
-    match read_whole(alloc, input) {
+    match read_input(alloc, input, output) {
         Ok(text) => run_text(alloc, zone, &text, output),
-        Err(ReadFault::TooLong) => match write_too_long(output) {
-            Ok(()) => Status::Refused,
-            Err(_) => Status::Failed,
-        },
-        Err(ReadFault::Failed) => Status::Failed,
-        Err(ReadFault::Memory) => Status::Failed,
+        Err(status) => status,
     }
 }

@@ -1,5 +1,1 @@
-pub mod ChainText
-pub mod ImageLines
-pub mod ListText
-pub mod PlanText
-pub mod Seen
+pub mod Endings

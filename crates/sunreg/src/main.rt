@@ -1,51 +1,68 @@
 //! The program: it keeps point lists, polls devices and books energy.
 #![tactic(auto)]
 
-mod chain_printing;
-mod image_lines;
-mod list_printing;
-mod plan_printing;
+mod commands;
+mod ending;
 
-pub use chain_printing::chain_text;
-pub use list_printing::plan_text;
-pub use plan_printing::print_plan;
-
-#[cfg(test)]
-mod tests;
-
-use command_io::Status;
-use interval_core::Zone;
-use script_replay::replay;
-use std::io::{ErrorKind, Write};
+use crate::commands::carry_out;
+use crate::ending::{Ending, Failure, exit_code, say};
+use command_words::{WordsFault, command_of};
+use std::alloc::{AllocError, Global};
+use std::env;
+use std::io::{self, ErrorKind, Write};
 use std::process::ExitCode;
-use std::{env, io};
-
-/// The exit status of wrong words.
-const WRONG_WORDS: u8 = 2;
 
 fn main(rt: HostRuntime) -> ExitCode {
-    let mut args = match env::args(&rt) {
+    let args = match env::args(&rt) {
         Ok(args) => args,
-        Err(error) if error.kind() == ErrorKind::OutOfMemory => return ended(&rt, Status::Failed),
-        Err(_) => return ExitCode::from(WRONG_WORDS),
+        Err(error) if error.kind() == ErrorKind::OutOfMemory => {
+            return ended(&rt, &Ending::Failed(Failure::Memory));
+        }
+        Err(_) => return ended(&rt, &Ending::NoText),
     };
-    let _program = args.next();
-    if args.next().is_some() {
-        return ExitCode::from(WRONG_WORDS);
+    let Ok(words) = words_in(rt.alloc(), args) else {
+        return ended(&rt, &Ending::Failed(Failure::Memory));
+    };
+    let Ok(texts) = texts_of(rt.alloc(), &words) else {
+        return ended(&rt, &Ending::Failed(Failure::Memory));
+    };
+    match command_of(rt.alloc(), &texts) {
+        Ok(line) => ended(&rt, &carry_out(&rt, &line)),
+        Err(WordsFault::Help(text)) => ended(&rt, &print_help(&rt, text.as_str())),
+        Err(WordsFault::Wrong(text)) => ended(&rt, &Ending::Wrong(text)),
+        Err(WordsFault::Memory) => ended(&rt, &Ending::Failed(Failure::Memory)),
     }
-    let Ok(zone) = Zone::read("UTC0") else {
-        return ended(&rt, Status::Failed);
-    };
-    let mut input = rt.stdin();
-    let run = replay(rt.alloc(), zone, &mut input, io::writer(&rt));
-    ended(&rt, run.status)
 }
 
-// The exit status of the process; a failure is told on standard error.
-fn ended(rt: &HostRuntime, status: Status) -> ExitCode {
-    if status == Status::Failed {
-        let mut errors = rt.stderr();
-        let _told = errors.write_all(b"failed\n");
+// The words after the program's name.
+fn words_in(alloc: Global, args: env::Args) -> Result<Vec<String>, AllocError> {
+    let mut args = args;
+    let _program = args.next();
+    let mut words = Vec::new(alloc);
+    for word in args {
+        words.push(word)?;
     }
-    ExitCode::from(status.number())
+    Ok(words)
+}
+
+fn texts_of<'a>(alloc: Global, words: &'a [String]) -> Result<Vec<&'a str>, AllocError> {
+    let mut texts = Vec::new(alloc);
+    for word in words {
+        texts.push(word.as_str())?;
+    }
+    Ok(texts)
+}
+
+fn print_help(rt: &HostRuntime, text: &str) -> Ending<'static> {
+    match io::writer(rt).write_all(text.as_bytes()) {
+        Ok(()) => Ending::Fine,
+        Err(_) => Ending::Failed(Failure::Streams),
+    }
+}
+
+// Says how the program ends, and answers its exit status.
+fn ended(rt: &HostRuntime, ending: &Ending<'_>) -> ExitCode {
+    let mut errors = rt.stderr();
+    say(ending, &mut errors);
+    exit_code(ending)
 }

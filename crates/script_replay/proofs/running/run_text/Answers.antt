@@ -1,23 +1,25 @@
-use Rattle.std.proofs.Common.{[], ◌∷◌, ◌++◌, inl, inr, refl, sym, ◌∙◌}
+use Rattle.std.proofs.Common.{[], ◌∷◌, ◌++◌, inl, inr, refl, sym, ap, ◌∙◌}
 use Rattle.std.proofs.KnownBytes.{Appends-nil, Appends-trans}
 use Rattle.command_io.specs.Lines.{seen_line, speaking_lines}
 use Rattle.office_rules.specs.History.{Opened}
 use Rattle.script_text.specs.AnswerText.{refused_line}
 use Rattle.script_replay.specs.Running.{stage_of}
 use Rattle.script_replay.proofs.Replies.{same_stage}
-use Rattle.script_replay.proofs.Scripts.{empty_books, ended, from_start, no_office, one_more, stopped_by}
+use Rattle.script_replay.proofs.Scripts.{empty_books, ended, from_start, one_more, refused_for_memory, stopped_by}
 use Rattle.script_replay.proofs.running.run_text.Goals as goal
 use Rattle.script_replay.proofs.running.run_text.Goals.{in-Ok-write_refusal, in-Err-write_refusal}
 
 pub returns-in-Err : goal.returns-in-Err
 returns-in-Err g c =
     let why = c.in-Err.why in
-    let none = no_office why _ _ refl refl (c.in-Err.ensures.refused [] (empty_books c.new.result c.new.ensures.empty) tt) in
+    let memory = refused_for_memory why _ _ refl refl c.in-Err.ensures.passed.not_stopped
+    (c.in-Err.ensures.refused [] (empty_books c.new.result c.new.ensures.empty) tt) in
+    let same = ap refused_line memory in
     elim c.match-write_refusal.branch [
-      | in-Ok-write_refusal w ↦ rw w.result-is (refused_line why, w.in-Ok-write_refusal.ensures, inl (why, none, refl, refl))
+      | in-Ok-write_refusal w ↦ rw w.result-is (refused_line why, w.in-Ok-write_refusal.ensures, inl (same, refl))
       | in-Err-write_refusal w ↦
           let got = w.in-Err-write_refusal.ensures in
-          rw w.result-is (got.0, got.3, inl (why, none, (got.1, got.2)))
+          rw w.result-is (got.0, got.3, inl (got.1, sym same ∙ got.2))
     ]
 
 pub loop-line-init : goal.loop-line-init

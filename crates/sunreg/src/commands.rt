@@ -1,0 +1,81 @@
+//! The commands, over the streams and sockets of the process.
+use crate::ending::{Ending, Failure, ending_of};
+use bank_text::{SetupParts, set_up};
+use chain_text::chain_text;
+use command_io::{Buffered, Status};
+use command_words::CommandLine;
+use interval_core::Zone;
+use list_text::plan_text;
+use script_replay::replay;
+use stand_in::answer_all;
+use std::io;
+use std::io::Write;
+use std::net::TcpListener;
+
+/// Carries a command out.
+pub(crate) fn carry_out<'a>(rt: &HostRuntime, line: &CommandLine<'a>) -> Ending<'a> {
+    match *line {
+        CommandLine::Replay { zone } => run_script(rt, zone),
+        CommandLine::Plan => print_plan(rt),
+        CommandLine::Chain => print_chain(rt),
+        CommandLine::StandIn {
+            host,
+            port,
+            connections,
+        } => stand_in(rt, host, port, connections),
+        CommandLine::Create { .. }
+        | CommandLine::Serve { .. }
+        | CommandLine::Round { .. }
+        | CommandLine::Report { .. }
+        | CommandLine::Loop { .. }
+        | CommandLine::Run { .. } => Ending::Failed(Failure::Lacking),
+    }
+}
+
+fn run_script<'a>(rt: &HostRuntime, zone: &'a str) -> Ending<'a> {
+    let Ok(read) = Zone::read(zone) else {
+        return Ending::NoZone(zone);
+    };
+    let mut input = rt.stdin();
+    let run = replay(rt.alloc(), read, &mut input, io::writer(rt));
+    ending_of(run.status)
+}
+
+fn print_plan(rt: &HostRuntime) -> Ending<'static> {
+    let mut input = rt.stdin();
+    let mut output = Buffered::new(io::writer(rt));
+    let status = plan_text(rt.alloc(), &mut input, &mut output);
+    ending_of(flushed(status, &mut output))
+}
+
+fn print_chain(rt: &HostRuntime) -> Ending<'static> {
+    let mut input = rt.stdin();
+    let mut output = Buffered::new(io::writer(rt));
+    let status = chain_text(rt.alloc(), &mut input, &mut output);
+    ending_of(flushed(status, &mut output))
+}
+
+fn stand_in<'a>(rt: &HostRuntime, host: &'a str, port: u16, connections: u32) -> Ending<'a> {
+    let mut input = rt.stdin();
+    let mut output = io::writer(rt);
+    let setup = match set_up(rt.alloc(), &mut input, &mut output) {
+        Ok(setup) => setup,
+        Err(status) => return ending_of(status),
+    };
+    let SetupParts { mut bank, tricks } = setup.into_parts();
+    let Ok(listener) = TcpListener::bind(rt, (host, port)) else {
+        return Ending::Failed(Failure::Port { host, port });
+    };
+    match answer_all(&listener, connections, &mut bank, tricks.as_slice()) {
+        Ok(()) => Ending::Fine,
+        Err(_) => Ending::Failed(Failure::Listening),
+    }
+}
+
+// The status of a command once all that it printed was given out.
+fn flushed<W: Write>(status: Status, output: &mut Buffered<W>) -> Status {
+    match output.flush() {
+        Ok(()) => status,
+        Err(_) => Status::Failed,
+    }
+}
