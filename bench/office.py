@@ -1,8 +1,9 @@
 #!/usr/bin/env python3
 """office.py: carries out the script on standard input as a plain Python program does, with no proof.
 
-bench/replay.sh times the program against it. It knows the lines that the timed scripts have (device, register, install,
-connect, start, bytes, tick, meter and intervals) and their answers, and counters of a fixed scale.
+bench/replay.sh times the program against it. It knows the lines that the timed scripts have (device, list, register,
+install, connect, start, round, bytes, tick, meter and intervals) and their answers, counters of a fixed scale, and lists of
+counters that lie too far apart for one read of two.
 """
 import re
 import struct
@@ -37,6 +38,7 @@ class Device:
     timeout: int
     window: int
     registers: list = field(default_factory=list)
+    reads: list = field(default_factory=list)
     is_connected: bool = False
     next_id: int = 0
     polls: dict = field(default_factory=dict)
@@ -104,6 +106,11 @@ class Office:
         check(name not in self.devices, 2)
         self.devices[name] = Device(unit, timeout, window)
 
+    def put_list(self, name, text):
+        rows = [row.split(",") for row in text.decode("ascii").split("\n")[1:] if row]
+        reads = sorted((number(function), number(address)) for _, function, _, address, _, _ in rows)
+        known(name, self.devices, 1).reads = reads
+
     def register(self, name, device, function, address, sf):
         check(NAME.match(name) and function in (3, 4) and address < 65535, 12)
         owner = known(device, self.devices, 1)
@@ -128,13 +135,26 @@ class Office:
         check(function in (3, 4) and 1 <= count <= 125 and address + count <= 65536, 12)
         device = known(name, self.devices, 1)
         check(device.is_connected and len(device.polls) < device.window, 10)
+        return f"started {self.started + 1} 1 1 {self.ask(at, device, function, address, count).hex()}"
+
+    def round(self, at, name, first):
+        device = known(name, self.devices, 1)
+        check(device.reads, 1)
+        check(device.is_connected and len(device.polls) < device.window, 10)
+        check(first < len(device.reads), 12)
+        reads = device.reads[first : first + device.window - len(device.polls)]
+        begin = self.started + 1
+        frames = b"".join(self.ask(at, device, function, address, 2) for function, address in reads)
+        return f"started {begin} {len(reads)} {len(device.reads)} {frames.hex()}"
+
+    def ask(self, at, device, function, address, count):
+        """The frame of one more poll."""
         of, device.next_id = device.next_id, (device.next_id + 1) % 65536
         self.started += 1
         poll = Poll(self.started, of, device, function, address, count, at + device.timeout)
         device.polls[of] = self.pending[self.started] = poll
         self.polls[self.started] = "pending"
-        frame = struct.pack(">HHHBBHH", of, 0, 6, device.unit, function, address, count)
-        return f"started {self.started} 1 1 {frame.hex()}"
+        return struct.pack(">HHHBBHH", of, 0, 6, device.unit, function, address, count)
 
     def take(self, at, name, more):
         device = known(name, self.devices, 1)
@@ -214,6 +234,8 @@ class Office:
         match words:
             case ["device", name, unit, timeout, window]:
                 self.device(name, number(unit), number(timeout), number(window))
+            case ["list", name, text]:
+                self.put_list(name, bytes.fromhex(text))
             case ["register", name, device, function, address, sf]:
                 self.register(name, device, number(function), number(address), int(sf))
             case ["install", register, meter, raw, sf, *rest]:
@@ -222,6 +244,8 @@ class Office:
                 self.connect(name)
             case ["start", name, function, address, count]:
                 last = self.start(at, name, number(function), number(address), number(count))
+            case ["round", name, first]:
+                last = self.round(at, name, number(first))
             case ["bytes", name, more]:
                 notes += self.take(at, name, bytes.fromhex(more))
             case ["tick"]:
