@@ -1,5 +1,5 @@
 -- Bytes that were read, and bytes that are held back.
-use Rattle.std.proofs.Common.{◌≡◌, ◌≤◌, ◌<◌, ℕ, zero, suc, List, [], ◌++◌, length, take, Option, Some, None, IfSome, sym, ap, ◌∙◌, subst, append-nil, arith}
+use Rattle.std.proofs.Common.{◌≡◌, ◌≤◌, ℕ, List, [], ◌++◌, length, take, Option, IfSome, sym, ap, ◌∙◌, append-nil, arith}
 use Rattle.std.specs.Io.KnownBytes.{Appends, Consumes, IsAtEnd}
 use Rattle.std.proofs.KnownBytes.{Consumes-all, Consumes-trans}
 use Rattle.std.proofs.lemmas.List.{take-take, length-take}

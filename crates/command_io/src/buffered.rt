@@ -127,13 +127,19 @@ impl<W: Write> Buffered<W> {
 }
 
 impl<W: Write> Write for Buffered<W> {
-    ghost use Rattle.std.specs.Prelude.{OnOk};
-    ghost use Rattle.std.specs.Io.KnownBytes.{Keeps};
+    ghost use Rattle.std.specs.Prelude.{IfOk, OnOk};
+    ghost use Rattle.std.specs.Io.{WritesAtMost};
+    ghost use Rattle.std.specs.Io.KnownBytes.{Keeps, WriteAppends};
     ghost use Rattle.command_io.specs.Holding.{contents_of, held_back};
 
     ghost contents = { contents_of W.contents };
 
-    fn write(&mut self, buf: &[u8]) -> io::Result<usize> {
+    fn write(&mut self, buf: &[u8]) -> io::Result<usize>
+        ensures bound { WritesAtMost result buf.now }
+        ensures bytes { WriteAppends (contents_of W.contents self.old)
+            (contents_of W.contents self.new) result buf.now }
+        ensures some { IfOk result (λ count. count ≡ 0 → length buf.now ≡ 0) }
+    {
         self.make_room(buf.len())?;
         let count = buf.len().min(ROOM - self.filled);
         self.hold(&buf[..count]);

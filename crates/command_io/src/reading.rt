@@ -1,5 +1,5 @@
 //! Reading a whole input.
-ghost use Rattle.std.specs.Prelude.{◌≡◌, ◌≤◌, ◌<◌, ◌↔◌, Err, false, true, IfOk, IfErr, IfSome, length};
+ghost use Rattle.std.specs.Prelude.{◌≡◌, ◌≢◌, ◌≤◌, ◌<◌, ◌↔◌, Err, false, true, IfOk, IfErr, IfSome, length};
 ghost use Rattle.command_io.specs.Input.{EndsUnread, TellsTooLong, most_bytes};
 
 use crate::calls::Calls;
@@ -69,7 +69,7 @@ fn read_by<R: Read>(alloc: Global, calls: &mut Calls<'_, R>) -> Result<Vec<u8>, 
 }
 
 /// Reads the input of a command whole. Of one that is too long `too long` is printed; where it is, or was
-/// not read, the command ends with the status.
+/// not read, the command ends with the status, which is Refused or Failed.
 pub fn read_input<R: Read, W: Write>(
     alloc: Global,
     input: &mut R,
@@ -79,6 +79,7 @@ pub fn read_input<R: Read, W: Write>(
         IfSome (R.remaining input.old) (λ all. text.items ≡ all)) }
     ensures fits { IfOk result (λ text. length text.items ≤ most_bytes) }
     ensures silent { IfOk result (λ text. output.new ≡ output.old) }
+    ensures ends { IfErr result (λ status. status ≢ Status.Fine) }
     ensures unread { IfErr result (λ status. IfSome (R.remaining input.old) (λ all.
         EndsUnread all status (W.contents output.old) (W.contents output.new))) }
 {

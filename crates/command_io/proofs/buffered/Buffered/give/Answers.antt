@@ -1,4 +1,4 @@
-use Rattle.std.proofs.Common.{◌≡◌, ◌++◌, take, drop, sym, ap, ◌∙◌, rules, take-append-drop}
+use Rattle.std.proofs.Common.{◌++◌, take, sym, ap, ◌∙◌, rules, take-append-drop}
 use Rattle.std.proofs.KnownBytes.{append_known-moved}
 use Rattle.command_io.proofs.Held.{front_of}
 use Rattle.command_io.proofs.buffered.Buffered.give.Goals as goal
