@@ -1,10 +1,11 @@
 #!/usr/bin/env bash
 # Times the program on scripts of polls that each read one counter, and of their replies, beside bench/office.py, a plain
 # Python program that carries out the same lines: `bench/replay.sh [N]`. The scripts have N/4 and N/2 polls of one meter (N is
-# 100,000 by default), each with a line of its own for the start and the reply, and N/2 and N polls of 2,048 meters at 64
-# devices of 32 registers, by rounds of 16 polls and their replies in one line. Both must print the same; twice the polls
-# should take at most 2.2 times as long, and as much memory. Times are of the processor, the least of three runs. It
-# runs the proved program, which `rt run` builds first, so the first call takes a while.
+# 100,000 by default), each with a line of its own for the start and the reply; N/25 and 2N/25 such polls of 2,048 meters at
+# 64 devices of 32 registers; and N/2 and N polls of these by rounds of 16 polls and their replies in one line, beside a
+# script that only sets the meters up. Both must print the same; twice the polls should take at most 2.2 times as long, and
+# as much memory. Times are of the processor, the least of three runs. It runs the proved program, which `rt run` builds
+# first, so the first call takes a while.
 set -euo pipefail
 polls="${1:-100000}"
 most=4194304 # bytes, the program's own limit
@@ -74,6 +75,9 @@ program="$here/../crates/sunreg"
 scratch_rt sunreg "$program" run > "$scratch/built"
 for n in $((polls / 4)) $((polls / 2)); do
     compare "$n" 1 1 1
+done
+for n in $((polls / 25)) $((polls * 2 / 25)); do
+    compare "$n" 64 32 1
 done
 for n in 0 $((polls / 2)) "$polls"; do
     compare "$n" 64 32 16

@@ -3,14 +3,14 @@ use Rattle.std.proofs.Common.{◌≡◌, ◌≤◌, ◌<◌, ◌⊎◌, inl, inr
 use Rattle.std.specs.Prelude.{Result, Ok, Err, IfSome}
 use Rattle.std.specs.Io.KnownBytes.{Appends}
 use Rattle.std.proofs.KnownBytes.{Appends-nil, Appends-trans}
-use Rattle.command_io.specs.Input.{most_bytes}
+use Rattle.command_io.specs.Input.{EndsUnread, most_bytes, too_long}
 use Rattle.command_io.specs.Lines.{Line, speaking_lines}
 use Rattle.command_io.specs.declared.status.Status.{Status}
 use Rattle.command_io.specs.declared.status.Status.TheVariants.{Fine, Refused, Failed}
-use Rattle.script_text.specs.AnswerText.{bad_line, too_long}
+use Rattle.script_text.specs.AnswerText.{bad_line}
 use Rattle.bank_text.specs.Settings.{Setting, IsUnset, takes}
 use Rattle.bank_text.specs.Texts.{InputSetsUp, IsBad, SetsUp, taken_text}
-use Rattle.bank_text.specs.Running.{InputRuns, LineRan, LineRuns, TextRuns, Writes}
+use Rattle.bank_text.specs.Running.{InputRuns, LineRan, LineRuns, SetUp, TextRuns, Writes}
 
 -- Whatever the rest of the lines prints from here, all of them print it behind what was printed before.
 abbrev pub SoFar : Setting → List Line → Setting → List Line → List ℕ → Type 0
@@ -94,3 +94,17 @@ too_long_ran begun input o o' unset long appended = record {
 pub if_some : {X : Type 0} (o : Option X) (P Q : X → Type 0) → IfSome o P → ((x : X) → P x → Q x) → IfSome o Q
 if_some None P Q h f = tt
 if_some (Some x) P Q h f = f x h
+
+refused_ran : (begun : Setting) (input : List ℕ) (o o' : Option (List ℕ)) → IsUnset begun → EndsUnread input Refused o o'
+    → InputRuns input (Err Refused) o o'
+refused_ran begun input o o' unset (inl long) = too_long_ran begun input o o' unset long.0 long.1
+refused_ran begun input o o' unset (inr failed) = absurd (let e : Refused ≡ Failed = failed.0 in cc)
+
+-- an input that was not read
+pub unread_ran : (begun : Setting) (input : Option (List ℕ)) (status : Status) (o o' : Option (List ℕ)) → IsUnset begun → (status ≡ Fine → ⊥)
+    → IfSome input (λ all. EndsUnread all status o o') → SetUp input (Err status) o o'
+unread_ran begun input Fine o o' unset ends unread = absurd (ends refl)
+unread_ran begun input Refused o o' unset ends unread =
+    if_some input (λ all. EndsUnread all Refused o o') (λ all. InputRuns all (Err Refused) o o') unread
+    (λ all told. refused_ran begun all o o' unset told)
+unread_ran begun input Failed o o' unset ends unread = tt

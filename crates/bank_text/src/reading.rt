@@ -3,9 +3,9 @@ ghost use Rattle.bank_text.specs.Running as running;
 
 use crate::setup::Setup;
 use bank_lines::BankLine;
-use command_io::{InputLines, ReadFault, Status, read_whole};
+use command_io::{InputLines, Status, read_input};
 use office_events::Refusal;
-use script_text::{write_bad_line, write_refusal, write_too_long};
+use script_text::{write_bad_line, write_refusal};
 use std::alloc::Global;
 use std::io::{Read, Write};
 
@@ -71,15 +71,11 @@ pub fn set_up<R: Read, W: Write>(
     let Ok(mut setup) = Setup::new(alloc) else {
         return Err(Status::Failed);
     };
-    match read_whole(alloc, input) {
+    match read_input(alloc, input, output) {
         Ok(text) => match run_text(&mut setup, &text, output) {
             Ok(()) => Ok(setup),
             Err(status) => Err(status),
         },
-        Err(ReadFault::TooLong) => match write_too_long(output) {
-            Ok(()) => Err(Status::Refused),
-            Err(_) => Err(Status::Failed),
-        },
-        Err(_) => Err(Status::Failed),
+        Err(status) => Err(status),
     }
 }

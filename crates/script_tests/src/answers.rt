@@ -8,7 +8,7 @@ use point_list::{FaultyRow, RowFault};
 use poll_core::{LostCause, Malformation, Outcome};
 use script_text::{
     write_accepted, write_answer, write_bad_line, write_faults, write_meter, write_note,
-    write_notes, write_poll, write_refusal, write_too_long,
+    write_notes, write_poll, write_refusal,
 };
 use std::test::Fail;
 
@@ -236,10 +236,9 @@ fn faults_are_written(rt: HostRuntime) -> Result<(), Fail> {
 }
 
 #[test]
-fn ends_are_written(rt: HostRuntime) -> Result<(), Fail> {
+fn bad_lines_are_written(rt: HostRuntime) -> Result<(), Fail> {
     let mut written = Vec::new(rt.alloc());
     write_bad_line(3, &mut written)?;
-    write_too_long(&mut written)?;
-    assert_eq!(rt; written.as_slice(), b"bad line 3\ntoo long\n".as_slice());
+    assert_eq!(rt; written.as_slice(), b"bad line 3\n".as_slice());
     Ok(())
 }

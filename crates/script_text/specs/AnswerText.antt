@@ -90,7 +90,3 @@ fault_line faulty = codes "row " ++ decimal faulty.row ++ codes " fault " ++ dec
 -- a line that has no form, by its number from 1
 abbrev pub bad_line : ℕ → List ℕ
 bad_line number = codes "bad line " ++ decimal number ++ codes "\n"
-
--- an input that is longer than can be read
-abbrev pub too_long : List ℕ
-too_long = codes "too long\n"

@@ -8,7 +8,5 @@ mod notes;
 mod parts;
 
 pub use accepted::{write_accepted, write_answer, write_notes};
-pub use lines::{
-    write_bad_line, write_faults, write_meter, write_poll, write_refusal, write_too_long,
-};
+pub use lines::{write_bad_line, write_faults, write_meter, write_poll, write_refusal};
 pub use notes::write_note;

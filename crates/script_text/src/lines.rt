@@ -135,10 +135,3 @@ fn bad_line(number: u64) -> Line
     line.push(b"\n");
     line
 }
-
-/// Writes `too long`.
-pub fn write_too_long<W: Write>(output: &mut W) -> io::Result<()>
-    ensures { GotText result text.too_long (W.contents output.old) (W.contents output.new) }
-{
-    write_text(b"too long\n", output)
-}
