@@ -2,7 +2,11 @@
 #![tactic(auto)]
 
 #[cfg(test)]
+mod booked;
+#[cfg(test)]
 mod inputs;
+#[cfg(test)]
+mod polls;
 #[cfg(test)]
 mod scripts;
 #[cfg(test)]

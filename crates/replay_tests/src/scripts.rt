@@ -1,15 +1,15 @@
 //! Scripts, and what is printed of them.
-use crate::streams::{Kept, Slow, print_all, zone};
+use crate::streams::{Kept, Slow, print_all, print_behind, zone};
 use command_io::Status;
 use script_replay::replay;
 use std::io::ErrorKind;
 use std::test::Fail;
 
 // A device with a meter, a read of it, and its reply.
-const READING: &str =
+pub(crate) const READING: &str =
     "1000 device inv 1 5 1\n1000 register main inv 3 40094 @40096\n1000 install main m1 5000 0 100000\n1898 connect inv\n1898 start inv 3 40094 3\n1900 bytes inv 000000000009010306000014500000\n";
 
-const READING_PRINTED: &str =
+pub(crate) const READING_PRINTED: &str =
     "ok\nok\nok\nok\nstarted 1 1 1 00000000000601039c9e0003\npoll 1 answered\nreading m1 5200 rolls 0 step 200000\nok\n";
 
 // Behind the reading: what is asked and booked by hand.
@@ -56,18 +56,7 @@ static BEHIND: [(&str, &str); 14] = [
 
 #[test]
 fn what_is_booked_is_told(rt: HostRuntime) -> Result<(), Fail> {
-    let alloc = rt.alloc();
-    for (more, output) in &BEHIND {
-        let input = format!(in alloc; "{READING}{more}")?;
-        let printed = format!(in alloc; "{READING_PRINTED}{output}")?;
-        print_all(
-            &rt,
-            alloc,
-            &[(input.as_str(), printed.as_str())],
-            Status::Fine,
-        )?;
-    }
-    Ok(())
+    print_behind(&rt, rt.alloc(), READING, READING_PRINTED, &BEHIND)
 }
 
 static SCRIPTS: [(&str, &str); 11] = [

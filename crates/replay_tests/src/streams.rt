@@ -33,6 +33,27 @@ pub(crate) fn print_all(
     Ok(())
 }
 
+/// Checks what each script prints behind the lines `before`, which print `printed`.
+pub(crate) fn print_behind(
+    rt: &impl Abort,
+    alloc: Global,
+    before: &str,
+    printed: &str,
+    cases: &[(&str, &str)],
+) -> Result<(), Fail> {
+    for (more, output) in cases {
+        let input = format!(in alloc; "{before}{more}")?;
+        let wanted = format!(in alloc; "{printed}{output}")?;
+        print_all(
+            rt,
+            alloc,
+            &[(input.as_str(), wanted.as_str())],
+            Status::Fine,
+        )?;
+    }
+    Ok(())
+}
+
 /// Gives its text a byte at a time, and one call of `read` fails; the call 0 never comes.
 #[derive(Drop)]
 pub(crate) struct Slow<'a> {
