@@ -2,7 +2,7 @@
 use crate::reading::is_bad;
 
 // Spaces, moments, words.
-static LINES: [&str; 30] = [
+static LINES: [&str; 32] = [
     "",
     " ",
     "x",
@@ -31,23 +31,27 @@ static LINES: [&str; 30] = [
     "poll",
     "poll -1",
     "poll 1 2",
+    "poll x",
+    "5 poll 1",
     "poll 9223372036854775808",
     "area holding 0 1",
 ];
 
 // What happens at devices.
-static HAPPENINGS: [&str; 25] = [
+static HAPPENINGS: [&str; 31] = [
     "5 connect",
     "5 connect ",
     "5 connect a b",
     "5 start a 3 0",
     "5 start a 3 0 1 1",
     "5 start a 3 -0 1",
+    "5 start a 3 0 x",
     "5 start  3 0 1",
     "5 start a x 0 1",
     "5 round a",
     "5 round a 0 0",
     "5 round a -1",
+    "5 round  0",
     "5 bytes",
     "5 bytes ",
     "5 bytes a ",
@@ -57,21 +61,26 @@ static HAPPENINGS: [&str; 25] = [
     "5 list",
     "5 list a ",
     "5 list a 0",
+    "5 list a 0g",
     "5 list a 00 00",
     "5 gone",
+    "5 gone ",
     "5 gone a b",
+    "5 gone a 1",
     "5 failed",
+    "5 failed ",
     "5 failed a 3",
 ];
 
 // Commands.
-static COMMANDS: [&str; 36] = [
+static COMMANDS: [&str; 43] = [
     "5 device",
     "5 device a 1 5",
     "5 device a 1 5 1 1",
     "5 device a 1 5 -1",
     "5 device a 1 5 1 ",
     "5 device  1 5 1",
+    "5 device a 1 5 99999999999999999999",
     "5 device a x 5 1",
     "5 register r d 3 0",
     "5 register r d 3 0 0 0",
@@ -92,15 +101,21 @@ static COMMANDS: [&str; 36] = [
     "5 exchange r -1 0 m 1 0 1000",
     "5 reset r 1",
     "5 reset r 1 0 0",
+    "5 reset r x 0",
     "5 rescale r 1 0",
     "5 rescale r 1 0 1 1",
+    "5 rescale r 1 0 @1",
     "5 manual r 1",
     "5 manual r 1 0 ",
     "5 manual r 1 0 4 4",
     "5 manual r 1 0 -4",
+    "5 manual r 1 -1",
     "5 close r 1",
     "5 close r 1 0 0",
+    "5 close r 1 -1",
     "5 void m",
+    "5 void m -2",
+    "5 void  2",
     "5 void m 2 2",
 ];
 
