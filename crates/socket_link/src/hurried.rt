@@ -16,10 +16,14 @@ pub struct HurriedLink<'l, L: Link, C: Clock> {
 
 impl<'l, L: Link, C: Clock> HurriedLink<'l, L, C> {
     ghost use Rattle.std.specs.Prelude.{◌≡◌, nat_lt, IfSome};
+    ghost use Rattle.socket_link.specs.Beginnings.{IsFreshHaste, until_of};
     ghost use Rattle.socket_link.specs.Clocks.{next_moment};
 
     /// A link that works while the clock tells no moment past `until`.
-    pub fn new(link: &'l mut L, clock: &'l mut C, until: u64) -> HurriedLink<'l, L, C> {
+    pub fn new(link: &'l mut L, clock: &'l mut C, until: u64) -> HurriedLink<'l, L, C>
+        ensures until { until_of result ≡ until }
+        ensures fresh { IsFreshHaste result }
+    {
         HurriedLink {
             link,
             clock,

@@ -18,10 +18,22 @@ pub struct SocketLink<S: Drop> {
 }
 
 impl<S: Read + Write + OpenStream + Drop> SocketLink<S> {
+    ghost use Rattle.std.specs.Prelude.{IfOk};
+    ghost use Rattle.socket_link.specs.Beginnings.{IsFresh};
+
     /// A link over a socket that is connected, whose timeouts it sets.
-    pub fn new(stream: S) -> io::Result<SocketLink<S>> {
-        stream.set_read_timeout(Some(Duration::from_secs(1)))?;
-        stream.set_write_timeout(Some(Duration::from_secs(1)))?;
+    pub fn new(stream: S) -> io::Result<SocketLink<S>>
+        ensures { IfOk result IsFresh }
+    {
+        SocketLink::waiting(stream, Duration::from_secs(1))
+    }
+
+    /// The same, but a take and a give wait so long at most.
+    pub fn waiting(stream: S, wait: Duration) -> io::Result<SocketLink<S>>
+        ensures { IfOk result IsFresh }
+    {
+        stream.set_read_timeout(Some(wait))?;
+        stream.set_write_timeout(Some(wait))?;
         Ok(SocketLink {
             stream,
             failures: 0,

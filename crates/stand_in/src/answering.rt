@@ -2,6 +2,7 @@
 ghost use Rattle.std.specs.Prelude.{◌≤◌, ◌+◌};
 ghost use Rattle.mb_device.specs.Serving.{around};
 ghost use Rattle.stand_in.specs.Connections.{ServesSome};
+ghost use Rattle.stand_in.specs.Exchanges.{Exchanged};
 
 use mb_device::{Bank, ServeFault, Server, Trick};
 use mb_wire::Link;
@@ -33,7 +34,9 @@ fn answer_stream<S: Read + Write + OpenStream + Drop>(
     stream: S,
     bank: &mut Bank,
     tricks: &[(u64, Trick)],
-) {
+)
+    ensures { Exchanged bank.old bank.new }
+{
     let _no_delay = stream.set_nodelay(true);
     let Ok(mut link) = SocketLink::new(stream) else {
         return;
@@ -52,6 +55,7 @@ pub fn answer_all<L: OpenListener>(
 ) -> io::Result<()>
 where
     L::Stream: Read + Write + OpenStream + Drop,
+    ensures { Exchanged bank.old bank.new }
 {
     for _connection in 0..connections {
         let (stream, _peer) = listener.accept()?;

@@ -1,0 +1,8 @@
+-- What a stand-in's device holds after it was sent frames.
+use Rattle.std.specs.Prelude.{◌≡◌, ℕ, List}
+use Rattle.mb_device.specs.Maps.{Maps}
+use Rattle.mb_device.specs.Serving.{maps_after_all}
+
+-- it has carried out some frames
+abbrev pub Exchanged : (old new : Maps) → Type 0
+Exchanged old new = (frames : List (List ℕ)) × (new ≡ maps_after_all old frames)
