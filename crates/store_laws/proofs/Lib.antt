@@ -1,0 +1,12 @@
+pub mod Lists
+pub mod Columns
+pub mod Journals
+pub mod Placed
+pub mod Points
+pub mod EntryRows
+pub mod Facts
+pub mod Rows
+pub mod Same
+pub mod Found
+pub mod Files
+pub mod Databases

@@ -1,0 +1,24 @@
+-- What tables tell of the facts that they are of, and what is found of them after a stop.
+use Rattle.std.specs.Prelude.{◌≡◌, ℕ, List}
+use Rattle.sqlite.specs.Tree.{Trees}
+use Rattle.sqlite.specs.Effect.{Database, IsDatabase}
+use Rattle.office_events.specs.declared.facts.Fact.{Fact}
+use Rattle.office_books.specs.Same.{AreSame}
+use Rattle.store_tables.specs.Content.{Content}
+use Rattle.store_facts.specs.Tables.{AreOf}
+use Rattle.store_facts.specs.Holding.{HasFacts, IsLeft}
+
+-- All facts that tables are of are the same books, and the zone is one.
+abbrev pub TablesTellTheirFacts : Type 0
+TablesTellTheirFacts = (zone others_zone : List ℕ) (facts others : List Fact) (held : Content)
+    → AreOf zone facts held → AreOf others_zone others held → AreSame facts others × (zone ≡ others_zone)
+
+-- The same of all facts that a database has.
+abbrev pub DatabasesTellTheirFacts : Type 0
+DatabasesTellTheirFacts = (zone others_zone : List ℕ) (facts others : List Fact) (db : Database)
+    → HasFacts zone facts db → HasFacts others_zone others db → AreSame facts others × (zone ≡ others_zone)
+
+-- A database of the trees that a stop left has the facts that it left, since trees list one schema.
+abbrev pub LeftFactsAreFound : Type 0
+LeftFactsAreFound = (zone : List ℕ) (left : List (List Fact)) (trees : Trees) (db : Database)
+    → (it : IsLeft zone left trees) → IsDatabase db → db.trees ≡ trees → HasFacts zone it.facts db

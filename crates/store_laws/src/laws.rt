@@ -1,0 +1,37 @@
+//! Laws of the tables.
+ghost use Rattle.store_laws.specs.Files.{NewFilesHaveNone, OpenedFilesKeepTheirs};
+ghost use Rattle.store_laws.specs.Laws.{DatabasesTellTheirFacts, LeftFactsAreFound, TablesTellTheirFacts};
+
+use meter_journal::rows_stand;
+use planned_list::lists_are_planned_once;
+
+/// Tables tell the facts that they are of: any two lists of facts whose tables they are are the same books, and name the
+/// same zone.
+pub fn tables_tell_their_facts()
+    ensures { TablesTellTheirFacts }
+{
+    rows_stand();
+    lists_are_planned_once();
+}
+
+/// So does a database: the facts that it has are the same books.
+pub fn databases_tell_their_facts()
+    ensures { DatabasesTellTheirFacts }
+{
+    tables_tell_their_facts();
+}
+
+/// A database of the trees that a stop left, as the next open finds it, has the facts that the stop left.
+pub fn left_facts_are_found()
+    ensures { LeftFactsAreFound }
+{}
+
+/// A new file has no facts.
+pub fn new_files_have_none()
+    ensures { NewFilesHaveNone }
+{}
+
+/// A database that has facts is a file of the newest version, and an opening keeps its facts.
+pub fn opened_files_keep_theirs()
+    ensures { OpenedFilesKeepTheirs }
+{}

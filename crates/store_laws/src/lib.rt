@@ -1,0 +1,9 @@
+//! Laws of the office's tables.
+#![tactic(auto)]
+
+mod laws;
+
+pub use laws::{
+    databases_tell_their_facts, left_facts_are_found, new_files_have_none,
+    opened_files_keep_theirs, tables_tell_their_facts,
+};
