@@ -7,8 +7,9 @@ use Rattle.std.proofs.lemmas.List.{append-nil}
 use Rattle.mb_wire.specs.Links.{risen}
 use Rattle.mb_wire.specs.declared.link.LastTake.{LastTake}
 use Rattle.mb_wire.specs.declared.link.LinkFailed.{LinkFailed}
-use Rattle.http_head.specs.Heads.{IsOpenHead}
+use Rattle.http_head.specs.Heads.{IsOpenHead, Looks}
 use Rattle.http_head.specs.declared.head.Look.{Look}
+use Rattle.http_head.specs.declared.head.Look.TheVariants.{Open, TooLarge, NoHead, Whole}
 use Rattle.http_read.specs.Reading.{EndsAt, ReadsHead, StopsAtOnce}
 use Rattle.http_read.specs.Taking.{Came, bytes_in}
 use Rattle.http_read.specs.declared.inbox.Inbox.{Inbox}
@@ -16,8 +17,8 @@ use Rattle.http_read.specs.declared.inbox.TakeFault.{TakeFault}
 use Rattle.http_read.specs.declared.inbox.TakeFault.TheVariants as take
 use Rattle.http_reply.specs.Giving.{Gives}
 use Rattle.http_reply.specs.Sending.{HasPut, OnlyGives, Outgoing}
-use Rattle.http_route.specs.Routes.{routes}
-use Rattle.http_whole.specs.Whole.{GoesOn, ReadsRequest}
+use Rattle.http_route.specs.Routes.{Table, routes}
+use Rattle.http_whole.specs.Whole.{GoesOn, Holds, ReadsRequest}
 use Rattle.http_answer.specs.Replies.{refused, reply_bytes}
 use Rattle.office_events.specs.declared.refusals.Refusal.{Refusal}
 use Rattle.office_events.specs.declared.refusals.Refusal.TheVariants as refusal
@@ -25,7 +26,7 @@ use Rattle.office_rules.specs.History.{History}
 use Rattle.office_books.specs.Ledgers.{Ledger}
 use Rattle.office_core.specs.Standing.{After}
 use Rattle.office_core.specs.declared.office.Office.{Office}
-use Rattle.office_http.specs.Handling.{Does, DoesBare, GivesReply, Handles, HandlesBare, IsEnd, Passage, ReadsOn, ReadsOnBare, Replies, RepliesBare, StopsReading, as_fault, ended, is_link_fault, passage}
+use Rattle.office_http.specs.Handling.{Does, DoesBare, GivesReply, Handles, HandlesBare, HasHead, IsEnd, Passage, ReadsOn, ReadsOnBare, Replies, RepliesBare, StopsReading, as_fault, ended, is_link_fault, passage}
 use Rattle.office_http.specs.declared.fault.HandleFault.{HandleFault}
 use Rattle.office_http.specs.declared.fault.HandleFault.TheVariants.{Read, Write, Short, TurnsUsed, Cut}
 use Rattle.office_http.proofs.Served.{no_memory}
@@ -54,6 +55,13 @@ stopped P goes old new was now read empty is (inr some) = inr record {
   bytes = sym is ∙ some.bytes ∙ ap (λ o. (o ++ some.earlier) ++ some.chunk) empty;
   size = some.size;
 }
+
+-- a whole request has a head
+pub head_of : (table : Table) (look : Look) (bytes : List ℕ) → Holds table bytes look → HasHead bytes
+head_of table Open bytes h = absurd h
+head_of table TooLarge bytes h = record { look = TooLarge; finds = h; come = refl }
+head_of table NoHead bytes h = record { look = NoHead; finds = h; come = refl }
+head_of table (Whole at) bytes h = record { look = Whole at; finds = h.head; come = refl }
 
 -- ---- taking failed
 
@@ -109,16 +117,17 @@ does_reply ledger at old new link read (Err TurnsUsed) end replies = absurd end
 pub replied : {B : Type 0} (ledger : B → Ledger) (at : ℕ) (old new : Office B) (inbox full : Inbox) (seen : List ℕ) (result : Result (Unit {0}) HandleFault)
     (remaining mid later given given_mid later_given : Option (List ℕ)) (was between last : Option LastTake)
     → bytes_in inbox ≡ [] → seen ≡ bytes_in full → Came (bytes_in inbox) (bytes_in full) remaining mid → StopsAtOnce (GoesOn routes) inbox full was between → Keeps given given_mid
-    → Keeps mid later → last ≡ between → IsEnd result
+    → Keeps mid later → last ≡ between → IsEnd result → HasHead (bytes_in full)
     → After ledger old new (λ past. GivesReply ledger past at old new given_mid later_given seen result)
     → Handles ledger at old new (passage remaining later given later_given last) result
-replied ledger at old new inbox full seen result remaining mid later given given_mid later_given was between last empty shown came stops keeps rest same end gives =
+replied ledger at old new inbox full seen result remaining mid later given given_mid later_given was between last empty shown came stops keeps rest same end head gives =
     let all = came_is (bytes_in inbox) (bytes_in full) remaining mid empty came in
     let is : seen ≡ came.chunk = shown ∙ all in
     record {
       read = came.chunk;
       takes = Consumes-kept remaining mid later came.chunk came.consumed rest;
       does = does_reply ledger at old new (passage remaining later given later_given last) came.chunk result end (record {
+        head = subst HasHead all head;
         stops = subst (StopsReading came.chunk) (sym same) (stopped (GoesOn routes) (λ bytes h. h) inbox full was between came.chunk empty all stops);
         replies = λ past stands clean.
             let one = subst (λ r. GivesReply ledger past at old new given_mid later_given r result) is (gives past stands clean) in
@@ -204,6 +213,7 @@ bare_on office link read h = record { goes_on = h.goes_on; nothing = h.nothing; 
 bare_reply : {B : Type 0} (ledger : B → Ledger) (at : ℕ) (office : Office B) (link : Passage) (read : List ℕ) (result : Result (Unit {0}) HandleFault)
     → RepliesBare link read result → Replies ledger at office office link read result
 bare_reply ledger at office link read result h = record {
+  head = h.head;
   stops = h.stops;
   replies = λ past stands clean. record {
     cut = None;
@@ -244,6 +254,7 @@ bare_replied inbox full look sent result remaining mid later given given_mid lat
       does = bare_does link came.chunk sent (record {
         sent = sent;
         ends = refl;
+        head = record { look = look; finds = subst (λ bytes. Looks bytes look) all reads.1; come = reads.2 };
         stops = subst (StopsReading came.chunk) (sym same) (stopped IsOpenHead (λ bytes h. inl h) inbox full was between came.chunk empty all stops);
         gives = gives_since sent given given_mid later_given (reply_bytes (refused refusal.Memory)) keeps gives;
       });

@@ -10,6 +10,8 @@ use Rattle.office_rules.specs.History.{History}
 use Rattle.office_books.specs.Ledgers.{Ledger}
 use Rattle.office_core.specs.Standing.{After}
 use Rattle.office_core.specs.declared.office.Office.{Office}
+use Rattle.http_head.specs.Heads.{Looks, is_open}
+use Rattle.http_head.specs.declared.head.Look.{Look}
 use Rattle.http_read.specs.Reading.{TakesWhatLacks}
 use Rattle.http_read.specs.declared.inbox.TakeFault.{TakeFault}
 use Rattle.http_read.specs.declared.inbox.TakeFault.TheVariants as take
@@ -82,6 +84,12 @@ passage remaining later_remaining given later_given last = record {
 abbrev pub StopsReading : (read : List ℕ) → Option LastTake → Type 0
 StopsReading read last = (read ≡ []) ⊎ TakesWhatLacks (GoesOn routes) [] read last
 
+-- What was read holds a head, or a bad one.
+pub record HasHead (read : List ℕ) : Type 0 where
+  pub look : Look
+  pub finds : Looks read look
+  pub come : is_open look ≡ false
+
 -- A reply is answered to what was read. Of what was put of it all was given, or at Write a beginning.
 pub record GivesReply {B : Type 0} (ledger : B → Ledger) (past : History) (at : ℕ) (old new : Office B)
     (given later_given : Option (List ℕ)) (read : List ℕ) (result : Result (Unit {0}) HandleFault)
@@ -93,9 +101,11 @@ pub record GivesReply {B : Type 0} (ledger : B → Ledger) (past : History) (at 
   pub serves : Serves ledger past at read old new cut put
   pub gives : Gives sent given later_given put
 
--- What was read holds a request, or a bad head; nothing more was taken once it did, and a reply was given.
+-- What was read holds a head, or a bad one; nothing more was taken once it held a whole request, or a bad head; and a reply
+-- was given.
 pub record Replies {B : Type 0} (ledger : B → Ledger) (at : ℕ) (old new : Office B) (link : Passage)
     (read : List ℕ) (result : Result (Unit {0}) HandleFault) : Type 0 where
+  pub head : HasHead read
   pub stops : StopsReading read link.last
   pub replies : After ledger old new (λ past.
       GivesReply ledger past at old new link.given link.later_given read result)
@@ -135,6 +145,7 @@ pub record RepliesBare (link : Passage) (read : List ℕ) (result : Result (Unit
     : Type 0 where
   pub sent : Result (Unit {0}) LinkFailed
   pub ends : result ≡ ended sent None
+  pub head : HasHead read
   pub stops : StopsReading read link.last
   pub gives : Gives sent link.given link.later_given (reply_bytes (refused refusal.Memory))
 

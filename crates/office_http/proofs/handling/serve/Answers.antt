@@ -5,7 +5,7 @@ use Rattle.http_route.specs.Routes.{Table}
 use Rattle.http_whole.specs.Whole.{GoesOn, ReadsRequest}
 use Rattle.office_http.specs.Handling.{Handles, as_fault, passage}
 use Rattle.office_http.specs.declared.fault.HandleFault.{HandleFault}
-use Rattle.office_http.proofs.Handled.{read_failed, replied}
+use Rattle.office_http.proofs.Handled.{head_of, read_failed, replied}
 use Rattle.office_http.proofs.handling.serve.Goals as goal
 
 pub returns-in_err-look-clause-handles : goal.returns-in_err-look-clause-handles
@@ -37,4 +37,5 @@ returns-clause-handles g c =
     (g.L.Link.given c.args.link.now) (g.L.Link.given c.read_request.new.link) (g.L.Link.given c.reply.new.link)
     was between (g.L.Link.last c.reply.new.link)
     c.new-inbox.ensures.empty c.bytes-2.ensures c.in_ok-look.ensures.reads.0 stops c.in_ok-look.ensures.given
-    c.reply.ensures.remaining c.reply.ensures.last c.reply.ensures.ends c.reply.ensures.gives
+    c.reply.ensures.remaining c.reply.ensures.last c.reply.ensures.ends
+    (head_of c.args.router.now c.in_ok-look.look (bytes_in full) c.in_ok-look.ensures.reads.1) c.reply.ensures.gives
