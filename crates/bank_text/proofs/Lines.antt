@@ -1,5 +1,5 @@
 -- The lines of a text, one after the other.
-use Rattle.std.proofs.Common.{◌≡◌, ◌≤◌, ◌<◌, ◌⊎◌, inl, inr, ℕ, Option, None, Some, List, [], ◌∷◌, ◌++◌, length, refl, sym, subst, append_assoc, append-nil, arith}
+use Rattle.std.proofs.Common.{◌≡◌, ◌≤◌, ◌<◌, inl, inr, ℕ, Option, None, Some, List, [], ◌∷◌, ◌++◌, length, refl, sym, subst, append_assoc, append-nil, arith}
 use Rattle.std.specs.Prelude.{Result, Ok, Err, IfSome}
 use Rattle.std.specs.Io.KnownBytes.{Appends}
 use Rattle.std.proofs.KnownBytes.{Appends-nil, Appends-trans}
@@ -9,8 +9,8 @@ use Rattle.command_io.specs.declared.status.Status.{Status}
 use Rattle.command_io.specs.declared.status.Status.TheVariants.{Fine, Refused, Failed}
 use Rattle.script_text.specs.AnswerText.{bad_line}
 use Rattle.bank_text.specs.Settings.{Setting, IsUnset, takes}
-use Rattle.bank_text.specs.Texts.{InputSetsUp, IsBad, SetsUp, taken_text}
-use Rattle.bank_text.specs.Running.{InputRuns, LineRan, LineRuns, SetUp, TextRuns, Writes}
+use Rattle.bank_text.specs.Texts.{SetsUp, taken_text}
+use Rattle.bank_text.specs.Running.{InputRuns, LineRan, LineRuns, SetUp, TextRuns}
 
 -- Whatever the rest of the lines prints from here, all of them print it behind what was printed before.
 abbrev pub SoFar : Setting → List Line → Setting → List Line → List ℕ → Type 0

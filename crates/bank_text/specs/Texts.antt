@@ -1,12 +1,12 @@
 -- What the lines of a text set up, and what is printed of it.
-use Rattle.std.specs.Prelude.{◌≡◌, ◌≢◌, ◌⊎◌, ◌<◌, ◌≤◌, ℕ, Bool, true, false, List, [], ◌∷◌, ◌++◌, length, Ok, Err}
+use Rattle.std.specs.Prelude.{◌≡◌, ◌⊎◌, ◌<◌, ◌≤◌, ℕ, Bool, true, false, List, [], ◌∷◌, ◌++◌, length, Ok, Err}
 use Rattle.std.specs.declared.result.Result.{Result}
 use Rattle.bank_lines.specs.Forms.{IsBankLine}
 use Rattle.bank_lines.specs.declared.bank.BankLine.{BankLine}
 use Rattle.command_io.specs.Input.{most_bytes, too_long}
 use Rattle.command_io.specs.Lines.{Line, speaking_lines}
 use Rattle.command_io.specs.declared.status.Status.{Status}
-use Rattle.command_io.specs.declared.status.Status.TheVariants.{Refused, Failed}
+use Rattle.command_io.specs.declared.status.Status.TheVariants.{Refused}
 use Rattle.office_events.specs.declared.refusals.Refusal.TheVariants.{Limit}
 use Rattle.script_text.specs.AnswerText.{bad_line, refused_line}
 use Rattle.script_words.specs.Words.{words_of}
