@@ -1,0 +1,10 @@
+pub mod Orders
+pub mod Picked
+pub mod Looked
+pub mod Found
+pub mod Shared
+pub mod Handed
+pub mod Shapes
+pub mod Journals
+pub mod Entering
+pub mod Marked

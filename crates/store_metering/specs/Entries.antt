@@ -1,0 +1,68 @@
+-- The rows of a meter's journal, as the rows of two tables tell them.
+use Rattle.std.specs.Prelude.{◌≡◌, ℕ, ◌==◌, Bool, not, List, map, reverse, Option, Some, None}
+use Rattle.std.specs.List.{list_any, filter_map}
+use Rattle.std.specs.List.Sorted.{IsPermutation}
+use Rattle.std.specs.Prelude.{filter}
+use Rattle.energy_core.specs.declared.entries.Entry.TheVariants as entry
+use Rattle.meter_journal.specs.declared.lines.EntryRow as journal
+use Rattle.meter_journal.specs.declared.lines.EntryKind as journal_kind
+use Rattle.meter_journal.specs.declared.lines.EntryKind.TheVariants as from
+use Rattle.meter_journal.specs.Lists.{latest_first}
+use Rattle.sqlite.specs.Order.{Row}
+use Rattle.office_events.specs.declared.facts.Opening.{Opening}
+use Rattle.office_events.specs.declared.facts.Fact.{Fact}
+use Rattle.office_rules.specs.Facts.{opening_of, voids_in}
+use Rattle.office_rules.specs.Lawful.{AreLawful}
+use Rattle.office_rules.specs.Meters.{rows_of}
+use Rattle.store_entries.specs.declared.rows.EntryRow.{EntryRow}
+use Rattle.store_entries.specs.declared.rows.EntryKind.{EntryKind}
+use Rattle.store_entries.specs.declared.rows.EntryKind.TheVariants as kind
+use Rattle.store_entries.specs.Rows.{Entered, Voided, entry_shown, voided_shown, is_void_of}
+use Rattle.store_facts.specs.Rows.{entered_rows, voided}
+
+abbrev pub step_row : journal_kind.EntryKind → EntryRow → (stands : Bool) → journal.EntryRow
+step_row k e stands = record { place = e.place; kind = k; entry = entry.Step e.moment e.raw e.rolls; stands = stands }
+
+abbrev pub change_row : journal_kind.EntryKind → EntryRow → (stands : Bool) → journal.EntryRow
+change_row k e stands = record { place = e.place; kind = k; entry = entry.Change e.moment e.raw e.after e.sf; stands = stands }
+
+-- the row of an entry; an opening has none
+abbrev pub row_by : EntryKind → EntryRow → (stands : Bool) → Option journal.EntryRow
+row_by kind.Opening e stands = None
+row_by kind.Reading e stands = Some (step_row from.Reading e stands)
+row_by kind.Manual e stands = Some (step_row from.Manual e stands)
+row_by kind.Closing e stands = Some (step_row from.Closing e stands)
+row_by kind.Reset e stands = Some (change_row from.Reset e stands)
+row_by kind.Rescale e stands = Some (change_row from.Rescale e stands)
+
+abbrev pub row_from : EntryRow → (stands : Bool) → Option journal.EntryRow
+row_from e stands = row_by e.kind e stands
+
+-- one of these voids names the place
+abbrev pub names : (place : ℕ) → Voided → Bool
+names place v = place == v.place
+
+-- an entry stands where no void names it
+abbrev pub row_among : List Voided → Entered → Option journal.EntryRow
+row_among vs e = row_from e.entry (not (list_any (names e.entry.place) vs))
+
+-- the entries of a meter in their order, as the query shows them, and the voids of its entries
+abbrev pub ShowsEntries : (meter : List ℕ) → List Fact → List Row → Type 0
+ShowsEntries meter facts rows = (opening : Opening) → opening_of facts meter ≡ Some opening
+    → rows ≡ map entry_shown (reverse (entered_rows opening (rows_of facts opening)))
+
+pub record ShowsVoids (meter : List ℕ) (facts : List Fact) (rows : List Row) : Type 0 where
+  pub lawful : AreLawful facts
+  pub voids : List Voided
+  pub shown : rows ≡ map voided_shown voids
+  pub all : IsPermutation (filter (is_void_of meter) (map voided (voids_in facts))) voids
+
+-- the rows of a journal are those of these entries and voids, in their order
+abbrev pub AreJournal : (entries voids : List Row) → List journal.EntryRow → Type 0
+AreJournal entries voids rows = (es : List Entered) (vs : List Voided) → entries ≡ map entry_shown es
+    → voids ≡ map voided_shown vs → rows ≡ filter_map (row_among vs) es
+
+-- the rows of a meter, the oldest first
+abbrev pub FindsJournal : (meter : List ℕ) → List Fact → List journal.EntryRow → Type 0
+FindsJournal meter facts rows =
+    (opening : Opening) → opening_of facts meter ≡ Some opening → latest_first rows ≡ rows_of facts opening

@@ -1,0 +1,4 @@
+pub mod Looking
+pub mod Meters
+pub mod Entries
+pub mod Places

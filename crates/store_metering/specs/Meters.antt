@@ -1,0 +1,61 @@
+-- What the rows of single tables say of a meter.
+use Rattle.std.specs.Prelude.{◌≡◌, ℕ, List, length, Option, Some, None, IfSome, string_bytes, unwrap_or}
+use Rattle.office_events.specs.declared.facts.Opening.{Opening}
+use Rattle.office_events.specs.declared.facts.Fact.{Fact}
+use Rattle.office_events.specs.declared.questions.Installation.{Installation}
+use Rattle.office_rules.specs.Facts.{openings_in, opening_of}
+use Rattle.office_rules.specs.Meters.{installation_of}
+use Rattle.store_meters.specs.Rows.{IsInstalled}
+use Rattle.store_meters.specs.declared.rows.InstallationRow.{InstallationRow}
+use Rattle.store_meters.specs.declared.rows.Installation as stored
+use Rattle.store_entries.specs.declared.rows.EntryRow.{EntryRow}
+use Rattle.store_facts.specs.Rows.{installed_row, opening_row}
+
+-- the row is that of an opening, which is the only one of its meter
+pub record IsRowOf (facts : List Fact) (opening : Opening) (found : stored.Installation) : Type 0 where
+  pub place : ℕ
+  pub row : IsInstalled (installed_row facts place opening) found
+  pub alone : opening_of facts opening.meter ≡ Some opening
+
+-- the row of an opening was found, or none where there is no opening
+abbrev pub FindsRow : List Fact → Option Opening → Option stored.Installation → Type 0
+FindsRow facts None found = found ≡ None
+FindsRow facts (Some opening) None = ⊥
+FindsRow facts (Some opening) (Some row) = IsRowOf facts opening row
+
+-- how many counts the counter of the meter has, and the entry of its opening
+abbrev pub FindsRange : (meter : List ℕ) → List Fact → Option ℕ → Type 0
+FindsRange meter facts found =
+    IfSome found (λ range. (opening : Opening) → opening_of facts meter ≡ Some opening → range ≡ opening.range)
+
+abbrev pub FindsFirst : (meter : List ℕ) → List Fact → Option EntryRow → Type 0
+FindsFirst meter facts found =
+    IfSome found (λ entry. (opening : Opening) → opening_of facts meter ≡ Some opening → entry ≡ opening_row opening)
+
+-- the opening that the rows of three tables are, and the installation
+abbrev pub opening_from : stored.Installation → (range : ℕ) → EntryRow → Opening
+opening_from row range first = record {
+  meter = string_bytes row.meter;
+  register = string_bytes row.register;
+  ceiling = row.row.ceiling;
+  range = range;
+  at = first.moment;
+  raw = first.raw;
+  sf = first.sf;
+}
+
+abbrev pub standing_from : Opening → InstallationRow → Installation
+standing_from opening row = record {
+  opening = opening;
+  last = record { at = row.last.moment; raw = row.last.raw; sf = row.last.sf };
+  total = row.last.total;
+  ended = row.is_ended;
+}
+
+-- the installation of a row that was found
+abbrev pub IsStanding : stored.Installation → List Fact → Installation → Type 0
+IsStanding row facts found = (opening : Opening) → IsRowOf facts opening row → found ≡ installation_of facts opening
+
+-- the greatest place counts the meters
+abbrev pub CountsOpenings : List Fact → Option ℕ → Type 0
+CountsOpenings facts place = unwrap_or place 0 ≡ length (openings_in facts)

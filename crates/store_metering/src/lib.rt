@@ -1,0 +1,14 @@
+//! Look-ups of meters over the tables of the books.
+#![tactic(auto)]
+
+mod entries;
+mod journal;
+mod meters;
+mod places;
+mod rows;
+mod standing;
+mod streams;
+
+pub use entries::entry;
+pub use meters::{installation, installation_count, meter};
+pub use streams::{intervals, register_intervals};
