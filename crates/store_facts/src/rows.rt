@@ -82,10 +82,10 @@ fn kind(kind: EntryKind) -> store_entries::EntryKind
 }
 
 /// An entry at a place, and the scale factor behind it.
-pub fn entry_row(of: EntryKind, entry: Entry, place: u64, sf: i16) -> EntryRow
-    ensures row { result ≡ rows.entry_row sf
+pub fn entry_row(of: EntryKind, entry: Entry, place: u64, sf: &i16) -> EntryRow
+    ensures row { result ≡ rows.entry_row sf.now
         (record { place = place; kind = of; entry = entry; stands = true }) }
-    ensures sound { IsPlace place → moment_of entry ≤ latest_moment → IsTrue (is_within 3 sf)
+    ensures sound { IsPlace place → moment_of entry ≤ latest_moment → IsTrue (is_within 3 sf.now)
         → IsSoundEntry result }
 {
     match entry {
@@ -96,7 +96,7 @@ pub fn entry_row(of: EntryKind, entry: Entry, place: u64, sf: i16) -> EntryRow
             raw,
             rolls,
             after: 0,
-            sf,
+            sf: *sf,
         },
         Entry::Change {
             at,
@@ -110,7 +110,7 @@ pub fn entry_row(of: EntryKind, entry: Entry, place: u64, sf: i16) -> EntryRow
             raw: before,
             rolls: 0,
             after,
-            sf,
+            sf: *sf,
         },
     }
 }
