@@ -1,6 +1,7 @@
 -- Rows that are entered, and the facts that they record.
-use Rattle.std.proofs.Common.{◌≡◌, ℕ, List, refl, subst}
+use Rattle.std.proofs.Common.{◌≡◌, ℕ, List, map, refl, subst}
 use Rattle.office_events.specs.declared.facts.Device.{Device}
+use Rattle.office_events.specs.declared.facts.DeviceList.{DeviceList}
 use Rattle.office_events.specs.declared.facts.Register.{Register}
 use Rattle.office_events.specs.declared.facts.HeldReading.{HeldReading}
 use Rattle.office_events.specs.declared.facts.Poll.{Poll}
@@ -12,18 +13,20 @@ use Rattle.store_tables.specs.Answer.{every}
 use Rattle.store_tables.specs.Content.{Content, Edits, with_row}
 use Rattle.store_lists.specs.Trees as list_tree
 use Rattle.store_lists.specs.declared.rows.DeviceRow.{DeviceRow}
+use Rattle.store_lists.specs.declared.rows.Point.{Point}
 use Rattle.store_lists.specs.declared.rows.RegisterRow.{RegisterRow}
-use Rattle.store_lists.specs.Rows.{Added, Registered, device_columns, device_place, register_columns, register_place}
+use Rattle.store_lists.specs.Rows.{Added, Registered, device_columns, device_place, listed_at, point_columns, register_columns, register_place, with_list}
 use Rattle.store_polls.specs.Trees as poll_tree
 use Rattle.store_polls.specs.declared.rows.PollRow.{PollRow}
 use Rattle.store_polls.specs.declared.rows.OutcomeRow.{OutcomeRow}
 use Rattle.store_polls.specs.declared.rows.HoldRow.{HoldRow}
 use Rattle.store_polls.specs.declared.rows.ReplyKind.{ReplyKind}
 use Rattle.store_polls.specs.Rows.{Started, Held, Kept, poll_columns, outcome_columns, hold_columns, hold_place, reply_columns}
-use Rattle.store_facts.specs.Rows.{added, registered, started, outcome_row, held_row, reply_kind, kept}
+use Rattle.store_facts.specs.Rows.{added, listed, placed_on, registered, started, outcome_row, held_row, reply_kind, kept}
 use Rattle.store_facts.specs.Recording.{Records, IsNext}
 use Rattle.store_facts.proofs.Recorded.{device_recorded, register_recorded, poll_recorded, outcome_recorded, reply_recorded}
 use Rattle.store_facts.proofs.Held.{hold_recorded}
+use Rattle.store_facts.proofs.Listed.{list_recorded}
 
 -- ---- devices
 
@@ -39,6 +42,17 @@ device_entered device place name row name_is row_is before mid after next adds =
     let is : (let d : Added = record { name = name; row = row } in d) ≡ added place device = λ i. record { name = name_is i; row = row_is i } in
     device_recorded device place before after next.behind
     (subst (λ (d : Added). Edits list_tree.devices device_columns (with_row d) before after) is (subst (λ held. AddsDevice name row held after) next.same adds))
+
+-- ---- lists
+
+abbrev pub PutsList : (device : List ℕ) → List Point → Content → Content → Type 0
+PutsList device ps = Edits list_tree.points point_columns (with_list device ps)
+
+pub list_entered : (put : DeviceList) (device : List ℕ) (ps : List Point) → device ≡ put.device
+    → ((d : List ℕ) → map (listed_at d) ps ≡ placed_on (listed d) 0 put.list.points)
+    → (held after : Content) → PutsList device ps held after → Records (fact.List put) held after
+list_entered put device ps device_is are held after puts =
+    list_recorded put ps held after (are put.device) (subst (λ d. PutsList d ps held after) device_is puts)
 
 -- ---- registers
 

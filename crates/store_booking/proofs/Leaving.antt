@@ -43,3 +43,14 @@ Then P Q held after = (mid : Content) × P held mid × Q mid after
 pub went_on : {X Y D : Type 0} (a b c : State) (x : X) (n : Y) (P Q : Content → Content → Type 0) → Goes {X = X} {E = D} a b (Ok x) P → Steps {X = Y} {E = Error} b c (Ok n) Q
     → Goes {X = Y} {E = Error} a c (Ok n) (Then P Q)
 went_on a b c x n P Q one two = going.goes_then a b c x (Ok n) P Q (Then P Q) one (going.of_steps b c (Ok n) Q two) (λ before mid after p q. (mid, p, q))
+
+-- a call failed, after what went well
+pub broken : {X Y Z D E : Type 0} (T : RowFault → Type 0) (a b c : State) (x : X) (e : E) (r : Result Z RowFault) (P Q R : Content → Content → Type 0)
+    → Goes {X = X} {E = D} a b (Ok x) P → Goes {X = Y} b c (Err e) Q → IsErrAnd r T → Goes a c r R
+broken T a b c x e (Ok z) P Q R one two is = absurd is
+broken T a b c x e (Err d) P Q R one two is = going.then_failed a b c x e d P Q R one two
+
+-- what was told is refused
+pub turned_down : {X Z D : Type 0} (T : RowFault → Type 0) (a b : State) (x : X) (r : Result Z RowFault) (P R : Content → Content → Type 0) → Goes {X = X} {E = D} a b (Ok x) P → IsErrAnd r T → Goes a b r R
+turned_down T a b x (Ok z) P R one is = absurd is
+turned_down T a b x (Err d) P R one is = going.then_refused a b x d P R one

@@ -1,12 +1,15 @@
--- The place behind the last row, as a query shows that.
-use Rattle.std.specs.Prelude.{ℕ, ◌+◌, nat_le, List, Option, Some, None, Result, Ok, Err, ⊤, if◌then◌else◌}
+-- What the tables are asked inside a transaction: the place behind the last row, and a row of a key.
+use Rattle.std.specs.Prelude.{◌≡◌, ℕ, ◌+◌, Bool, nat_le, List, Option, Some, None, Result, Ok, Err, ⊤, if◌then◌else◌}
 use Rattle.std.specs.List.{slice_get}
 use Rattle.sqlite.specs.Order.{Row, column}
 use Rattle.store_tables.specs.declared.faults.RowFault.{RowFault}
 use Rattle.store_tables.specs.declared.faults.RowFault.TheVariants.{Damaged}
 use Rattle.store_tables.specs.Columns.{whole_in, or_damaged, and_then}
-use Rattle.store_tables.specs.Content.{Content}
+use Rattle.store_tables.specs.Answer.{IsFound}
+use Rattle.store_tables.specs.Content.{Content, HasRows}
 use Rattle.store_tables.specs.Limits.{greatest_place}
+use Rattle.store_meters.specs.declared.rows.LastRow.{LastRow}
+use Rattle.store_meters.specs.Rows.{Installed}
 
 -- one place on, unless it is the last that there is
 abbrev pub one_on : ℕ → Result ℕ RowFault
@@ -27,3 +30,11 @@ next_in rows = place_after (slice_get rows 0)
 abbrev pub Answered : {X E : Type 0} → Result X E → (X → Content → Content → Type 0) → Content → Content → Type 0
 Answered (Ok x) Makes = Makes x
 Answered (Err e) Makes = λ held after. ⊤
+
+-- The answer is what is seen of a row that passes, and nothing was changed.
+pub record IsSeenIn {X A : Type 0} (tree : ℕ) (columns : X → Row) (passes : X → Bool) (IsSeen : X → A → Type 0) (answer : A) (held after : Content) : Type 0 where
+  pub same : after ≡ held
+  pub seen : (rows : List X) → HasRows tree columns rows held → IsFound passes IsSeen rows (Some answer)
+
+abbrev pub StandsThere : Installed → LastRow → Type 0
+StandsThere i last = last ≡ i.row.last

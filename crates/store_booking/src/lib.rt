@@ -1,13 +1,20 @@
-//! Facts that are entered in the tables of the books, inside a transaction.
+//! Facts that are entered in the tables of the books, inside a transaction, and booked in one.
 #![tactic(auto)]
 
+mod books;
 mod devices;
+mod lists;
 mod meters;
+mod moving;
 mod places;
 mod polls;
 mod registers;
+mod standing;
 
+pub use books::book_facts;
 pub use devices::enter_device;
+pub use lists::enter_list;
 pub use meters::enter_opening;
+pub use moving::enter_entry;
 pub use polls::{enter_hold, enter_outcome, enter_poll, enter_reply};
 pub use registers::enter_register;

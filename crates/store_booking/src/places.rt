@@ -3,6 +3,8 @@ ghost use Rattle.std.specs.Prelude.{◌≡◌, IfOk};
 ghost use Rattle.sqlite.specs.Held.{state};
 ghost use Rattle.store_tables.specs.Answer.{every};
 ghost use Rattle.store_tables.specs.Limits.{IsPlace};
+ghost use Rattle.store_entries.specs.Rows.{entry_columns, entry_place, is_of};
+ghost use Rattle.store_entries.specs.Trees as entry_tree;
 ghost use Rattle.store_lists.specs.Rows.{device_columns, device_place, register_columns};
 ghost use Rattle.store_lists.specs.Rows.{register_place};
 ghost use Rattle.store_lists.specs.Trees as list_tree;
@@ -15,6 +17,7 @@ ghost use Rattle.store_facts.specs.Recording.{IsNext};
 ghost use Rattle.store_booking.specs.Places.{place_behind, next_in, Answered};
 
 use sqlite::{Alter, Row, Transaction};
+use store_entries::last_entry_rows;
 use store_lists::{last_device_rows, last_register_rows};
 use store_meters::last_installation_rows;
 use store_polls::last_hold_rows;
@@ -86,5 +89,16 @@ pub fn next_installation<S: Alter>(tx: &mut Transaction<'_, S>) -> Result<u64, R
         (IsNext meter_tree.installations installed_columns every installed_place)) }
 {
     let rows = last_installation_rows(tx)?;
+    next_place(&rows)
+}
+
+/// The place of the next entry of a meter.
+pub fn next_entry<S: Alter>(tx: &mut Transaction<'_, S>, meter: &str) -> Result<u64, RowFault>
+    ensures same_reference { tx.new.conn.ghost_name ≡ tx.old.conn.ghost_name }
+    ensures sound { IfOk result IsPlace }
+    ensures does { Goes (state S.Store tx.old.conn.now) (state S.Store tx.new.conn.now) result
+        (Answered result (IsNext entry_tree.entries entry_columns (is_of meter.now) entry_place)) }
+{
+    let rows = last_entry_rows(tx, meter)?;
     next_place(&rows)
 }

@@ -16,7 +16,7 @@ use store_lists::insert_register;
 use store_tables::RowFault;
 
 /// Whether a scale factor is one that a register may have.
-fn is_scale(sf: i16) -> bool
+pub fn is_scale(sf: i16) -> bool
     ensures { result ≡ is_within 3 sf }
 {
     -3 <= sf && sf <= 3

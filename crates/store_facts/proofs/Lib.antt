@@ -9,3 +9,7 @@ pub mod Held
 pub mod EntryRecorded
 pub mod Opened
 pub mod Listed
+pub mod ListPoints
+pub mod Standing
+pub mod Following
+pub mod Committed

@@ -1,11 +1,12 @@
 -- Which facts a connection holds, and which of them a stop leaves.
-use Rattle.std.specs.Prelude.{◌≡◌, ◌⊎◌, ℕ, false, List, [], ◌∷◌, IsTrue}
+use Rattle.std.specs.Prelude.{◌≡◌, ◌≢◌, ◌⊎◌, ℕ, false, List, [], ◌∷◌, ◌++◌, reverse, Result, IsOk, IsTrue, OnOk, OnErr}
 use Rattle.sqlite.specs.Tree.{Trees}
 use Rattle.sqlite.specs.Effect.{Database}
 use Rattle.sqlite.specs.Store.{Ghosts}
 use Rattle.sqlite.specs.Held.{Held, state}
 use Rattle.sqlite.specs.State.{HasCleanDisk, KeepsCommit}
 use Rattle.office_events.specs.declared.facts.Fact.{Fact}
+use Rattle.office_rules.specs.Lawful.{AreLawful}
 use Rattle.store_tables.specs.Content.{Content, AreTables}
 use Rattle.store_facts.specs.Tables.{AreOf}
 
@@ -44,3 +45,15 @@ module _ {S : Type 0} (g : Ghosts S) (zone : List ℕ) where
     pub kept : (facts : List Fact) → HoldsFacts old facts → HasCleanDisk (state g new) → KeepsCommit (state g old) (state g new)
     pub left : (facts : List Fact) → HoldsFacts old facts → HasCleanDisk (state g new)
         → (trees : Trees) → (state g new).may_leave trees → (state g old).may_leave trees
+
+  -- Facts that may follow those that are held were booked at Ok, all of them, and a stop leaves nothing else from then on.
+  -- At a fault none is held, and a stop may yet leave all of them. To book no facts does nothing.
+  pub record BooksFacts {X E : Type 0} (fs : List Fact) (old new : Held S) (result : Result X E) : Type 0 where
+    pub clean : HasCleanDisk (state g new) → HasCleanDisk (state g old)
+    pub booked : (facts : List Fact) → HoldsFacts old facts → AreLawful (reverse fs ++ facts) → OnOk result (HoldsFacts new (reverse fs ++ facts))
+    pub settled : fs ≢ [] → (facts : List Fact) → HoldsFacts old facts → AreLawful (reverse fs ++ facts)
+        → OnOk result (LeavesFacts new ((reverse fs ++ facts) ∷ []))
+    pub refused : (facts : List Fact) → HoldsFacts old facts → OnErr result (HoldsFacts new facts)
+    pub under_way : (facts : List Fact) (left : List (List Fact)) → HoldsFacts old facts → AreLawful (reverse fs ++ facts) → LeavesFacts old left
+        → OnErr result (LeavesFacts new (left ++ (reverse fs ++ facts) ∷ []))
+    pub nothing : fs ≡ [] → (new ≡ old) × IsOk result

@@ -1,5 +1,7 @@
 //! The rows of facts.
-ghost use Rattle.std.specs.Prelude.{◌≡◌, ◌≤◌, true};
+ghost use Rattle.std.specs.Prelude.{◌≡◌, ◌≤◌, true, IsTrue};
+ghost use Rattle.energy_core.specs.Account.{moment_of};
+ghost use Rattle.store_tables.specs.Columns.{is_within};
 ghost use Rattle.store_tables.specs.Limits.{IsPlace, latest_moment};
 ghost use Rattle.store_lists.specs.Rows.{IsSoundDevice, IsSoundRegister, IsSoundScale};
 ghost use Rattle.store_meters.specs.Rows.{IsSoundInstallation};
@@ -80,9 +82,11 @@ fn kind(kind: EntryKind) -> store_entries::EntryKind
 }
 
 /// An entry at a place, and the scale factor behind it.
-pub fn entry_row(of: EntryKind, entry: Entry, place: u64, sf: i16) -> EntryRow
-    ensures { result ≡ rows.entry_row sf
+pub fn entry_row(of: EntryKind, entry: Entry, place: u64, sf: &i16) -> EntryRow
+    ensures row { result ≡ rows.entry_row sf.now
         (record { place = place; kind = of; entry = entry; stands = true }) }
+    ensures sound { IsPlace place → moment_of entry ≤ latest_moment → IsTrue (is_within 3 sf.now)
+        → IsSoundEntry result }
 {
     match entry {
         Entry::Step { at, raw, rolls } => EntryRow {
@@ -92,7 +96,7 @@ pub fn entry_row(of: EntryKind, entry: Entry, place: u64, sf: i16) -> EntryRow
             raw,
             rolls,
             after: 0,
-            sf,
+            sf: *sf,
         },
         Entry::Change {
             at,
@@ -106,7 +110,7 @@ pub fn entry_row(of: EntryKind, entry: Entry, place: u64, sf: i16) -> EntryRow
             raw: before,
             rolls: 0,
             after,
-            sf,
+            sf: *sf,
         },
     }
 }

@@ -1,0 +1,29 @@
+//! Point lists of devices.
+ghost use Rattle.std.specs.Prelude.{◌≡◌};
+ghost use Rattle.sqlite.specs.Held.{state};
+ghost use Rattle.office_events.specs.declared.facts.Fact.TheVariants as fact;
+ghost use Rattle.store_facts.specs.Going.{Goes};
+ghost use Rattle.store_facts.specs.Recording.{Records};
+
+use office_events::DeviceList;
+use sqlite::{Alter, Transaction};
+use std::alloc::Global;
+use store_facts::{points_at, text};
+use store_lists::replace_points;
+use store_tables::RowFault;
+
+/// Enters a list in the place of the one that its device has.
+pub fn enter_list<S: Alter>(
+    alloc: Global,
+    tx: &mut Transaction<'_, S>,
+    put: &DeviceList,
+) -> Result<(), RowFault>
+    ensures same_reference { tx.new.conn.ghost_name ≡ tx.old.conn.ghost_name }
+    ensures does { Goes (state S.Store tx.old.conn.now) (state S.Store tx.new.conn.now) result
+        (Records (fact.List put.now)) }
+{
+    let device = text(&put.device)?;
+    let points = points_at(alloc, put.list.points())?;
+    replace_points(tx, device, &points)?;
+    Ok(())
+}
