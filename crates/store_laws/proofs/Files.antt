@@ -1,8 +1,7 @@
 -- What the making and the opening of a file leave in its tables.
-use Rattle.std.proofs.Common.{◌≡◌, ◌≢◌, ℕ, List, [], ◌∷◌, map, sym, subst, refl, IsPermutation, arith}
+use Rattle.std.proofs.Common.{◌≡◌, ◌≢◌, ℕ, List, [], map, sym, subst, refl, IsPermutation, arith}
 use Rattle.std.proofs.lemmas.List.Sorted.{IsPermutation-refl}
 use Rattle.sqlite.specs.Order.{Row}
-use Rattle.sqlite.specs.Effect.{Database}
 use Rattle.office_events.specs.declared.facts.Fact.{Fact}
 use Rattle.office_rules.specs.Facts.{devices_in, registers_in, openings_in, holds_in, voids_in, replies_in, polls_in, ended_in}
 use Rattle.store_tables.specs.Content.{Content, HasRows}
@@ -17,7 +16,6 @@ use Rattle.store_intervals.specs.Rows.{interval_columns}
 use Rattle.store_polls.specs.Trees as poll_tree
 use Rattle.store_polls.specs.Rows.{poll_columns, outcome_columns, hold_columns, reply_columns}
 use Rattle.store_files.specs.declared.layouts.Layout.TheVariants.{Third}
-use Rattle.store_files.specs.Making.{IsNew}
 use Rattle.store_files.specs.Bringing.{IsBrought}
 use Rattle.store_facts.specs.Rows.{placed, added, registered, installed_row, ranged, voided, started, outcome_row, held_row, kept}
 use Rattle.store_facts.specs.Tables.{AreOf}
