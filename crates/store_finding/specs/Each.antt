@@ -1,0 +1,9 @@
+-- Two lists, element by element.
+use Rattle.std.specs.Prelude.{List, [], ◌∷◌}
+
+-- as many, and each stands in the relation to the other of its place
+abbrev pub AreEach : {X A : Type 0} → (Is : X → A → Type 0) → List X → List A → Type 0
+AreEach Is [] [] = Unit {0}
+AreEach Is [] (v ∷ vs) = ⊥
+AreEach Is (x ∷ xs) [] = ⊥
+AreEach Is (x ∷ xs) (v ∷ vs) = Is x v × AreEach Is xs vs

@@ -1,0 +1,4 @@
+pub mod Each
+pub mod Finding
+pub mod Reading
+pub mod Sound

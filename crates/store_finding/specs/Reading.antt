@@ -1,0 +1,95 @@
+-- What rows stand for.
+use Rattle.std.specs.Prelude.{◌≡◌, ℕ, nat_le, ◌&&◌, if◌then◌else◌, List, Option, Some, None, Result, Ok, Err, string_bytes}
+use Rattle.office_events.specs.Names.{named}
+use Rattle.office_events.specs.declared.answers.CommandKind.{CommandKind}
+use Rattle.office_events.specs.declared.answers.CommandKind.TheVariants as command
+use Rattle.office_events.specs.declared.facts.Device.{Device}
+use Rattle.office_events.specs.declared.facts.Register.{Register}
+use Rattle.office_events.specs.declared.facts.ScaleSource.{ScaleSource}
+use Rattle.office_events.specs.declared.facts.ScaleSource.TheVariants as source
+use Rattle.office_events.specs.declared.facts.Poll.{Poll}
+use Rattle.office_events.specs.declared.facts.EndedPoll.{EndedPoll}
+use Rattle.store_tables.specs.declared.faults.RowFault.{RowFault}
+use Rattle.store_tables.specs.Columns.{or_damaged, and_then}
+use Rattle.store_lists.specs.declared.rows.DeviceRow.{DeviceRow}
+use Rattle.store_lists.specs.declared.rows.RegisterRow.{RegisterRow}
+use Rattle.store_lists.specs.declared.rows.RegisterScale.{RegisterScale}
+use Rattle.store_lists.specs.declared.rows.RegisterScale.TheVariants as scale
+use Rattle.store_lists.specs.Rows.{Added, Registered}
+use Rattle.store_polls.specs.declared.rows.PollRow.{PollRow}
+use Rattle.store_polls.specs.declared.rows.OutcomeRow.{OutcomeRow}
+use Rattle.store_polls.specs.Rows.{Started}
+use Rattle.store_polls.specs.declared.rows.ReplyKind.{ReplyKind}
+use Rattle.store_polls.specs.declared.rows.ReplyKind.TheVariants as reply
+use Rattle.store_polls.specs.declared.rows.Repeat as kept
+use Rattle.store_polls.specs.declared.rows.Repeat.TheVariants as kept_as
+use Rattle.office_books.specs.declared.repeats.Repeat.{Repeat}
+use Rattle.office_books.specs.declared.repeats.Repeat.TheVariants.{Same, Other}
+use Rattle.store_facts.specs.Rows.{added, registered, started, outcome_row}
+
+-- ---- devices
+
+-- the device of a name and these numbers, or damage
+abbrev pub device_with : (name : List ℕ) → DeviceRow → Result Device RowFault
+device_with text row =
+    and_then (or_damaged (named text)) (λ name.
+    and_then (or_damaged (if nat_le 1 row.timeout && nat_le row.timeout 60 then Some row.timeout else None)) (λ timeout.
+    and_then (or_damaged (if nat_le 1 row.window && nat_le row.window 16 then Some row.window else None)) (λ window.
+    Ok (record { name = name; unit = row.unit; timeout = timeout; window = window }))))
+
+-- whatever device the row stands for, it is this
+abbrev pub IsDeviceOf : Added → Device → Type 0
+IsDeviceOf row device = (place : ℕ) (d : Device) → row ≡ added place d → device ≡ d
+
+-- ---- registers
+
+abbrev pub source_from : RegisterScale → ScaleSource
+source_from (scale.Fixed sf) = source.Fixed sf
+source_from (scale.At address) = source.Register address
+
+abbrev pub register_with : (name device : List ℕ) → RegisterRow → Result Register RowFault
+register_with text of row =
+    and_then (or_damaged (named text)) (λ name.
+    and_then (or_damaged (named of)) (λ device.
+    Ok (record { name = name; device = device; function = row.function; address = row.address; scale = source_from row.scale })))
+
+abbrev pub IsRegisterOf : Registered → Register → Type 0
+IsRegisterOf row register = (place : ℕ) (r : Register) → row ≡ registered place r → register ≡ r
+
+-- ---- polls
+
+-- the poll has the row's device and its numbers
+pub record HasNumbers (name : List ℕ) (row : PollRow) (poll : Poll) : Type 0 where
+  pub number : poll.number ≡ row.number
+  pub device : poll.device ≡ name
+  pub unit : poll.unit ≡ row.unit
+  pub at : poll.at ≡ row.started
+  pub id : poll.id ≡ row.id
+  pub function : poll.span.function ≡ row.function
+  pub address : poll.span.address ≡ row.address
+  pub count : poll.span.count ≡ row.count
+
+abbrev pub IsPollOf : Started → Poll → Type 0
+IsPollOf row poll = (p : Poll) → row ≡ started p → poll ≡ p
+
+abbrev pub ended_from : OutcomeRow → EndedPoll
+ended_from row = record { poll = row.poll; at = row.moment; outcome = row.outcome }
+
+-- ---- replies
+
+abbrev pub kind_from : ReplyKind → CommandKind
+kind_from reply.Device = command.Device
+kind_from reply.List = command.List
+kind_from reply.Register = command.Register
+kind_from reply.Install = command.Install
+kind_from reply.Exchange = command.Exchange
+kind_from reply.Reset = command.Reset
+kind_from reply.Rescale = command.Rescale
+kind_from reply.Manual = command.Manual
+kind_from reply.Close = command.Close
+kind_from reply.Void = command.Void
+kind_from reply.Start = command.Start
+
+abbrev pub repeat_from : kept.Repeat → Repeat
+repeat_from (kept_as.Same kind) = Same (kind_from kind)
+repeat_from kept_as.Other = Other

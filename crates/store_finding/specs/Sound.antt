@@ -1,0 +1,38 @@
+-- Rows whose values the tables and the office can have.
+use Rattle.std.specs.Prelude.{◌≡◌, ℕ, List, map, true, string_bytes}
+use Rattle.std.specs.List.{AllByRecursion}
+use Rattle.office_events.specs.declared.facts.Fact.{Fact}
+use Rattle.office_events.specs.Names.{is_name}
+use Rattle.office_rules.specs.Facts.{devices_in, registers_in, polls_in, ended_in, replies_in}
+use Rattle.store_lists.specs.Rows.{Added, Registered, IsSoundAdded, IsSoundRegistered}
+use Rattle.store_polls.specs.Rows.{Started, IsSoundStarted, IsSoundOutcome, IsSoundKept}
+use Rattle.store_facts.specs.Rows.{placed, added, registered, started, outcome_row, kept}
+
+pub record IsReadableDevice (d : Added) : Type 0 where
+  pub row : IsSoundAdded d
+  pub name : is_name d.name ≡ true
+
+pub record IsReadableRegister (r : Registered) : Type 0 where
+  pub row : IsSoundRegistered r
+  pub name : is_name r.name ≡ true
+  pub device : is_name r.device ≡ true
+
+pub record IsReadablePoll (p : Started) : Type 0 where
+  pub row : IsSoundStarted p
+  pub device : is_name p.device ≡ true
+
+-- The rows that the tables have for the facts can be read.
+abbrev pub HasReadableDevices : List Fact → Type 0
+HasReadableDevices facts = AllByRecursion IsReadableDevice (placed added (devices_in facts))
+
+abbrev pub HasReadableRegisters : List Fact → Type 0
+HasReadableRegisters facts = AllByRecursion IsReadableRegister (placed registered (registers_in facts))
+
+abbrev pub HasReadablePolls : List Fact → Type 0
+HasReadablePolls facts = AllByRecursion IsReadablePoll (map started (polls_in facts))
+
+abbrev pub HasReadableOutcomes : List Fact → Type 0
+HasReadableOutcomes facts = AllByRecursion IsSoundOutcome (map outcome_row (ended_in facts))
+
+abbrev pub HasReadableReplies : List Fact → Type 0
+HasReadableReplies facts = AllByRecursion IsSoundKept (map kept (replies_in facts))

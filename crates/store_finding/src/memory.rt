@@ -1,0 +1,26 @@
+//! Want of memory.
+ghost use Rattle.std.specs.Prelude.{◌≡◌, [], ◌∷◌, ◌++◌, IfErr, OnOk};
+ghost use Rattle.sqlite.specs.declared.error.ErrorCode.TheVariants.{OutOfMemory};
+ghost use Rattle.sqlite.specs.declared.error.Error.TheVariants.{SqliteFailure};
+ghost use Rattle.store_tables.specs.declared.faults.RowFault.TheVariants.{Sql};
+
+use sqlite::{Error, ErrorCode};
+use store_tables::RowFault;
+
+/// The fault that tells want of memory.
+fn want_of_memory() -> RowFault
+    ensures { result ≡ Sql (SqliteFailure OutOfMemory) }
+{
+    RowFault::Sql(Error::SqliteFailure(ErrorCode::OutOfMemory))
+}
+
+/// Puts an item behind the others.
+pub(crate) fn put<T: Drop>(items: &mut Vec<T>, item: T) -> Result<(), RowFault>
+    ensures put { OnOk result (items.new.items ≡ items.old.items ++ item ∷ []) }
+    ensures fault { IfErr result (λ e. e ≡ Sql (SqliteFailure OutOfMemory)) }
+{
+    match items.push(item) {
+        Ok(()) => Ok(()),
+        Err(_) => Err(want_of_memory()),
+    }
+}
