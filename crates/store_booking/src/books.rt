@@ -16,7 +16,7 @@ use sqlite::{Alter, Connection, Transaction};
 use std::alloc::Global;
 use store_tables::{RowFault, touch};
 
-/// Enters a fact.
+/// Enters a fact. A void is not entered yet: it is answered as damage.
 fn enter_fact<S: Alter>(
     alloc: Global,
     tx: &mut Transaction<'_, S>,
@@ -74,7 +74,7 @@ fn commit_facts<S: Alter>(
 }
 
 /// Books facts that may follow those that are held, all of them or none, whatever stops the call. The commit is its last
-/// call of the database; to book no facts makes none.
+/// call of the database; to book no facts makes none. Facts with a void are answered as damage: voids are not booked yet.
 pub fn book_facts<S: Alter>(
     alloc: Global,
     conn: &mut Connection<S>,
