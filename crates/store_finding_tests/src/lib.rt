@@ -1,0 +1,7 @@
+//! Tests of look-ups over the tables, over a database in memory.
+#![tactic(auto)]
+
+#[cfg(test)]
+mod finding;
+#[cfg(test)]
+mod given;
