@@ -1,0 +1,9 @@
+//! Tests of facts that are booked in the tables, over a database in memory.
+#![tactic(auto)]
+
+#[cfg(test)]
+mod booked;
+#[cfg(test)]
+mod facts;
+#[cfg(test)]
+mod given;
