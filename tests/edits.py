@@ -50,7 +50,25 @@ def load_rt():
     loader = importlib.machinery.SourceFileLoader("rt", f"{kit}/bin/rt")
     made = importlib.util.module_from_spec(importlib.util.spec_from_loader("rt", loader))
     loader.exec_module(made)
+    remember(made.rtlib.Crate)
     return made
+
+
+def remember(crate):
+    """Keeps each crate's sum and the libraries below it, which rt makes anew along every path; no library changes here."""
+    for name in ("stamp", "below"):
+        setattr(crate, name, once_a_folder(getattr(crate, name)))
+
+
+def once_a_folder(make):
+    made = {}
+
+    def kept(it):
+        if it.folder not in made:
+            made[it.folder] = make(it)
+        return made[it.folder]
+
+    return kept
 
 
 rt = load_rt()
