@@ -1,5 +1,6 @@
 // Why words are no command line.
 use crate::table::NumberOption;
+use std::error::Error;
 use std::fmt;
 use std::fmt::{Display, Formatter};
 use word_values::DeviceFault;
@@ -63,3 +64,16 @@ impl<'a> Display for ValueFault<'a> {
         write!(f, "\n\nFor more information, try '--help'.\n")
     }
 }
+
+// The text that `clap` or a `ValueFault` wrote, whole.
+impl Display for WordsFault {
+    fn fmt<W: fmt::Write>(&self, f: &mut Formatter<W>) -> fmt::Result {
+        match self {
+            WordsFault::Wrong(text) => write!(f, "{text}"),
+            WordsFault::Help(text) => write!(f, "{text}"),
+            WordsFault::Memory => write!(f, "memory ran out"),
+        }
+    }
+}
+
+impl Error for WordsFault {}

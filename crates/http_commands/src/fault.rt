@@ -1,6 +1,9 @@
 //! Why a body asks for no command.
 use http_json::BodyFault;
 use point_list::FaultyRows;
+use std::error::Error;
+use std::fmt;
+use std::fmt::{Display, Formatter};
 
 /// Why a body asks for no command.
 #[derive(Debug, Drop)]
@@ -29,3 +32,19 @@ impl From<BodyFault> for CommandFault {
         }
     }
 }
+
+impl Display for CommandFault {
+    fn fmt<W: fmt::Write>(&self, f: &mut Formatter<W>) -> fmt::Result {
+        match self {
+            CommandFault::Malformed => write!(
+                f,
+                "the body is no JSON object, or a member that is wanted is missing or of another kind"
+            ),
+            CommandFault::Negative => write!(f, "a number of the body is negative"),
+            CommandFault::Faulty(rows) => write!(f, "{rows}"),
+            CommandFault::Memory => write!(f, "memory ran out"),
+        }
+    }
+}
+
+impl Error for CommandFault {}

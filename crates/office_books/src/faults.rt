@@ -1,6 +1,9 @@
 //! Why books did not do what they were asked.
 use office_events::{Refusal, StoreCause};
 use std::alloc::{AllocError, AllocFailed};
+use std::error::Error;
+use std::fmt;
+use std::fmt::{Display, Formatter};
 
 /// How a store failed.
 #[derive(Clone, Copy, Debug, PartialEq, Eq)]
@@ -11,12 +14,34 @@ pub enum StoreFault {
     Damaged,
 }
 
+impl Display for StoreFault {
+    fn fmt<W: fmt::Write>(&self, f: &mut Formatter<W>) -> fmt::Result {
+        f.write_str(match self {
+            StoreFault::Refused => "the store of the books refused or failed",
+            StoreFault::Damaged => "the store of the books is damaged: it holds what cannot be",
+        })
+    }
+}
+
+impl Error for StoreFault {}
+
 /// Why books did not do what they were asked.
 #[derive(Clone, Copy, Debug, PartialEq, Eq)]
 pub enum BooksFault {
     Store(StoreFault),
     Memory,
 }
+
+impl Display for BooksFault {
+    fn fmt<W: fmt::Write>(&self, f: &mut Formatter<W>) -> fmt::Result {
+        match self {
+            BooksFault::Store(fault) => write!(f, "{fault}"),
+            BooksFault::Memory => write!(f, "memory ran out"),
+        }
+    }
+}
+
+impl Error for BooksFault {}
 
 impl From<AllocError> for BooksFault {
     ghost use Rattle.std.specs.Prelude.{◌≡◌};

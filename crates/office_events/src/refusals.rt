@@ -1,5 +1,8 @@
 //! Why the office refuses an event or a question.
 use energy_core::Cause;
+use std::error::Error;
+use std::fmt;
+use std::fmt::{Display, Formatter};
 
 /// Why the store did not do what it was asked.
 #[derive(Clone, Copy, Debug, PartialEq, Eq)]
@@ -27,6 +30,18 @@ impl StoreCause {
         }
     }
 }
+
+impl Display for StoreCause {
+    fn fmt<W: fmt::Write>(&self, f: &mut Formatter<W>) -> fmt::Result {
+        f.write_str(match self {
+            StoreCause::Refused => "the store of the books refused or failed",
+            StoreCause::Damaged => "the store of the books is damaged: it holds what cannot be",
+            StoreCause::NoDay => "the store of the books gave no civil day",
+        })
+    }
+}
+
+impl Error for StoreCause {}
 
 /// Why an event or a question is refused. Of those that apply, the one with the smallest number is answered.
 #[derive(Clone, Copy, Debug, PartialEq, Eq)]
@@ -96,3 +111,59 @@ impl Refusal {
         }
     }
 }
+
+impl Display for Refusal {
+    fn fmt<W: fmt::Write>(&self, f: &mut Formatter<W>) -> fmt::Result {
+        match self {
+            Refusal::NotFound => write!(
+                f,
+                "no device, register, meter or poll has that name or number"
+            ),
+            Refusal::Exists => write!(
+                f,
+                "the name is taken, or a meter is installed at the register"
+            ),
+            Refusal::ClockBack => write!(
+                f,
+                "the moment is before that of the latest accepted event"
+            ),
+            Refusal::BadScale => write!(f, "the scale is not from -3 to 3"),
+            Refusal::NegativeStep => write!(
+                f,
+                "the counter would have gone back since the last entry"
+            ),
+            Refusal::NotLater => write!(f, "the moment is not later than that of the last entry"),
+            Refusal::SpanTooLong => write!(
+                f,
+                "more than 3000 quarter hours passed since the last entry"
+            ),
+            Refusal::TotalFull => write!(f, "the energy of the meter would pass 4 * 10^18 mWh"),
+            Refusal::Ended => write!(f, "the meter at the register was closed"),
+            Refusal::Busy => write!(
+                f,
+                "the device is not connected, is connected already, or can start no poll now"
+            ),
+            Refusal::Reused => write!(f, "the caller used the number for another request"),
+            Refusal::Limit => write!(
+                f,
+                "a name, a number or a moment is out of its range, or there is no room for one more"
+            ),
+            Refusal::Store(cause) => write!(f, "{cause}"),
+            Refusal::Memory => write!(f, "memory ran out"),
+            Refusal::Stopped => write!(
+                f,
+                "the office has stopped, as the books or memory failed while polls were settled: open it again"
+            ),
+            Refusal::NotVoidable => write!(
+                f,
+                "the entry is no reading that stands, or no reading that stands follows it"
+            ),
+            Refusal::NotPlausible(cause) => write!(
+                f,
+                "the next entry would have been held after the one before: {cause}"
+            ),
+        }
+    }
+}
+
+impl Error for Refusal {}

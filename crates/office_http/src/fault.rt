@@ -1,7 +1,10 @@
 //! Why a request was not served.
 ghost use Rattle.std.specs.Prelude.{◌≡◌};
 
-use http_read::TakeFault;
+use http_read::{MOST_TAKES, TakeFault};
+use std::error::Error;
+use std::fmt;
+use std::fmt::{Display, Formatter};
 
 /// Why a request was not served.
 #[derive(Clone, Copy, Debug, PartialEq, Eq)]
@@ -49,3 +52,22 @@ impl From<TakeFault> for HandleFault {
         }
     }
 }
+
+impl Display for HandleFault {
+    fn fmt<W: fmt::Write>(&self, f: &mut Formatter<W>) -> fmt::Result {
+        match self {
+            HandleFault::Read => write!(f, "a read of the connection failed"),
+            HandleFault::Write => write!(f, "a write to the connection failed"),
+            HandleFault::Short => write!(f, "the input ended inside the request"),
+            HandleFault::TurnsUsed => {
+                write!(f, "the request was not whole after {MOST_TAKES} reads")
+            }
+            HandleFault::Cut => write!(
+                f,
+                "the books failed while rows were written, so the reply is cut off"
+            ),
+        }
+    }
+}
+
+impl Error for HandleFault {}

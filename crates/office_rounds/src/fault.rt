@@ -2,7 +2,11 @@
 ghost use Rattle.std.specs.Prelude.{◌≡◌};
 ghost use Rattle.office_rounds.specs.Faults.{fault_number};
 
+use crate::round::MOST_TAKES;
 use office_events::Refusal;
+use std::error::Error;
+use std::fmt;
+use std::fmt::{Display, Formatter};
 
 /// Why a round was broken off.
 #[derive(Clone, Copy, Debug, PartialEq, Eq)]
@@ -30,3 +34,19 @@ impl RoundFault {
         }
     }
 }
+
+impl Display for RoundFault {
+    fn fmt<W: fmt::Write>(&self, f: &mut Formatter<W>) -> fmt::Result {
+        match self {
+            RoundFault::Refused(refusal) => write!(
+                f,
+                "the office refused an event of the round: {refusal}"
+            ),
+            RoundFault::Link => write!(f, "a read or a write of the connection failed"),
+            RoundFault::Output => write!(f, "what the office told could not be printed"),
+            RoundFault::TurnsUsed => write!(f, "the round was not over after {MOST_TAKES} reads"),
+        }
+    }
+}
+
+impl Error for RoundFault {}

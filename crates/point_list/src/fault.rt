@@ -2,6 +2,9 @@
 ghost use Rattle.std.specs.Prelude.{◌≡◌};
 
 use std::alloc::{AllocError, AllocFailed};
+use std::error::Error;
+use std::fmt;
+use std::fmt::{Display, Formatter};
 use std::marker::Model;
 
 /// Why a row is no point, in the order in which faults are looked for.
@@ -57,6 +60,30 @@ impl RowFault {
     }
 }
 
+impl Display for RowFault {
+    fn fmt<W: fmt::Write>(&self, f: &mut Formatter<W>) -> fmt::Result {
+        f.write_str(match self {
+            RowFault::Csv => "the row does not have six fields",
+            RowFault::Header => "the header is not name,function,area,address,type,scale",
+            RowFault::Name => "the name is not 1 to 32 letters, digits, _ and ., a letter first",
+            RowFault::DoubleName => "an earlier row has the same name",
+            RowFault::Function => "the function is not 3 or 4",
+            RowFault::Area => "the area is not 0 to 255",
+            RowFault::Address => "the address is not 0 to 65535, or the point reaches past 65535",
+            RowFault::Type =>
+                "the type is not int16, uint16, enum16, int32, uint32, bitfield32, acc32, sunssf or string1 to string125",
+            RowFault::Scale =>
+                "the scale is not empty, -10 to 10 or a name, or the type takes none",
+            RowFault::NoSuchScale => "no point of the type sunssf has the scale's name",
+            RowFault::GroupTooWide =>
+                "the point and its scale point differ in function or area, or span more than 125 registers",
+            RowFault::TooMany => "the list has more than 512 points",
+        })
+    }
+}
+
+impl Error for RowFault {}
+
 /// A row that is no point.
 #[derive(Clone, Copy, Debug, PartialEq, Eq)]
 pub struct FaultyRow {
@@ -64,6 +91,15 @@ pub struct FaultyRow {
     pub row: usize,
     pub fault: RowFault,
 }
+
+impl Display for FaultyRow {
+    fn fmt<W: fmt::Write>(&self, f: &mut Formatter<W>) -> fmt::Result {
+        let FaultyRow { row, fault } = self;
+        write!(f, "row {row}: {fault}")
+    }
+}
+
+impl Error for FaultyRow {}
 
 /// Faulty rows, in order of row.
 #[derive(Debug, Drop)]
@@ -100,6 +136,19 @@ impl FaultyRows {
         rows
     }
 }
+
+// The first row, and how many there are.
+impl Display for FaultyRows {
+    fn fmt<W: fmt::Write>(&self, f: &mut Formatter<W>) -> fmt::Result {
+        match self.rows.as_slice() {
+            [] => write!(f, "no row is faulty"),
+            [only] => write!(f, "{only}"),
+            [first, ..] => write!(f, "{first} (faulty rows: {})", self.rows.len()),
+        }
+    }
+}
+
+impl Error for FaultyRows {}
 
 /// Why a text or a chain gives no list.
 #[derive(Debug, Drop)]
@@ -142,3 +191,14 @@ impl<T: Drop> From<AllocFailed<T>> for ListFault {
         ListFault::Memory
     }
 }
+
+impl Display for ListFault {
+    fn fmt<W: fmt::Write>(&self, f: &mut Formatter<W>) -> fmt::Result {
+        match self {
+            ListFault::Memory => write!(f, "memory ran out"),
+            ListFault::Faults(rows) => write!(f, "{rows}"),
+        }
+    }
+}
+
+impl Error for ListFault {}

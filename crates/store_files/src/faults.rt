@@ -3,6 +3,8 @@ ghost use Rattle.std.specs.Prelude.{◌≡◌, ◌⊎◌};
 ghost use Rattle.store_files.specs.Faults.{open_fault_number, fault_of};
 
 use sqlite::{Error, ErrorCode};
+use std::fmt;
+use std::fmt::{Display, Formatter};
 
 /// Why a database doesn't become books.
 #[derive(Clone, Copy, Debug, PartialEq, Eq)]
@@ -30,6 +32,21 @@ impl OpenFault {
         }
     }
 }
+
+impl Display for OpenFault {
+    fn fmt<W: fmt::Write>(&self, f: &mut Formatter<W>) -> fmt::Result {
+        f.write_str(match self {
+            OpenFault::NotOurs =>
+                "the file holds other tables than those of books, or books of a version that is not known",
+            OpenFault::Zone =>
+                "the text is no POSIX time zone of at most 64 bytes, as UTC0 or CET-1CEST,M3.5.0,M10.5.0/3",
+            OpenFault::Store => "the database refused or failed",
+            OpenFault::Memory => "memory ran out",
+        })
+    }
+}
+
+impl std::error::Error for OpenFault {}
 
 /// What an error of the database means to whom opens the file.
 pub(crate) fn fault_of(error: Error) -> OpenFault

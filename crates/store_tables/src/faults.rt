@@ -1,5 +1,7 @@
 //! Why a row is not answered.
 use sqlite::Error;
+use std::fmt;
+use std::fmt::{Display, Formatter};
 
 /// Why a call on the tables answers no row.
 #[derive(Clone, Copy, Debug, PartialEq, Eq)]
@@ -20,3 +22,17 @@ impl From<Error> for RowFault {
         RowFault::Sql(error)
     }
 }
+
+impl Display for RowFault {
+    fn fmt<W: fmt::Write>(&self, f: &mut Formatter<W>) -> fmt::Result {
+        match self {
+            RowFault::Sql(error) => write!(f, "the database refused or failed: {error}"),
+            RowFault::Damaged => write!(
+                f,
+                "the database is damaged: a row has a value that none may have"
+            ),
+        }
+    }
+}
+
+impl std::error::Error for RowFault {}

@@ -1,6 +1,10 @@
 ghost use Rattle.std.specs.Prelude.{◌≡◌};
 ghost use Rattle.sun_chain.specs.Fault.{chain_fault_number, image_fault_number};
 
+use std::error::Error;
+use std::fmt;
+use std::fmt::{Display, Formatter};
+
 /// Why words were not put into an image.
 #[derive(Clone, Copy, Debug, PartialEq, Eq)]
 pub enum ImageFault {
@@ -19,6 +23,17 @@ impl ImageFault {
         }
     }
 }
+
+impl Display for ImageFault {
+    fn fmt<W: fmt::Write>(&self, f: &mut Formatter<W>) -> fmt::Result {
+        f.write_str(match self {
+            ImageFault::PastEnd => "the words would end past address 65535",
+            ImageFault::Memory => "memory ran out",
+        })
+    }
+}
+
+impl Error for ImageFault {}
 
 /// Why an image has no chain of models.
 #[derive(Clone, Copy, Debug, PartialEq, Eq)]
@@ -47,3 +62,23 @@ impl ChainFault {
         }
     }
 }
+
+impl Display for ChainFault {
+    fn fmt<W: fmt::Write>(&self, f: &mut Formatter<W>) -> fmt::Result {
+        match self {
+            ChainFault::NoMark => write!(
+                f,
+                "the mark SunS stands at none of the addresses 40000, 50000 and 0"
+            ),
+            ChainFault::Unreadable(address) => write!(
+                f,
+                "the chain needs address {address}, which was not read"
+            ),
+            ChainFault::PastEnd => write!(f, "the chain goes on past address 65535"),
+            ChainFault::TooMany => write!(f, "the chain has more than 64 models"),
+            ChainFault::Memory => write!(f, "memory ran out"),
+        }
+    }
+}
+
+impl Error for ChainFault {}

@@ -1,0 +1,139 @@
+//! Refusals of the office, and faults of books.
+use crate::telling::tells;
+use energy_core::Cause;
+use office_books::{BooksFault, StoreFault};
+use office_events::{Refusal, StoreCause};
+use sqlite::Error;
+use std::test::Fail;
+use store_files::OpenFault;
+use store_tables::RowFault;
+
+const REFUSALS: [(Refusal, &str); 17] = [
+    (
+        Refusal::NotFound,
+        "no device, register, meter or poll has that name or number",
+    ),
+    (
+        Refusal::Exists,
+        "the name is taken, or a meter is installed at the register",
+    ),
+    (
+        Refusal::ClockBack,
+        "the moment is before that of the latest accepted event",
+    ),
+    (Refusal::BadScale, "the scale is not from -3 to 3"),
+    (
+        Refusal::NegativeStep,
+        "the counter would have gone back since the last entry",
+    ),
+    (
+        Refusal::NotLater,
+        "the moment is not later than that of the last entry",
+    ),
+    (
+        Refusal::SpanTooLong,
+        "more than 3000 quarter hours passed since the last entry",
+    ),
+    (
+        Refusal::TotalFull,
+        "the energy of the meter would pass 4 * 10^18 mWh",
+    ),
+    (Refusal::Ended, "the meter at the register was closed"),
+    (
+        Refusal::Busy,
+        "the device is not connected, is connected already, or can start no poll now",
+    ),
+    (
+        Refusal::Reused,
+        "the caller used the number for another request",
+    ),
+    (
+        Refusal::Limit,
+        "a name, a number or a moment is out of its range, or there is no room for one more",
+    ),
+    (
+        Refusal::Store(StoreCause::NoDay),
+        "the store of the books gave no civil day",
+    ),
+    (Refusal::Memory, "memory ran out"),
+    (
+        Refusal::Stopped,
+        "the office has stopped, as the books or memory failed while polls were settled: open it again",
+    ),
+    (
+        Refusal::NotVoidable,
+        "the entry is no reading that stands, or no reading that stands follows it",
+    ),
+    (
+        Refusal::NotPlausible(Cause::TooFast),
+        "the next entry would have been held after the one before: the counter went further than the ceiling allows",
+    ),
+];
+
+const CAUSES: [(StoreCause, &str); 3] = [
+    (
+        StoreCause::Refused,
+        "the store of the books refused or failed",
+    ),
+    (
+        StoreCause::Damaged,
+        "the store of the books is damaged: it holds what cannot be",
+    ),
+    (
+        StoreCause::NoDay,
+        "the store of the books gave no civil day",
+    ),
+];
+
+const STORES: [(StoreFault, &str); 2] = [
+    (
+        StoreFault::Refused,
+        "the store of the books refused or failed",
+    ),
+    (
+        StoreFault::Damaged,
+        "the store of the books is damaged: it holds what cannot be",
+    ),
+];
+
+const BOOKS: [(BooksFault, &str); 2] = [
+    (
+        BooksFault::Store(StoreFault::Refused),
+        "the store of the books refused or failed",
+    ),
+    (BooksFault::Memory, "memory ran out"),
+];
+
+const FILES: [(OpenFault, &str); 4] = [
+    (
+        OpenFault::NotOurs,
+        "the file holds other tables than those of books, or books of a version that is not known",
+    ),
+    (
+        OpenFault::Zone,
+        "the text is no POSIX time zone of at most 64 bytes, as UTC0 or CET-1CEST,M3.5.0,M10.5.0/3",
+    ),
+    (OpenFault::Store, "the database refused or failed"),
+    (OpenFault::Memory, "memory ran out"),
+];
+
+const ROWS: [(RowFault, &str); 2] = [
+    (
+        RowFault::Sql(Error::QueryReturnedNoRows),
+        "the database refused or failed: query returned no rows",
+    ),
+    (
+        RowFault::Damaged,
+        "the database is damaged: a row has a value that none may have",
+    ),
+];
+
+#[test]
+fn books(rt: HostRuntime) -> Result<(), Fail> {
+    tells(&rt, rt.alloc(), &REFUSALS)?;
+    tells(&rt, rt.alloc(), &CAUSES)?;
+    tells(&rt, rt.alloc(), &STORES)?;
+    tells(&rt, rt.alloc(), &BOOKS)?;
+    tells(&rt, rt.alloc(), &FILES)?;
+    tells(&rt, rt.alloc(), &ROWS)
+}
