@@ -5,12 +5,13 @@ use Rattle.sqlite.specs.Order.{Row}
 use Rattle.sqlite.specs.State.{State, Shown}
 use Rattle.store_tables.specs.Schema.{books_schema, entries_table, voids_table}
 use Rattle.store_tables.specs.Content.{Content, AreTables, HasRows}
-use Rattle.store_tables.specs.Answer.{AnyOrder, LastFirst, FirstFirst}
+use Rattle.store_tables.specs.Answer.{AnyOrder, LastFirst, FirstFirst, every}
 use Rattle.store_tables.specs.Asking.{Shows, ShowsFirst}
 use Rattle.store_tables.proofs.Frames.{tree_at}
 use Rattle.store_tables.proofs.Scans.{falling, rising, text_is, number_is, and_true, no_limit, one}
 use Rattle.store_tables.proofs.Selects.{selects, in_order}
 use Rattle.store_entries.specs.Rows.{Entered, entry_columns, entry_shown, place_shown, entry_place, is_entry, is_of, Voided, voided_columns, voided_shown, voided_place, is_void_of}
+use Rattle.store_entries.specs.Latest.{entry_moment, entry_moment_shown, void_moment, void_moment_shown}
 use Rattle.store_entries.specs.Trees.{entries, voids}
 use Rattle.store_entries.proofs.Texts as text
 
@@ -41,3 +42,17 @@ void_rows meter old new held xs rows has are h =
     selects voids text.void_rows_tests text.void_rows_project ((Rattle.sqlite.specs.Term.col 1 2, rising) ∷ []) no_limit (Text meter ∷ []) voided_columns (is_void_of meter) voided_shown (FirstFirst voided_place)
     (λ n x. rw (text_is x.meter meter, and_true (bytes_eq x.meter meter)) refl) (λ n x. refl) (λ m n x y le. in_order x.place y.place le)
     old new text.void_rows text.void_rows_names held xs rows (tree_at books_schema.tables 12 voids_table refl) has are text.void_rows_is text.void_rows_unlisted text.void_rows_plain h
+
+pub latest_entry : (old new : State) (held : Content) (xs : List Entered) (rows : List Row) → AreTables old.now held → HasRows entries entry_columns xs held
+    → Shown text.latest_entry [] old new rows → ShowsFirst every (LastFirst entry_moment) entry_moment_shown xs rows
+latest_entry old new held xs rows has are h =
+    selects entries text.latest_entry_tests text.latest_entry_project ((Rattle.sqlite.specs.Term.col 1 4, falling) ∷ []) one [] entry_columns every entry_moment_shown (LastFirst entry_moment)
+    (λ n x. refl) (λ n x. refl) (λ m n x y le. in_order y.entry.moment x.entry.moment le)
+    old new text.latest_entry text.latest_entry_names held xs rows (tree_at books_schema.tables 5 entries_table refl) has are text.latest_entry_is text.latest_entry_unlisted text.latest_entry_plain h
+
+pub latest_void : (old new : State) (held : Content) (xs : List Voided) (rows : List Row) → AreTables old.now held → HasRows voids voided_columns xs held
+    → Shown text.latest_void [] old new rows → ShowsFirst every (LastFirst void_moment) void_moment_shown xs rows
+latest_void old new held xs rows has are h =
+    selects voids text.latest_void_tests text.latest_void_project ((Rattle.sqlite.specs.Term.col 1 3, falling) ∷ []) one [] voided_columns every void_moment_shown (LastFirst void_moment)
+    (λ n x. refl) (λ n x. refl) (λ m n x y le. in_order y.moment x.moment le)
+    old new text.latest_void text.latest_void_names held xs rows (tree_at books_schema.tables 12 voids_table refl) has are text.latest_void_is text.latest_void_unlisted text.latest_void_plain h

@@ -10,6 +10,7 @@ use Rattle.store_entries.specs.declared.rows.EntryKind.{EntryKind}
 use Rattle.store_entries.specs.declared.rows.EntryKind.TheVariants.{Opening, Reading, Manual, Closing, Reset, Rescale}
 use Rattle.store_entries.specs.declared.rows.EntryRow.{EntryRow}
 use Rattle.store_tables.specs.Limits.{greatest_place, latest_moment}
+use Rattle.store_entries.specs.Latest.{entry_moment, entry_moment_shown, HasEntryMoment, void_moment, void_moment_shown, HasVoidMoment, IsTimelyVoid}
 use Rattle.store_entries.specs.Rows.{place_shown, entry_place, HasEntryPlace, voided_shown, voided_place, HasPlace, IsSoundVoided, Entered, entry_in, entry_shown, kind_in, kind_number, IsRow, IsSoundEntry, IsSoundEntered}
 
 kind_back : (k : EntryKind) → kind_in (Int (pos (kind_number k))) ≡ Some k
@@ -63,3 +64,11 @@ reads_entry_place = reads_number 1 greatest_place place_shown entry_place IsSoun
 
 pub reads_void : (row : Row) (r : Result ℕ RowFault) → r ≡ or_damaged (whole_in 1 greatest_place (column row 0)) → ReadsRow row voided_shown HasPlace IsSoundVoided r
 reads_void = reads_number 1 greatest_place voided_shown voided_place IsSoundVoided (λ v. refl) (λ v is. is)
+
+-- ---- moments
+
+pub reads_entry_moment : (row : Row) (r : Result ℕ RowFault) → r ≡ or_damaged (whole_in 0 latest_moment (column row 0)) → ReadsRow row entry_moment_shown HasEntryMoment IsSoundEntered r
+reads_entry_moment = reads_number 0 latest_moment entry_moment_shown entry_moment IsSoundEntered (λ e. refl) (λ e is. (zero-le, is.moment))
+
+pub reads_void_moment : (row : Row) (r : Result ℕ RowFault) → r ≡ or_damaged (whole_in 0 latest_moment (column row 0)) → ReadsRow row void_moment_shown HasVoidMoment IsTimelyVoid r
+reads_void_moment = reads_number 0 latest_moment void_moment_shown void_moment IsTimelyVoid (λ v. refl) (λ v is. (zero-le, is))

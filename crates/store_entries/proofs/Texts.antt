@@ -164,3 +164,55 @@ void_rows_unlisted = refl
 pub void_rows_plain : IsPlain (understood books_schema void_rows)
 unfolding understood everything
 void_rows_plain = (refl, refl)
+
+-- ---- latest_entry
+
+abbrev pub latest_entry : List ℕ
+latest_entry = codes "SELECT moment FROM entries ORDER BY moment DESC LIMIT 1"
+
+abbrev pub latest_entry_tests : List Term
+latest_entry_tests = []
+
+abbrev pub latest_entry_project : List Term
+latest_entry_project = col 1 4 ∷ []
+
+abbrev pub latest_entry_names : List (List ℕ)
+latest_entry_names = codes "moment" ∷ []
+
+pub latest_entry_is : command_of (understood books_schema latest_entry) ≡ Select (record { lets = []; body = scan 9 latest_entry_tests latest_entry_project ((col 1 4, falling) ∷ []) one }) latest_entry_names
+unfolding understood everything
+latest_entry_is = refl
+
+pub latest_entry_unlisted : reads_listing books_schema latest_entry ≡ false
+unfolding understood everything
+latest_entry_unlisted = refl
+
+pub latest_entry_plain : IsPlain (understood books_schema latest_entry)
+unfolding understood everything
+latest_entry_plain = (refl, refl)
+
+-- ---- latest_void
+
+abbrev pub latest_void : List ℕ
+latest_void = codes "SELECT moment FROM voids ORDER BY moment DESC LIMIT 1"
+
+abbrev pub latest_void_tests : List Term
+latest_void_tests = []
+
+abbrev pub latest_void_project : List Term
+latest_void_project = col 1 3 ∷ []
+
+abbrev pub latest_void_names : List (List ℕ)
+latest_void_names = codes "moment" ∷ []
+
+pub latest_void_is : command_of (understood books_schema latest_void) ≡ Select (record { lets = []; body = scan 20 latest_void_tests latest_void_project ((col 1 3, falling) ∷ []) one }) latest_void_names
+unfolding understood everything
+latest_void_is = refl
+
+pub latest_void_unlisted : reads_listing books_schema latest_void ≡ false
+unfolding understood everything
+latest_void_unlisted = refl
+
+pub latest_void_plain : IsPlain (understood books_schema latest_void)
+unfolding understood everything
+latest_void_plain = (refl, refl)

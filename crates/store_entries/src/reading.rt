@@ -3,7 +3,7 @@ ghost use Rattle.std.specs.Prelude.{◌≡◌, IfOk};
 ghost use Rattle.sqlite.specs.Order.{column};
 ghost use Rattle.store_tables.specs.Asking.{ReadsRow};
 ghost use Rattle.store_tables.specs.Columns.{whole_in, or_damaged};
-ghost use Rattle.store_tables.specs.Limits.{greatest_place, IsPlace};
+ghost use Rattle.store_tables.specs.Limits.{greatest_place, latest_moment, IsPlace};
 ghost use Rattle.store_entries.specs.Rows.{place_shown, HasEntryPlace, kind_in, entry_in};
 ghost use Rattle.store_entries.specs.Rows.{entry_shown, IsRow, IsSoundEntry, IsSoundEntered};
 ghost use Rattle.store_entries.specs.Rows.{voided_shown, HasPlace, IsSoundVoided};
@@ -27,6 +27,13 @@ pub(crate) fn place(row: &Row) -> Result<u64, RowFault>
     ensures { result ≡ or_damaged (whole_in 1 greatest_place (column row.now 0)) }
 {
     whole(row, 0, 1, GREATEST_PLACE)
+}
+
+/// A moment in the first column.
+pub(crate) fn moment(row: &Row) -> Result<u64, RowFault>
+    ensures { result ≡ or_damaged (whole_in 0 latest_moment (column row.now 0)) }
+{
+    whole(row, 0, 0, LATEST_MOMENT)
 }
 
 /// An entry.

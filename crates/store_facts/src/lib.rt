@@ -5,7 +5,7 @@ mod names;
 mod points;
 mod rows;
 
-pub use names::text;
+pub use names::{name, text};
 pub use points::points_at;
 pub use rows::{
     begun_row, device_row, entry_row, hold_row, is_sound_opening, last_row, opening_row,

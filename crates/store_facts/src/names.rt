@@ -1,5 +1,7 @@
-//! Names as texts.
-ghost use Rattle.std.specs.Prelude.{◌≡◌, IfOk};
+//! Names, as texts of the tables.
+ghost use Rattle.std.specs.Prelude.{◌≡◌, IfOk, IfErr, IsUtf8, string_bytes};
+ghost use Rattle.office_events.specs.Names.{named};
+ghost use Rattle.store_tables.specs.Columns.{or_damaged};
 
 use office_events::Name;
 use std::str;
@@ -7,10 +9,21 @@ use store_tables::RowFault;
 
 /// The text of a name. One that is no text is damage.
 pub fn text(name: &Name) -> Result<&str, RowFault>
-    ensures { IfOk result (λ text. text.now ≡ name.now) }
+    ensures text { IfOk result (λ text. text.now ≡ name.now) }
+    ensures fault { IsUtf8 name.now → IfErr result (λ _. ⊥) }
 {
     match str::from_utf8(name.as_bytes()) {
         Ok(text) => Ok(text),
         Err(_) => Err(RowFault::Damaged),
+    }
+}
+
+/// The name that a text spells. One that spells none is damage.
+pub fn name(text: &str) -> Result<Name, RowFault>
+    ensures { result ≡ or_damaged (named text.now) }
+{
+    match Name::new(text.as_bytes()) {
+        Some(name) => Ok(name),
+        None => Err(RowFault::Damaged),
     }
 }

@@ -8,9 +8,9 @@ ghost use Rattle.store_lists.specs.Rows.{IsSoundPoint, listed_at};
 ghost use Rattle.store_facts.specs.Rows as rows;
 
 use mb_wire::ReadFunction;
-use point_list::{ListedPoint, PointName, PointScale, RegisterTable};
+use point_list::{ListedPoint, PointName, PointScale, RegisterTable, type_text};
 use sqlite::Error;
-use std::alloc::{AllocError, Global};
+use std::alloc::Global;
 use std::str;
 use store_lists::{Point, PointRow};
 use store_tables::{GREATEST_PLACE, RowFault};
@@ -26,27 +26,7 @@ fn function(table: RegisterTable) -> ReadFunction
     }
 }
 
-/// The text of a type.
-fn type_text(alloc: Global, kind: PointType) -> Result<String, AllocError>
-    ensures { IfOk result (λ text. string_bytes text ≡ written.type_text kind) }
-{
-    match kind {
-        PointType::Int16 => format!(in alloc; "int16"),
-        PointType::Uint16 => format!(in alloc; "uint16"),
-        PointType::Enum16 => format!(in alloc; "enum16"),
-        PointType::Int32 => format!(in alloc; "int32"),
-        PointType::Uint32 => format!(in alloc; "uint32"),
-        PointType::Bitfield32 => format!(in alloc; "bitfield32"),
-        PointType::Acc32 => format!(in alloc; "acc32"),
-        PointType::Sunssf => format!(in alloc; "sunssf"),
-        PointType::Text(length) => {
-            let registers = length.registers();
-            format!(in alloc; "string{registers}")
-        }
-    }
-}
-
-/// The same, where want of memory is the database's.
+/// The text of a type. Want of memory is the database's.
 fn kind(alloc: Global, kind: PointType) -> Result<String, Error>
     ensures { IfOk result (λ text. string_bytes text ≡ written.type_text kind) }
 {

@@ -6,3 +6,4 @@ mod Loops
 mod Handed
 mod Shared
 mod Joins
+mod Replaced

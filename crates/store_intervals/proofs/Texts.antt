@@ -4,7 +4,7 @@ use Rattle.sqlite.specs.declared.types.Value.TheVariants.{Null, Int}
 use Rattle.sqlite.specs.Term.{Term, lit, col}
 use Rattle.sqlite.specs.Query.{Query, inner, end}
 use Rattle.sqlite.specs.Source.TheVariants.{Values}
-use Rattle.sqlite.specs.Command.TheVariants.{Select, InsertOr, Update, Delete}
+use Rattle.sqlite.specs.Command.TheVariants.{Select, Insert, InsertOr, Update, Delete}
 use Rattle.sqlite_schema.specs.declared.command.Conflict.TheVariants.{Abort}
 use Rattle.sqlite_schema.specs.declared.command.Upsert.{Upsert}
 use Rattle.sqlite_sql.specs.Term.{op2}
@@ -82,6 +82,38 @@ drop_from_is = refl
 pub drop_from_plain : IsPlain (understood books_schema drop_from)
 unfolding understood everything
 drop_from_plain = (refl, refl)
+
+-- ---- insert_row
+
+abbrev pub insert_row : List ℕ
+insert_row = codes "INSERT INTO intervals (meter, start, mwh) VALUES (?1, ?2, ?3)"
+
+abbrev pub insert_row_terms : List Term
+insert_row_terms = lit Null ∷ col 0 0 ∷ col 0 1 ∷ col 0 2 ∷ []
+
+pub insert_row_is : command_of (understood books_schema insert_row) ≡ Insert 9 (Values insert_row_terms 4)
+unfolding understood everything
+insert_row_is = refl
+
+pub insert_row_plain : IsPlain (understood books_schema insert_row)
+unfolding understood everything
+insert_row_plain = (refl, refl)
+
+-- ---- drop_rows
+
+abbrev pub drop_rows : List ℕ
+drop_rows = codes "DELETE FROM intervals WHERE meter = ?1"
+
+abbrev pub drop_rows_tests : List Term
+drop_rows_tests = is_param 1 0 ∷ []
+
+pub drop_rows_is : command_of (understood books_schema drop_rows) ≡ Delete 9 (record { lets = []; body = scan 14 drop_rows_tests (col 1 0 ∷ []) [] no_limit })
+unfolding understood everything
+drop_rows_is = refl
+
+pub drop_rows_plain : IsPlain (understood books_schema drop_rows)
+unfolding understood everything
+drop_rows_plain = (refl, refl)
 
 -- ---- meter_intervals
 
