@@ -22,7 +22,7 @@ beneath : (old new : Ledger) (n : ℕ) (facts : List Fact) (result : Result (Uni
     → Books (refusing old n) (refusing new n) facts result
 beneath old new n facts (Ok done) before after books = record {
   booked = books.booked;
-  settled = λ held holds lawful. (with_facts facts held, books.booked held holds lawful, Contains-push [] (with_facts facts held));
+  settled = λ more held holds lawful. (with_facts facts held, books.booked held holds lawful, Contains-push [] (with_facts facts held));
   refused = λ held holds. tt;
   under_way = λ held left holds lawful may. tt;
   nothing = λ none. (refl, keeps old new n (books.nothing none).1);
@@ -30,7 +30,7 @@ beneath old new n facts (Ok done) before after books = record {
 }
 beneath old new n facts (Err Memory) before after books = record {
   booked = λ held holds lawful. tt;
-  settled = λ held holds lawful. tt;
+  settled = λ more held holds lawful. tt;
   refused = books.refused;
   under_way = λ held left holds lawful may.
       (may.0, books.refused may.0 may.1, Contains-append_left left (with_facts facts held ∷ []) may.0 may.2);
@@ -55,7 +55,7 @@ refused_at : (ledger : Ledger) (n : ℕ) (facts : List Fact) → (facts ≡ [] �
     → Books (refusing ledger n) (refusing ledger (one_more n)) facts (Err (Store Refused))
 refused_at ledger n facts some = record {
   booked = λ held holds lawful. tt;
-  settled = λ held holds lawful. tt;
+  settled = λ more held holds lawful. tt;
   refused = λ held holds. holds;
   under_way = λ held left holds lawful may.
       (may.0, may.1, Contains-append_left left (with_facts facts held ∷ []) may.0 may.2);

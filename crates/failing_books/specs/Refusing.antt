@@ -9,6 +9,7 @@ refusing beneath faults = record {
   holds = beneath.holds;
   may_leave = λ left. (held : List Fact) × beneath.holds held × Contains left held;
   is_clean = beneath.is_clean;
+  is_open = beneath.is_open;
   fault_count = faults;
   zone = beneath.zone;
 }

@@ -1,5 +1,5 @@
 -- How calls on books follow one another.
-use Rattle.std.proofs.Common.{◌≡◌, ℕ, List, [], ◌∷◌, inl, inr, refl, sym, ◌∙◌, Result, Ok, Err, ap}
+use Rattle.std.proofs.Common.{◌≡◌, ◌⊎◌, ℕ, List, [], ◌∷◌, inl, inr, refl, sym, ◌∙◌, Result, Ok, Err, ap}
 use Rattle.office_events.specs.declared.facts.Fact.{Fact}
 use Rattle.office_rules.specs.Lawful.{AreLawful}
 use Rattle.office_books.specs.declared.faults.BooksFault.{BooksFault}
@@ -52,6 +52,22 @@ read_then old between new held later x result reads moves = record {
   goes = goes_on_then old between new x result reads.goes moves.goes;
 }
 
+-- From facts that were booked a stop leaves those; or there were none, and it leaves what it left.
+pub settled_or_none : (old new : Ledger) (held : List Fact) (left : List (List Fact)) (facts : List Fact) (x : Unit {0})
+    → Books old new facts (Ok x) → old.holds held → AreLawful (with_facts facts held) → old.may_leave left
+    → new.may_leave (with_facts facts held ∷ []) ⊎ ((facts ≡ []) × new.may_leave left)
+settled_or_none old new held left [] x books h lawful may = inr (refl, (books.nothing refl).1.left left may)
+settled_or_none old new held left (fact ∷ facts) x books h lawful may = inl (books.settled (λ none. absurd (cc)) held h lawful)
+
+-- the same, as a move says it
+pub settles : (old new : Ledger) (held : List Fact) (left : List (List Fact)) (facts : List Fact) (x : Unit {0})
+    → Books old new facts (Ok x) → old.holds held → AreLawful (with_facts facts held) → old.may_leave left
+    → new.may_leave (with_facts facts held ∷ []) ⊎ ((with_facts facts held ≡ held) × new.may_leave left)
+settles old new held left facts x books h lawful may = elim (settled_or_none old new held left facts x books h lawful may) [
+  | inl there ↦ inl there
+  | inr none ↦ inr (ap (λ (fs : List Fact). with_facts fs held) none.0, none.1)
+]
+
 -- facts that are booked
 pub booked : (old new : Ledger) (held facts : List Fact) (result : Result (Unit {0}) BooksFault)
     → ((held : List Fact) → old.holds held → AreLawful (with_facts facts held)) → Books old new facts result
@@ -59,7 +75,7 @@ pub booked : (old new : Ledger) (held facts : List Fact) (result : Result (Unit 
 booked old new held facts (Ok done) lawful books = record {
   holds = λ h c. books.booked held h (lawful held h);
   refused = λ h. tt;
-  settled = λ left h c may. inl (books.settled held h (lawful held h));
+  settled = λ left h c may. settles old new held left facts done books h (lawful held h) may;
   under_way = λ left h c may. tt;
   goes = books.goes;
 }

@@ -1,5 +1,5 @@
 -- What is promised of books, and how a call may change it.
-use Rattle.std.specs.Prelude.{◌≡◌, ◌⊎◌, ℕ, List, [], ◌∷◌, ◌++◌, reverse, Result, IfOk, OnOk, OnErr, IsOk}
+use Rattle.std.specs.Prelude.{◌≡◌, ◌≢◌, ◌⊎◌, ℕ, List, [], ◌∷◌, ◌++◌, reverse, Result, IfOk, OnOk, OnErr, IsOk}
 use Rattle.interval_core.specs.declared.zone.Zone.{Zone}
 use Rattle.office_events.specs.declared.facts.Fact.{Fact}
 use Rattle.office_rules.specs.Lawful.{AreLawful}
@@ -7,11 +7,13 @@ use Rattle.office_books.specs.declared.faults.BooksFault.{BooksFault}
 use Rattle.office_books.specs.Faults.{faults_after}
 
 -- What is known of books at a moment: which facts they hold, which lists of facts a stop just now may leave in their
--- place, that no wrong answer of a store was taken as true, how often the store failed, and whose civil days are meant.
+-- place, that no wrong answer of a store was taken as true, that their store is still open, how often it failed, and whose
+-- civil days are meant.
 pub record Ledger : Type 1 where
   pub holds : List Fact → Type 0
   pub may_leave : List (List Fact) → Type 0
   pub is_clean : Type 0
+  pub is_open : Type 0
   pub fault_count : ℕ
   pub zone : Zone
 
@@ -43,7 +45,7 @@ with_facts facts held = reverse facts ++ held
 -- books fail, none of them is held, and a stop may yet leave all of them. To book no facts changes nothing and succeeds.
 pub record Books (old new : Ledger) (facts : List Fact) (result : Result (Unit {0}) BooksFault) : Type 0 where
   pub booked : (held : List Fact) → old.holds held → AreLawful (with_facts facts held) → OnOk result (new.holds (with_facts facts held))
-  pub settled : (held : List Fact) → old.holds held → AreLawful (with_facts facts held)
+  pub settled : facts ≢ [] → (held : List Fact) → old.holds held → AreLawful (with_facts facts held)
       → OnOk result (new.may_leave (with_facts facts held ∷ []))
   pub refused : (held : List Fact) → old.holds held → OnErr result (new.holds held)
   pub under_way : (held : List Fact) (left : List (List Fact)) → old.holds held → AreLawful (with_facts facts held)

@@ -36,9 +36,10 @@ pub trait Books: Drop {
     fn zone(&self) -> Zone
         ensures { result ≡ (ledger self.now).zone };
 
-    /// By this law what they hold are all tables: two lists of facts that they hold differ in no row.
+    /// By this law what they hold are all tables: two lists of facts that they hold differ in no row, while they are open.
     fn tables_are_held(&self)
         ensures { (held others : List Fact) → (ledger self.now).is_clean
+            → (ledger self.now).is_open
             → (ledger self.now).holds held
             → (ledger self.now).holds others → AreSame held others };
 

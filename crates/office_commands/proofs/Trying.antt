@@ -4,20 +4,21 @@ use Rattle.office_events.specs.declared.facts.Fact.{Fact}
 use Rattle.office_rules.specs.Lawful.{AreLawful}
 use Rattle.office_books.specs.declared.faults.BooksFault.{BooksFault}
 use Rattle.office_books.specs.Ledgers.{Ledger, Books, Moves, with_facts}
+use Rattle.office_books.proofs.Moving.{settles}
 use Rattle.office_commands.specs.Carrying.{Tries}
 
 -- what the books were asked
 pub asked : (old new : Ledger) (facts : List Fact) (result : Result (Unit {0}) BooksFault) → Books old new facts result → Tries old new facts result
 asked old new facts (Ok done) books = record {
   booked = books.booked;
-  settled = books.settled;
+  settled = λ held left h lawful may. settles old new held left facts done books h lawful may;
   refused = books.refused;
   under_way = λ held left h lawful may. tt;
   goes = books.goes;
 }
 asked old new facts (Err why) books = record {
   booked = books.booked;
-  settled = books.settled;
+  settled = λ held left h lawful may. tt;
   refused = books.refused;
   under_way = λ held left h lawful may. inr (books.under_way held left h lawful may);
   goes = books.goes;
@@ -31,7 +32,8 @@ tried old new held later facts (Ok done) tries right lawful =
     record {
       holds = λ h c. subst new.holds (is h c) (tries.booked held h (subst AreLawful (sym (is h c)) lawful));
       refused = λ h. tt;
-      settled = λ left h c may. inl (subst (λ (fs : List Fact). new.may_leave (fs ∷ [])) (is h c) (tries.settled held h (subst AreLawful (sym (is h c)) lawful)));
+      settled = λ left h c may. subst (λ (fs : List Fact). new.may_leave (fs ∷ []) ⊎ ((fs ≡ held) × new.may_leave left)) (is h c)
+          (tries.settled held left h (subst AreLawful (sym (is h c)) lawful) may);
       under_way = λ left h c may. tt;
       goes = tries.goes;
     }

@@ -39,8 +39,11 @@ pub record Tries (old new : Ledger) (facts : List Fact)
     (result : Result (Unit {0}) BooksFault) : Type 0 where
   pub booked : (held : List Fact) → old.holds held → AreLawful (with_facts facts held)
       → OnOk result (new.holds (with_facts facts held))
-  pub settled : (held : List Fact) → old.holds held → AreLawful (with_facts facts held)
-      → OnOk result (new.may_leave (with_facts facts held ∷ []))
+  pub settled : (held : List Fact) (left : List (List Fact)) → old.holds held
+      → AreLawful (with_facts facts held)
+      → old.may_leave left
+      → OnOk result (new.may_leave (with_facts facts held ∷ [])
+      ⊎ ((with_facts facts held ≡ held) × new.may_leave left))
   pub refused : (held : List Fact) → old.holds held → OnErr result (new.holds held)
   pub under_way : (held : List Fact) (left : List (List Fact)) → old.holds held
       → AreLawful (with_facts facts held)

@@ -57,7 +57,7 @@ pub added : (old mid new : ListBooks) (facts : List Fact) → mid.facts.items �
     → GoOn facts old mid → KeepsFacts (ledger_of mid) (ledger_of new) → new.zone ≡ mid.zone → Books (ledger_of old) (ledger_of new) facts (Ok tt)
 added old mid new facts is zone tables figures keeps still_zone = record {
   booked = λ held listed lawful. keeps.facts (with_facts facts held) (listed_on old mid held facts is tables figures listed lawful);
-  settled = λ held listed lawful. inl (keeps.facts (with_facts facts held) (listed_on old mid held facts is tables figures listed lawful));
+  settled = λ some held listed lawful. inl (keeps.facts (with_facts facts held) (listed_on old mid held facts is tables figures listed lawful));
   refused = λ held listed. tt;
   under_way = λ held left listed lawful may. tt;
   nothing = λ none.
@@ -77,7 +77,7 @@ not_added old new facts Memory memory same zone tables figures some =
     λ held listed. listed_still old new held same tables (subst (λ (f : Figures). AreFigures f held) (sym figures) listed.figures) listed in
     record {
       booked = λ held listed lawful. tt;
-      settled = λ held listed lawful. tt;
+      settled = λ some held listed lawful. tt;
       refused = still;
       under_way = λ held left listed lawful may. one_among new left _ (one_still old new still left may);
       nothing = λ none. absurd (let never : false ≡ true = some none in cc);

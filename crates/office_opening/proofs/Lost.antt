@@ -1,7 +1,7 @@
 -- How books move where the polls that wait are booked as lost.
-use Rattle.std.proofs.Common.{◌≡◌, ◌⊎◌, ℕ, List, [], ◌∷◌, ◌++◌, map, sym, ap, subst, inl, inr, ◌∙◌, Result, Ok}
+use Rattle.std.proofs.Common.{◌≡◌, ◌⊎◌, ℕ, List, [], ◌∷◌, ◌++◌, map, sym, ap, subst, inr, ◌∙◌, Result, Ok, Err}
 use Rattle.std.specs.Prelude.{OnOk, OnErr}
-use Rattle.std.proofs.lemmas.Result.{on_ok_weaker, on_err_weaker}
+use Rattle.std.proofs.lemmas.Result.{on_err_weaker}
 use Rattle.office_events.specs.declared.facts.Fact.{Fact}
 use Rattle.office_events.specs.declared.facts.Poll.{Poll}
 use Rattle.office_rules.specs.Facts.{pending_in}
@@ -9,12 +9,18 @@ use Rattle.office_rules.specs.History.{lost, with_lost}
 use Rattle.office_rules.specs.Lawful.{AreLawful}
 use Rattle.office_books.specs.declared.faults.BooksFault.{BooksFault}
 use Rattle.office_books.specs.Ledgers.{Ledger, OnlyReads, Books, Moves, with_facts}
-use Rattle.office_books.proofs.Moving.{goes_on_then}
+use Rattle.office_books.proofs.Moving.{goes_on_then, settles}
 
 -- the facts of the polls that wait
 lost_as : (at : ℕ) (facts : List Fact) (polls : List Poll) (held : List Fact) → facts ≡ map (lost at) polls → polls ≡ pending_in held
     → with_facts facts held ≡ with_lost at held
 lost_as at facts polls held is found = ap (λ fs. with_facts fs held) (is ∙ ap (map (lost at)) found)
+
+lost_settles : (old new : Ledger) (held : List Fact) (left : List (List Fact)) (facts : List Fact) (result : Result (Unit {0}) BooksFault)
+    → Books old new facts result → old.holds held → AreLawful (with_facts facts held) → old.may_leave left
+    → OnOk result (new.may_leave (with_facts facts held ∷ []) ⊎ ((with_facts facts held ≡ held) × new.may_leave left))
+lost_settles old new held left facts (Ok done) books h lawful may = settles old new held left facts done books h lawful may
+lost_settles old new held left facts (Err why) books h lawful may = tt
 
 -- they are booked after the polls were looked up
 pub books_lost : (old between new : Ledger) (at : ℕ) (held : List Fact) (polls : List Poll) (facts : List Fact) {T : Type 0} (x : T) (result : Result (Unit {0}) BooksFault)
@@ -28,7 +34,7 @@ books_lost old between new at held polls facts x result reads found is lawful bo
       holds = λ h c. subst (λ fs. OnOk result (new.holds fs)) (same h c) (books.booked held (reads.keeps.facts held h) (fits h c));
       refused = λ h. books.refused held (reads.keeps.facts held h);
       settled = λ left h c may. subst (λ fs. OnOk result (new.may_leave (fs ∷ []) ⊎ ((fs ≡ held) × new.may_leave left))) (same h c)
-          (on_ok_weaker result (λ done. inl done) (books.settled held (reads.keeps.facts held h) (fits h c)));
+          (lost_settles between new held left facts result books (reads.keeps.facts held h) (fits h c) (reads.keeps.left left may));
       under_way = λ left h c may. subst (λ fs. OnErr result (new.may_leave left ⊎ new.may_leave (left ++ fs ∷ []))) (same h c)
           (on_err_weaker result (λ done. inr done) (books.under_way held left (reads.keeps.facts held h) (fits h c) (reads.keeps.left left may)));
       goes = goes_on_then old between new x result reads.goes books.goes;

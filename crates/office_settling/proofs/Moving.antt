@@ -9,21 +9,28 @@ use Rattle.office_events.specs.declared.events.Event.{Event}
 use Rattle.office_rules.specs.History.{History, Fed, facts_of}
 use Rattle.office_lines.specs.declared.lines.Line.{Line}
 use Rattle.office_settling.specs.Events.{Settles}
-use Rattle.std.proofs.lemmas.Result.{on_ok_weaker, on_err_weaker}
 use Rattle.office_events.specs.declared.facts.Fact.{Fact}
 use Rattle.office_rules.specs.Lawful.{AreLawful}
 use Rattle.office_books.specs.declared.faults.BooksFault.{BooksFault}
 use Rattle.office_books.specs.Faults.{faults_after}
+use Rattle.office_books.proofs.Moving.{settles}
 use Rattle.office_books.specs.Ledgers.{Ledger, GoesOn, OnlyReads, Books, Moves, with_facts}
 
 -- all facts are booked, or none
 pub moves_booked : (old new : Ledger) (facts held : List Fact) (result : Result (Unit {0}) BooksFault) → Books old new facts result
     → AreLawful (with_facts facts held) → Moves old new held (with_facts facts held) result
-moves_booked old new facts held result books lawful = record {
+moves_booked old new facts held (Ok done) books lawful = record {
   holds = λ h clean. books.booked held h lawful;
+  refused = λ h. tt;
+  settled = λ left h clean l. settles old new held left facts done books h lawful l;
+  under_way = λ left h clean l. tt;
+  goes = books.goes;
+}
+moves_booked old new facts held (Err why) books lawful = record {
+  holds = λ h clean. tt;
   refused = λ h. books.refused held h;
-  settled = λ left h clean l. on_ok_weaker result (λ x. inl x) (books.settled held h lawful);
-  under_way = λ left h clean l. on_err_weaker result (λ x. inr x) (books.under_way held left h lawful l);
+  settled = λ left h clean l. tt;
+  under_way = λ left h clean l. inr (books.under_way held left h lawful l);
   goes = books.goes;
 }
 

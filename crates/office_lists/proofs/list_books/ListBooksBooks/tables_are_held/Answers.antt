@@ -21,6 +21,6 @@ itself held = record {
 }
 
 pub returns : goal.returns
-returns c = λ held others clean these those.
+returns c = λ held others clean opened these those.
     subst (AreSame held)
     (sym (reverse-reverse held) ∙ ap reverse (sym these.facts ∙ those.facts) ∙ reverse-reverse others) (itself held)
