@@ -1,5 +1,5 @@
 -- Rows that are entered, and the facts that they record.
-use Rattle.std.proofs.Common.{◌≡◌, ℕ, List, map, refl, subst}
+use Rattle.std.proofs.Common.{◌≡◌, ℕ, List, map, subst}
 use Rattle.office_events.specs.declared.facts.Device.{Device}
 use Rattle.office_events.specs.declared.facts.DeviceList.{DeviceList}
 use Rattle.office_events.specs.declared.facts.Register.{Register}

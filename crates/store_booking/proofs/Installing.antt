@@ -1,5 +1,5 @@
 -- A meter that is installed: three rows, and the fact that they record.
-use Rattle.std.proofs.Common.{◌≡◌, ℕ, List, refl, subst}
+use Rattle.std.proofs.Common.{◌≡◌, ℕ, List, subst}
 use Rattle.office_events.specs.declared.facts.Opening.{Opening}
 use Rattle.office_events.specs.declared.facts.Fact.TheVariants as fact
 use Rattle.office_laws.specs.Steps.{OpeningsBegin}

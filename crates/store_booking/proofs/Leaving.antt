@@ -1,5 +1,5 @@
 -- What a call leaves that gives up, and one that goes to its end.
-use Rattle.std.proofs.Common.{ℕ, Ok, Err, Result, IsErrAnd}
+use Rattle.std.proofs.Common.{Ok, Err, Result, IsErrAnd}
 use Rattle.sqlite.specs.declared.error.Error.{Error}
 use Rattle.sqlite.specs.Store.{Ghosts}
 use Rattle.sqlite.specs.Held.{Held, state}

@@ -5,3 +5,7 @@ pub mod Installing
 pub mod Seen
 pub mod Moves
 pub mod Booking
+pub mod Telling
+pub mod Rolling
+pub mod Left
+pub mod Voiding

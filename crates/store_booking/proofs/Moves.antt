@@ -1,5 +1,5 @@
 -- One more entry of a meter: what the tables say of it, three edits, and the fact that they record.
-use Rattle.std.proofs.Common.{◌≡◌, ℕ, ℤ, ◌+◌, Bool, true, false, cond, List, [], ◌∷◌, map, filter, length, Some, Ok, refl, sym, ap, ap₂, subst, ◌∙◌, IsPermutation, arith}
+use Rattle.std.proofs.Common.{◌≡◌, ℕ, ℤ, ◌+◌, Bool, true, false, cond, List, [], ◌∷◌, map, filter, length, Some, Ok, refl, sym, ap, ap₂, subst, ◌∙◌, IsPermutation}
 use Rattle.std.proofs.lemmas.Bool.{cond-true, cond-false}
 use Rattle.sqlite.specs.Order.{Row}
 use Rattle.energy_core.specs.declared.entries.Last.{Last}
@@ -22,7 +22,7 @@ use Rattle.office_laws.specs.Steps.{OtherMetersStay, EntriesMoveOn, MovesOn, mov
 use Rattle.store_tables.specs.Content.{Content, HasRows, Edits, with_row, changed_where}
 use Rattle.store_meters.specs.Trees as meter_tree
 use Rattle.store_meters.specs.declared.rows.LastRow.{LastRow}
-use Rattle.store_meters.specs.Rows.{Installed, installed_columns, ranged_columns, is_meter, is_range_of, moved, ended, HasRange}
+use Rattle.store_meters.specs.Rows.{installed_columns, ranged_columns, is_meter, is_range_of, moved, ended, HasRange}
 use Rattle.store_entries.specs.Trees as entry_tree
 use Rattle.store_entries.specs.declared.rows.EntryRow.{EntryRow}
 use Rattle.store_entries.specs.Rows.{Entered, entry_columns, entry_place, is_of}

@@ -11,12 +11,13 @@ use crate::meters::enter_opening;
 use crate::moving::enter_entry;
 use crate::polls::{enter_hold, enter_outcome, enter_poll, enter_reply};
 use crate::registers::enter_register;
+use crate::voids::enter_void;
 use office_events::Fact;
 use sqlite::{Alter, Connection, Transaction};
 use std::alloc::Global;
 use store_tables::{RowFault, touch};
 
-/// Enters a fact. A void is not entered yet: it is answered as damage.
+/// Enters a fact.
 fn enter_fact<S: Alter>(
     alloc: Global,
     tx: &mut Transaction<'_, S>,
@@ -33,7 +34,7 @@ fn enter_fact<S: Alter>(
         Fact::Opening(opening) => enter_opening(tx, opening),
         Fact::Entry(booked) => enter_entry(tx, booked),
         Fact::Hold(held) => enter_hold(tx, held),
-        Fact::Void(_) => Err(RowFault::Damaged),
+        Fact::Void(voided) => enter_void(alloc, tx, voided),
         Fact::Poll(poll) => enter_poll(tx, poll),
         Fact::Outcome(ended) => enter_outcome(tx, ended),
         Fact::Reply(reply) => enter_reply(tx, reply),
@@ -74,7 +75,7 @@ fn commit_facts<S: Alter>(
 }
 
 /// Books facts that may follow those that are held, all of them or none, whatever stops the call. The commit is its last
-/// call of the database; to book no facts makes none. Facts with a void are answered as damage: voids are not booked yet.
+/// call of the database; to book no facts makes none.
 pub fn book_facts<S: Alter>(
     alloc: Global,
     conn: &mut Connection<S>,

@@ -2,7 +2,9 @@
 #![tactic(auto)]
 
 mod books;
+mod corrections;
 mod devices;
+mod journals;
 mod lists;
 mod meters;
 mod moving;
@@ -10,6 +12,7 @@ mod places;
 mod polls;
 mod registers;
 mod standing;
+mod voids;
 
 pub use books::book_facts;
 pub use devices::enter_device;
@@ -18,3 +21,4 @@ pub use meters::enter_opening;
 pub use moving::enter_entry;
 pub use polls::{enter_hold, enter_outcome, enter_poll, enter_reply};
 pub use registers::enter_register;
+pub use voids::enter_void;

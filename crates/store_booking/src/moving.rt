@@ -47,7 +47,7 @@ fn is_closing(kind: EntryKind) -> bool
 }
 
 /// Whether the tables can have a counter's moment and scale.
-fn is_sound(last: &Last) -> bool
+pub fn is_sound(last: &Last) -> bool
     ensures moment { IsTrue result → last.now.at ≤ latest_moment }
     ensures scale { IsTrue result → IsTrue (is_within 3 last.now.sf) }
 {
@@ -104,7 +104,7 @@ fn go_on(standing: &Standing, entry: &Entry) -> Result<Advance, RowFault>
 }
 
 /// Says where a meter stands now, and whether it was closed.
-fn settle<S: Alter>(
+pub fn settle<S: Alter>(
     tx: &mut Transaction<'_, S>,
     meter: &str,
     last: LastRow,

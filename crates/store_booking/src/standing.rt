@@ -41,7 +41,7 @@ fn last_of<S: Alter>(tx: &mut Transaction<'_, S>, meter: &str) -> Result<LastRow
 }
 
 /// How many counts the counter of a meter has.
-fn range_of<S: Alter>(tx: &mut Transaction<'_, S>, meter: &str) -> Result<u64, RowFault>
+pub fn range_of<S: Alter>(tx: &mut Transaction<'_, S>, meter: &str) -> Result<u64, RowFault>
     ensures same_reference { tx.new.conn.ghost_name ≡ tx.old.conn.ghost_name }
     ensures sound { IfOk result IsRange }
     ensures does { Goes (state S.Store tx.old.conn.now) (state S.Store tx.new.conn.now) result

@@ -56,7 +56,7 @@ fn read(alloc: Global) -> Result<Vec<Fact>, Fail> {
 }
 
 /// The meter m1, installed and read once.
-fn one_reading(alloc: Global) -> Result<Connection<MemStore>, Fail> {
+pub(crate) fn one_reading(alloc: Global) -> Result<Connection<MemStore>, Fail> {
     let mut conn = new_books(alloc)?;
     book(alloc, &mut conn, &installed(alloc)?)?;
     book(alloc, &mut conn, &vec![in alloc; poll(1)?]?)?;
@@ -64,7 +64,12 @@ fn one_reading(alloc: Global) -> Result<Connection<MemStore>, Fail> {
     Ok(conn)
 }
 
-fn count(alloc: Global, conn: &mut Connection<MemStore>, rows: &str) -> Result<i64, Error> {
+/// How many rows a table has, or those that pass a test.
+pub(crate) fn count(
+    alloc: Global,
+    conn: &mut Connection<MemStore>,
+    rows: &str,
+) -> Result<i64, Error> {
     let query = format!(in alloc; "SELECT count(*) FROM {rows}")?;
     number(conn, &query)
 }

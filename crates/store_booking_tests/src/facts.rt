@@ -4,7 +4,7 @@ use mb_wire::{ReadFunction, ReadSpan};
 use meter_journal::EntryKind;
 use office_events::{
     BookedEntry, CommandKind, Device, DeviceList, EndedPoll, Fact, HeldReading, Name, Opening,
-    Piece, PlannedList, Poll, Register, Reply, ScaleSource, Timeout, Window,
+    Piece, PlannedList, Poll, Register, Reply, ScaleSource, Timeout, VoidedEntry, Window,
 };
 use point_list::read_list;
 use poll_core::Outcome;
@@ -66,6 +66,14 @@ pub(crate) fn entry(meter: &[u8], kind: EntryKind, entry: Entry) -> Result<Fact,
 
 pub(crate) fn reading(meter: &[u8], at: u64, raw: u32, rolls: u8) -> Result<Fact, Fail> {
     entry(meter, EntryKind::Reading, Entry::Step { at, raw, rolls })
+}
+
+pub(crate) fn void(meter: &[u8], place: u64) -> Result<Fact, Fail> {
+    Ok(Fact::Void(VoidedEntry {
+        meter: name(meter)?,
+        place,
+        at: 4000,
+    }))
 }
 
 pub(crate) fn poll(number: u64) -> Result<Fact, Fail> {

@@ -7,3 +7,5 @@ mod booked;
 mod facts;
 #[cfg(test)]
 mod given;
+#[cfg(test)]
+mod voided;

@@ -55,22 +55,22 @@ pub record IsPlain (lines : Journal) (row : EntryRow) : Type 0 where
 
 -- ---- places
 
-abbrev IsBelow : ℕ → EntryRow → Type 0
+abbrev pub IsBelow : ℕ → EntryRow → Type 0
 IsBelow n row = row.place ≤ n
 
-below : (n : ℕ) (rows : List EntryRow) → AreNumbered rows → length rows + 1 ≤ n → AllByRecursion (IsBelow n) rows
+pub below : (n : ℕ) (rows : List EntryRow) → AreNumbered rows → length rows + 1 ≤ n → AllByRecursion (IsBelow n) rows
 below n [] numbered le = tt
 below n (row ∷ rows) numbered le = ((let at = numbered.0 in omega (arith, at, le)), below n rows numbered.1 (omega (arith, le)))
 
 -- the row that is found at a place
-abbrev FoundThere : (place : ℕ) → EntryRow → EntryRow → Type 0
+abbrev pub FoundThere : (place : ℕ) → EntryRow → EntryRow → Type 0
 FoundThere place found row = row.place ≡ place → found ≡ row
 
-found_rest : (place : ℕ) (row : EntryRow) (o : Option Around) (around : Around) → option_map (passed row) o ≡ Some around → (rest : Around) × (o ≡ Some rest) × (around.row ≡ rest.row)
+pub found_rest : (place : ℕ) (row : EntryRow) (o : Option Around) (around : Around) → option_map (passed row) o ≡ Some around → (rest : Around) × (o ≡ Some rest) × (around.row ≡ rest.row)
 found_rest place row None around h = absurd (let e = h in cc)
 found_rest place row (Some rest) around h = (rest, refl, ap (λ (a : Around). a.row) (sym (same_Some (passed row rest) around h)))
 
-found_there : (place : ℕ) (rows : List EntryRow) (around : Around) → AreNumbered rows → row_at place rows ≡ Some around
+pub found_there : (place : ℕ) (rows : List EntryRow) (around : Around) → AreNumbered rows → row_at place rows ≡ Some around
     → AllByRecursion (FoundThere place around.row) rows × (around.row.place ≡ place) × (place ≤ length rows + 1)
 found_there place [] around numbered h = absurd (let e = h in cc)
 found_there place (row ∷ rows) around numbered h = elim (cases_Bool (row.place == place)) [

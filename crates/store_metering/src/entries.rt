@@ -5,7 +5,7 @@ ghost use Rattle.office_rules.specs.Meters.{entry_at};
 ghost use Rattle.store_metering.specs.Entries.{ShowsEntries, ShowsVoids, FindsJournal};
 ghost use Rattle.store_metering.specs.Looking.{Finds};
 
-use crate::journal::journal;
+use crate::journal::journal_rows;
 use crate::meters::meter;
 use crate::places::placed;
 use meter_journal::{EntryRow, rows_stand, voids_change_two_rows};
@@ -56,7 +56,7 @@ fn rows<S: Alter>(
     voids_change_two_rows();
     let entries = entries(conn, meter)?;
     let voids = voids(conn, meter)?;
-    journal(alloc, &entries, &voids)
+    journal_rows(alloc, &entries, &voids)
 }
 
 /// The entry of a meter at a place from 2 on: where the meter stood before it, and the next that stands. It goes over all

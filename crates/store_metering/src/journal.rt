@@ -93,7 +93,7 @@ fn add(rows: &mut Vec<EntryRow>, row: Option<EntryRow>) -> Result<(), RowFault>
 }
 
 /// The rows after the opening, the oldest first.
-pub(crate) fn journal(
+pub fn journal_rows(
     alloc: Global,
     entries: &[Row],
     voids: &[Row],

@@ -18,7 +18,7 @@ use office_events::{EntryPlace, Installation, Opening};
 use store_tables::RowFault;
 
 /// Whether each row has its place.
-fn are_numbered(rows: &[EntryRow]) -> bool
+pub fn are_numbered(rows: &[EntryRow]) -> bool
     ensures { IsTrue result → lists.AreNumbered (lists.latest_first rows.now) }
 {
     for (index, row) in rows.iter().enumerate() {
@@ -56,7 +56,7 @@ fn installed(opening: &Opening) -> Installed
 }
 
 /// Where the counter stands behind these rows, and the energy; damaged where one does not follow.
-fn tally(meter: &Installed, rows: &[EntryRow]) -> Result<Tally, RowFault>
+pub fn tally(meter: &Installed, rows: &[EntryRow]) -> Result<Tally, RowFault>
     requires range_low { 65536 ≤ meter.now.range }
     requires range_high { meter.now.range ≤ 4294967296 }
     requires installed { books.IsWellInstalled meter.now }

@@ -1,5 +1,4 @@
-use Rattle.std.proofs.Common.{◌≡◌, true, Ok, Err, subst, rules}
-use Rattle.sqlite.specs.declared.error.Error.{Error}
+use Rattle.std.proofs.Common.{◌≡◌, Ok, Err, subst, rules}
 use Rattle.sqlite.specs.Held.{state}
 use Rattle.store_tables.specs.declared.faults.RowFault.{RowFault}
 use Rattle.store_facts.specs.Going.{Commits}

@@ -14,4 +14,4 @@ pub returns-clause-does : goal.returns-clause-does
 returns-clause-does g c =
     completed (state g.S.Store c.args.tx.now.conn.now) (state g.S.Store c.next_device.new.tx.conn.now) (state g.S.Store c.insert_device.new.tx.conn.now) c.in_ok-place.place c.in_ok-insert_device.field-0
     (IsNextDevice c.in_ok-place.place) (AddsDevice c.in_ok-name.name.now c.device_row-row.result) (Records (fact.Device c.args.device.now)) c.in_ok-place.ensures.does c.in_ok-insert_device.ensures.does
-    (device_entered c.args.device.now c.in_ok-place.place c.in_ok-name.name.now c.device_row-row.result c.in_ok-name.ensures c.device_row-row.ensures.row)
+    (device_entered c.args.device.now c.in_ok-place.place c.in_ok-name.name.now c.device_row-row.result c.in_ok-name.ensures.text c.device_row-row.ensures.row)

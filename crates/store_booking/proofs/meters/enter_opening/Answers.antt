@@ -33,4 +33,4 @@ returns-clause-does g c =
     (went_on (state g.S.Store c.args.tx.now.conn.now) (state g.S.Store c.next_installation.new.tx.conn.now) (state g.S.Store c.insert_installation.new.tx.conn.now) c.in_ok-place.place c.in_ok-insert_installation.field-0 (IsNextInstallation c.in_ok-place.place) (AddsInstallation c.in_ok-meter.meter.now c.in_ok-register.register.now c.begun_row.result) c.in_ok-place.ensures.does c.in_ok-insert_installation.ensures.does) c.in_ok-insert_range.ensures.does)
     c.in_ok-insert_entry.ensures.does
     (opening_entered c.openings_begin.ensures c.args.opening.now c.in_ok-place.place c.in_ok-meter.meter.now c.in_ok-register.register.now c.begun_row.result c.opening_row.result
-    c.in_ok-meter.ensures c.in_ok-register.ensures c.begun_row.ensures.row c.opening_row.ensures.row)
+    c.in_ok-meter.ensures.text c.in_ok-register.ensures.text c.begun_row.ensures.row c.opening_row.ensures.row)

@@ -3,7 +3,6 @@ use Rattle.sqlite.specs.Held.{state}
 use Rattle.interval_core.specs.Share.{shares_of}
 use Rattle.store_intervals.specs.Booking.{BooksShares}
 use Rattle.store_facts.proofs.GoingLemmas.{goes_then, of_steps}
-use Rattle.store_tables.specs.declared.faults.RowFault.{RowFault}
 use Rattle.sqlite.specs.declared.error.Error.{Error}
 use Rattle.store_booking.specs.Standing.{EntersEntry, Settles}
 use Rattle.store_booking.proofs.Installing.{AddsEntry}

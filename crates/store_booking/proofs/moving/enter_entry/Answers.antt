@@ -22,4 +22,4 @@ returns-clause-does g c =
     goes_then (state g.S.Store c.args.tx.now.conn.now) (state g.S.Store c.standing_of.new.tx.conn.now) (state g.S.Store c.book_entry.new.tx.conn.now) standing c.book_entry.result
     (IsStanding meter standing) (EntersEntry meter row advance closing) (Records (fact.Entry c.args.booked.now)) c.in_ok-standing.ensures.does c.book_entry.ensures.does
     (entry_booked c.entries_move_on.ensures c.other_meters_stay.ensures c.meters_are_kept.ensures c.installations_are_in_range.ensures c.voids_leave_no_trace.ensures
-    c.args.booked.now meter standing advance row closing c.in_ok-meter.ensures c.in_ok-advance.ensures.advances c.entry_row-row.ensures.row c.is_closing.ensures)
+    c.args.booked.now meter standing advance row closing c.in_ok-meter.ensures.text c.in_ok-advance.ensures.advances c.entry_row-row.ensures.row c.is_closing.ensures)

@@ -14,4 +14,4 @@ pub returns-clause-does : goal.returns-clause-does
 returns-clause-does g c =
     completed (state g.S.Store c.args.tx.now.conn.now) (state g.S.Store c.next_hold.new.tx.conn.now) (state g.S.Store c.insert_hold.new.tx.conn.now) c.in_ok-place.place c.in_ok-insert_hold.field-0
     (IsNextHold c.in_ok-place.place) (AddsHold c.in_ok-meter.meter.now c.hold_row.result) (Records (fact.Hold c.args.held.now)) c.in_ok-place.ensures.does c.in_ok-insert_hold.ensures.does
-    (hold_entered c.holds_change_nothing.ensures c.args.held.now c.in_ok-place.place c.in_ok-meter.meter.now c.hold_row.result c.in_ok-meter.ensures c.hold_row.ensures)
+    (hold_entered c.holds_change_nothing.ensures c.args.held.now c.in_ok-place.place c.in_ok-meter.meter.now c.hold_row.result c.in_ok-meter.ensures.text c.hold_row.ensures)

@@ -9,4 +9,4 @@ pub returns-clause-does : goal.returns-clause-does
 returns-clause-does g c =
     completed_alone (state g.S.Store c.args.tx.now.conn.now) (state g.S.Store c.insert_poll.new.tx.conn.now) c.in_ok-insert_poll.field-0
     (AddsPoll c.in_ok-device.device.now c.poll_row.result) (Records (fact.Poll c.args.poll.now)) c.in_ok-insert_poll.ensures.does
-    (poll_entered c.args.poll.now c.in_ok-device.device.now c.poll_row.result c.in_ok-device.ensures c.poll_row.ensures.row)
+    (poll_entered c.args.poll.now c.in_ok-device.device.now c.poll_row.result c.in_ok-device.ensures.text c.poll_row.ensures.row)

@@ -14,4 +14,4 @@ pub returns-clause-does : goal.returns-clause-does
 returns-clause-does g c =
     completed (state g.S.Store c.args.tx.now.conn.now) (state g.S.Store c.next_register.new.tx.conn.now) (state g.S.Store c.insert_register.new.tx.conn.now) c.in_ok-place.place c.in_ok-insert_register.field-0
     (IsNextRegister c.in_ok-place.place) (AddsRegister c.in_ok-name.name.now c.in_ok-device.device.now c.register_row-row.result) (Records (fact.Register c.args.register.now)) c.in_ok-place.ensures.does c.in_ok-insert_register.ensures.does
-    (register_entered c.args.register.now c.in_ok-place.place c.in_ok-name.name.now c.in_ok-device.device.now c.register_row-row.result c.in_ok-name.ensures c.in_ok-device.ensures c.register_row-row.ensures.row)
+    (register_entered c.args.register.now c.in_ok-place.place c.in_ok-name.name.now c.in_ok-device.device.now c.register_row-row.result c.in_ok-name.ensures.text c.in_ok-device.ensures.text c.register_row-row.ensures.row)

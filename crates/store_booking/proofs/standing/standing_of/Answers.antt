@@ -1,6 +1,5 @@
 use Rattle.std.proofs.Common.{Ok}
 use Rattle.sqlite.specs.Held.{state}
-use Rattle.store_tables.specs.Content.{Content}
 use Rattle.store_entries.specs.Trees as entry_tree
 use Rattle.store_entries.specs.Rows.{entry_columns, entry_place, is_of}
 use Rattle.store_meters.specs.Trees as meter_tree

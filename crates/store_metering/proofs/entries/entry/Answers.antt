@@ -16,5 +16,5 @@ pub returns-clause-finds : goal.returns-clause-finds
 returns-clause-finds g c =
     then_made g.S.Store c.args.conn.now c.meter.new.conn c.rows.new.conn c.in_ok-whole.field-0 c.in_ok-rows.rows c.placed.result _ _ (λ facts found. found ≡ entry_at facts c.args.name.now c.args.place)
     c.in_ok-whole.ensures.finds c.in_ok-rows.ensures (λ facts found journal.
-    placed_is facts c.args.name.now c.in_ok-text.text.now c.args.place c.in_ok-whole.field-0 c.in-Some.whole c.in_ok-rows.rows.items c.deref.result.now c.placed.result c.in-Some.is found c.in_ok-text.ensures c.deref.ensures.value journal
+    placed_is facts c.args.name.now c.in_ok-text.text.now c.args.place c.in_ok-whole.field-0 c.in-Some.whole c.in_ok-rows.rows.items c.deref.result.now c.placed.result c.in-Some.is found c.in_ok-text.ensures.text c.deref.ensures.value journal
     (c.placed.ensures.found facts))

@@ -15,8 +15,8 @@ returns-in_err-voids g c =
 
 pub returns : goal.returns
 returns g c =
-    then_made g.S.Store c.args.conn.now c.entries.new.conn c.voids.new.conn c.in_ok-entries.entries c.in_ok-voids.voids c.journal.result _ _ (λ facts rows. FindsJournal c.args.meter.now facts rows.items)
+    then_made g.S.Store c.args.conn.now c.entries.new.conn c.voids.new.conn c.in_ok-entries.entries c.in_ok-voids.voids c.journal_rows.result _ _ (λ facts rows. FindsJournal c.args.meter.now facts rows.items)
     c.in_ok-entries.ensures c.in_ok-voids.ensures (λ facts shown void.
-    IfOk-weaker c.journal.result (λ rows. AreJournal c.deref.result.now c.deref-2.result.now rows.items) (λ rows. FindsJournal c.args.meter.now facts rows.items) (λ rows are.
+    IfOk-weaker c.journal_rows.result (λ rows. AreJournal c.deref.result.now c.deref-2.result.now rows.items) (λ rows. FindsJournal c.args.meter.now facts rows.items) (λ rows are.
     journal_is c.journals_fit.ensures c.rows_stand.ensures c.voids_change_two_rows.ensures facts c.args.meter.now c.in_ok-entries.entries.items c.in_ok-voids.voids.items rows.items shown void
-    (from_derefs c.deref.result.now c.deref-2.result.now c.in_ok-entries.entries.items c.in_ok-voids.voids.items rows.items c.deref.ensures.value c.deref-2.ensures.value are)) c.journal.ensures)
+    (from_derefs c.deref.result.now c.deref-2.result.now c.in_ok-entries.entries.items c.in_ok-voids.voids.items rows.items c.deref.ensures.value c.deref-2.ensures.value are)) c.journal_rows.ensures)

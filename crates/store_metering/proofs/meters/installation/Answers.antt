@@ -18,4 +18,4 @@ pub returns-in_ok-standing-in-Some-clause-finds : goal.returns-in_ok-standing-in
 returns-in_ok-standing-in-Some-clause-finds g c =
     then_told g.S.Store c.args.conn.now c.row_at.new.conn c.standing.new.conn c.in_ok-row_at.field-0 c.in_ok-standing-in-Some.field-0 (Some c.in_ok-standing-in-Some.field-0) _ _ (λ facts found. found ≡ installation_at facts c.args.register.now)
     c.in_ok-row_at.ensures c.in_ok-standing-in-Some.ensures.finds (λ facts finds stands.
-    found_is facts (installed_at facts c.in_ok-register.register.now) c.in_ok-row_at.field-0 c.in-Some.row c.in_ok-standing-in-Some.field-0 c.in-Some.is finds stands ∙ ap (installation_at facts) c.in_ok-register.ensures)
+    found_is facts (installed_at facts c.in_ok-register.register.now) c.in_ok-row_at.field-0 c.in-Some.row c.in_ok-standing-in-Some.field-0 c.in-Some.is finds stands ∙ ap (installation_at facts) c.in_ok-register.ensures.text)

@@ -18,4 +18,4 @@ pub returns-in_ok-standing-in-Some-clause-finds : goal.returns-in_ok-standing-in
 returns-in_ok-standing-in-Some-clause-finds g c =
     then_told g.S.Store c.args.conn.now c.row_of.new.conn c.standing.new.conn c.in_ok-row_of.field-0 c.in_ok-standing-in-Some.field-0 (Some c.in_ok-standing-in-Some.field-0) _ _ (λ facts found. found ≡ meter_of facts c.args.name.now)
     c.in_ok-row_of.ensures c.in_ok-standing-in-Some.ensures.finds (λ facts finds stands.
-    found_is facts (opening_of facts c.in_ok-meter.meter.now) c.in_ok-row_of.field-0 c.in-Some.row c.in_ok-standing-in-Some.field-0 c.in-Some.is finds stands ∙ ap (meter_of facts) c.in_ok-meter.ensures)
+    found_is facts (opening_of facts c.in_ok-meter.meter.now) c.in_ok-row_of.field-0 c.in-Some.row c.in_ok-standing-in-Some.field-0 c.in-Some.is finds stands ∙ ap (meter_of facts) c.in_ok-meter.ensures.text)

@@ -24,5 +24,5 @@ returns g c =
     (λ zone facts held are. record {
       rows = record { installed = placed (installed_row facts) (openings_in facts); rows = are.intervals.rows };
       there = record { installed = are.installations; rows = are.intervals.there };
-      says_so = λ all is. at_register c.meters_are_kept.ensures facts are.lawful c.args.register.now are.intervals.rows all are.intervals.each (rw c.in_ok-register.ensures at is);
+      says_so = λ all is. at_register c.meters_are_kept.ensures facts are.lawful c.args.register.now are.intervals.rows all are.intervals.each (rw c.in_ok-register.ensures.text at is);
     })

@@ -5,7 +5,7 @@ use Rattle.store_entries.specs.Rows.{entry_shown}
 use Rattle.store_metering.specs.Entries.{row_among}
 use Rattle.store_metering.proofs.Journals.{one_more}
 use Rattle.store_metering.proofs.Marked.{next_shown}
-use Rattle.store_metering.proofs.journal.journal.Goals as goal
+use Rattle.store_metering.proofs.journal.journal_rows.Goals as goal
 
 pub loop-row-preserved : goal.loop-row-preserved
 loop-row-preserved c = λ es vs shown void.
