@@ -6,3 +6,8 @@ pub mod Found
 pub mod ReadRows
 pub mod Facts
 pub mod Replies
+pub mod Lists
+pub mod Greatest
+pub mod Moments
+pub mod LatestFacts
+pub mod LatestRows

@@ -58,6 +58,17 @@ pub record HasSeen {S : Type 0} (g : Ghosts S) (zone : List ℕ) (mid : Held S) 
   pub tables : AreTables (state g mid).now held
   pub are : AreOf zone facts held
 
+-- The rows of one table tell what is said of the facts, and can be read where those of the facts can.
+pub record IsTold {A X : Type 0} (facts : List Fact) (held : Content) (tree : ℕ) (columns : X → Row) (IsSound : X → Type 0) (Answers : List X → A → Type 0) (Says : List Fact → A → Type 0) (AreSound : List Fact → Type 0) : Type 0 where
+  pub rows : List X
+  pub there : HasRows tree columns rows held
+  pub tells : (a : A) → Answers rows a → Says facts a
+  pub sound : AreSound facts → AllByRecursion IsSound rows
+
+weaker_ok : {A : Type 0} (P Q : A → Type 0) (r : Result A RowFault) → ((a : A) → P a → Q a) → IfOk r P → IfOk r Q
+weaker_ok P Q (Ok a) f h = f a h
+weaker_ok P Q (Err e) f h = tt
+
 lawfully : {A : Type 0} {P : Type 0} (Q : A → Type 0) (r : Result A RowFault) → P → IfOk r Q → IfOk r (λ a. P × Q a)
 lawfully Q (Ok a) p q = (p, q)
 lawfully Q (Err e) p q = tt
@@ -149,6 +160,23 @@ module _ {S : Type 0} (g : Ghosts S) (old mid : Held S) where
           lawfully _ r s.are.lawful (it.answer clean s.held s.tables (stored facts) (rows zone facts s.held s.are));
       fault = λ zone facts holds clean sound.
           let s = seen zone facts holds (it.asks.clean clean) in it.fault clean s.held s.tables (stored facts) (rows zone facts s.held s.are) sound;
+      looks = looks_asked new it.asks;
+    }
+
+    -- a look-up of the rows of one table, which tell of the facts
+    pub told_of : {A X : Type 0} (new : Held S) (tree : ℕ) (columns : X → Row) (IsSound : X → Type 0) (r : Result A RowFault) (Answers : List X → A → Type 0)
+        → LooksUp g mid new tree columns IsSound r Answers → (Says : List Fact → A → Type 0) (AreSound : List Fact → Type 0)
+        → ((zone : List ℕ) (facts : List Fact) (held : Content) → AreOf zone facts held → IsTold facts held tree columns IsSound Answers Says AreSound)
+        → Finds g old new r Says AreSound
+    told_of new tree columns IsSound r Answers it Says AreSound told = record {
+      answer = λ zone facts holds clean.
+          let s = seen zone facts holds (it.asks.clean clean) in
+          let t = told zone facts s.held s.are in
+          weaker_ok (Answers t.rows) (Says facts) r t.tells (it.answer clean s.held s.tables t.rows t.there);
+      fault = λ zone facts holds clean sound.
+          let s = seen zone facts holds (it.asks.clean clean) in
+          let t = told zone facts s.held s.are in
+          it.fault clean s.held s.tables t.rows t.there (t.sound sound);
       looks = looks_asked new it.asks;
     }
 

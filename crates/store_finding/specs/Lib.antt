@@ -1,4 +1,6 @@
 pub mod Each
 pub mod Finding
+pub mod Latest
+pub mod Points
 pub mod Reading
 pub mod Sound

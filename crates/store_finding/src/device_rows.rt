@@ -11,9 +11,9 @@ ghost use Rattle.store_finding.specs.Reading.{device_with, IsDeviceOf};
 ghost use Rattle.store_finding.specs.Sound.{IsReadableDevice, HasReadableDevices};
 
 use crate::memory::put;
-use crate::names::name;
 use office_events::{Device, Timeout, Window};
 use sqlite::{Alter, Connection, Row};
+use store_facts::name;
 use store_lists::{device_rows, read_device};
 use store_tables::{RowFault, touch};
 

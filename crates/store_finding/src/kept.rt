@@ -9,10 +9,10 @@ ghost use Rattle.store_finding.specs.Finding.{Finds, OfLawful};
 ghost use Rattle.store_finding.specs.Reading.{kind_from, repeat_from};
 ghost use Rattle.store_finding.specs.Sound.{HasReadableReplies};
 
-use crate::names::text;
 use office_books::Repeat;
 use office_events::{CommandKind, Name};
 use sqlite::{Alter, Connection};
+use store_facts::text;
 use store_polls::ReplyKind;
 use store_tables::{RowFault, touch};
 

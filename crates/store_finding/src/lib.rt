@@ -3,12 +3,16 @@
 
 mod device_rows;
 mod kept;
+mod last_moment;
 mod memory;
-mod names;
+mod planned;
+mod point_rows;
 mod poll_rows;
 mod register_rows;
 
 pub use device_rows::devices;
 pub use kept::repeat;
+pub use last_moment::latest;
+pub use planned::list;
 pub use poll_rows::{pending, poll, poll_count};
 pub use register_rows::{register, register_count, registers};

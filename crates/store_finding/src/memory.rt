@@ -8,7 +8,7 @@ use sqlite::{Error, ErrorCode};
 use store_tables::RowFault;
 
 /// The fault that tells want of memory.
-fn want_of_memory() -> RowFault
+pub(crate) fn want_of_memory() -> RowFault
     ensures { result ≡ Sql (SqliteFailure OutOfMemory) }
 {
     RowFault::Sql(Error::SqliteFailure(ErrorCode::OutOfMemory))

@@ -13,10 +13,10 @@ ghost use Rattle.store_finding.specs.Reading.{HasNumbers, IsPollOf, ended_from};
 ghost use Rattle.store_finding.specs.Sound.{IsReadablePoll, HasReadablePolls, HasReadableOutcomes};
 
 use crate::memory::put;
-use crate::names::name;
 use mb_wire::ReadSpan;
 use office_events::{EndedPoll, Poll, PollRow};
 use sqlite::{Alter, Connection, Row};
+use store_facts::name;
 use store_polls::{OutcomeRow, last_poll, outcome_of, pending_rows, poll_at, read_poll};
 use store_tables::{GREATEST_PLACE, RowFault, touch};
 

@@ -10,9 +10,9 @@ ghost use Rattle.store_finding.specs.Reading.{register_with, source_from, IsRegi
 ghost use Rattle.store_finding.specs.Sound.{IsReadableRegister, HasReadableRegisters};
 
 use crate::memory::put;
-use crate::names::{name, text};
 use office_events::{Name, Register, ScaleSource};
 use sqlite::{Alter, Connection, Row};
+use store_facts::{name, text};
 use store_lists::{RegisterScale, read_register, register_of, register_rows};
 use store_tables::{RowFault, touch};
 

@@ -1,18 +1,14 @@
 //! Each look-up, once.
-use crate::given::{books, found, ready};
+use crate::given::{books, found, name, ready};
 use mb_wire::ReadFunction;
 use office_books::Repeat;
-use office_events::{CommandKind, Name, ScaleSource};
+use office_events::{CommandKind, ScaleSource};
 use poll_core::Outcome;
 use sqlite::Error;
 use std::test::Fail;
 use store_finding::{
     devices, pending, poll, poll_count, register, register_count, registers, repeat,
 };
-
-fn name(text: &[u8]) -> Result<Name, Error> {
-    Name::new(text).ok_or(Error::InvalidQuery)
-}
 
 #[test]
 fn devices_stand_in_their_order(rt: HostRuntime) -> Result<(), Fail> {

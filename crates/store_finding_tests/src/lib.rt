@@ -5,3 +5,7 @@
 mod finding;
 #[cfg(test)]
 mod given;
+#[cfg(test)]
+mod latest;
+#[cfg(test)]
+mod listing;

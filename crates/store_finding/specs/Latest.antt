@@ -1,0 +1,43 @@
+-- The greatest moments of the facts of each kind.
+use Rattle.std.specs.Prelude.{ℕ, max, List, [], ◌∷◌, map}
+use Rattle.std.specs.List.{AllByRecursion}
+use Rattle.energy_core.specs.Account.{moment_of}
+use Rattle.office_events.specs.declared.facts.Fact.{Fact}
+use Rattle.office_rules.specs.Facts.{openings_in, entries_in, voids_in, holds_in, polls_in, ended_in, replies_in}
+use Rattle.store_entries.specs.Rows.{IsSoundEntered}
+use Rattle.store_entries.specs.Latest.{IsTimelyVoid}
+use Rattle.store_polls.specs.Rows.{IsSoundStarted, IsSoundOutcome, IsSoundHeld, IsSoundKept}
+use Rattle.store_facts.specs.Rows.{placed, entries_of, voided, held_row, started, outcome_row, kept}
+
+-- 0 of none
+abbrev pub greatest : {X : Type 0} → (moment : X → ℕ) → List X → ℕ
+greatest moment [] = 0
+greatest moment (x ∷ xs) = max (moment x) (greatest moment xs)
+
+-- openings and the entries after them
+abbrev pub latest_entered : List Fact → ℕ
+latest_entered facts = max (greatest (λ o. o.at) (openings_in facts)) (greatest (λ b. moment_of b.entry) (entries_in facts))
+
+abbrev pub latest_voided : List Fact → ℕ
+latest_voided facts = greatest (λ v. v.at) (voids_in facts)
+
+abbrev pub latest_held : List Fact → ℕ
+latest_held facts = greatest (λ h. h.at) (holds_in facts)
+
+abbrev pub latest_started : List Fact → ℕ
+latest_started facts = greatest (λ p. p.at) (polls_in facts)
+
+abbrev pub latest_ended : List Fact → ℕ
+latest_ended facts = greatest (λ e. e.at) (ended_in facts)
+
+abbrev pub latest_replied : List Fact → ℕ
+latest_replied facts = greatest (λ r. r.at) (replies_in facts)
+
+-- The rows that the tables have for facts with a moment have values that the tables can have.
+pub record HasReadableMoments (facts : List Fact) : Type 0 where
+  pub entries : (meter : List ℕ) → AllByRecursion IsSoundEntered (entries_of facts meter)
+  pub voids : AllByRecursion IsTimelyVoid (map voided (voids_in facts))
+  pub holds : AllByRecursion IsSoundHeld (placed held_row (holds_in facts))
+  pub polls : AllByRecursion IsSoundStarted (map started (polls_in facts))
+  pub outcomes : AllByRecursion IsSoundOutcome (map outcome_row (ended_in facts))
+  pub replies : AllByRecursion IsSoundKept (map kept (replies_in facts))
