@@ -1,0 +1,98 @@
+-- Look-ups of the tables, as the books answer them.
+use Rattle.std.proofs.Common.{◌≡◌, ℕ, List, [], refl, sym, subst, Result, Ok, Err}
+use Rattle.std.specs.Prelude.{IfOk, OnOk}
+use Rattle.sqlite.specs.Store.{Ghosts}
+use Rattle.sqlite.specs.Held.{Held, state}
+use Rattle.sqlite.specs.State.{HasCleanDisk}
+use Rattle.interval_core.specs.declared.shares.Share.{Share}
+use Rattle.interval_core.specs.declared.zone.Zone.{Zone}
+use Rattle.office_events.specs.declared.facts.Fact.{Fact}
+use Rattle.office_books.specs.declared.faults.BooksFault.{BooksFault}
+use Rattle.office_books.specs.Faults.{faults_after}
+use Rattle.office_books.specs.Ledgers.{KeepsFacts, OnlyReads, Finds}
+use Rattle.office_books.specs.Rows.{TakesAll, HandsOn}
+use Rattle.store_tables.specs.declared.faults.RowFault.{RowFault}
+use Rattle.store_facts.specs.Holding.{HoldsFacts, LeavesFacts, OnlyLooks}
+use Rattle.store_facts.proofs.Committed.{kept_holds}
+use Rattle.store_finding.specs.Finding as finding
+use Rattle.store_metering.specs.Looking as metering
+use Rattle.office_store.specs.Answers.{answer_of}
+use Rattle.office_store.specs.Stored.{IsStored, MayBeLeft, ledger_of}
+
+held_on : {S : Type 0} (g : Ghosts S) (zone : List ℕ) (old new : Held S) (facts : List Fact)
+    → OnlyLooks g zone old new → HoldsFacts g zone old facts → HoldsFacts g zone new facts
+held_on g zone old new facts looks holds = kept_holds g zone old new facts looks.clean (λ clean. looks.kept facts holds clean) holds
+
+left_on : {S : Type 0} (g : Ghosts S) (zone : List ℕ) (old new : Held S) (facts : List Fact) (left : List (List Fact))
+    → OnlyLooks g zone old new → HoldsFacts g zone old facts → LeavesFacts g zone old left → LeavesFacts g zone new left
+unfolding LeavesFacts
+left_on g zone old new facts left looks holds leaves clean trees may =
+    leaves (looks.clean clean) trees (looks.left facts holds clean trees may)
+
+keeps : {S : Type 0} (g : Ghosts S) (old new : Held S) (n m : ℕ) (zone : Zone)
+    → ((text : List ℕ) → OnlyLooks g text old new) → KeepsFacts (ledger_of g old n zone) (ledger_of g new m zone)
+keeps g old new n m zone looks = record {
+  facts = λ held h. record { zone = h.zone; holds = held_on g h.zone old new held (looks h.zone) h.holds };
+  left = λ left h. record {
+    zone = h.zone;
+    facts = h.facts;
+    holds = held_on g h.zone old new h.facts (looks h.zone) h.holds;
+    leaves = left_on g h.zone old new h.facts left (looks h.zone) h.holds h.leaves;
+  };
+}
+
+-- a look-up changes nothing but the count of failures
+pub reads : {S T : Type 0} (g : Ghosts S) (old new : Held S) (n m : ℕ) (zone : Zone) (answer : Result T BooksFault)
+    → m ≡ faults_after answer n → ((text : List ℕ) → OnlyLooks g text old new)
+    → OnlyReads (ledger_of g old n zone) (ledger_of g new m zone) answer
+reads g old new n m zone answer count looks = record {
+  goes = record { clean = (looks []).clean; faults = count; zone = refl };
+  keeps = keeps g old new n m zone looks;
+}
+
+told : {T : Type 0} (Says : T → Type 0) (found : Result T RowFault) → IfOk found Says → IfOk (answer_of found) Says
+told Says (Ok x) says = says
+told Says (Err e) says = tt
+
+tells : {S T : Type 0} (g : Ghosts S) (old new : Held S) (n m : ℕ) (zone : Zone) (Says : List Fact → T → Type 0)
+    (found : Result T RowFault) (answer : Result T BooksFault) → answer ≡ answer_of found
+    → ((text : List ℕ) (facts : List Fact) → HoldsFacts g text old facts → HasCleanDisk (state g new) → IfOk found (Says facts))
+    → Finds (ledger_of g old n zone) (ledger_of g new m zone) answer Says
+tells {T = T} g old new n m zone Says found answer is says held h clean =
+    let P : Result T BooksFault → Type 0 = λ a. IfOk a (Says held) in
+    subst P (sym is) (told (Says held) found (says h.zone held h.holds clean))
+
+-- it answers what the tables answer
+pub finds : {S T : Type 0} {Says : List Fact → T → Type 0} {AreSound : List Fact → Type 0} (g : Ghosts S) (old new : Held S) (n m : ℕ) (zone : Zone)
+    (found : Result T RowFault) (answer : Result T BooksFault) → answer ≡ answer_of found
+    → finding.Finds g old new found Says AreSound → Finds (ledger_of g old n zone) (ledger_of g new m zone) answer Says
+finds {Says = Says} g old new n m zone found answer is it = tells g old new n m zone Says found answer is it.answer
+
+pub finds_meter : {S T : Type 0} {Says : List Fact → T → Type 0} (g : Ghosts S) (old new : Held S) (n m : ℕ) (zone : Zone)
+    (found : Result T RowFault) (answer : Result T BooksFault) → answer ≡ answer_of found
+    → metering.Finds g old new found Says → Finds (ledger_of g old n zone) (ledger_of g new m zone) answer Says
+finds_meter {Says = Says} g old new n m zone found answer is it = tells g old new n m zone Says found answer is it.found
+
+-- so of what is promised of each answer
+pub sound : {T : Type 0} (Says : T → Type 0) (found : Result T RowFault) (answer : Result T BooksFault) → answer ≡ answer_of found
+    → IfOk found Says → IfOk answer Says
+sound {T} Says found answer is says =
+    let P : Result T BooksFault → Type 0 = λ a. IfOk a Says in
+    subst P (sym is) (told Says found says)
+
+told_on : (Q : Type 0) (found : Result (Unit {0}) RowFault) → OnOk found Q → OnOk (answer_of found) Q
+told_on Q (Ok x) q = q
+told_on Q (Err e) q = tt
+
+-- rows are handed on as the tables hand them on
+pub hands_on : {S K : Type 0} (g : Ghosts S) (old new : Held S) (n m : ℕ) (zone : Zone) (takes : K → Share → K → Type 0) (before after : K)
+    (rows : List Fact → List Share) (found : Result (Unit {0}) RowFault) (answer : Result (Unit {0}) BooksFault) → answer ≡ answer_of found
+    → metering.HandsOn g old new takes before after found rows
+    → HandsOn takes (ledger_of g old n zone) (ledger_of g new m zone) before after answer rows
+hands_on g old new n m zone takes before after rows found answer is hands = record {
+  begun = λ held h clean. hands.begun h.zone held h.holds clean;
+  whole = λ held h clean.
+      let P : Result (Unit {0}) BooksFault → Type 0 = λ a. OnOk a (TakesAll takes before (rows held) after) in
+      subst P (sym is) (told_on (TakesAll takes before (rows held) after) found (hands.whole h.zone held h.holds clean));
+  some = hands.some;
+}

@@ -1,0 +1,95 @@
+-- What books hold that were made or opened.
+use Rattle.std.proofs.Common.{◌≡◌, inl, inr, ℕ, Bool, true, false, List, [], ◌∷◌, refl, sym, subst, Result, Ok, Err, IsTrue}
+use Rattle.sqlite.specs.Store.{Ghosts}
+use Rattle.sqlite.specs.Tree.{Trees}
+use Rattle.sqlite.specs.Effect.{Database}
+use Rattle.sqlite.specs.Held.{Held, state}
+use Rattle.sqlite.specs.State.{HasCleanDisk, KeepsCommit}
+use Rattle.office_events.specs.declared.facts.Fact.{Fact}
+use Rattle.store_tables.specs.Content.{Content, AreTables}
+use Rattle.store_tables.specs.Steps.{TransactsTo}
+use Rattle.store_files.specs.declared.layouts.Layout.TheVariants.{Third}
+use Rattle.store_files.specs.Layouts.{no_schema}
+use Rattle.store_files.specs.Making.{Makes}
+use Rattle.store_files.specs.Bringing.{IsFile, IsBrought, OpensFile}
+use Rattle.store_facts.specs.Holding.{HasFacts, HoldsFacts, LeavesFacts, IsLeft, IsOneOf}
+use Rattle.store_laws.specs.Files.{NewFilesHaveNone, OpenedFilesKeepTheirs}
+use Rattle.office_store.specs.Opening.{HasFile, HoldsAlone, HoldsYet}
+
+-- while the store is open, a stop leaves the last commit
+abbrev pub Settles : {S : Type 0} → Ghosts S → Held S → Type 0
+Settles g h = (trees : Trees) → IsTrue (state g h).is_open → (state g h).may_leave trees → trees ≡ (state g h).committed.trees
+
+-- the facts of an open connection
+alone : {S : Type 0} (g : Ghosts S) (zone : List ℕ) (h : Held S) (facts : List Fact) → Settles g h
+    → (HasCleanDisk (state g h) → IsTrue (state g h).is_open × HasFacts zone facts (state g h).committed) → HoldsAlone g zone h facts
+unfolding HoldsFacts LeavesFacts
+alone g zone h facts settles shows = record {
+  holds = λ clean still. (shows clean).1;
+  leaves = λ clean trees may.
+      let it = shows clean in
+      record { facts = facts; one = inl refl; db = (state g h).committed; has = it.1; same = settles trees it.0 may };
+}
+
+-- ---- books that were made
+
+pub holds_none : {S X E : Type 0} → NewFilesHaveNone → (g : Ghosts S) (zone : List ℕ) (old new : Held S) (x : X) → Settles g new → old.schema ≡ no_schema
+    → TransactsTo {E = E} (state g old) (state g new) (Ok x) (Makes zone) → HoldsAlone g zone new []
+holds_none none g zone old new x settles blank does =
+    alone g zone new [] settles (λ clean.
+    let it = does.ok clean in
+    let is = it.2 blank in
+    (it.1, record { held = is.0; tables = is.2; are = none zone is.0 is.1 }))
+
+-- ---- books that were opened
+
+kept : {S : Type 0} (g : Ghosts S) (zone : List ℕ) (old new : Held S) (facts : List Fact) → KeepsCommit (state g old) (state g new) → IsTrue (state g new).is_open
+    → HasFacts zone facts (state g old).committed → HasFacts zone facts (state g new).committed
+kept g zone old new facts keeps still has =
+    let P : Database → Type 0 = λ db. HasFacts zone facts db in
+    subst P (sym (keeps.committed still)) has
+
+module _ {S X E : Type 0} (theirs : OpenedFilesKeepTheirs) (g : Ghosts S) (zone : List ℕ) (old new : Held S)
+    (first : HasCleanDisk (state g new) → HasCleanDisk (state g old)) where
+  -- what an opening promises of a file of the newest version
+  abbrev pub Opens : Result X E → Type 0
+  Opens result = HasCleanDisk (state g new) → (held : Content)
+      → (IsTrue (state g old).is_open → IsFile Third zone (state g old).committed held) → OpensFile Third zone held (state g old) (state g new) result
+
+  opened : (facts : List Fact) (result : Result X E) → Opens result → HasCleanDisk (state g new) → (has : HasFacts zone facts (state g old).committed)
+      → OpensFile Third zone has.held (state g old) (state g new) result
+  opened facts result opens clean has = opens clean has.held (λ still. (theirs zone facts (state g old).committed has).file)
+
+  pub holds_again : (facts : List Fact) (x : X) → Settles g new → HasFile g zone old facts → Opens (Ok x) → HoldsAlone g zone new facts
+  holds_again facts x settles file opens =
+      alone g zone new facts settles (λ clean.
+      let has = file (first clean) in
+      let it = (opened facts (Ok x) opens clean has).ok in
+      (it.0, record { held = it.1; tables = it.3; are = (theirs zone facts (state g old).committed has).kept it.1 it.2 }))
+
+  pub holds_yet : (facts : List Fact) (e : E) → HasFile g zone old facts → Opens (Err e) → HoldsYet g zone old new facts
+  unfolding HoldsFacts LeavesFacts
+  holds_yet facts e file opens = record {
+    holds = λ clean still.
+        let has = file (first clean) in
+        kept g zone old new facts (opened facts (Err e) opens clean has).err still has;
+    leaves = λ left one leaves clean trees may.
+        let has = file (first clean) in
+        elim ((opened facts (Err e) opens clean has).survives.crash clean trees may) [
+          | inl was ↦ leaves (first clean) trees was
+          | inr there ↦ record {
+            facts = facts;
+            one = one;
+            db = there.2;
+            has = record { held = there.0; tables = there.3; are = (theirs zone facts (state g old).committed has).kept there.0 there.1 };
+            same = there.4;
+          }
+        ];
+  }
+
+-- a connection that was opened had no transaction under way
+pub was_idle : {X E C : Type 0} (b : Bool) (x : X) (e : E) → (IsTrue b → (Ok x ≡ Err e) × C) → b ≡ false
+was_idle true x e busy =
+    let no : Ok x ≡ Err e = (busy refl).0 in
+    absurd (cc)
+was_idle false x e busy = refl

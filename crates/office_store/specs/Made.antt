@@ -1,0 +1,18 @@
+-- What the making or the opening of books answers, and what becomes of the connection.
+use Rattle.std.specs.Prelude.{Result, Ok, Err}
+use Rattle.sqlite.specs.Store.{Ghosts}
+use Rattle.sqlite.specs.Held.{Held}
+use Rattle.interval_core.specs.declared.zone.Zone.{Zone}
+use Rattle.store_files.specs.declared.faults.OpenFault.{OpenFault}
+use Rattle.office_store.specs.declared.books.SqlBooks.{SqlBooks}
+use Rattle.office_store.specs.declared.books.Unopened.{Unopened}
+
+-- the zone of the books, or why there are none
+abbrev pub told_by : {S : Type 0} {g : Ghosts S} → Result (SqlBooks S g) (Unopened S) → Result Zone OpenFault
+told_by (Ok books) = Ok books.zone
+told_by (Err unopened) = Err unopened.fault
+
+-- the connection of the books, or the one that is handed back
+abbrev pub connection_in : {S : Type 0} {g : Ghosts S} → Result (SqlBooks S g) (Unopened S) → Held S
+connection_in (Ok books) = books.connection
+connection_in (Err unopened) = unopened.connection

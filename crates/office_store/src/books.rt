@@ -1,0 +1,34 @@
+//! Books in a SQLite database: the connection to it, the zone of its days, and how often it failed.
+ghost use Rattle.std.specs.Prelude.{◌≡◌, false};
+
+use interval_core::Zone;
+use sqlite::{Alter, Connection};
+use std::alloc::Global;
+use store_files::OpenFault;
+
+/// Books in a database. No transaction is under way between calls.
+#[derive(Drop)]
+pub struct SqlBooks<S: Alter> {
+    pub(crate) connection: Connection<S>,
+    pub(crate) zone: Zone,
+    /// How often the store failed. It stays at the greatest number.
+    pub(crate) faults: u64,
+    pub(crate) alloc: Global,
+    ghost idle: { connection.in_transaction ≡ false },
+}
+
+/// A database that didn't become books: its connection, and why.
+#[derive(Drop)]
+pub struct Unopened<S: Alter> {
+    pub connection: Connection<S>,
+    pub fault: OpenFault,
+}
+
+impl<S: Alter> SqlBooks<S> {
+    /// The connection to the database, whose tables stay.
+    pub fn into_connection(self) -> Connection<S>
+        ensures { result ≡ self.connection }
+    {
+        self.connection
+    }
+}

@@ -1,0 +1,127 @@
+//! Books over the tables of a database.
+use crate::books::SqlBooks;
+use crate::counting::answered;
+use interval_core::{Share, Zone};
+use office_books::{Books, BooksFault, Repeat, RowSink};
+use office_events::{
+    Device, EntryPlace, Fact, Installation, Name, PlannedList, Poll, PollRow, Register,
+};
+use sqlite::Alter;
+use store_laws::databases_tell_their_facts;
+
+impl<S: Alter + Drop> Books for SqlBooks<S> {
+    ghost use Rattle.office_store.specs.Stored.{ledger_of};
+
+    ghost ledger = { λ books. ledger_of S.Store books.connection books.faults books.zone };
+
+    fn faults(&self) -> u64 {
+        self.faults
+    }
+
+    fn zone(&self) -> Zone {
+        self.zone
+    }
+
+    fn tables_are_held(&self) {
+        databases_tell_their_facts();
+    }
+
+    fn devices(&mut self) -> Result<Vec<Device>, BooksFault> {
+        let found = store_finding::devices(&mut self.connection);
+        answered(&mut self.faults, found)
+    }
+
+    fn list(&mut self, device: &Name) -> Result<Option<PlannedList>, BooksFault> {
+        let found = store_finding::list(self.alloc, &mut self.connection, device);
+        answered(&mut self.faults, found)
+    }
+
+    fn register(&mut self, name: &Name) -> Result<Option<Register>, BooksFault> {
+        let found = store_finding::register(&mut self.connection, name);
+        answered(&mut self.faults, found)
+    }
+
+    fn registers(&mut self, device: &Name) -> Result<Vec<Register>, BooksFault> {
+        let found = store_finding::registers(&mut self.connection, device);
+        answered(&mut self.faults, found)
+    }
+
+    fn register_count(&mut self, device: &Name) -> Result<usize, BooksFault> {
+        let found = store_finding::register_count(&mut self.connection, device);
+        answered(&mut self.faults, found)
+    }
+
+    fn meter(&mut self, name: &Name) -> Result<Option<Installation>, BooksFault> {
+        let found = store_metering::meter(&mut self.connection, name);
+        answered(&mut self.faults, found)
+    }
+
+    fn installation(&mut self, register: &Name) -> Result<Option<Installation>, BooksFault> {
+        let found = store_metering::installation(&mut self.connection, register);
+        answered(&mut self.faults, found)
+    }
+
+    fn installation_count(&mut self) -> Result<usize, BooksFault> {
+        let found = store_metering::installation_count(&mut self.connection);
+        answered(&mut self.faults, found)
+    }
+
+    fn entry(&mut self, meter: &Name, place: u64) -> Result<Option<EntryPlace>, BooksFault> {
+        let found = store_metering::entry(self.alloc, &mut self.connection, meter, place);
+        answered(&mut self.faults, found)
+    }
+
+    fn poll(&mut self, number: u64) -> Result<Option<PollRow>, BooksFault> {
+        let found = store_finding::poll(&mut self.connection, number);
+        answered(&mut self.faults, found)
+    }
+
+    fn poll_count(&mut self) -> Result<u64, BooksFault> {
+        let found = store_finding::poll_count(&mut self.connection);
+        answered(&mut self.faults, found)
+    }
+
+    fn pending(&mut self) -> Result<Vec<Poll>, BooksFault> {
+        let found = store_finding::pending(&mut self.connection);
+        answered(&mut self.faults, found)
+    }
+
+    fn latest(&mut self) -> Result<u64, BooksFault> {
+        let found = store_finding::latest(&mut self.connection);
+        answered(&mut self.faults, found)
+    }
+
+    fn repeat(
+        &mut self,
+        caller: &Name,
+        number: u64,
+        request: &[u8],
+    ) -> Result<Option<Repeat>, BooksFault> {
+        let found = store_finding::repeat(&mut self.connection, caller, number, request);
+        answered(&mut self.faults, found)
+    }
+
+    fn intervals<K: RowSink<Share>>(
+        &mut self,
+        meter: &Name,
+        sink: &mut K,
+    ) -> Result<(), BooksFault> {
+        let found = store_metering::intervals(&mut self.connection, meter, sink);
+        answered(&mut self.faults, found)
+    }
+
+    fn register_intervals<K: RowSink<Share>>(
+        &mut self,
+        register: &Name,
+        sink: &mut K,
+    ) -> Result<(), BooksFault> {
+        let found = store_metering::register_intervals(&mut self.connection, register, sink);
+        answered(&mut self.faults, found)
+    }
+
+    fn book(&mut self, facts: Vec<Fact>) -> Result<(), BooksFault> {
+        databases_tell_their_facts();
+        let done = store_booking::book_facts(self.alloc, &mut self.connection, &facts);
+        answered(&mut self.faults, done)
+    }
+}

@@ -1,0 +1,43 @@
+//! Books in a database in memory.
+use office_books::Books;
+use office_core::Office;
+use office_store::SqlBooks;
+use sqlite::{Alter, Connection, MemStore};
+use std::alloc::Global;
+use std::test::Fail;
+
+/// New books over this connection.
+pub(crate) fn made<S: Alter + Drop>(
+    alloc: Global,
+    connection: Connection<S>,
+    zone: &str,
+) -> Result<SqlBooks<S>, Fail> {
+    match SqlBooks::create(alloc, connection, zone) {
+        Ok(books) => Ok(books),
+        Err(_) => Err(Fail::from("not made")),
+    }
+}
+
+/// New books in memory.
+pub(crate) fn books(alloc: Global) -> Result<SqlBooks<MemStore>, Fail> {
+    made(alloc, Connection::open_in_memory(alloc)?, "UTC0")
+}
+
+/// The books of this connection.
+pub(crate) fn found<S: Alter + Drop>(
+    alloc: Global,
+    connection: Connection<S>,
+) -> Result<SqlBooks<S>, Fail> {
+    match SqlBooks::open(alloc, connection) {
+        Ok(books) => Ok(books),
+        Err(_) => Err(Fail::from("not found")),
+    }
+}
+
+/// An office over books, opened at a moment.
+pub(crate) fn opened<B: Books>(alloc: Global, books: B, moment: u64) -> Result<Office<B>, Fail> {
+    match Office::open(alloc, books, moment) {
+        Ok(office) => Ok(office),
+        Err(_) => Err(Fail::from("not opened")),
+    }
+}

@@ -1,0 +1,31 @@
+//! Runs over books in a database.
+ghost use Rattle.std.specs.Prelude.{ℕ, List, IfOk};
+ghost use Rattle.office_core.specs.Running.{IsRecorded, accepted_by};
+ghost use Rattle.office_core.specs.Standing.{books_in};
+ghost use Rattle.office_lawful.specs.Laws.{IsPast};
+ghost use Rattle.office_rules.specs.History.{History, facts_of};
+ghost use Rattle.office_store.specs.Opening.{HoldsAlone};
+
+use office_books::Books;
+use office_core::{Run, run};
+use office_events::{Event, Refusal};
+use office_store::SqlBooks;
+use sqlite::Alter;
+use std::alloc::Global;
+
+/// Where books in a database hold the facts of what was accepted before, and a stop leaves nothing else, the headline holds
+/// of every run over them, if the store gave back what was written to it.
+pub fn run_stored<S: Alter + Drop>(
+    alloc: Global,
+    books: SqlBooks<S>,
+    opened: u64,
+    events: &[(u64, Event)],
+) -> Result<Run<SqlBooks<S>>, (SqlBooks<S>, Refusal)>
+    ensures { (zone : List ℕ) (past : History) → IsPast past
+        → HoldsAlone S.Store zone books.connection (facts_of past)
+        → IfOk result (λ run. (⟦<SqlBooks<S> as Books>⟧.ledger (books_in run.office)).is_clean
+        → IsRecorded (⟦<SqlBooks<S> as Books>⟧.ledger (books_in run.office))
+        (accepted_by past opened events.now run)) }
+{
+    run(alloc, books, opened, events)
+}
