@@ -1,0 +1,58 @@
+//! Files that are made and opened.
+use crate::given::{fill, kept, path, remove};
+use office_files::{FileFault, make_file, open_file};
+use sqlite::Unknown;
+use std::fs;
+use std::test::Fail;
+
+#[test]
+fn a_file_that_is_missing_is_not_made(rt: HostRuntime) -> Result<(), Fail> {
+    let path = path(&rt)?;
+    assert!(rt; open_file(&rt, &path, Unknown).err() == Some(FileFault::Missing));
+    assert!(rt; !fs::exists(&rt, path.as_str())?);
+    Ok(())
+}
+
+#[test]
+fn a_file_is_made_and_found_again(rt: HostRuntime) -> Result<(), Fail> {
+    let path = path(&rt)?;
+    let Ok(mut made) = make_file(&rt, &path, Unknown) else {
+        return Err(Fail::from("not made"));
+    };
+    fill(&mut made)?;
+    assert!(rt; open_file(&rt, &path, Unknown).err() == Some(FileFault::Busy));
+    drop(made);
+    let Ok(mut found) = open_file(&rt, &path, Unknown) else {
+        return Err(Fail::from("not opened"));
+    };
+    assert_eq!(rt; kept(&mut found)?, 7);
+    drop(found);
+    remove(&rt, &path)
+}
+
+// A text, a folder, and what SQLite takes for a database in memory.
+#[test]
+fn what_is_no_database_is_told(rt: HostRuntime) -> Result<(), Fail> {
+    let path = path(&rt)?;
+    fs::write(&rt, path.as_str(), "no database".as_bytes())?;
+    assert!(rt; open_file(&rt, &path, Unknown).err() == Some(FileFault::NoDatabase));
+    remove(&rt, &path)?;
+    for name in ["/", ":memory:", "/none/office.db"] {
+        assert!(rt; make_file(&rt, name, Unknown).err() == Some(FileFault::Unreadable));
+    }
+    Ok(())
+}
+
+#[test]
+fn faults_have_numbers(rt: HostRuntime) {
+    let faults = [
+        FileFault::Missing,
+        FileFault::Busy,
+        FileFault::NoDatabase,
+        FileFault::Unreadable,
+        FileFault::Memory,
+    ];
+    for (number, fault) in (1..6).zip(faults) {
+        assert_eq!(rt; fault.number(), number);
+    }
+}
