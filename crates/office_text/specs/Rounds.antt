@@ -1,0 +1,45 @@
+-- The round of a device, and the refusal that broke it off.
+use Rattle.std.specs.Prelude.{◌≡◌, ◌⊎◌, ℕ, List, [], Option, Result, Ok, Err}
+use Rattle.std.specs.Io.KnownBytes.{Appends}
+use Rattle.command_io.specs.declared.status.Status.{Status}
+use Rattle.command_io.specs.declared.status.Status.TheVariants as status
+use Rattle.office_rules.specs.History.{History}
+use Rattle.office_books.specs.Ledgers.{Ledger}
+use Rattle.office_core.specs.declared.office.Office.{Office}
+use Rattle.office_rounds.specs.Rounds.{Passage, desk, passage}
+use Rattle.office_rounds.specs.Rounds as one
+use Rattle.office_rounds.specs.declared.fault.RoundFault.{RoundFault}
+use Rattle.office_rounds.specs.declared.fault.RoundFault.TheVariants.{Refused, Link, Output, TurnsUsed}
+use Rattle.script_text.specs.AnswerText.{refused_line}
+use Rattle.sun_points.specs.Writing.{GotPart}
+
+-- A refusal is printed, or a part of it, and then the fault is that of the writing. Nothing is printed of other ends.
+abbrev pub IsRefusalTold : (done result : Result (Unit {0}) RoundFault) → (old new : Option (List ℕ)) → Type 0
+IsRefusalTold (Ok x) result old new = (result ≡ Ok x) × (new ≡ old)
+IsRefusalTold (Err (Refused why)) result old new =
+    ((result ≡ Err (Refused why)) × Appends old new (refused_line why))
+    ⊎ ((result ≡ Err Output) × GotPart (refused_line why) old new)
+IsRefusalTold (Err Link) result old new = (result ≡ Err Link) × (new ≡ old)
+IsRefusalTold (Err Output) result old new = (result ≡ Err Output) × (new ≡ old)
+IsRefusalTold (Err TurnsUsed) result old new = (result ≡ Err TurnsUsed) × (new ≡ old)
+
+-- the passage of the round itself, which had printed so much
+abbrev pub without_cause : Passage → (printed : Option (List ℕ)) → Passage
+without_cause through printed =
+    passage through.begun (desk printed through.ended.moments through.ended.failures) through.from through.to
+
+-- A round, and behind what it printed the refusal that broke it off.
+pub record PollsRound {B : Type 0} (ledger : B → Ledger) (device : Option (List ℕ)) (past : History) (through : Passage)
+    (office : Office B) (result : Result (Unit {0}) RoundFault) : Type 0 where
+  pub printed : Option (List ℕ)
+  pub done : Result (Unit {0}) RoundFault
+  pub round : one.Rounds ledger device past (without_cause through printed) office done
+  pub told : IsRefusalTold done result printed through.ended.printed
+
+-- how the command ends
+abbrev pub round_status : Result (Unit {0}) RoundFault → Status
+round_status (Ok x) = status.Fine
+round_status (Err (Refused why)) = status.Refused
+round_status (Err Link) = status.Failed
+round_status (Err Output) = status.Failed
+round_status (Err TurnsUsed) = status.Failed
