@@ -1,0 +1,10 @@
+//! The places of the connections that are served at once.
+#![tactic(auto)]
+
+mod choice;
+mod peers;
+mod place;
+
+pub use choice::place_for;
+pub use peers::{Admission, MOST_PEERS, Peers};
+pub use place::Place;

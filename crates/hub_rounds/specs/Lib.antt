@@ -1,0 +1,4 @@
+pub mod Stages
+pub mod Polls
+pub mod Sums
+pub mod Rounds

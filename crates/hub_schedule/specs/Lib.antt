@@ -1,0 +1,3 @@
+pub mod Pauses
+pub mod Timings
+pub mod Watches

@@ -1,0 +1,18 @@
+//! When devices are due, how long things may take, and which moment an event comes at. Times are whole seconds since
+//! 1970-01-01 UTC, or counts of them.
+#![tactic(auto)]
+
+mod grid;
+mod limits;
+mod pauses;
+mod timing;
+mod watch;
+
+pub use grid::{late_by, next_due};
+pub use limits::{
+    CONNECT_SECONDS, LEAST_ROUND, LONGEST_WAIT, MOST_EVERY, MOST_MOMENT, PEER_SECONDS, round_until,
+    until, wait_for,
+};
+pub use pauses::{MOST_PAUSE, next_pause, retry_at};
+pub use timing::{Phase, Timing};
+pub use watch::{Reading, Watch};

@@ -1,0 +1,29 @@
+//! Pieces of a text.
+ghost use Rattle.std.specs.Prelude.{◌≡◌, ◌++◌, OnOk, decimal};
+
+use itoa::Buffer;
+use std::alloc::AllocError;
+
+/// Puts bytes at the end of a text. Want of memory leaves a part of it.
+pub fn put(text: &mut Vec<u8>, bytes: &[u8]) -> Result<(), AllocError>
+    ensures { OnOk result (text.new.items ≡ text.old.items ++ bytes.now) }
+{
+    text.extend_from_slice(bytes)
+}
+
+/// Puts a number in decimal digits, behind what introduces it.
+pub fn put_number(text: &mut Vec<u8>, before: &[u8], number: u64) -> Result<(), AllocError>
+    ensures { OnOk result (text.new.items ≡ text.old.items ++ before.now ++ decimal number) }
+{
+    put(text, before)?;
+    let mut buffer = Buffer::new();
+    put(text, buffer.format(number).as_bytes())
+}
+
+/// Puts what introduces a word, and the word.
+pub fn put_word(text: &mut Vec<u8>, before: &[u8], word: &[u8]) -> Result<(), AllocError>
+    ensures { OnOk result (text.new.items ≡ text.old.items ++ before.now ++ word.now) }
+{
+    put(text, before)?;
+    put(text, word)
+}
