@@ -2,6 +2,10 @@
 ghost use Rattle.std.specs.Prelude.{◌≡◌};
 ghost use Rattle.script_lines.specs.LineFaults.{line_fault_number};
 
+use std::error::Error;
+use std::fmt;
+use std::fmt::{Display, Formatter};
+
 /// Why a line was not read or carried out.
 #[derive(Clone, Copy, Debug, PartialEq, Eq)]
 pub enum LineFault {
@@ -21,3 +25,14 @@ impl LineFault {
         }
     }
 }
+
+impl Display for LineFault {
+    fn fmt<W: fmt::Write>(&self, f: &mut Formatter<W>) -> fmt::Result {
+        f.write_str(match self {
+            LineFault::Bad => "the line has none of the forms of a script's lines",
+            LineFault::Memory => "memory ran out",
+        })
+    }
+}
+
+impl Error for LineFault {}

@@ -15,8 +15,8 @@ use script_text::write_bad_line;
 use std::alloc::Global;
 use std::io::{self, Write};
 
-// Carries out a line, and prints its answer.
-fn carry_out<W: Write>(
+/// Carries out a line, and prints its answer.
+pub fn carry_out<W: Write>(
     alloc: Global,
     office: &mut Office<ListBooks>,
     said: ScriptLine,

@@ -18,8 +18,8 @@ use script_text::{write_accepted, write_faults, write_refusal};
 use std::alloc::Global;
 use std::io::{self, ErrorKind, Write};
 
-/// What comes to the office.
-pub(crate) fn feed<W: Write>(
+/// Feeds what comes to the office, and prints its answer.
+pub fn feed<W: Write>(
     office: &mut Office<ListBooks>,
     at: u64,
     event: &Event,

@@ -8,4 +8,6 @@ mod replaying;
 mod rows;
 mod running;
 
+pub use carrying::carry_out;
+pub use feeding::feed;
 pub use replaying::{Replayed, replay};

@@ -6,6 +6,7 @@ use command_io::{Buffered, Status};
 use command_words::CommandLine;
 use interval_core::Zone;
 use list_text::plan_text;
+use script_loop::{Loopback, loop_text};
 use script_replay::replay;
 use stand_in::answer_all;
 use std::io;
@@ -16,6 +17,7 @@ use std::net::TcpListener;
 pub(crate) fn carry_out<'a>(rt: &HostRuntime, line: &CommandLine<'a>) -> Ending<'a> {
     match *line {
         CommandLine::Replay { zone } => run_script(rt, zone),
+        CommandLine::Loop { zone } => run_loop(rt, zone),
         CommandLine::Plan => print_plan(rt),
         CommandLine::Chain => print_chain(rt),
         CommandLine::StandIn {
@@ -27,7 +29,6 @@ pub(crate) fn carry_out<'a>(rt: &HostRuntime, line: &CommandLine<'a>) -> Ending<
         | CommandLine::Serve { .. }
         | CommandLine::Round { .. }
         | CommandLine::Report { .. }
-        | CommandLine::Loop { .. }
         | CommandLine::Run { .. } => Ending::Failed(Failure::Lacking),
     }
 }
@@ -39,6 +40,19 @@ fn run_script<'a>(rt: &HostRuntime, zone: &'a str) -> Ending<'a> {
     let mut input = rt.stdin();
     let run = replay(rt.alloc(), read, &mut input, io::writer(rt));
     ending_of(run.status)
+}
+
+fn run_loop<'a>(rt: &HostRuntime, zone: &'a str) -> Ending<'a> {
+    let Ok(read) = Zone::read(zone) else {
+        return Ending::NoZone(zone);
+    };
+    let Ok(mut loopback) = Loopback::new(rt) else {
+        return Ending::Failed(Failure::Loopback);
+    };
+    let mut input = rt.stdin();
+    let mut output = Buffered::new(io::writer(rt));
+    let status = loop_text(rt.alloc(), read, &mut input, &mut loopback, &mut output);
+    ending_of(flushed(status, &mut output))
 }
 
 fn print_plan(rt: &HostRuntime) -> Ending<'static> {

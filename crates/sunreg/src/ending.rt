@@ -17,6 +17,8 @@ pub(crate) enum Failure<'a> {
     Streams,
     /// A port can't be listened on.
     Port { host: &'a str, port: u16 },
+    /// The loopback network can't be listened on.
+    Loopback,
     /// No connection was accepted.
     Listening,
     /// The program has no such command yet.
@@ -35,6 +37,7 @@ impl<'a> Display for Failure<'a> {
                 f,
                 "port {port} of {host} can't be listened on: is it taken, or is the host another's?"
             ),
+            Failure::Loopback => write!(f, "127.0.0.1 can't be listened on"),
             Failure::Listening => write!(f, "no more connections can be accepted"),
             Failure::Lacking => write!(
                 f,

@@ -1,0 +1,5 @@
+pub mod Answers
+pub mod Standings
+pub mod Lines
+pub mod Loops
+pub mod Running
