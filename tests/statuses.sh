@@ -39,7 +39,7 @@ is 'a line that fits no form' 1 'bad line 1' ''
 run '1000 tick\n\n1000  tick\n1000 tick\n'
 is 'lines before it are carried out, and none after' 1 "$(printf 'ok\nbad line 3')" ''
 
-for words in '' replay plan chain; do
+for words in '' replay plan chain loop; do
     if [ "$words" = plan ]; then
         limit="$(printf 'row 1 fault 2')"
         ends=1
@@ -65,9 +65,11 @@ run '1000 tick\n' replay
 is 'replay' 0 'ok' ''
 run '1000 tick\n' replay --zone CET-1CEST,M3.5.0,M10.5.0/3
 is 'replay in a zone' 0 'ok' ''
-run '1000 tick\n' replay --zone nowhere
-is 'a text that is no zone' 2 '' \
-    "error: invalid value 'nowhere' for '--zone <TEXT>': no POSIX time zone, as UTC0 or CET-1CEST,M3.5.0,M10.5.0/3"
+for words in replay loop; do
+    run '1000 tick\n' "$words" --zone nowhere
+    is "$words: a text that is no zone" 2 '' \
+        "error: invalid value 'nowhere' for '--zone <TEXT>': no POSIX time zone, as UTC0 or CET-1CEST,M3.5.0,M10.5.0/3"
+done
 
 run 'name,function,address,count,type,scale\n' plan
 is 'plan: a header that is another' 1 'row 1 fault 2' ''
@@ -77,6 +79,12 @@ run '40000 53756e53\n' chain
 is 'chain: a word that lacks' 1 'fault 2 40002' ''
 run '65536\n' chain
 is 'chain: a bad line' 1 'bad line 1' ''
+
+device='1000 device inv 1 5 1\n1000 register main inv 3 40094 @40096\n1000 install main m1 5000 0 100000\n'
+run "area holding 40094 3\nset holding 40095 5200\n${device}1900 connect inv\n1900 start inv 3 40094 3\nmeter m1\n" loop
+is 'loop' 0 "$(printf 'ok\nok\nok\nok\nok\nok\nstarted 1 1 1 00000000000601039c9e0003\npoll 1 answered\nreading m1 5200 rolls 0 step 200000\nok\nmeter m1 last 5200 sf 0 at 1900 total 200000 open')" ''
+run '1000 bytes inv 00\n' loop
+is 'loop: bytes' 1 'bad line 1' ''
 
 run 'area holding 0 1\nx\n' stand-in --port 1 --connections 1
 is 'stand-in: a bad line' 1 'bad line 2' ''
@@ -103,7 +111,7 @@ status=$?
 is 'a word that is not in UTF-8' 2 '' 'error: the words are not in UTF-8'
 
 for words in 'create --db x --zone UTC0' 'report --db x --register r' 'serve --db x --port 1 --connections 1' \
-    'round --db x --device d --port 1' loop 'run --db x --listen 1 --every 1 --devices d=h:1'; do
+    'round --db x --device d --port 1' 'run --db x --listen 1 --every 1 --devices d=h:1'; do
     run '' $words
     is "${words%% *}: not there yet" 3 '' 'failed'
 done

@@ -66,7 +66,8 @@ pub fn set_up<R: Read, W: Write>(
     input: &mut R,
     output: &mut W,
 ) -> Result<Setup, Status>
-    ensures { running.SetUp (R.remaining input.old) result (W.contents output.old) (W.contents output.new) }
+    ensures { running.SetUp (R.remaining input.old) result
+        (W.contents output.old) (W.contents output.new) }
 {
     let Ok(mut setup) = Setup::new(alloc) else {
         return Err(Status::Failed);

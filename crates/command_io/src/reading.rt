@@ -5,6 +5,9 @@ ghost use Rattle.command_io.specs.Input.{EndsUnread, TellsTooLong, most_bytes};
 use crate::calls::Calls;
 use crate::status::Status;
 use std::alloc::Global;
+use std::error::Error;
+use std::fmt;
+use std::fmt::{Display, Formatter};
 use std::io::{Read, Write};
 use sun_points::Sink;
 
@@ -23,6 +26,18 @@ pub enum ReadFault {
     Failed,
     Memory,
 }
+
+impl Display for ReadFault {
+    fn fmt<W: fmt::Write>(&self, f: &mut Formatter<W>) -> fmt::Result {
+        match self {
+            ReadFault::TooLong => write!(f, "the input has more than {MOST_BYTES} bytes"),
+            ReadFault::Failed => write!(f, "a read of the input failed, or was interrupted"),
+            ReadFault::Memory => write!(f, "memory ran out"),
+        }
+    }
+}
+
+impl Error for ReadFault {}
 
 /// Reads an input to its end, by at most one call of `read` more than it may have bytes. No call is
 /// made after one that failed.

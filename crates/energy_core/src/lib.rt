@@ -5,6 +5,7 @@ mod correcting;
 mod counters;
 mod entering;
 mod entries;
+mod fault_texts;
 mod judging;
 mod laws;
 mod measures;

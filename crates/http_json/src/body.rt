@@ -5,6 +5,9 @@ ghost use Rattle.serde_json.specs.Read.{read};
 
 use serde_json::Value;
 use std::alloc::Global;
+use std::error::Error;
+use std::fmt;
+use std::fmt::{Display, Formatter};
 
 /// What a body holds.
 pub type Body = Value;
@@ -19,6 +22,19 @@ pub enum BodyFault {
     /// Memory was refused.
     Memory,
 }
+
+impl Display for BodyFault {
+    fn fmt<W: fmt::Write>(&self, f: &mut Formatter<W>) -> fmt::Result {
+        f.write_str(match self {
+            BodyFault::Malformed =>
+                "the body is no JSON, or a member that is wanted is missing or of another kind",
+            BodyFault::Negative => "a number of the body is negative",
+            BodyFault::Memory => "memory ran out",
+        })
+    }
+}
+
+impl Error for BodyFault {}
 
 /// The value that the bytes of a body spell.
 pub fn body_of(alloc: Global, bytes: &[u8]) -> Result<Body, BodyFault>

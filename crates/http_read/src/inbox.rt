@@ -2,6 +2,9 @@
 ghost use Rattle.std.specs.Prelude.{◌≤◌, length};
 
 use mb_wire::{Link, LinkFailed, Took};
+use std::error::Error;
+use std::fmt;
+use std::fmt::{Display, Formatter};
 
 /// How many takes there are at most.
 pub const MOST_TAKES: u32 = 100_000;
@@ -16,6 +19,18 @@ pub enum TakeFault {
     /// There were 100,000 takes.
     TurnsUsed,
 }
+
+impl Display for TakeFault {
+    fn fmt<W: fmt::Write>(&self, f: &mut Formatter<W>) -> fmt::Result {
+        match self {
+            TakeFault::Read => write!(f, "a read of the connection failed"),
+            TakeFault::Short => write!(f, "the input ended inside the request"),
+            TakeFault::TurnsUsed => write!(f, "the request was not whole after {MOST_TAKES} reads"),
+        }
+    }
+}
+
+impl Error for TakeFault {}
 
 /// What was taken from a link, in room that is lent to it.
 #[derive(Drop)]

@@ -7,6 +7,9 @@ use crate::zone::Zone;
 use jiff::Timestamp;
 use jiff::civil::Date;
 use std::alloc::AllocError;
+use std::error::Error;
+use std::fmt;
+use std::fmt::{Display, Formatter};
 
 /// Why a moment has no civil day.
 #[derive(Clone, Copy, Debug, PartialEq, Eq)]
@@ -38,6 +41,17 @@ impl From<AllocError> for DayFault {
         DayFault::Memory
     }
 }
+
+impl Display for DayFault {
+    fn fmt<W: fmt::Write>(&self, f: &mut Formatter<W>) -> fmt::Result {
+        f.write_str(match self {
+            DayFault::Zone => "the calendar has no such moment in this time zone",
+            DayFault::Memory => "memory ran out",
+        })
+    }
+}
+
+impl Error for DayFault {}
 
 /// The civil day of the moment `start`, in seconds since 1970-01-01 UTC, by the clocks of the zone.
 pub fn day_of(zone: &Zone, start: u64) -> Result<Date, DayFault>

@@ -4,6 +4,9 @@ ghost use Rattle.interval_core.specs.Zone.{HasRule, rule_of};
 ghost use Rattle.interval_core.specs.Faults.{zone_fault_number};
 
 use jiff::tz::TimeZone;
+use std::error::Error;
+use std::fmt;
+use std::fmt::{Display, Formatter};
 
 /// Why a text is no zone.
 #[derive(Clone, Copy, Debug, PartialEq, Eq)]
@@ -25,6 +28,18 @@ impl ZoneFault {
         }
     }
 }
+
+impl Display for ZoneFault {
+    fn fmt<W: fmt::Write>(&self, f: &mut Formatter<W>) -> fmt::Result {
+        f.write_str(match self {
+            ZoneFault::Text =>
+                "the text is no POSIX time zone of at most 64 bytes, as UTC0 or CET-1CEST,M3.5.0,M10.5.0/3",
+            ZoneFault::Memory => "memory ran out",
+        })
+    }
+}
+
+impl Error for ZoneFault {}
 
 /// A time zone: how far its clocks are ahead of UTC, at each moment.
 #[derive(Clone, Copy, Debug)]

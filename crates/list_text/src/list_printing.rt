@@ -25,7 +25,8 @@ pub fn plan_text<R: Read, W: Write>(alloc: Global, input: &mut R, output: &mut W
 
 // Prints the plan of the list that a text spells, or its faulty rows.
 fn print_text<W: Write>(alloc: Global, text: &[u8], output: &mut W) -> Status
-    ensures { PrintsAs (TextPrints text.now) result (W.contents output.old) (W.contents output.new) }
+    ensures { PrintsAs (TextPrints text.now) result
+        (W.contents output.old) (W.contents output.new) }
 {
     match read_list(alloc, text) {
         Ok(list) => print_plan(alloc, &list, output),

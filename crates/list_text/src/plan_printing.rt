@@ -15,7 +15,8 @@ use std::io::{self, Write};
 /// Prints the plan of a point list: `read K FUNCTION AREA ADDRESS COUNT`, K from 1, for each read, then
 /// `point NAME K OFFSET` for each point in the list's order.
 pub fn print_plan<W: Write>(alloc: Global, list: &PointList, output: &mut W) -> Status
-    ensures { PrintsAs (PrintsPlan list.now) result (W.contents output.old) (W.contents output.new) }
+    ensures { PrintsAs (PrintsPlan list.now) result
+        (W.contents output.old) (W.contents output.new) }
 {
     let Ok(plan) = plan(alloc, list) else {
         return Status::Failed;

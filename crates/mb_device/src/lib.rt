@@ -4,6 +4,7 @@
 
 mod answer;
 mod bank;
+mod fault_texts;
 mod kinds;
 mod laws;
 mod packing;

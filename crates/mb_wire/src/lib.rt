@@ -5,6 +5,7 @@
 
 mod bytes;
 mod decoding;
+mod fault_texts;
 mod frames;
 mod laws;
 mod link;

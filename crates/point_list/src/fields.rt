@@ -51,7 +51,7 @@ fn text_type(field: &[u8]) -> Option<PointType>
     Some(PointType::Text(length))
 }
 
-/// The type of a point.
+/// The type of a point, as a list spells it: `acc32`, or `string8` of 8 registers.
 pub fn point_type(field: &[u8]) -> Option<PointType>
     ensures { result ≡ type_of field.now }
 {
@@ -103,7 +103,7 @@ fn scale_to_zero(number: u16) -> Option<Scale>
     Scale::new(scale_word_below(number))
 }
 
-/// A scale for good: -10 to 10.
+/// A scale for good: the digits of -10 to 10, a sign at most before one below 0.
 pub fn fixed_scale(field: &[u8]) -> Option<Scale>
     ensures { result ≡ fixed_scale_of field.now }
 {

@@ -7,6 +7,9 @@ ghost use Rattle.point_list.specs.Written.{list_text};
 use crate::list::PointList;
 use crate::written::{point_rows, text_of_rows};
 use std::alloc::{AllocError, Global};
+use std::error::Error;
+use std::fmt;
+use std::fmt::{Display, Formatter};
 use sun_points::Sink;
 
 /// Why a list was not written.
@@ -31,6 +34,17 @@ impl WriteListFault {
         }
     }
 }
+
+impl Display for WriteListFault {
+    fn fmt<W: fmt::Write>(&self, f: &mut Formatter<W>) -> fmt::Result {
+        f.write_str(match self {
+            WriteListFault::Write => "the list could not be written",
+            WriteListFault::Memory => "memory ran out",
+        })
+    }
+}
+
+impl Error for WriteListFault {}
 
 fn list_text(alloc: Global, list: &PointList) -> Result<Vec<u8>, AllocError>
     ensures exact { IfOk result (λ text. text.items ≡ list_text list.now) }

@@ -17,7 +17,8 @@ fn number_text(alloc: Global, number: u16) -> Result<String, AllocError>
     format!(in alloc; "{number}")
 }
 
-fn type_text(alloc: Global, kind: PointType) -> Result<String, AllocError>
+/// The text of a type, as a list spells it: `acc32`, or `string8` of 8 registers.
+pub fn type_text(alloc: Global, kind: PointType) -> Result<String, AllocError>
     ensures { IfOk result (λ text. string_bytes text ≡ type_text kind) }
 {
     match kind {

@@ -3,6 +3,7 @@
 
 mod answers;
 mod call;
+mod fault_texts;
 mod inner;
 mod laws;
 mod outcome;

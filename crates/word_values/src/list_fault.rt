@@ -1,6 +1,7 @@
 // Why a text is no list of devices.
 use crate::devices::{MOST_DEVICES, MOST_PORT};
 use std::alloc::{AllocError, AllocFailed};
+use std::error::Error;
 use std::fmt;
 use std::fmt::{Display, Formatter};
 
@@ -56,3 +57,19 @@ impl Display for DeviceFault {
         }
     }
 }
+
+impl Error for DeviceFault {}
+
+impl<'a> Display for ListFault<'a> {
+    fn fmt<W: fmt::Write>(&self, f: &mut Formatter<W>) -> fmt::Result {
+        match self {
+            ListFault::Part { part, fault } => write!(
+                f,
+                "'{part}' is no device of the list: {fault}"
+            ),
+            ListFault::Memory => write!(f, "memory ran out"),
+        }
+    }
+}
+
+impl<'a> Error for ListFault<'a> {}
