@@ -24,8 +24,12 @@ trick_form trick.Garble = Word (codes "garble") ∷ []
 trick_form (trick.Cut count) = Word (codes "cut") ∷ Of Number count ∷ []
 
 abbrev pub bank_form : BankLine → List Field
-bank_form (line.Area area) = Word (codes "area") ∷ Word (kind_word area.kind) ∷ Of Number area.start ∷ Of Number area.count ∷ []
-bank_form (line.Set cell) = Word (codes "set") ∷ Word (kind_word cell.kind) ∷ Of Number cell.address ∷ Of Number cell.value ∷ []
+bank_form (line.Area area) =
+    Word (codes "area") ∷ Word (kind_word area.kind) ∷ Of Number area.start ∷ Of Number area.count
+    ∷ []
+bank_form (line.Set cell) =
+    Word (codes "set") ∷ Word (kind_word cell.kind) ∷ Of Number cell.address ∷ Of Number cell.value
+    ∷ []
 bank_form (line.Trick frame trick) = Word (codes "trick") ∷ Of Number frame ∷ trick_form trick
 
 -- a part of a frame, which has at most 260 bytes

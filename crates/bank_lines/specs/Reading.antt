@@ -26,12 +26,14 @@ kind_of word =
 -- the two numbers that are left
 abbrev pub two_said : List (List ℕ) → Option (ℕ × ℕ)
 two_said words =
-    first_value Number words >>= λ a. first_value Number a.1 >>= λ b. nothing_more b.1 >>= λ none. Some (a.0, b.0)
+    first_value Number words >>= λ a. first_value Number a.1 >>= λ b. nothing_more b.1 >>= λ none.
+    Some (a.0, b.0)
 
 -- a kind and two numbers
 abbrev pub three_said : List (List ℕ) → Option (Kind × ℕ × ℕ)
 three_said [] = None
-three_said (word ∷ words) = kind_of word >>= λ kind. two_said words >>= λ two. Some (kind, two.0, two.1)
+three_said (word ∷ words) =
+    kind_of word >>= λ kind. two_said words >>= λ two. Some (kind, two.0, two.1)
 
 abbrev pub plain_of : List ℕ → Option Trick
 plain_of word =
@@ -45,7 +47,8 @@ plain_of word =
 
 abbrev pub cut_said : List (List ℕ) → Option Trick
 cut_said words =
-    first_value Number words >>= λ count. nothing_more count.1 >>= λ none. if nat_le count.0 259 then Some (trick.Cut count.0) else None
+    first_value Number words >>= λ count. nothing_more count.1 >>= λ none. if nat_le count.0 259
+    then Some (trick.Cut count.0) else None
 
 abbrev pub trick_said : List (List ℕ) → Option Trick
 trick_said [] = None
@@ -54,13 +57,17 @@ trick_said (word ∷ words) =
     else (plain_of word >>= λ trick. nothing_more words >>= λ none. Some trick)
 
 abbrev pub frame_said : List (List ℕ) → Option BankLine
-frame_said words = first_value Number words >>= λ frame. trick_said frame.1 >>= λ trick. Some (line.Trick frame.0 trick)
+frame_said words =
+    first_value Number words >>= λ frame. trick_said frame.1 >>= λ trick.
+    Some (line.Trick frame.0 trick)
 
 abbrev pub area_said : List (List ℕ) → Option BankLine
-area_said words = three_said words >>= λ v. Some (line.Area (record { kind = v.0; start = v.1; count = v.2 }))
+area_said words =
+    three_said words >>= λ v. Some (line.Area (record { kind = v.0; start = v.1; count = v.2 }))
 
 abbrev pub set_said : List (List ℕ) → Option BankLine
-set_said words = three_said words >>= λ v. Some (line.Set (record { kind = v.0; address = v.1; value = v.2 }))
+set_said words =
+    three_said words >>= λ v. Some (line.Set (record { kind = v.0; address = v.1; value = v.2 }))
 
 abbrev pub bank_said : List (List ℕ) → Option BankLine
 bank_said [] = None

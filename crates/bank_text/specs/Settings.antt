@@ -40,15 +40,20 @@ takes_area maps area =
 -- The bank takes a value of 16 bits at an address that it has.
 abbrev pub takes_cell : Maps → GivenCell → Bool
 takes_cell maps cell =
-    nat_le cell.address 65535 && nat_le cell.value 65535 && is_some (value_at maps cell.kind cell.address)
+    nat_le cell.address 65535 && nat_le cell.value 65535
+    && is_some (value_at maps cell.kind cell.address)
 
 abbrev pub with_area : Maps → GivenArea → Maps
 with_area maps area =
-    if takes_area maps area then with_table maps area.kind (begun_from (table_of maps area.kind) area.start area.count) else maps
+    if takes_area maps area
+    then with_table maps area.kind (begun_from (table_of maps area.kind) area.start area.count)
+    else maps
 
 abbrev pub with_cell : Maps → GivenCell → Maps
 with_cell maps cell =
-    if takes_cell maps cell then with_table maps cell.kind (written (table_of maps cell.kind) cell.address (kept cell.kind cell.value)) else maps
+    if takes_cell maps cell
+    then with_table maps cell.kind
+    (written (table_of maps cell.kind) cell.address (kept cell.kind cell.value)) else maps
 
 abbrev pub after_area : Setting → GivenArea → Setting
 after_area now area = record { maps = with_area now.maps area; tricks = now.tricks }

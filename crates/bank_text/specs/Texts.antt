@@ -22,14 +22,17 @@ pub record IsBad (bad : Line) : Type 0 where
   pub none : (said : BankLine) → IsBankLine (words_of bad.text) said → ⊥
 
 -- The lines are carried out one after the other, up to one that is none: that ends it, and prints its number.
-abbrev pub SetsUp : Setting → List Line → (printed : List ℕ) → (ended : Result Setting Status) → Type 0
+abbrev pub SetsUp : Setting → List Line → (printed : List ℕ) → (ended : Result Setting Status)
+    → Type 0
 SetsUp now [] printed ended = (printed ≡ []) × (ended ≡ Ok now)
 SetsUp now (first ∷ lines) printed ended =
     (IsBad first × (printed ≡ bad_line first.number) × (ended ≡ Err Refused))
     ⊎ ((said : BankLine) × IsBankLine (words_of first.text) said
-    × ((rest : List ℕ) × (printed ≡ taken_text (takes now.maps said) ++ rest) × SetsUp (after_line now said) lines rest ended))
+    × ((rest : List ℕ) × (printed ≡ taken_text (takes now.maps said) ++ rest)
+    × SetsUp (after_line now said) lines rest ended))
 
 -- an input sets up what its lines do, where it isn't too long
-pub record InputSetsUp (now : Setting) (input printed : List ℕ) (ended : Result Setting Status) : Type 0 where
+pub record InputSetsUp (now : Setting) (input printed : List ℕ) (ended : Result Setting Status) :
+    Type 0 where
   pub long : most_bytes < length input → (printed ≡ too_long) × (ended ≡ Err Refused)
   pub lines : length input ≤ most_bytes → SetsUp now (speaking_lines input) printed ended

@@ -32,7 +32,8 @@ model_lines word model = model_line model ++ flat_map point_line (points_in word
 
 abbrev pub chain_lines : Words → ℕ → List Model → ℕ → List ℕ
 chain_lines word base models end =
-    codes "base " ++ decimal base ++ codes "\n" ++ flat_map (model_lines word) models ++ codes "end "
+    codes "base " ++ decimal base ++ codes "\n" ++ flat_map (model_lines word) models
+    ++ codes "end "
     ++ decimal end ++ codes "\n"
 
 -- where a word is lacking

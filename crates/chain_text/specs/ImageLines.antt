@@ -49,7 +49,8 @@ put_of line = put_said (words_of line)
 -- the device's words after a put that ends by the last address
 abbrev pub words_after_put : Words → Put → Option Words
 words_after_put word put =
-    if nat_le (put.address + length put.words) 65536 then Some (put_words word put.address put.words)
+    if nat_le (put.address + length put.words) 65536
+    then Some (put_words word put.address put.words)
     else None
 
 abbrev pub words_after : Words → List ℕ → Option Words

@@ -23,4 +23,5 @@ TellsTooLong Failed old new = GotPart too_long old new
 -- read failed or memory was wanting.
 abbrev pub EndsUnread : (input : List ℕ) → Status → (old new : Option (List ℕ)) → Type 0
 EndsUnread input status old new =
-    ((most_bytes < length input) × TellsTooLong status old new) ⊎ ((status ≡ Failed) × Appends old new [])
+    ((most_bytes < length input) × TellsTooLong status old new)
+    ⊎ ((status ≡ Failed) × Appends old new [])

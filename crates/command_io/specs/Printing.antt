@@ -5,6 +5,7 @@ use Rattle.command_io.specs.declared.status.Status.{Status}
 use Rattle.command_io.specs.declared.status.Status.TheVariants.{Failed}
 
 -- Where it didn't fail, what was written is what is printed with its status.
-abbrev pub PrintsAs : (Prints : List ℕ → Status → Type 0) → Status → (old new : Option (List ℕ)) → Type 0
+abbrev pub PrintsAs : (Prints : List ℕ → Status → Type 0) → Status → (old new : Option (List ℕ))
+    → Type 0
 PrintsAs Prints status old new =
     status ≢ Failed → (printed : List ℕ) × Appends old new printed × Prints printed status

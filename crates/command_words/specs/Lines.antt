@@ -19,7 +19,8 @@ pub data Line : Type 0 where
   Report : (db register : Text) → Line
   StandIn : (host : Text) (port connections : ℕ) → Line
   Loop : (zone : Text) → Line
-  Run : (db : Text) (listen every : ℕ) (devices : List Place) (lasts : Option ℕ) (verbose : Bool) → Line
+  Run : (db : Text) (listen every : ℕ) (devices : List Place) (lasts : Option ℕ) (verbose : Bool)
+      → Line
 
 abbrev pub seen : CommandLine → Line
 seen (line.Replay zone) = Replay zone.now

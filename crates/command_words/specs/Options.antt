@@ -44,4 +44,5 @@ IsDue (fault.Device part fault) due = None ≡ due
 
 -- what reading answers of the value that is due, which `seen` compares
 abbrev pub Reads : {T A : Type 0} → (T → A) → Option A → Result T ValueFault → Type 0
-Reads seen due result = MatchResult result (λ value. Some (seen value) ≡ due) (λ fault. IsDue fault due)
+Reads seen due result =
+    MatchResult result (λ value. Some (seen value) ≡ due) (λ fault. IsDue fault due)

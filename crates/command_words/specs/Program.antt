@@ -8,7 +8,8 @@ commands =
     command_with (codes "replay") (optional_option (codes "zone") ∷ [])
     ∷ command_with (codes "plan") []
     ∷ command_with (codes "chain") []
-    ∷ command_with (codes "create") (required_option (codes "db") ∷ required_option (codes "zone") ∷ [])
+    ∷ command_with (codes "create")
+    (required_option (codes "db") ∷ required_option (codes "zone") ∷ [])
     ∷ command_with (codes "serve")
     (required_option (codes "db") ∷ required_option (codes "port")
     ∷ required_option (codes "connections") ∷ [])

@@ -61,12 +61,14 @@ set_anew (entry.Change at before new sf ∷ es) = new * unit_of sf + set_anew es
 -- The whole energy of an installation: its last value less its first, plus one full range for each recorded
 -- rollover, plus for each change what the counter showed before it, less what it was set to.
 abbrev pub whole_energy : (range : ℕ) → Last → List Entry → ℕ
-whole_energy range opening es = (value_of (last_of opening es) + recorded range opening es) - (value_of opening + set_anew es)
+whole_energy range opening es =
+    (value_of (last_of opening es) + recorded range opening es) - (value_of opening + set_anew es)
 
 -- No entry goes back, so that each difference above is one.
 abbrev pub NeverFalls : (range : ℕ) → Last → List Entry → Type 0
 NeverFalls range opening [] = Unit {0}
-NeverFalls range opening (e ∷ es) = ((last_of opening es).raw ≤ reached range e) × NeverFalls range opening es
+NeverFalls range opening (e ∷ es) =
+    ((last_of opening es).raw ≤ reached range e) × NeverFalls range opening es
 
 -- the scale is one that a register may have
 abbrev pub IsScale : ℤ → Type 0
@@ -96,7 +98,8 @@ AllFollow range opening [] = Unit {0}
 AllFollow range opening (e ∷ es) = Follows range (last_of opening es) e × AllFollow range opening es
 
 -- The account of an installation: after these entries the counter stands so, and the whole energy is so much.
-pub record IsAccount (range : ℕ) (opening : Last) (es : List Entry) (last : Last) (total : ℕ) : Type 0 where
+pub record IsAccount (range : ℕ) (opening : Last) (es : List Entry) (last : Last) (total : ℕ) : Type
+    0 where
   pub last_is : last ≡ last_of opening es
   pub total_is : total ≡ whole_energy range opening es
   pub within : total ≤ 4 * 10 ^ 18

@@ -43,7 +43,8 @@ refuses range total last e fault.NotBelowRange = is_beyond range e
 
 -- The faults, in the order in which they are looked at.
 abbrev pub faults : List TermFault
-faults = fault.NegativeStep ∷ fault.NotLater ∷ fault.SpanTooLong ∷ fault.TotalFull ∷ fault.BadScale ∷ fault.NotBelowRange ∷ []
+faults = fault.NegativeStep ∷ fault.NotLater ∷ fault.SpanTooLong ∷ fault.TotalFull ∷ fault.BadScale
+    ∷ fault.NotBelowRange ∷ []
 
 -- refused for a fault, or booked
 abbrev pub answered : (range : ℕ) → Last → Entry → Option TermFault → Result (Last × Step) TermFault
@@ -57,8 +58,9 @@ entered range total last e = answered range last e (find (refuses range total la
 
 -- An entry that may follow was booked: the counter stands then where the entry says, the step goes up to it, and the
 -- whole energy is within its limit.
-pub record IsBooked (range total : ℕ) (last : Last) (e : Entry) (next : Last) (step : Step) : Type 0 where
-  pub next_is : next ≡ after last e
-  pub step_is : step ≡ step_to range last e
-  pub follows : Follows range last e
-  pub within : total + step.mwh ≤ 4 * 10 ^ 18
+pub record IsBooked (range total : ℕ) (last : Last) (e : Entry) (next : Last) (step : Step) : Type 0
+  where
+    pub next_is : next ≡ after last e
+    pub step_is : step ≡ step_to range last e
+    pub follows : Follows range last e
+    pub within : total + step.mwh ≤ 4 * 10 ^ 18

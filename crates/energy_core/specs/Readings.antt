@@ -12,7 +12,8 @@ use Rattle.energy_core.specs.Verdict.{verdict_of}
 -- The verdict on a reading that comes to an installation with these entries.
 abbrev pub verdict_on : (range ceiling : ℕ) → Last → List Entry → Reading → Verdict
 verdict_on range ceiling opening es reading =
-    verdict_of range (record { ceiling = ceiling; total = whole_energy range opening es }) (last_of opening es) reading
+    verdict_of range (record { ceiling = ceiling; total = whole_energy range opening es })
+    (last_of opening es) reading
 
 -- an accepted reading is an entry, a held one is none
 abbrev pub with_verdict : List Entry → Reading → Verdict → List Entry

@@ -64,12 +64,15 @@ true_steps sf first (b ∷ items) =
 
 -- What the run showed at opening and at each reading is booked as it was: every reading is accepted, each step is the
 -- true advance between its moments, and the whole energy is the true advance since the opening.
-pub record IsBookedTruly (range ceiling : ℕ) (sf : ℤ) (first : Item) (items : List Item) : Type 0 where
-  pub accepted : AllAccepted range ceiling (shown range sf first) (map (told range sf) items)
-  pub steps : steps_of range (shown range sf first) (entries_of_readings range ceiling (shown range sf first) (map (told range sf) items))
-      ≡ true_steps sf first items
-  pub energy : whole_energy range (shown range sf first) (entries_of_readings range ceiling (shown range sf first) (map (told range sf) items))
-      ≡ advance sf first (newest first items)
+pub record IsBookedTruly (range ceiling : ℕ) (sf : ℤ) (first : Item) (items : List Item) : Type 0
+  where
+    pub accepted : AllAccepted range ceiling (shown range sf first) (map (told range sf) items)
+    pub steps : steps_of range (shown range sf first)
+        (entries_of_readings range ceiling (shown range sf first) (map (told range sf) items))
+        ≡ true_steps sf first items
+    pub energy : whole_energy range (shown range sf first)
+        (entries_of_readings range ceiling (shown range sf first) (map (told range sf) items))
+        ≡ advance sf first (newest first items)
 
 -- A true run that is read often enough is booked truly, however often the counter turned over.
 abbrev pub TruthIsBooked : Type 0

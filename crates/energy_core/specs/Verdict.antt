@@ -43,32 +43,37 @@ applies range terms last reading cause.NotBelowRange = nat_le range reading.raw
 -- the last entry is as late, or later
 applies range terms last reading cause.NotLater = nat_le reading.at last.at
 -- more than 3,000 intervals lie between
-applies range terms last reading cause.SpanTooLong = nat_lt 3000 (intervals_touched last.at reading.at)
+applies range terms last reading cause.SpanTooLong =
+    nat_lt 3000 (intervals_touched last.at reading.at)
 -- the counter could have made a full turn, so that nobody can tell how far it went
 applies range terms last reading cause.GapTooLong =
     can_count terms.ceiling (unit_of last.sf) (reading.at - last.at) range
 -- the counter could not have gone so far
 applies range terms last reading cause.TooFast =
-    not (can_count terms.ceiling (unit_of last.sf) (reading.at - last.at) (distance range last.raw reading.raw))
+    not (can_count terms.ceiling (unit_of last.sf) (reading.at - last.at)
+    (distance range last.raw reading.raw))
 -- the whole energy would pass its limit
 applies range terms last reading cause.TotalFull =
     nat_lt (4 * 10 ^ 18) (terms.total + distance range last.raw reading.raw * unit_of last.sf)
 
 -- The causes, in the order in which they are looked at.
 abbrev pub causes : List Cause
-causes = cause.NotAccumulated ∷ cause.ScaleChanged ∷ cause.NotBelowRange ∷ cause.NotLater ∷ cause.SpanTooLong
+causes = cause.NotAccumulated ∷ cause.ScaleChanged ∷ cause.NotBelowRange ∷ cause.NotLater
+    ∷ cause.SpanTooLong
     ∷ cause.GapTooLong ∷ cause.TooFast ∷ cause.TotalFull ∷ []
 
 -- held for a cause, or accepted with the rollovers and the energy of the step
 abbrev pub judged : (range : ℕ) → Last → Reading → Option Cause → Verdict
 judged range last reading (Some cause) = Held cause
 judged range last reading None =
-    Accepted (if nat_lt reading.raw last.raw then 1 else 0) (distance range last.raw reading.raw * unit_of last.sf)
+    Accepted (if nat_lt reading.raw last.raw then 1 else 0)
+    (distance range last.raw reading.raw * unit_of last.sf)
 
 -- Held for the first cause that applies. Where none does, accepted: the counter turned over once if it shows less
 -- than before, else not.
 abbrev pub verdict_of : (range : ℕ) → Terms → Last → Reading → Verdict
-verdict_of range terms last reading = judged range last reading (find (applies range terms last reading) causes)
+verdict_of range terms last reading =
+    judged range last reading (find (applies range terms last reading) causes)
 
 -- Nothing speaks against a reading.
 pub record IsPlausible (range : ℕ) (terms : Terms) (last : Last) (reading : Reading) : Type 0 where
@@ -78,5 +83,6 @@ pub record IsPlausible (range : ℕ) (terms : Terms) (last : Last) (reading : Re
   pub later : last.at < reading.at
   pub span : intervals_touched last.at reading.at ≤ 3000
   pub gap : terms.ceiling * (reading.at - last.at) * 5 < (range - 1) * unit_of last.sf * 18
-  pub speed : (distance range last.raw reading.raw - 1) * unit_of last.sf * 18 ≤ terms.ceiling * (reading.at - last.at) * 5
+  pub speed : (distance range last.raw reading.raw - 1) * unit_of last.sf * 18
+      ≤ terms.ceiling * (reading.at - last.at) * 5
   pub within : terms.total + distance range last.raw reading.raw * unit_of last.sf ≤ 4 * 10 ^ 18

@@ -5,7 +5,8 @@ use Rattle.point_list.specs.Faults.{fault_number}
 
 -- a row and the number of its fault
 abbrev pub row_text : FaultyRow → List ℕ
-row_text faulty = codes "[" ++ decimal faulty.row ++ codes "," ++ decimal (fault_number faulty.fault) ++ codes "]"
+row_text faulty =
+    codes "[" ++ decimal faulty.row ++ codes "," ++ decimal (fault_number faulty.fault) ++ codes "]"
 
 -- rows behind others: a comma before each
 abbrev pub more_rows : List FaultyRow → List ℕ

@@ -62,7 +62,8 @@ poll_reply office (Some number) = row_reply poll_text (office.poll number)
 abbrev pub question_reply : Office → Route → Option (List ℕ) → Reply
 question_reply office route.Meter taken = row_reply meter_text (office.meter (name_asked taken))
 question_reply office route.Poll taken = poll_reply office (number_asked taken)
-question_reply office route.Intervals taken = lines_reply intervals_text (office.intervals (name_asked taken))
+question_reply office route.Intervals taken =
+    lines_reply intervals_text (office.intervals (name_asked taken))
 question_reply office route.Days taken = lines_reply days_text (office.days (name_asked taken))
 question_reply office _ taken = fault NotThere
 
@@ -75,7 +76,8 @@ fault_said (Faulty rows) = Json Unprocessable (faults_text rows)
 fault_said Memory = refused refusal.Memory
 
 -- the reply to a command by what its body gives
-abbrev pub command_reply : (Command → Result CommandKind Refusal) → Result Command CommandFault → Reply
+abbrev pub command_reply : (Command → Result CommandKind Refusal) → Result Command CommandFault
+    → Reply
 command_reply ask (Ok command) = row_reply done_text (ask command)
 command_reply ask (Err why) = fault_said why
 
@@ -93,22 +95,27 @@ asked_with headers request command = record {
 }
 
 abbrev pub asked_of : Start → (body : List ℕ) → Command → Asked
-asked_of start body command = asked_with (post_headers_of start.headers) (kept_request start.method start.target body) command
+asked_of start body command =
+    asked_with (post_headers_of start.headers) (kept_request start.method start.target body) command
 
 abbrev pub ask : Office → Start → (body : List ℕ) → Command → Result CommandKind Refusal
 ask office start body command = office.asked (asked_of start body command)
 
 -- what the office replies to a request of this route, all tests of whose head pass
-abbrev pub route_reply : Office → Start → (body : List ℕ) → Result Command CommandFault → Route → Option (List ℕ) → Reply
+abbrev pub route_reply : Office → Start → (body : List ℕ) → Result Command CommandFault → Route
+    → Option (List ℕ) → Reply
 route_reply office start body given route.Meter taken = question_reply office route.Meter taken
 route_reply office start body given route.Poll taken = question_reply office route.Poll taken
-route_reply office start body given route.Intervals taken = question_reply office route.Intervals taken
+route_reply office start body given route.Intervals taken =
+    question_reply office route.Intervals taken
 route_reply office start body given route.Days taken = question_reply office route.Days taken
 route_reply office start body given _ taken = command_reply (ask office start body) given
 
-abbrev pub found_reply : Office → Start → (body : List ℕ) → Result Command CommandFault → Option Route → Option (List ℕ) → Reply
+abbrev pub found_reply : Office → Start → (body : List ℕ) → Result Command CommandFault
+    → Option Route → Option (List ℕ) → Reply
 found_reply office start body given None taken = fault NotThere
-found_reply office start body given (Some route) taken = route_reply office start body given route taken
+found_reply office start body given (Some route) taken =
+    route_reply office start body given route taken
 
 -- the first test that fails answers
 abbrev pub unless_failed : Option Status → Reply → Reply

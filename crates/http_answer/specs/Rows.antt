@@ -31,7 +31,12 @@ pub record Ending : Type 0 where
 
 abbrev pub ending_of : Option EndedPoll → Ending
 ending_of None = record { moment = 0; outcome = 0; code = 0 }
-ending_of (Some ended) = record { moment = ended.at; outcome = outcome_number ended.outcome; code = outcome_code ended.outcome }
+ending_of (Some ended) =
+    record {
+      moment = ended.at;
+      outcome = outcome_number ended.outcome;
+      code = outcome_code ended.outcome;
+    }
 
 abbrev pub poll_text_with : Ending → PollRow → List ℕ
 poll_text_with ending row =

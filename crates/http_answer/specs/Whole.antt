@@ -24,7 +24,8 @@ pub record IsCommand (table : Table) (start : Start) (route : Route) : Type 0 wh
 -- what the body of a command's request gives; want of memory is no property of it
 abbrev pub BodyGives : Table → Start → (body : List ℕ) → Result Command CommandFault → Type 0
 BodyGives table start body given =
-    (route : Route) → IsCommand table start route → Gives route (name_asked (name_in table start.target)) body given × (given ≢ Err Memory)
+    (route : Route) → IsCommand table start route
+    → Gives route (name_asked (name_in table start.target)) body given × (given ≢ Err Memory)
 
 -- a whole request was read, and this is its reply
 pub record RepliesToRequest (office : Office) (table : Table) (bytes reply : List ℕ) : Type 0 where
@@ -41,4 +42,5 @@ pub record RepliesToBadHead (bytes reply : List ℕ) : Type 0 where
   pub is : (reply ≡ reply_bytes (fault BadRequest)) ⊎ (reply ≡ reply_bytes (fault FieldsTooLarge))
 
 abbrev pub IsReply : Office → Table → (bytes reply : List ℕ) → Type 0
-IsReply office table bytes reply = RepliesToBadHead bytes reply ⊎ RepliesToRequest office table bytes reply
+IsReply office table bytes reply =
+    RepliesToBadHead bytes reply ⊎ RepliesToRequest office table bytes reply

@@ -29,7 +29,8 @@ told (Ok c) = Ok c
 told (Err fault) = Err (fault_told fault)
 
 -- the bytes are a JSON text, and this is what its value asks for
-pub record GivesJson (at : Route) (name : Option (List ℕ)) (bytes : List ℕ) (given : Result Command CommandFault) : Type 0 where
+pub record GivesJson (at : Route) (name : Option (List ℕ)) (bytes : List ℕ)
+    (given : Result Command CommandFault) : Type 0 where
   pub value : Data
   pub is : IsJson bytes value
   pub gives : given ≡ told (command_of at name value)
@@ -39,8 +40,10 @@ pub record IsNoJson (bytes : List ℕ) (given : Result Command CommandFault) : T
   pub none : (d : Data) → IsJson bytes d → ⊥
   pub gives : given ≡ Err Malformed
 
-abbrev pub IsBody : Route → Option (List ℕ) → (bytes : List ℕ) → Result Command CommandFault → Type 0
-IsBody at name bytes given = GivesJson at name bytes given ⊎ IsNoJson bytes given ⊎ (given ≡ Err Memory)
+abbrev pub IsBody : Route → Option (List ℕ) → (bytes : List ℕ) → Result Command CommandFault
+    → Type 0
+IsBody at name bytes given =
+    GivesJson at name bytes given ⊎ IsNoJson bytes given ⊎ (given ≡ Err Memory)
 
 -- the bytes spell a point list, which is put with its plan
 pub record GivesList (name : Option (List ℕ)) (bytes : List ℕ) (c : Command) : Type 0 where

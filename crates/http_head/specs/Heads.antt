@@ -37,7 +37,8 @@ pub record IsOpenHead (bytes : List ℕ) : Type 0 where
 -- Past the limits: a head that does not end in its first 8,192 bytes, or that has more than 64 lines behind
 -- its first.
 abbrev pub is_past_limits : List ℕ → Bool
-is_past_limits bytes = not (has_head_end (front_of bytes)) || nat_lt 65 (length (lines_of_head (front_of bytes)))
+is_past_limits bytes =
+    not (has_head_end (front_of bytes)) || nat_lt 65 (length (lines_of_head (front_of bytes)))
 
 -- where the parts of a head stand in the bytes
 pub record Covers (bytes : List ℕ) (at : Head) (h : RequestHead) : Type 0 where
@@ -55,7 +56,8 @@ pub record IsPlaced (bytes : List ℕ) (at : Head) : Type 0 where
 
 -- there is a head
 abbrev pub IsHeadAt : List ℕ → Head → Type 0
-IsHeadAt bytes at = ((h : RequestHead) × (IsHead bytes at.len h × Covers bytes at h)) × IsPlaced bytes at
+IsHeadAt bytes at =
+    ((h : RequestHead) × (IsHead bytes at.len h × Covers bytes at h)) × IsPlaced bytes at
 
 -- what a look found
 abbrev pub Looks : List ℕ → Look → Type 0

@@ -6,7 +6,8 @@ use Rattle.std.specs.List.{list_any}
 -- behind the last line feed is no line yet.
 abbrev pub ended_lines : List ℕ → List ℕ → List (List ℕ)
 ended_lines line [] = []
-ended_lines line (b ∷ bytes) = if b == 10 then line ∷ ended_lines [] bytes else ended_lines (line ++ b ∷ []) bytes
+ended_lines line (b ∷ bytes) =
+    if b == 10 then line ∷ ended_lines [] bytes else ended_lines (line ++ b ∷ []) bytes
 
 -- nothing, or a carriage return alone
 abbrev pub is_empty_line : List ℕ → Bool
@@ -17,7 +18,8 @@ is_empty_line (b ∷ c ∷ line) = false
 -- an empty line stands behind one that is not empty
 abbrev pub is_ended : List (List ℕ) → Bool
 is_ended [] = false
-is_ended (line ∷ lines) = if is_empty_line line then is_ended lines else list_any is_empty_line lines
+is_ended (line ∷ lines) =
+    if is_empty_line line then is_ended lines else list_any is_empty_line lines
 
 -- the bytes hold an empty line after one that is not empty
 abbrev pub has_head_end : List ℕ → Bool

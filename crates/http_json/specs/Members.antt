@@ -55,7 +55,8 @@ have_negative members d = list_any (λ m. is_too_low m.want m.name d) members
 
 -- A member that is missing or of another kind is found before a number that is negative.
 abbrev pub fault_in : Bool → Bool → Option BodyFault
-fault_in kinds negative = if kinds then (if negative then Some Negative else None) else Some Malformed
+fault_in kinds negative =
+    if kinds then (if negative then Some Negative else None) else Some Malformed
 
 -- The body has no fault, and what was read is in it; or this is its fault.
 abbrev pub Reads : {X : Type 0} → Option BodyFault → (X → Type 0) → Result X BodyFault → Type 0

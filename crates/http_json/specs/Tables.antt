@@ -37,7 +37,8 @@ scale_fault d = fault_in (has_scale d) (is_below_zero (whole (codes "scale_at") 
 
 abbrev pub register_fault : Data → Option BodyFault
 register_fault d =
-    fault_in (have_kinds register_members d && has_scale d) (have_negative register_members d || is_below_zero (whole (codes "scale_at") d))
+    fault_in (have_kinds register_members d && has_scale d)
+    (have_negative register_members d || is_below_zero (whole (codes "scale_at") d))
 
 abbrev pub install_members : List Member
 install_members =

@@ -24,7 +24,8 @@ IsCounted base taken inbox = taken ≡ min (base + inbox.takes) (2 ^ 64 - 1)
 
 -- The inbox has the room that it had and counts the takes of the link; there were 100,000 of them where they
 -- are used up.
-pub record CountsTakes {X : Type 0} (result : Result X TakeFault) (old new : Inbox) (before after : ℕ) : Type 0 where
+pub record CountsTakes {X : Type 0} (result : Result X TakeFault) (old new : Inbox)
+    (before after : ℕ) : Type 0 where
   pub room : room_of new ≡ room_of old
   pub counts : (base : ℕ) → IsCounted base before old → IsCounted base after new
   pub used : result ≡ Err TurnsUsed → new.takes ≡ 100000
@@ -36,7 +37,8 @@ pub record Came (old new : List ℕ) (before after : Option (List ℕ)) : Type 0
   pub consumed : Consumes before after chunk
 
 -- what a take more does: at a fault nothing came, and Short says that the input has ended
-abbrev pub TakesOn : {X : Type 0} → Result X TakeFault → List ℕ → List ℕ → Option (List ℕ) → Option (List ℕ) → Type 0
+abbrev pub TakesOn : {X : Type 0} → Result X TakeFault → List ℕ → List ℕ → Option (List ℕ)
+    → Option (List ℕ) → Type 0
 TakesOn (Ok x) old new before after = Came old new before after
 TakesOn (Err Read) old new before after = (new ≡ old) × Keeps before after
 TakesOn (Err Short) old new before after = (new ≡ old) × Keeps before after × IsAtEnd after

@@ -7,7 +7,8 @@ use Rattle.mb_wire.specs.declared.link.LastTake.{LastTake}
 
 -- All that was put so far begins with what was given since `base`. The rest is what is held back or, once a
 -- give has failed, is lost.
-pub record Sends (base given : Option (List ℕ)) (held : List ℕ) (failed : Bool) (all : List ℕ) : Type 0 where
+pub record Sends (base given : Option (List ℕ)) (held : List ℕ) (failed : Bool) (all : List ℕ) :
+    Type 0 where
   pub sent : List ℕ
   pub left : List ℕ
   pub in_order : all ≡ sent ++ left
@@ -42,5 +43,6 @@ pub record OnlyGives (old new : Outgoing) : Type 0 where
 
 -- bytes are put behind all that was put before
 pub record Puts (old new : Outgoing) (bytes : List ℕ) : Type 0 where
-  pub put : (base : Option (List ℕ)) (all : List ℕ) → HasPut base old all → HasPut base new (all ++ bytes)
+  pub put : (base : Option (List ℕ)) (all : List ℕ) → HasPut base old all
+      → HasPut base new (all ++ bytes)
   pub link : OnlyGives old new

@@ -30,7 +30,8 @@ TestsPost headers (Err status) = post_fault headers ≡ Some status
 abbrev pub AsksFor : Table → Start → Ask → Type 0
 AsksFor table start (Question found) = LeadsTo table start found × (is_question found.route ≡ true)
 AsksFor table start (Command found posted) =
-    LeadsTo table start found × (is_question found.route ≡ false) × Says (post_headers_of start.headers) posted
+    LeadsTo table start found × (is_question found.route ≡ false)
+    × Says (post_headers_of start.headers) posted
 
 -- all tests pass, and this is what the head asks for; or the status is that of the first that fails
 abbrev pub TestsHead : Table → Start → Result Ask Status → Type 0

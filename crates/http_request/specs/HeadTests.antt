@@ -45,7 +45,8 @@ abbrev pub head_tests : Table → Start → List (Bool × Status)
 head_tests table start =
     (is_none (route_in table start.target), NotFound)
     ∷ (has_other_method (route_in table start.target) start.method, MethodNotAllowed)
-    ∷ (if asks (route_in table start.target) then [] else post_tests (post_headers_of start.headers))
+    ∷ (if asks (route_in table start.target) then []
+    else post_tests (post_headers_of start.headers))
 
 -- the status of the first test of a head that fails
 abbrev pub head_fault : Table → Start → Option Status

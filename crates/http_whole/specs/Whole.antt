@@ -27,7 +27,9 @@ size_unless None false (Some size) = size
 -- How many bytes of a body are part of the request: none of a question's, none where a test of the head has
 -- failed, else as many as Content-Length says.
 abbrev pub body_size : Table → Start → ℕ
-body_size table start = size_unless (head_fault table start) (asks (route_in table start.target)) (size_in (post_headers_of start.headers))
+body_size table start =
+    size_unless (head_fault table start) (asks (route_in table start.target))
+    (size_in (post_headers_of start.headers))
 
 -- a head has come, and all of the body
 pub record IsWhole (table : Table) (bytes : List ℕ) (at : Head) : Type 0 where
@@ -52,9 +54,11 @@ Holds table bytes NoHead = Looks bytes NoHead
 Holds table bytes (Whole at) = IsWhole table bytes at
 
 -- A whole request or a bad head was read; or taking failed, and neither was.
-abbrev pub ReadsRequest : Table → Result Look TakeFault → List ℕ → List ℕ → Option (List ℕ) → Option (List ℕ) → Type 0
+abbrev pub ReadsRequest : Table → Result Look TakeFault → List ℕ → List ℕ → Option (List ℕ)
+    → Option (List ℕ) → Type 0
 ReadsRequest table (Ok look) old new before after = Came old new before after × Holds table new look
-ReadsRequest table (Err fault) old new before after = Came old new before after × GoesOn table new × EndsAt fault after
+ReadsRequest table (Err fault) old new before after =
+    Came old new before after × GoesOn table new × EndsAt fault after
 
 -- What a whole request asks for, or the status that answers it: 431 for a head past the limits, 400 for what
 -- is no head, else that of the first test of the head that fails.
@@ -69,13 +73,14 @@ abbrev pub body_of : Table → List ℕ → Head → List ℕ
 body_of table bytes at = take (body_size table (start_at bytes at)) (drop at.len bytes)
 
 -- The bytes begin with a whole request: a head within the limits, which begins so, and this body.
-pub record HoldsRequest (table : Table) (bytes : List ℕ) (start : Start) (body : List ℕ) : Type 0 where
-  pub head : RequestHead
-  pub len : ℕ
-  pub begins : IsHead bytes len head
-  pub is : start ≡ start_of head
-  pub whole : len + body_size table start ≤ length bytes
-  pub body_is : body ≡ take (body_size table start) (drop len bytes)
+pub record HoldsRequest (table : Table) (bytes : List ℕ) (start : Start) (body : List ℕ) : Type 0
+  where
+    pub head : RequestHead
+    pub len : ℕ
+    pub begins : IsHead bytes len head
+    pub is : start ≡ start_of head
+    pub whole : len + body_size table start ≤ length bytes
+    pub body_is : body ≡ take (body_size table start) (drop len bytes)
 
 -- Bytes begin with one request at most.
 pub record IsOneRequest (start other_start : Start) (body other_body : List ℕ) : Type 0 where
@@ -83,5 +88,7 @@ pub record IsOneRequest (start other_start : Start) (body other_body : List ℕ)
   pub one_body : body ≡ other_body
 
 abbrev pub RequestsAreOne : Type 0
-RequestsAreOne = (table : Table) (bytes : List ℕ) (start other_start : Start) (body other_body : List ℕ)
-    → HoldsRequest table bytes start body → HoldsRequest table bytes other_start other_body → IsOneRequest start other_start body other_body
+RequestsAreOne =
+    (table : Table) (bytes : List ℕ) (start other_start : Start) (body other_body : List ℕ)
+    → HoldsRequest table bytes start body → HoldsRequest table bytes other_start other_body
+    → IsOneRequest start other_start body other_body

@@ -21,29 +21,36 @@ with_event at name (event.Connected given) text = with_head at name text ++ code
 with_event at name (event.Bytes given piece) text = text
 with_event at name event.Tick text = text
 with_event at name (event.Gone given closing.Gone) text = with_head at name text ++ codes " gone\n"
-with_event at name (event.Gone given closing.Failed) text = with_head at name text ++ codes " failed\n"
+with_event at name (event.Gone given closing.Failed) text =
+    with_head at name text ++ codes " failed\n"
 with_event at name (event.Command c) text = text
 with_event at name (event.Asked asked) text = text
 
-abbrev pub with_answer : (at : ℕ) → (name : Option (List ℕ)) → Event → Result Answer Refusal → List ℕ → List ℕ
+abbrev pub with_answer : (at : ℕ) → (name : Option (List ℕ)) → Event → Result Answer Refusal
+    → List ℕ → List ℕ
 with_answer at name e (Ok given) text = with_event at name e text
-with_answer at name e (Err why) text = with_head at name text ++ codes " refused " ++ decimal (refusal_number why) ++ codes "\n"
+with_answer at name e (Err why) text =
+    with_head at name text ++ codes " refused " ++ decimal (refusal_number why) ++ codes "\n"
 
 -- a reading that was held: the meter, what it showed, and why
 abbrev pub with_note : (at : ℕ) → (name : Option (List ℕ)) → Note → List ℕ → List ℕ
 with_note at name (note.Outcome poll outcome) text = text
 with_note at name (note.Reading meter raw rolls step) text = text
 with_note at name (note.Held meter raw cause) text =
-    with_head at name text ++ codes " held " ++ meter ++ codes " " ++ decimal raw ++ codes " cause " ++ decimal (cause_number cause) ++ codes "\n"
+    with_head at name text ++ codes " held " ++ meter ++ codes " " ++ decimal raw ++ codes " cause "
+    ++ decimal (cause_number cause) ++ codes "\n"
 
 abbrev pub with_notes : (at : ℕ) → (name : Option (List ℕ)) → List Note → List ℕ → List ℕ
 with_notes at name [] text = text
 with_notes at name (one ∷ notes) text = with_notes at name notes (with_note at name one text)
 
-abbrev pub with_lines : (at : ℕ) → (name : Option (List ℕ)) → Event → Result Answer Refusal → List Note → List ℕ → List ℕ
-with_lines at name e answer notes text = with_notes at name notes (with_answer at name e answer text)
+abbrev pub with_lines : (at : ℕ) → (name : Option (List ℕ)) → Event → Result Answer Refusal
+    → List Note → List ℕ → List ℕ
+with_lines at name e answer notes text =
+    with_notes at name notes (with_answer at name e answer text)
 
 abbrev pub with_sum : (at : ℕ) → (name : Option (List ℕ)) → Sum → List ℕ → List ℕ
 with_sum at name sum text =
-    with_head at name text ++ codes " round answered " ++ decimal sum.answered ++ codes " silent " ++ decimal sum.silent
+    with_head at name text ++ codes " round answered " ++ decimal sum.answered ++ codes " silent "
+    ++ decimal sum.silent
     ++ codes " failed " ++ decimal sum.failed ++ codes "\n"

@@ -35,22 +35,28 @@ is_connected before (event.Gone given closing) answer = false
 is_connected before (event.Command c) answer = before
 is_connected before (event.Asked asked) answer = before
 
-abbrev pub followed : (at : ℕ) → Event → Result Answer Refusal → List Note → DeviceState → DeviceState
+abbrev pub followed : (at : ℕ) → Event → Result Answer Refusal → List Note → DeviceState
+    → DeviceState
 followed at e answer notes state = record {
   name = state.name;
   connected = is_connected state.connected e answer;
   latest = if list_any is_reading notes then Some at else state.latest;
 }
 
-abbrev pub followed_in : ℕ → Option DeviceState → (at : ℕ) → Event → Result Answer Refusal → List Note → List DeviceState → List DeviceState
+abbrev pub followed_in : ℕ → Option DeviceState → (at : ℕ) → Event → Result Answer Refusal
+    → List Note → List DeviceState → List DeviceState
 followed_in place None at e answer notes states = states
-followed_in place (Some state) at e answer notes states = slice_set states place (followed at e answer notes state)
+followed_in place (Some state) at e answer notes states =
+    slice_set states place (followed at e answer notes state)
 
 -- the device of a place
-abbrev pub followed_at : ℕ → (at : ℕ) → Event → Result Answer Refusal → List Note → List DeviceState → List DeviceState
-followed_at place at e answer notes states = followed_in place (slice_get states place) at e answer notes states
+abbrev pub followed_at : ℕ → (at : ℕ) → Event → Result Answer Refusal → List Note → List DeviceState
+    → List DeviceState
+followed_at place at e answer notes states =
+    followed_in place (slice_get states place) at e answer notes states
 
-abbrev pub followed_for : Option ℕ → (at : ℕ) → Event → Result Answer Refusal → List Note → List DeviceState → List DeviceState
+abbrev pub followed_for : Option ℕ → (at : ℕ) → Event → Result Answer Refusal → List Note
+    → List DeviceState → List DeviceState
 followed_for None at e answer notes states = states
 followed_for (Some place) at e answer notes states = followed_at place at e answer notes states
 
@@ -62,4 +68,5 @@ counted (Err why) notes counts = noted_all notes (refused counts)
 -- what a desk keeps
 pub record Keeps (old : Desk) (shown : Shown) (new : Desk) : Type 0 where
   pub counts : new.counts ≡ counted shown.answer shown.notes old.counts
-  pub states : new.states.items ≡ followed_for shown.place shown.at shown.event shown.answer shown.notes old.states.items
+  pub states : new.states.items
+      ≡ followed_for shown.place shown.at shown.event shown.answer shown.notes old.states.items

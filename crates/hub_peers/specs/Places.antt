@@ -39,7 +39,8 @@ older (Some best) i (Silent until) = if nat_lt until best.1 then Some (i, until)
 abbrev pub IsOldest : List Place → Option ℕ → Type 0
 IsOldest places None = (place until : ℕ) → IsSilentAt places place until → ⊥
 IsOldest places (Some place) =
-    (until : ℕ) × IsSilentAt places place until × ((other later : ℕ) → IsSilentAt places other later → until ≤ later)
+    (until : ℕ) × IsSilentAt places place until
+    × ((other later : ℕ) → IsSilentAt places other later → until ≤ later)
 
 -- the first free place, or where none is free that of the oldest connection that has not asked
 abbrev pub IsChosenBehind : (free : Option ℕ) → List Place → Option ℕ → Type 0
@@ -54,7 +55,8 @@ abbrev pub Admits : (until : ℕ) → (old new : List Place) → Option Admissio
 Admits until old new None = IsChosen old None × (new ≡ old)
 Admits until old new (Some one) =
     IsChosen old (Some one.place) × (new ≡ slice_set old one.place (Silent until))
-    × (slice_get old one.place ≡ Some Free → one.drops ≡ false) × ((later : ℕ) → IsSilentAt old one.place later → one.drops ≡ true)
+    × (slice_get old one.place ≡ Some Free → one.drops ≡ false)
+    × ((later : ℕ) → IsSilentAt old one.place later → one.drops ≡ true)
 
 abbrev pub asked_in : ℕ → Option Place → List Place → List Place
 asked_in place None places = places

@@ -35,7 +35,8 @@ is_wishing round = stages.is_wishing round.stage
 abbrev pub wish_at : Stage → (device : Option (List ℕ)) → (started : ℕ) → Option Event
 wish_at Off device started = None
 wish_at Joining device started = Some (event.Connected device)
-wish_at Starting device started = Some (event.Command (command.StartRound (record { device = device; from = started })))
+wish_at Starting device started =
+    Some (event.Command (command.StartRound (record { device = device; from = started })))
 wish_at Waiting device started = None
 wish_at (Leaving closing) device started = Some (event.Gone device closing)
 
@@ -88,7 +89,8 @@ started_by answer.Noted round = broken_off round
 started_by (answer.Done kind) round = broken_off round
 started_by (answer.Again kind) round = broken_off round
 started_by (answer.Started first count of) round =
-    if nat_le (length round.polls.items + count) 16 then begun first count of round else broken_off round
+    if nat_le (length round.polls.items + count) 16 then begun first count of round
+    else broken_off round
 
 -- What was fed for a round is answered. Behind its connection the reads are started from the first on; a refusal breaks it
 -- off, or was of the connection.

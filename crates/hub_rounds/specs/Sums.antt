@@ -23,7 +23,8 @@ ended (Lost cause) sum = record sum { failed = one_more sum.failed }
 
 -- of the polls that waited
 abbrev pub noted : (polls : List ℕ) → Note → Sum → Sum
-noted polls (note.Outcome poll outcome) sum = if list_any (λ one. one == poll) polls then ended outcome sum else sum
+noted polls (note.Outcome poll outcome) sum =
+    if list_any (λ one. one == poll) polls then ended outcome sum else sum
 noted polls (note.Reading meter raw rolls step) sum = sum
 noted polls (note.Held meter raw cause) sum = sum
 

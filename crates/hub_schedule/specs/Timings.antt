@@ -38,7 +38,8 @@ is_over now timing = over_in timing.phase timing.at now
 
 -- a connection may take five seconds until it stands
 abbrev pub begun : (now : ℕ) → Timing → Timing
-begun now timing = record { phase = Connecting; at = min (now + 5) (2 ^ 64 - 1); pause = timing.pause }
+begun now timing =
+    record { phase = Connecting; at = min (now + 5) (2 ^ 64 - 1); pause = timing.pause }
 
 -- and a round as long as from one to the next, and a minute at least
 abbrev pub stands : (every now : ℕ) → Timing

@@ -5,7 +5,8 @@ use Rattle.hub_schedule.specs.declared.watch.Watch.{Watch}
 
 -- How far the clock stands before the latest moment, the first time that it does.
 abbrev pub set_back_by : Watch → ℕ → Option ℕ
-set_back_by watch now = if nat_lt now watch.latest && not watch.is_back then Some (watch.latest - now) else None
+set_back_by watch now =
+    if nat_lt now watch.latest && not watch.is_back then Some (watch.latest - now) else None
 
 -- the moment goes on, or stays where the clock was set back
 abbrev pub read_by : Watch → ℕ → Reading

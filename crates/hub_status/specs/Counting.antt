@@ -34,11 +34,15 @@ ended (Lost cause) counts = record counts { lost = one_more counts.lost }
 -- the place of a cause is its number less one
 abbrev pub held_for : Cause → Counts → Counts
 held_for cause counts =
-    record counts { held = slice_set counts.held (cause_number cause - 1) (one_more (slice_index counts.held (cause_number cause - 1))) }
+    record counts {
+      held = slice_set counts.held (cause_number cause - 1)
+          (one_more (slice_index counts.held (cause_number cause - 1)));
+    }
 
 abbrev pub noted : Note → Counts → Counts
 noted (note.Outcome poll outcome) counts = ended outcome counts
-noted (note.Reading meter raw rolls step) counts = record counts { readings = one_more counts.readings }
+noted (note.Reading meter raw rolls step) counts =
+    record counts { readings = one_more counts.readings }
 noted (note.Held meter raw cause) counts = held_for cause counts
 
 abbrev pub noted_all : List Note → Counts → Counts

@@ -6,7 +6,8 @@ use Rattle.hub_status.specs.StatusText.{with_name}
 
 abbrev pub with_outcomes : List ℕ → Counts → List ℕ
 with_outcomes text counts =
-    text ++ codes "# HELP sunreg_polls_total Polls that ended, by outcome.\n# TYPE sunreg_polls_total counter\n"
+    text ++ codes
+    "# HELP sunreg_polls_total Polls that ended, by outcome.\n# TYPE sunreg_polls_total counter\n"
     ++ codes "sunreg_polls_total{outcome=\"answered\"} " ++ decimal counts.answered
     ++ codes "\nsunreg_polls_total{outcome=\"exception\"} " ++ decimal counts.exceptions
     ++ codes "\nsunreg_polls_total{outcome=\"silent\"} " ++ decimal counts.silent
@@ -23,14 +24,18 @@ with_readings text counts =
 abbrev pub with_causes : List ℕ → List ℕ → List ℕ
 with_causes text held =
     text ++ codes "\n# HELP sunreg_held_readings_total Readings that were held, by cause.\n# TYPE sunreg_held_readings_total counter\n"
-    ++ codes "sunreg_held_readings_total{cause=\"not_accumulated\"} " ++ decimal (slice_index held 0)
-    ++ codes "\nsunreg_held_readings_total{cause=\"scale_changed\"} " ++ decimal (slice_index held 1)
+    ++ codes "sunreg_held_readings_total{cause=\"not_accumulated\"} "
+    ++ decimal (slice_index held 0)
+    ++ codes "\nsunreg_held_readings_total{cause=\"scale_changed\"} "
+    ++ decimal (slice_index held 1)
     ++ codes "\nsunreg_held_readings_total{cause=\"not_later\"} " ++ decimal (slice_index held 2)
-    ++ codes "\nsunreg_held_readings_total{cause=\"span_too_long\"} " ++ decimal (slice_index held 3)
+    ++ codes "\nsunreg_held_readings_total{cause=\"span_too_long\"} "
+    ++ decimal (slice_index held 3)
     ++ codes "\nsunreg_held_readings_total{cause=\"gap_too_long\"} " ++ decimal (slice_index held 4)
     ++ codes "\nsunreg_held_readings_total{cause=\"too_fast\"} " ++ decimal (slice_index held 5)
     ++ codes "\nsunreg_held_readings_total{cause=\"total_full\"} " ++ decimal (slice_index held 6)
-    ++ codes "\nsunreg_held_readings_total{cause=\"not_below_range\"} " ++ decimal (slice_index held 7)
+    ++ codes "\nsunreg_held_readings_total{cause=\"not_below_range\"} "
+    ++ decimal (slice_index held 7)
 
 abbrev pub with_state : List ℕ → Bool → List ℕ
 with_state text true = text ++ codes "\"} 1"
@@ -40,13 +45,15 @@ with_state text false = text ++ codes "\"} 0"
 abbrev pub with_states : List ℕ → List DeviceState → List ℕ
 with_states text [] = text
 with_states text (device ∷ devices) =
-    with_states (with_state (with_name text (codes "\nsunreg_device_connected{device=\"") device) device.connected) devices
+    with_states (with_state (with_name text (codes "\nsunreg_device_connected{device=\"") device)
+    device.connected) devices
 
 -- a device that had no reading yet has no line
 abbrev pub with_moment : List ℕ → DeviceState → Option ℕ → List ℕ
 with_moment text device None = text
 with_moment text device (Some moment) =
-    with_name text (codes "\nsunreg_last_reading_timestamp_seconds{device=\"") device ++ codes "\"} " ++ decimal moment
+    with_name text (codes "\nsunreg_last_reading_timestamp_seconds{device=\"") device
+    ++ codes "\"} " ++ decimal moment
 
 abbrev pub with_moments : List ℕ → List DeviceState → List ℕ
 with_moments text [] = text
@@ -63,4 +70,5 @@ with_devices text devices =
 
 abbrev pub with_metrics : List ℕ → Counts → List DeviceState → List ℕ
 with_metrics text counts devices =
-    with_devices (with_causes (with_readings (with_outcomes text counts) counts) counts.held) devices
+    with_devices (with_causes (with_readings (with_outcomes text counts) counts) counts.held)
+    devices

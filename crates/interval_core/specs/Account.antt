@@ -25,7 +25,8 @@ pub record IsSpread (step : Step) (shares : List Share) : Type 0 where
   pub in_order : IsAscending (starts_of shares)
   pub touched : (start : ℕ) → Contains (starts_of shares) start ↔ Touches step start
   pub each : All (λ share. share.mwh ≡ share_at step share.start) shares
-  pub outside : (start : ℕ) → (start + 900 ≤ step.from) ⊎ (step.till ≤ start) → share_at step start ≡ 0
+  pub outside : (start : ℕ) → (start + 900 ≤ step.from) ⊎ (step.till ≤ start)
+      → share_at step start ≡ 0
   pub whole : energy_of shares ≡ step.mwh
 
 -- The shares of every step are such.
@@ -35,10 +36,12 @@ SharesAddUp = (step : Step) → step.from < step.till → IsSpread step (shares_
 -- One row for each interval that a step touches, in order: the sum of the shares of all steps there.
 pub record IsAccount (steps : List Step) (rows : List Share) : Type 0 where
   pub in_order : IsAscending (starts_of rows)
-  pub touched : (start : ℕ) → Contains (starts_of rows) start ↔ Any (λ step. Touches step start) steps
+  pub touched : (start : ℕ)
+      → Contains (starts_of rows) start ↔ Any (λ step. Touches step start) steps
   pub each : All (λ row. row.mwh ≡ sum_by (λ step. share_at step row.start) steps) rows
 
 -- The energy of all rows together is that of the steps.
 abbrev pub AccountsAddUp : Type 0
-AccountsAddUp = (steps : List Step) (rows : List Share) → All (λ step. step.from < step.till) steps → IsAccount steps rows
+AccountsAddUp = (steps : List Step) (rows : List Share) → All (λ step. step.from < step.till) steps
+    → IsAccount steps rows
     → energy_of rows ≡ sum_by (λ step. step.mwh) steps

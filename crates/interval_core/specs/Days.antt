@@ -42,7 +42,8 @@ account_on zone rows day = record {
 -- each account is of an earlier day than those after it
 abbrev pub AreInOrder : List DayAccount → Type 0
 AreInOrder [] = Unit {0}
-AreInOrder (account ∷ accounts) = All (λ later. account.day <ℤ later.day) accounts × AreInOrder accounts
+AreInOrder (account ∷ accounts) =
+    All (λ later. account.day <ℤ later.day) accounts × AreInOrder accounts
 
 -- One account for each day on which a row falls, in order.
 pub record AreAccounts (zone : Zone) (rows : List Share) (accounts : List DayAccount) : Type 0 where
@@ -52,10 +53,12 @@ pub record AreAccounts (zone : Zone) (rows : List Share) (accounts : List DayAcc
 
 -- Whatever the rows, there is exactly one such list.
 abbrev pub AccountsAreOne : Type 0
-AccountsAreOne = (zone : Zone) (rows : List Share) → (accounts : List DayAccount) × AreAccounts zone rows accounts
+AccountsAreOne = (zone : Zone) (rows : List Share)
+    → (accounts : List DayAccount) × AreAccounts zone rows accounts
     × ((others : List DayAccount) → AreAccounts zone rows others → others ≡ accounts)
 
 -- The order of the rows doesn't matter.
 abbrev pub AccountsIgnoreOrder : Type 0
-AccountsIgnoreOrder = (zone : Zone) (rows others : List Share) (accounts : List DayAccount) → AreAccounts zone rows accounts
+AccountsIgnoreOrder = (zone : Zone) (rows others : List Share) (accounts : List DayAccount)
+    → AreAccounts zone rows accounts
     → IsPermutation rows others → AreAccounts zone others accounts

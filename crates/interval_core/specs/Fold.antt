@@ -16,7 +16,9 @@ no_rows = record { accounts = []; latest = None }
 
 -- no row starts later, and one starts then
 abbrev pub IsLatest : List Share → Option ℕ → Type 0
-IsLatest rows latest = MatchOption latest (rows ≡ []) (λ start. Contains (starts_of rows) start × All (λ row. row.start ≤ start) rows)
+IsLatest rows latest =
+    MatchOption latest (rows ≡ [])
+    (λ start. Contains (starts_of rows) start × All (λ row. row.start ≤ start) rows)
 
 -- The fold was given these rows, by the clocks of one zone.
 pub record HasTaken (zone : Zone) (rows : List Share) (fold : FoldState) : Type 0 where
@@ -41,7 +43,8 @@ pub record IsPlace (day : ℤ) (accounts : List DayAccount) (place : ℕ) : Type
 
 -- the day has its account at the place
 abbrev pub HoldsDay : ℤ → List DayAccount → ℕ → Type 0
-HoldsDay day accounts place = (place < length accounts) × HoldsAt (λ account. account.day ≡ day) accounts place
+HoldsDay day accounts place =
+    (place < length accounts) × HoldsAt (λ account. account.day ≡ day) accounts place
 
 -- the day has none: those before the place are of earlier days, the others of later ones
 pub record IsGap (day : ℤ) (accounts : List DayAccount) (place : ℕ) : Type 0 where
@@ -56,7 +59,12 @@ pub record Grows (day : ℤ) (count mwh : ℕ) (old new : List DayAccount) : Typ
   pub had_count : ℕ
   pub had_mwh : ℕ
   pub old_is : old ≡ before ++ record { day = day; count = had_count; mwh = had_mwh } ∷ after
-  pub new_is : new ≡ before ++ record { day = day; count = had_count + count; mwh = min (had_mwh + mwh) (2 ^ 128 - 1) } ∷ after
+  pub new_is : new
+      ≡ before ++ record {
+        day = day;
+        count = had_count + count;
+        mwh = min (had_mwh + mwh) (2 ^ 128 - 1);
+      } ∷ after
 
 -- the day had no account, and has one now
 pub record Begins (day : ℤ) (mwh : ℕ) (old new : List DayAccount) : Type 0 where
@@ -69,4 +77,5 @@ pub record Begins (day : ℤ) (mwh : ℕ) (old new : List DayAccount) : Type 0 w
 
 -- a row came to the day
 abbrev pub IsAdded : ℤ → Bool → ℕ → List DayAccount → List DayAccount → Type 0
-IsAdded day is_new mwh old new = Grows day (if is_new then 1 else 0) mwh old new ⊎ Begins day mwh old new
+IsAdded day is_new mwh old new =
+    Grows day (if is_new then 1 else 0) mwh old new ⊎ Begins day mwh old new

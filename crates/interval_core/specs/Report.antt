@@ -10,4 +10,6 @@ right width text = replicate (width - length text) 32 ++ text
 
 -- the day, its count right in 3 places and its energy right in 24, with a space (32) between and a line feed (10) at the end
 abbrev pub day_line : DayTotal → List ℕ
-day_line total = date_text total.day ++ 32 ∷ (right 3 (decimal total.count) ++ 32 ∷ (right 24 (decimal total.mwh) ++ 10 ∷ []))
+day_line total =
+    date_text total.day ++ 32
+    ∷ (right 3 (decimal total.count) ++ 32 ∷ (right 24 (decimal total.mwh) ++ 10 ∷ []))

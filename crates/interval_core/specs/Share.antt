@@ -11,7 +11,8 @@ running_energy step moment = step.mwh * (moment - step.from) / (step.till - step
 
 -- The share of the interval from `start`: what the running energy gains within it.
 abbrev pub share_at : Step → ℕ → ℕ
-share_at step start = running_energy step (min (start + 900) step.till) - running_energy step (max start step.from)
+share_at step start =
+    running_energy step (min (start + 900) step.till) - running_energy step (max start step.from)
 
 abbrev pub share_of : Step → ℕ → Share
 share_of step interval = record { start = interval * 900; mwh = share_at step (interval * 900) }

@@ -11,7 +11,8 @@ pub record IsUnderway (s : Inside) : Type 0 where
   pub begun : s.spread.step.from / 900 ≤ s.interval
   pub end_is : s.end ≡ (s.spread.step.till - 1) / 900 + 1
   pub within : s.interval ≤ s.end
-  pub reached_is : s.interval < s.end → s.reached ≡ running_energy s.spread.step (max (s.interval * 900) s.spread.step.from)
+  pub reached_is : s.interval < s.end
+      → s.reached ≡ running_energy s.spread.step (max (s.interval * 900) s.spread.step.from)
 
 -- the shares that are left
 abbrev pub left : Inside → List Share

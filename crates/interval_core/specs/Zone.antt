@@ -23,4 +23,5 @@ day_at zone moment = int_div_euclid (pos moment +ℤ offset_of zone moment) (pos
 
 -- A text spells one zone: whoever reads it finds the same days.
 abbrev pub ZonesAreOne : Type 0
-ZonesAreOne = (text : List ℕ) (a b : Zone) → HasRule text a → HasRule text b → (moment : ℕ) → day_at a moment ≡ day_at b moment
+ZonesAreOne = (text : List ℕ) (a b : Zone) → HasRule text a → HasRule text b → (moment : ℕ)
+    → day_at a moment ≡ day_at b moment

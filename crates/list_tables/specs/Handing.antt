@@ -10,14 +10,16 @@ use Rattle.office_rules.specs.Intervals.{rows_of_opening}
 use Rattle.list_tables.specs.Placed.{opening_at}
 
 -- From one state to another a sink took these rows but for the last, which waits.
-pub record TookBut {S : Type 0} (takes : S → Share → S → Type 0) (before after : S) (waits : Option Share) (rows : List Share) : Type 0 where
+pub record TookBut {S : Type 0} (takes : S → Share → S → Type 0) (before after : S)
+    (waits : Option Share) (rows : List Share) : Type 0 where
   pub done : List Share
   pub took : TakesAll takes before done after
   pub rows_are : rows ≡ done ++ option_to_list waits
   pub none : waits ≡ None → rows ≡ []
 
 -- With shares behind the row that waits, the sink took all rows but the last, which waits now.
-pub record Passes {S : Type 0} (takes : S → Share → S → Type 0) (before after : S) (waited waits : Option Share) (shares : List Share) : Type 0 where
+pub record Passes {S : Type 0} (takes : S → Share → S → Type 0) (before after : S)
+    (waited waits : Option Share) (shares : List Share) : Type 0 where
   pub done : List Share
   pub took : TakesAll takes before done after
   pub rows_are : done ++ option_to_list waits ≡ with_shares (option_to_list waited) shares

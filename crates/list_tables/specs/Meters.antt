@@ -31,7 +31,8 @@ abbrev pub AreMeters : Meters → List Fact → Type 0
 AreMeters meters held = (name : List ℕ) → IsMeter held (meter_at meters name) (opening_of held name)
 
 -- this became of the meter of a name, and the others are as they were
-pub record Changes (meter : List ℕ) (became : Option Meter → Option Meter → Type 0) (old new : Meters) : Type 0 where
+pub record Changes (meter : List ℕ) (became : Option Meter → Option Meter → Type 0)
+    (old new : Meters) : Type 0 where
   pub own : became (meter_at old meter) (meter_at new meter)
   pub others : (name : List ℕ) → same meter name ≡ false → meter_at new name ≡ meter_at old name
 

@@ -20,18 +20,22 @@ use Rattle.list_tables.specs.declared.meter.Meter.{Meter}
 -- the entry may be booked where the counter stands
 abbrev pub MayEnter : Installation → Entry → Type 0
 MayEnter row e =
-    entered row.opening.range row.total row.last e ≡ Ok (after row.last e, step_to row.opening.range row.last e)
+    entered row.opening.range row.total row.last e
+    ≡ Ok (after row.last e, step_to row.opening.range row.last e)
 
 -- it stands where it was opened, without rows
 pub record HasBegun (opening : Opening) (meter : Meter) : Type 0 where
-  pub row : meter.row ≡ record { opening = opening; last = opened opening; total = 0; ended = false }
+  pub row : meter.row
+      ≡ record { opening = opening; last = opened opening; total = 0; ended = false }
   pub rows : meter.rows.items ≡ []
 
 -- it has one more row, and moved on to it
 pub record HasEntered (booked : BookedEntry) (old new : Meter) : Type 0 where
-  pub row : IsSound old.row → MayEnter old.row booked.entry → new.row ≡ moved_by booked.kind booked.entry old.row
+  pub row : IsSound old.row → MayEnter old.row booked.entry
+      → new.row ≡ moved_by booked.kind booked.entry old.row
   pub rows : new.rows.items
-      ≡ old.rows.items ++ journal.new_row (lists.latest_first old.rows.items) booked.kind booked.entry ∷ []
+      ≡ old.rows.items
+      ++ journal.new_row (lists.latest_first old.rows.items) booked.kind booked.entry ∷ []
 
 -- it stands as it stood
 pub record IsSame (old new : Meter) : Type 0 where
@@ -40,14 +44,19 @@ pub record IsSame (old new : Meter) : Type 0 where
 
 -- the rows after the entry at a place was voided
 abbrev pub rows_without : ℕ → Meter → List EntryRow
-rows_without place old = journal.with_void (opened old.row.opening) place (lists.latest_first old.rows.items)
+rows_without place old =
+    journal.with_void (opened old.row.opening) place (lists.latest_first old.rows.items)
 
 -- an entry at a place was voided: the rows are those without it, and the meter stands as these leave it
 pub record HasStruck (place : ℕ) (old new : Meter) : Type 0 where
   pub rows : lists.AreNumbered (lists.latest_first old.rows.items) → 2 ≤ place
-      → place < length (lists.latest_first old.rows.items) + 2 → lists.latest_first new.rows.items ≡ rows_without place old
-  pub row : HasNumbers old.row.opening → HasAccount (installed old.row.opening) (journal.entries_in (lists.latest_first new.rows.items))
-      → new.row ≡ standing old.row.opening (journal.entries_in (lists.latest_first new.rows.items)) old.row.ended
+      → place < length (lists.latest_first old.rows.items) + 2
+      → lists.latest_first new.rows.items ≡ rows_without place old
+  pub row : HasNumbers old.row.opening
+      → HasAccount (installed old.row.opening)
+      (journal.entries_in (lists.latest_first new.rows.items))
+      → new.row ≡ standing old.row.opening (journal.entries_in (lists.latest_first new.rows.items))
+      old.row.ended
 
 -- it stands as the facts say of its installation
 pub record IsAsSaid (held : List Fact) (opening : Opening) (meter : Meter) : Type 0 where

@@ -81,7 +81,8 @@ latest_place p held = slice_get (places_of p held) 0
 -- Under each key are the places of its facts, in the order in which they came.
 abbrev pub ArePlacesOf : Kind → Places → List Fact → Type 0
 ArePlacesOf kind places held =
-    (key : Key) → under (get key_cmp places.places key) ≡ reverse (places_of (has_key kind key) held)
+    (key : Key) → under (get key_cmp places.places key)
+    ≡ reverse (places_of (has_key kind key) held)
 
 abbrev pub ArePlaces : Places → List Fact → Type 0
 ArePlaces places held = ArePlacesOf places.kind places held

@@ -26,7 +26,9 @@ row_with_end ended row = record { poll = row.poll; ended = Some ended }
 abbrev pub EndsPoll : EndedPoll → (before after : List PollRow) → Type 0
 EndsPoll ended before after =
     1 ≤ ended.poll → ended.poll ≤ length before
-    → (d : PollRow) → after ≡ slice_set before (ended.poll - 1) (row_with_end ended (slice_index_or before (ended.poll - 1) d))
+    → (d : PollRow)
+    → after ≡ slice_set before (ended.poll - 1)
+    (row_with_end ended (slice_index_or before (ended.poll - 1) d))
 
 -- the polls without that of a number
 abbrev pub polls_but : ℕ → List Poll → List Poll

@@ -19,7 +19,8 @@ read_head number function =
 -- its area number, its first address and how many registers it reads
 abbrev pub registers_text : PlannedRead → List ℕ
 registers_text read =
-    decimal read.area ++ codes " " ++ decimal read.span.address ++ codes " " ++ decimal read.span.count
+    decimal read.area ++ codes " " ++ decimal read.span.address ++ codes " "
+    ++ decimal read.span.count
     ++ codes "\n"
 
 abbrev pub span_line : (number function : ℕ) → PlannedRead → List ℕ
@@ -41,7 +42,8 @@ pub record PlacedPoint : Type 0 where
   pub offset : ℕ
 
 -- the read is the first of the item's area that holds it
-pub record IsPlaced (list : List ListedPoint) (reads : List PlannedRead) (placed : PlacedPoint) : Type 0 where
+pub record IsPlaced (list : List ListedPoint) (reads : List PlannedRead) (placed : PlacedPoint) :
+    Type 0 where
   pub first : IsFirstHolding (read_runs reads) (item_of list placed.point) placed.read
   pub offset : (d : PlannedRead)
       → (slice_index_or reads placed.read d).span.address + placed.offset ≡ placed.point.address
@@ -52,7 +54,8 @@ point_line placed =
     ++ decimal placed.offset ++ codes "\n"
 
 -- the lines of points, each of the list with its place
-pub record PointsPrint (list points : List ListedPoint) (reads : List PlannedRead) (printed : List ℕ)
+pub record PointsPrint (list points : List ListedPoint) (reads : List PlannedRead)
+    (printed : List ℕ)
     : Type 0 where
   pub placed : List PlacedPoint
   pub points_of : map (λ (p : PlacedPoint). p.point) placed ≡ points
@@ -60,7 +63,8 @@ pub record PointsPrint (list points : List ListedPoint) (reads : List PlannedRea
   pub lines : printed ≡ flat_map point_line placed
 
 -- the lines of reads, and then those of the list's points
-pub record LinesPrint (list : List ListedPoint) (reads : List PlannedRead) (printed : List ℕ) : Type 0 where
+pub record LinesPrint (list : List ListedPoint) (reads : List PlannedRead) (printed : List ℕ) : Type
+    0 where
   pub points : List ℕ
   pub placed : PointsPrint list list reads points
   pub lines : printed ≡ read_lines 1 reads ++ points

@@ -19,12 +19,14 @@ kind_number Input = 4
 -- an area has an address
 abbrev pub holds : Kind → ℕ → Area → Bool
 holds kind address area =
-    kind_number area.kind == kind_number kind && nat_le area.start address && nat_lt address (area.start + area.count)
+    kind_number area.kind == kind_number kind && nat_le area.start address
+    && nat_lt address (area.start + area.count)
 
 -- two areas of one kind share an address: the greater start is below the lesser end
 abbrev pub overlap : Area → Area → Bool
 overlap a b =
-    kind_number a.kind == kind_number b.kind && nat_lt (max a.start b.start) (min (a.start + a.count) (b.start + b.count))
+    kind_number a.kind == kind_number b.kind
+    && nat_lt (max a.start b.start) (min (a.start + a.count) (b.start + b.count))
 
 abbrev pub any_overlap : List Area → Bool
 any_overlap [] = false
@@ -36,7 +38,8 @@ is_out_of_range area = area.count == 0 || nat_lt 65536 (area.start + area.count)
 
 -- what stands at an address in the beginning
 abbrev pub first_value : List Area → Kind → ℕ → Option ℕ
-first_value areas kind address = if list_any (λ area. holds kind address area) areas then Some 0 else None
+first_value areas kind address =
+    if list_any (λ area. holds kind address area) areas then Some 0 else None
 
 abbrev pub bank_fault_number : BankFault → ℕ
 bank_fault_number AreasOverlap = 1
@@ -45,7 +48,8 @@ bank_fault_number Memory = 3
 
 -- a table whose addresses begin with the value 0, so many of them from one on
 abbrev pub begun_from : List (Option ℕ) → ℕ → ℕ → List (Option ℕ)
-begun_from table start count = take start table ++ (replicate count (Some 0) ++ drop (start + count) table)
+begun_from table start count =
+    take start table ++ (replicate count (Some 0) ++ drop (start + count) table)
 
 -- one of so many addresses is there
 abbrev pub is_any_there : List (Option ℕ) → ℕ → ℕ → Bool
@@ -57,9 +61,11 @@ is_past_end table start count = count == 0 || nat_lt (length table) (start + cou
 
 -- An area more in a table, where none of its addresses is there and all are in range; else the least fault is
 -- told, and the table stays. No memory is taken.
-abbrev pub Adds : List (Option ℕ) → (start count : ℕ) → Result (Unit {0}) BankFault → List (Option ℕ) → Type 0
+abbrev pub Adds : List (Option ℕ) → (start count : ℕ) → Result (Unit {0}) BankFault
+    → List (Option ℕ) → Type 0
 Adds old start count (Ok done) new =
-    (is_any_there old start count ≡ false) × (is_past_end old start count ≡ false) × (new ≡ begun_from old start count)
+    (is_any_there old start count ≡ false) × (is_past_end old start count ≡ false)
+    × (new ≡ begun_from old start count)
 Adds old start count (Err AreasOverlap) new = (is_any_there old start count ≡ true) × (new ≡ old)
 Adds old start count (Err OutOfRange) new =
     (is_any_there old start count ≡ false) × (is_past_end old start count ≡ true) × (new ≡ old)

@@ -21,7 +21,8 @@ code_of_fault WrongCoilValue = 3
 
 -- the function code with its top bit set, and a code
 abbrev pub exception_bytes : ℕ → ℕ → List ℕ
-exception_bytes function code = (if nat_lt function 128 then function + 128 else function) ∷ code ∷ []
+exception_bytes function code =
+    (if nat_lt function 128 then function + 128 else function) ∷ code ∷ []
 
 -- all addresses that a query speaks of are there
 abbrev pub has_all : Maps → Query → Bool
@@ -46,10 +47,14 @@ is_kept_on value = not (kept_value value == 0)
 
 -- what a query is answered where all its addresses are there
 abbrev pub answered : Maps → Query → Answer
-answered maps (ReadCoils address quantity) = Bits (map is_kept_on (values_at maps.coils address quantity))
-answered maps (ReadDiscrete address quantity) = Bits (map is_kept_on (values_at maps.discretes address quantity))
-answered maps (ReadHolding address quantity) = Words (map kept_value (values_at maps.holdings address quantity))
-answered maps (ReadInput address quantity) = Words (map kept_value (values_at maps.inputs address quantity))
+answered maps (ReadCoils address quantity) =
+    Bits (map is_kept_on (values_at maps.coils address quantity))
+answered maps (ReadDiscrete address quantity) =
+    Bits (map is_kept_on (values_at maps.discretes address quantity))
+answered maps (ReadHolding address quantity) =
+    Words (map kept_value (values_at maps.holdings address quantity))
+answered maps (ReadInput address quantity) =
+    Words (map kept_value (values_at maps.inputs address quantity))
 answered maps (WriteCoil address on) = Echo
 answered maps (WriteRegister address value) = Echo
 answered maps (WriteCoils address coils) = Echo
@@ -61,10 +66,14 @@ carried_out maps (ReadCoils address quantity) = maps
 carried_out maps (ReadDiscrete address quantity) = maps
 carried_out maps (ReadHolding address quantity) = maps
 carried_out maps (ReadInput address quantity) = maps
-carried_out maps (WriteCoil address on) = with_table maps Coil (all_written maps.coils address (coil_number on ∷ []))
-carried_out maps (WriteRegister address value) = with_table maps Holding (all_written maps.holdings address (value ∷ []))
-carried_out maps (WriteCoils address coils) = with_table maps Coil (all_written maps.coils address (map coil_number coils))
-carried_out maps (WriteRegisters address values) = with_table maps Holding (all_written maps.holdings address values)
+carried_out maps (WriteCoil address on) =
+    with_table maps Coil (all_written maps.coils address (coil_number on ∷ []))
+carried_out maps (WriteRegister address value) =
+    with_table maps Holding (all_written maps.holdings address (value ∷ []))
+carried_out maps (WriteCoils address coils) =
+    with_table maps Coil (all_written maps.coils address (map coil_number coils))
+carried_out maps (WriteRegisters address values) =
+    with_table maps Holding (all_written maps.holdings address values)
 
 -- The function first, then the rest of the PDU, then the addresses.
 abbrev pub reply_for : Maps → ℕ → Result Query RequestFault → List ℕ

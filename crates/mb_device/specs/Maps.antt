@@ -40,10 +40,29 @@ written table address value =
 
 -- maps with another table
 abbrev pub with_table : Maps → Kind → List (Option ℕ) → Maps
-with_table maps Coil table = record { coils = table; discretes = maps.discretes; holdings = maps.holdings; inputs = maps.inputs }
-with_table maps Discrete table = record { coils = maps.coils; discretes = table; holdings = maps.holdings; inputs = maps.inputs }
-with_table maps Holding table = record { coils = maps.coils; discretes = maps.discretes; holdings = table; inputs = maps.inputs }
-with_table maps Input table = record { coils = maps.coils; discretes = maps.discretes; holdings = maps.holdings; inputs = table }
+with_table maps Coil table =
+    record {
+      coils = table;
+      discretes = maps.discretes;
+      holdings = maps.holdings;
+      inputs = maps.inputs;
+    }
+with_table maps Discrete table =
+    record { coils = maps.coils; discretes = table; holdings = maps.holdings; inputs = maps.inputs }
+with_table maps Holding table =
+    record {
+      coils = maps.coils;
+      discretes = maps.discretes;
+      holdings = table;
+      inputs = maps.inputs;
+    }
+with_table maps Input table =
+    record {
+      coils = maps.coils;
+      discretes = maps.discretes;
+      holdings = maps.holdings;
+      inputs = table;
+    }
 
 -- what stands at so many addresses
 abbrev pub values_at : List (Option ℕ) → ℕ → ℕ → List (Option ℕ)
@@ -52,9 +71,11 @@ values_at table address count = take count (drop address table)
 -- all of so many addresses are there
 abbrev pub are_there : List (Option ℕ) → ℕ → ℕ → Bool
 are_there table address count =
-    nat_le (address + count) (length table) && list_all (λ value. is_some value) (values_at table address count)
+    nat_le (address + count) (length table)
+    && list_all (λ value. is_some value) (values_at table address count)
 
 -- a table with these values from an address on
 abbrev pub all_written : List (Option ℕ) → ℕ → List ℕ → List (Option ℕ)
 all_written table address [] = table
-all_written table address (value ∷ values) = all_written (slice_set table address (Some value)) (address + 1) values
+all_written table address (value ∷ values) =
+    all_written (slice_set table address (Some value)) (address + 1) values

@@ -27,12 +27,14 @@ own_frames bytes = filter is_own (frames bytes)
 
 -- the answer to a frame: its transaction id and unit, and the device's answer to its PDU
 unfoldable pub answer_to_frame : Maps → List ℕ → Fields
-answer_to_frame maps frame = answer_of (tid_of frame) (unit_of frame) (answer_to maps (pdu_of frame))
+answer_to_frame maps frame =
+    answer_of (tid_of frame) (unit_of frame) (answer_to maps (pdu_of frame))
 
 -- the true answers to frames in order, each from the maps that those before it left
 abbrev pub answers : Maps → List (List ℕ) → List Fields
 answers maps [] = []
-answers maps (frame ∷ frames) = answer_to_frame maps frame ∷ answers (maps_after maps (pdu_of frame)) frames
+answers maps (frame ∷ frames) =
+    answer_to_frame maps frame ∷ answers (maps_after maps (pdu_of frame)) frames
 
 -- the maps after frames
 abbrev pub maps_after_all : Maps → List (List ℕ) → Maps
@@ -82,12 +84,14 @@ pub record BrokenOff (course : Course) (frames : List (List ℕ)) (old new : Aro
   pub part : List ℕ
   pub unsent : List ℕ
   pub left : 0 < length unsent
-  pub whole : sent_to course old.maps (earlier ++ frame ∷ []) ≡ sent_to course old.maps earlier ++ part ++ unsent
+  pub whole : sent_to course old.maps (earlier ++ frame ∷ [])
+      ≡ sent_to course old.maps earlier ++ part ++ unsent
   pub given : Appends old.given new.given (sent_to course old.maps earlier ++ part)
   pub maps : new.maps ≡ maps_after_all old.maps (earlier ++ frame ∷ [])
 
 -- only a failed write keeps a frame that ended from its answer
-abbrev pub Answered : {X : Type 0} → Result X ServeFault → Course → List (List ℕ) → Around → Around → Type 0
+abbrev pub Answered : {X : Type 0} → Result X ServeFault → Course → List (List ℕ) → Around → Around
+    → Type 0
 Answered (Ok x) course frames old new = AllAnswered course frames old new
 Answered (Err Read) course frames old new = AllAnswered course frames old new
 Answered (Err Write) course frames old new = BrokenOff course frames old new
@@ -126,7 +130,8 @@ pub record IsGarbled (stretch : Stretch) : Type 0 where
   pub bad : IsBad (rest stretch.bytes)
 
 -- The end that a turn tells: the connection was cut, or nothing was taken and nothing more will come.
-pub record EndTells (ended : Bool) (left : Course) (taken : List ℕ) (remaining : Option (List ℕ)) : Type 0 where
+pub record EndTells (ended : Bool) (left : Course) (taken : List ℕ) (remaining : Option (List ℕ)) :
+    Type 0 where
   pub cut : is_cut left ≡ true → ended ≡ true
   pub end : is_cut left ≡ false → ended ≡ true → (taken ≡ []) × IsAtEnd remaining
 
@@ -181,28 +186,37 @@ pub record TellsTake (ended failed : Bool) (last : Option LastTake) : Type 0 whe
   pub failure : failed ≡ is_err answer
 
 -- a turn of a server that holds these bytes, on a connection
-pub record Turns (held : List ℕ) (course : Course) (result : Result Turned ServeFault) (old new : Around) (standing : Standing) : Type 0 where
+pub record Turns (held : List ℕ) (course : Course) (result : Result Turned ServeFault)
+    (old new : Around) (standing : Standing) : Type 0 where
   pub taken : List ℕ
   pub few : length taken ≤ 260
   pub consumed : Consumes old.remaining new.remaining taken
   pub answered : Answered result course (own_frames (held ++ taken)) old new
-  pub stands : standing ≡ standing_after result (held ++ taken) (course_behind course old.maps (own_frames (held ++ taken)))
+  pub stands : standing
+      ≡ standing_after result (held ++ taken)
+      (course_behind course old.maps (own_frames (held ++ taken)))
   pub tells : TurnTells result (stretch course old.maps (held ++ taken)) taken new.remaining
 
 -- all that was taken so far was answered, in so many frames
-pub record Served (held : List ℕ) (course : Course) (count : ℕ) (old new : Around) (standing : Standing) : Type 0 where
+pub record Served (held : List ℕ) (course : Course) (count : ℕ) (old new : Around)
+    (standing : Standing) : Type 0 where
   pub taken : List ℕ
   pub consumed : Consumes old.remaining new.remaining taken
   pub answered : AllAnswered course (own_frames (held ++ taken)) old new
-  pub stands : standing ≡ standing_on (rest (held ++ taken)) (course_behind course old.maps (own_frames (held ++ taken)))
+  pub stands : standing
+      ≡ standing_on (rest (held ++ taken))
+      (course_behind course old.maps (own_frames (held ++ taken)))
   pub counts : Counts count (stretch course old.maps (held ++ taken))
 
 -- serving by a server that holds these bytes, on a connection
-pub record Serves (held : List ℕ) (course : Course) (result : Result ℕ ServeFault) (old new : Around) (standing : Standing) : Type 0 where
+pub record Serves (held : List ℕ) (course : Course) (result : Result ℕ ServeFault)
+    (old new : Around) (standing : Standing) : Type 0 where
   pub taken : List ℕ
   pub consumed : Consumes old.remaining new.remaining taken
   pub answered : Answered result course (own_frames (held ++ taken)) old new
-  pub stands : standing ≡ standing_after result (held ++ taken) (course_behind course old.maps (own_frames (held ++ taken)))
+  pub stands : standing
+      ≡ standing_after result (held ++ taken)
+      (course_behind course old.maps (own_frames (held ++ taken)))
   pub tells : ServeTells result (stretch course old.maps (held ++ taken)) new.remaining
 
 -- a part of the bytes was given, and not all of them

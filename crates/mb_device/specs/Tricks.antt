@@ -17,7 +17,8 @@ frame_of answer = spelling answer.tid answer.unit answer.pdu
 
 -- the first trick with the number
 abbrev pub first_trick : List (ℕ × Trick) → ℕ → Option Trick
-first_trick tricks number = option_map (λ (t : ℕ × Trick). t.1) (find (λ (t : ℕ × Trick). t.0 == number) tricks)
+first_trick tricks number =
+    option_map (λ (t : ℕ × Trick). t.1) (find (λ (t : ℕ × Trick). t.0 == number) tricks)
 
 -- the trick on the frame with this number; from 2^64 - 1 on there is none
 unfoldable pub trick_at : List (ℕ × Trick) → ℕ → Option Trick
@@ -31,7 +32,8 @@ spelled_by (Some play.Twice) answer = frame_of answer
 spelled_by (Some play.Later) answer = frame_of answer
 spelled_by (Some play.Id) answer = spelling ((answer.tid + 1) % 65536) answer.unit answer.pdu
 spelled_by (Some play.Unit) answer = spelling answer.tid ((answer.unit + 1) % 256) answer.pdu
-spelled_by (Some play.Garble) answer = word answer.tid ++ word 0 ++ word 0 ++ answer.unit ∷ answer.pdu
+spelled_by (Some play.Garble) answer =
+    word answer.tid ++ word 0 ++ word 0 ++ answer.unit ∷ answer.pdu
 spelled_by (Some (play.Cut count)) answer = frame_of answer
 
 -- What is sent once a frame has been dealt with: of that frame, and then the one that was held before it.
@@ -99,7 +101,8 @@ sent_next CutOff answer = []
 
 unfoldable pub course_next : Course → Fields → Course
 course_next (Playing tricks number later) answer =
-    behind (trick_at tricks number) (spelled_by (trick_at tricks number) answer) (Playing tricks number later)
+    behind (trick_at tricks number) (spelled_by (trick_at tricks number) answer)
+    (Playing tricks number later)
 course_next CutOff answer = CutOff
 
 -- true answers, put through the tricks of a connection: what is sent
@@ -116,7 +119,8 @@ course_after course (answer ∷ answers) = course_after (course_next course answ
 abbrev pub up_to_cut : List (ℕ × Trick) → ℕ → List (List ℕ) → List (List ℕ)
 up_to_cut tricks number [] = []
 up_to_cut tricks number (frame ∷ frames) =
-    frame ∷ (if cuts (trick_at tricks number) then [] else up_to_cut tricks (risen true number) frames)
+    frame ∷ (if cuts (trick_at tricks number) then []
+    else up_to_cut tricks (risen true number) frames)
 
 abbrev pub carried_out : Course → List (List ℕ) → List (List ℕ)
 carried_out (Playing tricks number later) frames = up_to_cut tricks number frames

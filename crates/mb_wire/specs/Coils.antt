@@ -36,4 +36,5 @@ packed coils = packed_in (bytes_for (length coils)) coils
 -- the bytes with all bits after the first so many made 0
 unfoldable pub cleared_after : ℕ → List ℕ → List ℕ
 cleared_after quantity [] = []
-cleared_after quantity (byte ∷ bytes) = byte % 2 ^ min quantity 8 ∷ cleared_after (quantity - 8) bytes
+cleared_after quantity (byte ∷ bytes) =
+    byte % 2 ^ min quantity 8 ∷ cleared_after (quantity - 8) bytes

@@ -35,7 +35,8 @@ IsOwn frame = protocol_of frame ≡ 0
 
 -- fewer than six bytes, or a good length and fewer bytes after it than it says
 abbrev pub IsOpen : List ℕ → Type 0
-IsOpen bytes = (length bytes < 6) ⊎ (IsGoodSpan (span_of bytes) × (length bytes < 6 + span_of bytes))
+IsOpen bytes =
+    (length bytes < 6) ⊎ (IsGoodSpan (span_of bytes) × (length bytes < 6 + span_of bytes))
 
 -- six bytes with a bad length, whatever follows
 abbrev pub IsBad : List ℕ → Type 0
@@ -49,7 +50,9 @@ pub record Reads (bytes : List ℕ) (frames : List (List ℕ)) (rest : List ℕ)
 
 -- The one reading of a byte list, as functions: it is gone through at most once a byte.
 abbrev pub begins_with_frame : List ℕ → Bool
-begins_with_frame bytes = nat_le 2 (span_of bytes) && nat_le (span_of bytes) 254 && nat_le (6 + span_of bytes) (length bytes)
+begins_with_frame bytes =
+    nat_le 2 (span_of bytes) && nat_le (span_of bytes) 254
+    && nat_le (6 + span_of bytes) (length bytes)
 
 unfoldable pub frames_in : ℕ → List ℕ → List (List ℕ)
 frames_in zero bytes = []

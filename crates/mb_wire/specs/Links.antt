@@ -15,7 +15,8 @@ TakesAtMost (Ok Idle) piece = Unit {0}
 TakesAtMost (Err failed) piece = Unit {0}
 
 -- the bytes that are handed out are the next that the link still has, and the end comes when none is left
-abbrev pub TakeConsumes : Option (List ℕ) → Option (List ℕ) → Result Took LinkFailed → List ℕ → Type 0
+abbrev pub TakeConsumes : Option (List ℕ) → Option (List ℕ) → Result Took LinkFailed → List ℕ
+    → Type 0
 TakeConsumes old new (Ok (Bytes n)) piece = Consumes old new (take n piece)
 TakeConsumes old new (Ok End) piece = Keeps old new × IsAtEnd new
 TakeConsumes old new (Ok Idle) piece = Keeps old new

@@ -81,10 +81,11 @@ give_answer link count =
     else Ok (min (min link.piece count) (output_free link))
 
 -- what a give leaves
-pub record LeavesGive (old new : Memory) (answer : Result ℕ LinkFailed) (bytes : List ℕ) : Type 0 where
-  pub call : CallsOnce old new
-  pub input : new.input ≡ old.input
-  pub failures : new.failures ≡ risen (is_failed_give answer bytes) old.failures
-  pub takes : new.takes ≡ old.takes
-  pub ends : new.ends ≡ old.ends
-  pub last : new.last ≡ old.last
+pub record LeavesGive (old new : Memory) (answer : Result ℕ LinkFailed) (bytes : List ℕ) : Type 0
+  where
+    pub call : CallsOnce old new
+    pub input : new.input ≡ old.input
+    pub failures : new.failures ≡ risen (is_failed_give answer bytes) old.failures
+    pub takes : new.takes ≡ old.takes
+    pub ends : new.ends ≡ old.ends
+    pub last : new.last ≡ old.last

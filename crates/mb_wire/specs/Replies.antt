@@ -88,14 +88,17 @@ abbrev pub AnswersRequest : Request → Reply → Type 0
 AnswersRequest request (lent.Bits quantity bytes) =
     (wanted_by (query_of request) ≡ Coils quantity) × (length bytes.now ≡ bytes_for quantity)
 AnswersRequest request (lent.Words bytes) =
-    (wanted_by (query_of request) ≡ Registers (length (words_of bytes.now))) × (length bytes.now ≡ 2 * length (words_of bytes.now))
+    (wanted_by (query_of request) ≡ Registers (length (words_of bytes.now)))
+    × (length bytes.now ≡ 2 * length (words_of bytes.now))
 AnswersRequest request lent.Echo = wanted_by (query_of request) ≡ Head
 AnswersRequest request (lent.Exception code) = Unit {0}
 
 -- the reply fits the request: an exception fits any, and what answers a lawful request fits it
 abbrev pub FitsRequest : Request → Reply → Type 0
-FitsRequest request (lent.Bits quantity bytes) = IsLawful request × AnswersRequest request (lent.Bits quantity bytes)
-FitsRequest request (lent.Words bytes) = IsLawful request × AnswersRequest request (lent.Words bytes)
+FitsRequest request (lent.Bits quantity bytes) =
+    IsLawful request × AnswersRequest request (lent.Bits quantity bytes)
+FitsRequest request (lent.Words bytes) =
+    IsLawful request × AnswersRequest request (lent.Words bytes)
 FitsRequest request lent.Echo = IsLawful request × AnswersRequest request lent.Echo
 FitsRequest request (lent.Exception code) = Unit {0}
 
@@ -142,7 +145,8 @@ is_wrong_length query pdu =
 
 abbrev pub is_wrong_byte_count : Query → List ℕ → Bool
 is_wrong_byte_count query pdu =
-    not (is_exception query pdu) && brings_bytes (wanted_by query) && not (slice_index pdu 1 == byte_count (wanted_by query))
+    not (is_exception query pdu) && brings_bytes (wanted_by query)
+    && not (slice_index pdu 1 == byte_count (wanted_by query))
 
 abbrev pub is_wrong_echo : Query → List ℕ → Bool
 is_wrong_echo query pdu =

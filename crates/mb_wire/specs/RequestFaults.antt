@@ -58,11 +58,13 @@ is_wrong_request_length pdu =
 
 abbrev pub is_wrong_quantity : List ℕ → Bool
 is_wrong_quantity pdu =
-    not (writes_one (function_in pdu)) && (nat_lt (field_in pdu) 1 || nat_lt (most_of (function_in pdu)) (field_in pdu))
+    not (writes_one (function_in pdu))
+    && (nat_lt (field_in pdu) 1 || nat_lt (most_of (function_in pdu)) (field_in pdu))
 
 abbrev pub is_wrong_carried_count : List ℕ → Bool
 is_wrong_carried_count pdu =
-    carries_bytes (function_in pdu) && not (count_in pdu == bytes_of (function_in pdu) (field_in pdu))
+    carries_bytes (function_in pdu)
+    && not (count_in pdu == bytes_of (function_in pdu) (field_in pdu))
 
 abbrev pub is_wrong_coil_value : List ℕ → Bool
 is_wrong_coil_value pdu = function_in pdu == 5 && not (field_in pdu == 0 || field_in pdu == 65280)
@@ -86,7 +88,8 @@ query_from pdu =
     else if function_in pdu == 4 then ReadInput (address_in pdu) (field_in pdu)
     else if function_in pdu == 5 then WriteCoil (address_in pdu) (field_in pdu == 65280)
     else if function_in pdu == 6 then WriteRegister (address_in pdu) (field_in pdu)
-    else if function_in pdu == 15 then WriteCoils (address_in pdu) (coils_of (field_in pdu) (drop 6 pdu))
+    else if function_in pdu == 15
+    then WriteCoils (address_in pdu) (coils_of (field_in pdu) (drop 6 pdu))
     else WriteRegisters (address_in pdu) (words_of (drop 6 pdu))
 
 -- a value, unless there is a fault

@@ -80,7 +80,8 @@ head_bytes function address field = function ∷ word address ++ word field
 
 -- the one spelling of a request, its spare bits being 0
 abbrev pub query_bytes : Query → List ℕ
-query_bytes query = head_bytes (function_of query) (address_of query) (field_of query) ++ carried_by query
+query_bytes query =
+    head_bytes (function_of query) (address_of query) (field_of query) ++ carried_by query
 
 abbrev pub request_bytes : Request → List ℕ
 request_bytes request = query_bytes (query_of request)
@@ -107,9 +108,11 @@ IsLawful (lent.ReadHolding address quantity) = IsWithin quantity 125
 IsLawful (lent.ReadInput address quantity) = IsWithin quantity 125
 IsLawful (lent.WriteCoil address on) = Unit {0}
 IsLawful (lent.WriteRegister address value) = Unit {0}
-IsLawful (lent.WriteCoils address quantity bytes) = IsWithin quantity 1968 × (length bytes.now ≡ bytes_for quantity)
+IsLawful (lent.WriteCoils address quantity bytes) =
+    IsWithin quantity 1968 × (length bytes.now ≡ bytes_for quantity)
 IsLawful (lent.WriteRegisters address bytes) =
-    IsWithin (length (words_of bytes.now)) 123 × (length bytes.now ≡ 2 * length (words_of bytes.now))
+    IsWithin (length (words_of bytes.now)) 123
+    × (length bytes.now ≡ 2 * length (words_of bytes.now))
 
 -- The PDU spells the query.
 abbrev pub SpellsRequest : List ℕ → Query → Type 0

@@ -34,7 +34,8 @@ verdict_after meter es reading = verdict_on meter.range meter.ceiling meter.open
 
 -- these entries have an account, with this energy
 abbrev pub HasAccount : Installed → List Entry → Type 0
-HasAccount meter es = IsAccount meter.range meter.opening es (last_after meter es) (total_after meter es)
+HasAccount meter es =
+    IsAccount meter.range meter.opening es (last_after meter es) (total_after meter es)
 
 -- Where the counter stands, the energy, the steps and the interval rows of the entries of a journal that stand.
 abbrev pub last_in : Installed → Journal → Last

@@ -26,13 +26,15 @@ pub record LiesWithin (opened last : ℕ) (row : Share) : Type 0 where
 
 -- The interval rows of a journal lie between its opening and where its counter stands.
 abbrev pub RowsLieWithin : Type 0
-RowsLieWithin = (meter : Installed) (lines : Journal) → IsWellInstalled meter → AreFitting meter lines
+RowsLieWithin = (meter : Installed) (lines : Journal) → IsWellInstalled meter
+    → AreFitting meter lines
     → All (LiesWithin meter.opening.at (last_in meter lines).at) (interval_rows meter lines)
 
 -- After a void the counter stands at no later moment.
 abbrev pub VoidsGoNoFurther : Type 0
 VoidsGoNoFurther = (meter : Installed) (lines : Journal) (place : ℕ) → IsWellInstalled meter
-    → AreFitting meter (Voided place ∷ lines) → (last_in meter (Voided place ∷ lines)).at ≤ (last_in meter lines).at
+    → AreFitting meter (Voided place ∷ lines)
+    → (last_in meter (Voided place ∷ lines)).at ≤ (last_in meter lines).at
 
 -- the step from where the counter stands to one more entry
 abbrev pub step_on : Installed → Journal → Entry → Step
@@ -54,7 +56,8 @@ pub record GoesOn (meter : Installed) (lines : Journal) (k : EntryKind) (e : Ent
       ≡ with_each (shares_of (step_on meter lines e)) (interval_rows meter lines)
 
 abbrev pub EntriesGoOn : Type 0
-EntriesGoOn = (meter : Installed) (lines : Journal) (k : EntryKind) (e : Entry) → IsWellInstalled meter
+EntriesGoOn = (meter : Installed) (lines : Journal) (k : EntryKind) (e : Entry)
+    → IsWellInstalled meter
     → AreFitting meter (Entered k e ∷ lines) → GoesOn meter lines k e
 
 -- Shares that are added bring their energy, and rows from which shares are taken have no more than before.
@@ -72,5 +75,7 @@ pub record WasKept (meter : Installed) (around : Around) : Type 0 where
       IsSound meter.range meter.opening es (last_after meter es) (total_after meter es)
 
 abbrev pub PlacesWereKept : Type 0
-PlacesWereKept = (meter : Installed) (lines : Journal) (place : ℕ) (around : Around) → IsWellInstalled meter
-    → AreFitting meter lines → row_at place (rows_of meter.opening lines) ≡ Some around → WasKept meter around
+PlacesWereKept = (meter : Installed) (lines : Journal) (place : ℕ) (around : Around)
+    → IsWellInstalled meter
+    → AreFitting meter lines → row_at place (rows_of meter.opening lines) ≡ Some around
+    → WasKept meter around

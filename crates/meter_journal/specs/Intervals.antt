@@ -27,7 +27,8 @@ rows_of_steps (step ∷ steps) = with_shares (rows_of_steps steps) (shares_of st
 -- the energy of the rows that start before a moment
 abbrev pub energy_before : (bound : ℕ) → List Share → ℕ
 energy_before bound [] = 0
-energy_before bound (row ∷ rows) = (if nat_lt row.start bound then row.mwh else 0) + energy_before bound rows
+energy_before bound (row ∷ rows) =
+    (if nat_lt row.start bound then row.mwh else 0) + energy_before bound rows
 
 -- a share added to the row of its interval; where there is none, it stands behind the others
 abbrev pub with_share : Share → List Share → List Share
@@ -43,7 +44,9 @@ with_each (share ∷ shares) rows = with_each shares (with_share share rows)
 
 -- a share taken out of the row of its interval
 abbrev pub less : Share → Share → Share
-less share row = if row.start == share.start then record { start = row.start; mwh = row.mwh - share.mwh } else row
+less share row =
+    if row.start == share.start then record { start = row.start; mwh = row.mwh - share.mwh }
+    else row
 
 abbrev pub without_share : Share → List Share → List Share
 without_share share rows = map (less share) rows

@@ -45,4 +45,5 @@ pub record MayGoOn (meter : Installed) (last : Last) (total : ℕ) (e : Entry) :
 abbrev pub IsFound : List EntryRow → (place : ℕ) → FoundRow → Type 0
 IsFound rows place found =
     row_at place (latest_first rows)
-    ≡ Some (record { before = latest_first (take found.index rows); row = found.row; next = found.next })
+    ≡ Some (record
+    { before = latest_first (take found.index rows); row = found.row; next = found.next })

@@ -30,7 +30,8 @@ unvoided opening whole (Entered k e ∷ lines) =
     let place = entered_count lines + 2 in
     if is_voided place whole
     then rows
-    else rolled (last_of opening (map (λ row. row.entry) rows)) (record { place = place; kind = k; entry = e; stands = true }) ∷ rows
+    else rolled (last_of opening (map (λ row. row.entry) rows))
+    (record { place = place; kind = k; entry = e; stands = true }) ∷ rows
 unvoided opening whole (Held reading cause ∷ lines) = unvoided opening whole lines
 unvoided opening whole (Voided place ∷ lines) = unvoided opening whole lines
 
@@ -38,7 +39,8 @@ unvoided opening whole (Voided place ∷ lines) = unvoided opening whole lines
 abbrev pub AllStillFit : Installed → List EntryRow → Type 0
 AllStillFit meter [] = Unit {0}
 AllStillFit meter (row ∷ rows) =
-    (row.stands ≡ true → EntryFits meter (entries_in rows) row.kind row.entry) × AllStillFit meter rows
+    (row.stands ≡ true → EntryFits meter (entries_in rows) row.kind row.entry)
+    × AllStillFit meter rows
 
 -- the journal of these rows alone, with no void
 abbrev pub entering : List EntryRow → Journal

@@ -19,9 +19,11 @@ reading_by sf (entry.Change at before after new) = None
 -- The readings that stood after the last void, and all that came since, held ones too, the latest first.
 abbrev pub latest_readings : (opening : Last) → Journal → List Reading
 latest_readings opening [] = []
-latest_readings opening (Entered k e ∷ lines) = cons_option (reading_by opening.sf e) (latest_readings opening lines)
+latest_readings opening (Entered k e ∷ lines) =
+    cons_option (reading_by opening.sf e) (latest_readings opening lines)
 latest_readings opening (Held reading cause ∷ lines) = reading ∷ latest_readings opening lines
-latest_readings opening (Voided place ∷ lines) = filter_map (reading_by opening.sf) (entries_of opening (Voided place ∷ lines))
+latest_readings opening (Voided place ∷ lines) =
+    filter_map (reading_by opening.sf) (entries_of opening (Voided place ∷ lines))
 
 -- the readings that were held since the last void
 abbrev pub held_since : Journal → List Reading
@@ -39,7 +41,8 @@ AreReadings (Voided place ∷ lines) = AreReadings lines
 
 -- The opening, the readings that stood after the last void, and all readings since, held ones too, are one for one what a
 -- true run shows, and it is read often enough.
-pub record ShowsTrueRun (meter : Installed) (lines : Journal) (first : Item) (items : List Item) : Type 0 where
+pub record ShowsTrueRun (meter : Installed) (lines : Journal) (first : Item) (items : List Item) :
+    Type 0 where
   pub readings_alone : AreReadings lines
   pub opened : meter.opening ≡ shown meter.range meter.opening.sf first
   pub readings : latest_readings meter.opening lines ≡ map (told meter.range meter.opening.sf) items
@@ -49,22 +52,27 @@ pub record ShowsTrueRun (meter : Installed) (lines : Journal) (first : Item) (it
 -- the true advance up to the last item at or before a moment; 0 where there is none
 abbrev pub advance_to : ℤ → Item → List Item → (bound : ℕ) → ℕ
 advance_to sf first [] bound = 0
-advance_to sf first (item ∷ items) bound = if nat_le item.at bound then advance sf first item else advance_to sf first items bound
+advance_to sf first (item ∷ items) bound =
+    if nat_le item.at bound then advance sf first item else advance_to sf first items bound
 
 -- the true advance up to the first item at or after a moment; the whole where there is none
 abbrev pub advance_past : ℤ → Item → List Item → (bound : ℕ) → ℕ
 advance_past sf first [] bound = 0
 advance_past sf first (item ∷ items) bound =
-    if nat_le bound (newest first items).at then advance_past sf first items bound else advance sf first item
+    if nat_le bound (newest first items).at then advance_past sf first items bound
+    else advance sf first item
 
 -- None of the readings since the last void was held, the steps are the true ones, and the energy is the true advance. The
 -- rows before the beginning of an interval hold no less than the true advance up to the last item at or before it, and no
 -- more than that up to the first item at or after it.
-pub record IsKeptTruly (meter : Installed) (lines : Journal) (first : Item) (items : List Item) : Type 0 where
+pub record IsKeptTruly (meter : Installed) (lines : Journal) (first : Item) (items : List Item) :
+    Type 0 where
   pub none_held : held_since lines ≡ []
   pub steps : steps_in meter lines ≡ true_steps meter.opening.sf first items
   pub energy : total_in meter lines ≡ advance meter.opening.sf first (newest first items)
   pub no_less : (bound : ℕ) → bound % 900 ≡ 0
-      → advance_to meter.opening.sf first items bound ≤ energy_before bound (interval_rows meter lines)
+      → advance_to meter.opening.sf first items bound
+      ≤ energy_before bound (interval_rows meter lines)
   pub no_more : (bound : ℕ) → bound % 900 ≡ 0
-      → energy_before bound (interval_rows meter lines) ≤ advance_past meter.opening.sf first items bound
+      → energy_before bound (interval_rows meter lines)
+      ≤ advance_past meter.opening.sf first items bound

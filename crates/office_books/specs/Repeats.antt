@@ -11,5 +11,7 @@ use Rattle.office_books.specs.declared.repeats.Repeat.TheVariants.{Same, Other}
 abbrev pub as_repeat : (request : List ℕ) → Reply → Repeat
 as_repeat request reply = if bytes_eq reply.request request then Same reply.kind else Other
 
-abbrev pub repeat_of : List Fact → (caller : List ℕ) → (number : ℕ) → (request : List ℕ) → Option Repeat
-repeat_of facts caller number request = option_map (as_repeat request) (reply_of facts caller number)
+abbrev pub repeat_of : List Fact → (caller : List ℕ) → (number : ℕ) → (request : List ℕ)
+    → Option Repeat
+repeat_of facts caller number request =
+    option_map (as_repeat request) (reply_of facts caller number)

@@ -11,7 +11,8 @@ pub record AreSame (facts others : List Fact) : Type 0 where
   pub lists : (device : List ℕ) → list_of facts device ≡ list_of others device
   pub registers : registers_in facts ≡ registers_in others
   pub openings : openings_in facts ≡ openings_in others
-  pub entries : (opening : Opening) → Contains (openings_in facts) opening → rows_of facts opening ≡ rows_of others opening
+  pub entries : (opening : Opening) → Contains (openings_in facts) opening
+      → rows_of facts opening ≡ rows_of others opening
   pub holds : IsPermutation (holds_in facts) (holds_in others)
   pub voids : IsPermutation (voids_in facts) (voids_in others)
   pub polls : polls_in facts ≡ polls_in others

@@ -15,11 +15,13 @@ pub record IsSound (row : Installation) : Type 0 where
   pub total : row.total ≤ 4 * 10 ^ 18
 
 -- A look-up that answers such installations alone, whatever the store gives.
-pub record ReadsInstallation (old new : Ledger) (result : Result (Option Installation) BooksFault) : Type 0 where
+pub record ReadsInstallation (old new : Ledger) (result : Result (Option Installation) BooksFault) :
+    Type 0 where
   pub reads : OnlyReads old new result
   pub sound : IfOk result (λ row. IfSome row IsSound)
 
 -- ... or where one stood before an entry
-pub record ReadsPlace (old new : Ledger) (result : Result (Option EntryPlace) BooksFault) : Type 0 where
-  pub reads : OnlyReads old new result
-  pub sound : IfOk result (λ place. IfSome place (λ p. IsSound p.before))
+pub record ReadsPlace (old new : Ledger) (result : Result (Option EntryPlace) BooksFault) : Type 0
+  where
+    pub reads : OnlyReads old new result
+    pub sound : IfOk result (λ place. IfSome place (λ p. IsSound p.before))

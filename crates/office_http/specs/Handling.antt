@@ -70,7 +70,8 @@ pub record Passage : Type 0 where
   pub later_given : Option (List ℕ)
   pub last : Option LastTake
 
-abbrev pub passage : (remaining later_remaining given later_given : Option (List ℕ)) → Option LastTake
+abbrev pub passage : (remaining later_remaining given later_given : Option (List ℕ))
+    → Option LastTake
     → Passage
 passage remaining later_remaining given later_given last = record {
   remaining = remaining;
@@ -91,7 +92,8 @@ pub record HasHead (read : List ℕ) : Type 0 where
   pub come : is_open look ≡ false
 
 -- A reply is answered to what was read. Of what was put of it all was given, or at Write a beginning.
-pub record GivesReply {B : Type 0} (ledger : B → Ledger) (past : History) (at : ℕ) (old new : Office B)
+pub record GivesReply {B : Type 0} (ledger : B → Ledger) (past : History) (at : ℕ)
+    (old new : Office B)
     (given later_given : Option (List ℕ)) (read : List ℕ) (result : Result (Unit {0}) HandleFault)
     : Type 0 where
   pub cut : Option Refusal
@@ -122,7 +124,8 @@ Does ledger at old new link read (Ok x) = Replies ledger at old new link read (O
 Does ledger at old new link read (Err Write) = Replies ledger at old new link read (Err Write)
 Does ledger at old new link read (Err Cut) = Replies ledger at old new link read (Err Cut)
 Does ledger at old new link read (Err Read) = ReadsOn old new link read
-Does ledger at old new link read (Err Short) = ReadsOn old new link read × IsAtEnd link.later_remaining
+Does ledger at old new link read (Err Short) =
+    ReadsOn old new link read × IsAtEnd link.later_remaining
 Does ledger at old new link read (Err TurnsUsed) = ReadsOn old new link read
 
 -- The call took these bytes from the link, and did so with them.
@@ -134,7 +137,8 @@ pub record Handles {B : Type 0} (ledger : B → Ledger) (at : ℕ) (old new : Of
 
 -- The count of the link's failures rises by one exactly where it was the link that failed, and its takes are used up only
 -- where there were 100,000 of them. The counts stay at 2^64 - 1.
-pub record CountsLink (result : Result (Unit {0}) HandleFault) (failed later_failed taken later_taken : ℕ)
+pub record CountsLink (result : Result (Unit {0}) HandleFault)
+    (failed later_failed taken later_taken : ℕ)
     : Type 0 where
   pub failures : later_failed ≡ risen (is_link_fault result) failed
   pub turns : result ≡ Err TurnsUsed → (count : ℕ) → taken ≡ min count (2 ^ 64 - 1)

@@ -7,4 +7,5 @@ use Rattle.http_answer.specs.Whole.{RepliesToRequest}
 -- Where an office answers the same, two replies to the same bytes are equal.
 abbrev pub RepliesAreOne : Type 0
 RepliesAreOne = (office : Office) (bytes one other : List ℕ)
-    → RepliesToRequest office routes bytes one → RepliesToRequest office routes bytes other → one ≡ other
+    → RepliesToRequest office routes bytes one → RepliesToRequest office routes bytes other
+    → one ≡ other

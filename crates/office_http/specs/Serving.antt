@@ -33,7 +33,8 @@ with_asked past at (Some asked) =
     with_answer past at (event.Asked asked) (response_of past at (event.Asked asked))
 
 -- The reply is what the office answers, by the facts of what it accepted; and it has accepted what the bytes ask.
-pub record IsAnswered (zone : Zone) (past : History) (at : ℕ) (read reply : List ℕ) (later : History)
+pub record IsAnswered (zone : Zone) (past : History) (at : ℕ) (read reply : List ℕ)
+    (later : History)
     : Type 0 where
   pub replies : (office : Office) → AnswersAt zone past at office → IsReply office routes read reply
   pub asked : Option Asked
@@ -41,7 +42,8 @@ pub record IsAnswered (zone : Zone) (past : History) (at : ℕ) (read reply : Li
   pub accepts : later ≡ with_asked past at asked
 
 -- The store or memory failed, or the office had stopped: the reply tells so, and nothing is accepted.
-pub record IsUnavailable (past : History) (before after : ℕ) (reply : List ℕ) (later : History) : Type 0 where
+pub record IsUnavailable (past : History) (before after : ℕ) (reply : List ℕ) (later : History) :
+    Type 0 where
   pub why : Refusal
   pub outside : IsOutside before after why
   pub tells : reply ≡ reply_bytes (refused why)
@@ -102,13 +104,15 @@ pub record PutsReply {B : Type 0} (ledger : B → Ledger) (at : ℕ) (read : Lis
 -- The poll of a number is asked for, or of none, and what the office answers is the reply.
 pub record IsPollAsked (read : List ℕ) (number : Option ℕ) : Type 0 where
   pub nothing : AsksNothing routes read
-  pub replies : (office : Office) → IsReply office routes read (reply_bytes (poll_reply office number))
+  pub replies : (office : Office)
+      → IsReply office routes read (reply_bytes (poll_reply office number))
 
 -- So it is with the interval rows of a meter, and the days of a register.
 pub record AreIntervalsAsked (read : List ℕ) (meter : Option (List ℕ)) : Type 0 where
   pub nothing : AsksNothing routes read
   pub replies : (office : Office)
-      → IsReply office routes read (reply_bytes (lines_reply intervals_text (office.intervals meter)))
+      → IsReply office routes read
+      (reply_bytes (lines_reply intervals_text (office.intervals meter)))
 
 pub record AreDaysAsked (read : List ℕ) (register : Option (List ℕ)) : Type 0 where
   pub nothing : AsksNothing routes read

@@ -37,33 +37,40 @@ AreAt at (one ∷ earlier) = AreAt at earlier × (one.at ≡ at)
 
 -- The events that were fed came at one moment, each of them was next, the office stands behind them, each is accepted or
 -- refused as the definitions say, and each was shown.
-pub record Going {B V : Type 0} (ledger : B → Ledger) (sees : V → Shown → V → Type 0) (past : History) (begun : Start V)
+pub record Going {B V : Type 0} (ledger : B → Ledger) (sees : V → Shown → V → Type 0)
+    (past : History) (begun : Start V)
     (at : ℕ) (fed : List Answered) (first : Option Wished) (now : Scene B V) : Type 0 where
-  pub leaves : IsFed ledger past (desk None None begun.failures) (desk None None now.failures) now.office fed
+  pub leaves : IsFed ledger past (desk None None begun.failures) (desk None None now.failures)
+      now.office fed
   pub next : AreNext past begun.table fed
   pub timed : AreAt at fed
   pub rounds : table first now.rounds ≡ table_behind past begun.table fed
   pub shown : AreShown sees begun.witness now.witness past begun.table fed
 
 -- One more event is fed, which is next, if no wrong answer of a store was taken as true until now.
-abbrev pub FeedsNext : {B V : Type 0} → (B → Ledger) → (V → Shown → V → Type 0) → (at : ℕ) → Wished → (old new : Scene B V) → Type 0
+abbrev pub FeedsNext : {B V : Type 0} → (B → Ledger) → (V → Shown → V → Type 0) → (at : ℕ) → Wished
+    → (old new : Scene B V) → Type 0
 FeedsNext {B} {V} ledger sees at one old new =
     (past : History) (begun : Start V) (fed : List Answered) (first : Option Wished)
-    → Going ledger sees past begun at fed first old → next_by first old.rounds ≡ Some one → (ledger (books_in new.office)).is_clean
+    → Going ledger sees past begun at fed first old → next_by first old.rounds ≡ Some one
+    → (ledger (books_in new.office)).is_clean
     → (next : Answered) × Going ledger sees past begun at (next ∷ fed) None new
 
 -- What the rounds wish is fed, until they wish nothing, or 256 events were fed.
 abbrev pub IsSettled : List Round → (before after : List Answered) → Type 0
 IsSettled rounds before after = (first_wish rounds ≡ None) ⊎ (256 ≤ length after)
 
-abbrev pub GoesOn : {B V : Type 0} → (B → Ledger) → (V → Shown → V → Type 0) → (at : ℕ) → (old new : Scene B V) → Type 0
+abbrev pub GoesOn : {B V : Type 0} → (B → Ledger) → (V → Shown → V → Type 0) → (at : ℕ)
+    → (old new : Scene B V) → Type 0
 GoesOn {B} {V} ledger sees at old new =
     (past : History) (begun : Start V) (fed : List Answered)
     → Going ledger sees past begun at fed None old → (ledger (books_in new.office)).is_clean
-    → (later : List Answered) × Going ledger sees past begun at later None new × IsSettled new.rounds fed later
+    → (later : List Answered) × Going ledger sees past begun at later None new
+    × IsSettled new.rounds fed later
 
 -- What a turn does: it feeds what is next behind what happened, until nothing is.
-pub record TakesTurn {B V : Type 0} (ledger : B → Ledger) (sees : V → Shown → V → Type 0) (past : History) (begun : Start V)
+pub record TakesTurn {B V : Type 0} (ledger : B → Ledger) (sees : V → Shown → V → Type 0)
+    (past : History) (begun : Start V)
     (at : ℕ) (now : Scene B V) : Type 0 where
   pub fed : List Answered
   pub going : Going ledger sees past begun at fed None now

@@ -17,4 +17,11 @@ pub record Shown : Type 0 where
 
 abbrev pub shown : Option ℕ → ℕ → Event → Result Answer Refusal → List Note → List ℕ → Shown
 shown place at event answer notes frames =
-    record { place = place; at = at; event = event; answer = answer; notes = notes; frames = frames }
+    record {
+      place = place;
+      at = at;
+      event = event;
+      answer = answer;
+      notes = notes;
+      frames = frames;
+    }

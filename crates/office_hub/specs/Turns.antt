@@ -90,7 +90,8 @@ notes_of past earlier one = notes_after (history_behind past earlier) one.at one
 -- the rounds behind what was fed
 abbrev pub table_behind : (past : History) → Table → List Answered → Table
 table_behind past from [] = from
-table_behind past from (one ∷ earlier) = table_after (table_behind past from earlier) one.result (notes_of past earlier one)
+table_behind past from (one ∷ earlier) =
+    table_after (table_behind past from earlier) one.result (notes_of past earlier one)
 
 -- it is what is next
 abbrev pub IsNext : Option Wished → Event → Type 0
@@ -100,19 +101,23 @@ IsNext (Some one) e = e ≡ one.event
 -- each event was next behind those before it
 abbrev pub AreNext : (past : History) → Table → List Answered → Type 0
 AreNext past from [] = Unit {0}
-AreNext past from (one ∷ earlier) = AreNext past from earlier × IsNext (next_of (table_behind past from earlier)) one.event
+AreNext past from (one ∷ earlier) =
+    AreNext past from earlier × IsNext (next_of (table_behind past from earlier)) one.event
 
 -- what is shown of an event
 abbrev pub shown_of : (past : History) → Table → List Answered → Answered → Shown
 shown_of past from earlier one =
-    shown (place_of (next_of (table_behind past from earlier))) one.at one.event one.result (notes_of past earlier one)
+    shown (place_of (next_of (table_behind past from earlier))) one.at one.event one.result
+    (notes_of past earlier one)
     (outgoing_after (history_behind past earlier) one.at one.event one.result)
 
 -- each was shown in turn
-abbrev pub AreShown : {V : Type 0} → (V → Shown → V → Type 0) → (from to : V) → (past : History) → Table → List Answered → Type 0
+abbrev pub AreShown : {V : Type 0} → (V → Shown → V → Type 0) → (from to : V) → (past : History)
+    → Table → List Answered → Type 0
 AreShown sees from to past begun [] = to ≡ from
 AreShown {V} sees from to past begun (one ∷ earlier) =
-    (between : V) × AreShown sees from between past begun earlier × sees between (shown_of past begun earlier one) to
+    (between : V) × AreShown sees from between past begun earlier
+    × sees between (shown_of past begun earlier one) to
 
 -- the bytes of a device whose replies are waited for
 abbrev pub came_at : Stage → ℕ → Option (List ℕ) → List ℕ → Option Wished

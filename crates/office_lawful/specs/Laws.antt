@@ -36,7 +36,8 @@ pub record IsPast (history : History) : Type 0 where
 
 -- Whatever the office accepted, each fact may follow those before it.
 abbrev pub FactsAreLawful : Type 0
-FactsAreLawful = (history : History) → AreAccepted history → ListsArePlanned history → AreLawful (facts_of history)
+FactsAreLawful = (history : History) → AreAccepted history → ListsArePlanned history
+    → AreLawful (facts_of history)
 
 -- No two devices, no two registers and no two meters have the same name, so each is found by its name. The meter that is open
 -- at a register is the latest there, so no two are.
@@ -44,9 +45,13 @@ pub record AreDistinct (facts : List Fact) : Type 0 where
   pub devices : AllPairs (λ (a b : Device). a.name ≢ b.name) (devices_in facts)
   pub registers : AllPairs (λ (a b : Register). a.name ≢ b.name) (registers_in facts)
   pub meters : AllPairs (λ (a b : Opening). a.meter ≢ b.meter) (openings_in facts)
-  pub device_found : All (λ (device : Device). device_of facts device.name ≡ Some device) (devices_in facts)
-  pub register_found : All (λ (register : Register). register_of facts register.name ≡ Some register) (registers_in facts)
-  pub meter_found : All (λ (opening : Opening). opening_of facts opening.meter ≡ Some opening) (openings_in facts)
+  pub device_found : All (λ (device : Device). device_of facts device.name ≡ Some device)
+      (devices_in facts)
+  pub register_found : All
+      (λ (register : Register). register_of facts register.name ≡ Some register)
+      (registers_in facts)
+  pub meter_found : All (λ (opening : Opening). opening_of facts opening.meter ≡ Some opening)
+      (openings_in facts)
   pub latest : (opening : Opening) → IsRecorded facts opening → is_ended facts opening ≡ false
       → installed_at facts opening.register ≡ Some opening
 
@@ -59,9 +64,12 @@ pub record AreTrue (history : History) : Type 0 where
   pub polls : EachEndsOnce history
   pub lawful : AreLawful (facts_of history)
   pub distinct : AreDistinct (facts_of history)
-  pub kept : (opening : Opening) → IsRecorded (facts_of history) opening → IsKept (facts_of history) opening
-  pub untraced : (opening : Opening) → IsRecorded (facts_of history) opening → IsUntraced (facts_of history) opening
-  pub truth : (opening : Opening) (first : Item) (items : List Item) → IsRecorded (facts_of history) opening
+  pub kept : (opening : Opening) → IsRecorded (facts_of history) opening
+      → IsKept (facts_of history) opening
+  pub untraced : (opening : Opening) → IsRecorded (facts_of history) opening
+      → IsUntraced (facts_of history) opening
+  pub truth : (opening : Opening) (first : Item) (items : List Item)
+      → IsRecorded (facts_of history) opening
       → ShowsTrueRun (installed opening) (journal_of (facts_of history) opening.meter) first items
       → IsKeptTruly (installed opening) (journal_of (facts_of history) opening.meter) first items
 

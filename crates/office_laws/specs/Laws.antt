@@ -29,19 +29,23 @@ JournalsFit = (facts : List Fact) (opening : Opening) → AreLawful facts → Is
 -- shows, a full range for each recorded rollover at the scale of its step, and what it showed before each change. The account is that of the
 -- entries that stand, and is sound; the interval rows are those of its steps, and add up to the energy.
 pub record IsKept (facts : List Fact) (opening : Opening) : Type 0 where
-  pub energy : (installation_of facts opening).total + value_of (opened opening) + set_anew (entries_of facts opening)
-      ≡ value_of (installation_of facts opening).last + recorded opening.range (opened opening) (entries_of facts opening)
+  pub energy : (installation_of facts opening).total + value_of (opened opening)
+      + set_anew (entries_of facts opening)
+      ≡ value_of (installation_of facts opening).last
+      + recorded opening.range (opened opening) (entries_of facts opening)
   pub account : journals.IsKept (installed opening) (journal_of facts opening.meter)
   pub rows : IsAccount (steps_in facts opening) (rows_of_opening facts opening)
   pub sum : energy_of (rows_of_opening facts opening) ≡ (installation_of facts opening).total
 
 abbrev pub MetersAreKept : Type 0
-MetersAreKept = (facts : List Fact) (opening : Opening) → AreLawful facts → IsRecorded facts opening → IsKept facts opening
+MetersAreKept = (facts : List Fact) (opening : Opening) → AreLawful facts → IsRecorded facts opening
+    → IsKept facts opening
 
 -- Where the readings that stand and all readings since the last void are a true run, none of the latter was held, and the
 -- steps, the energy and the interval rows are the true ones.
 abbrev pub TruthIsRecorded : Type 0
-TruthIsRecorded = (facts : List Fact) (opening : Opening) (first : Item) (items : List Item) → AreLawful facts → IsRecorded facts opening
+TruthIsRecorded = (facts : List Fact) (opening : Opening) (first : Item) (items : List Item)
+    → AreLawful facts → IsRecorded facts opening
     → truth.ShowsTrueRun (installed opening) (journal_of facts opening.meter) first items
     → truth.IsKeptTruly (installed opening) (journal_of facts opening.meter) first items
 
@@ -51,7 +55,8 @@ pub record IsUntraced (facts : List Fact) (opening : Opening) : Type 0 where
   pub alone : journals.LeavesNoTrace (installed opening) (journal_of facts opening.meter)
 
 abbrev pub VoidsLeaveNoTrace : Type 0
-VoidsLeaveNoTrace = (facts : List Fact) (opening : Opening) → AreLawful facts → IsRecorded facts opening → IsUntraced facts opening
+VoidsLeaveNoTrace = (facts : List Fact) (opening : Opening) → AreLawful facts
+    → IsRecorded facts opening → IsUntraced facts opening
 
 -- the number of the poll that a fact speaks of, and that of the request
 abbrev pub poll_in : Fact → ℕ

@@ -19,11 +19,16 @@ pub record IsInRange (row : Installation) : Type 0 where
 
 -- So are those of each installation that is recorded or looked up, and where one stood before an entry.
 pub record AreInRange (facts : List Fact) : Type 0 where
-  pub recorded : (opening : Opening) → IsRecorded facts opening → IsInRange (installation_of facts opening)
-  pub by_name : (meter : List ℕ) (row : Installation) → meter_of facts meter ≡ Some row → IsInRange row
-  pub at_register : (register : List ℕ) (row : Installation) → installation_at facts register ≡ Some row → IsInRange row
-  pub unended : (register : List ℕ) (row : Installation) → open_at facts register ≡ Some row → IsInRange row
-  pub placed : (meter : List ℕ) (place : ℕ) (found : EntryPlace) → entry_at facts meter place ≡ Some found
+  pub recorded : (opening : Opening) → IsRecorded facts opening
+      → IsInRange (installation_of facts opening)
+  pub by_name : (meter : List ℕ) (row : Installation) → meter_of facts meter ≡ Some row
+      → IsInRange row
+  pub at_register : (register : List ℕ) (row : Installation)
+      → installation_at facts register ≡ Some row → IsInRange row
+  pub unended : (register : List ℕ) (row : Installation) → open_at facts register ≡ Some row
+      → IsInRange row
+  pub placed : (meter : List ℕ) (place : ℕ) (found : EntryPlace)
+      → entry_at facts meter place ≡ Some found
       → IsInRange found.before
 
 abbrev pub InstallationsAreInRange : Type 0

@@ -27,12 +27,14 @@ pub record Stays (f : Fact) (facts : List Fact) (opening : Opening) : Type 0 whe
 
 -- A fact that is no line of a meter's journal changes nothing of the meter.
 abbrev pub OtherMetersStay : Type 0
-OtherMetersStay = (f : Fact) (facts : List Fact) (opening : Opening) → line_of opening.meter f ≡ None
+OtherMetersStay = (f : Fact) (facts : List Fact) (opening : Opening)
+    → line_of opening.meter f ≡ None
     → Stays f facts opening
 
 -- A held reading changes nothing of any meter.
 abbrev pub HoldsChangeNothing : Type 0
-HoldsChangeNothing = (held : HeldReading) (facts : List Fact) (opening : Opening) → Stays (fact.Hold held) facts opening
+HoldsChangeNothing = (held : HeldReading) (facts : List Fact) (opening : Opening)
+    → Stays (fact.Hold held) facts opening
 
 -- A new installation is found by its name and at its register. Its counter stands where it was opened, without energy or
 -- rows.
@@ -66,16 +68,20 @@ step_from row e = step_to row.opening.range row.last e
 -- added each to the row of its interval.
 pub record MovesOn (booked : BookedEntry) (facts : List Fact) (opening : Opening) : Type 0 where
   pub unended : (installation_of facts opening).ended ≡ false
-  pub goes_on : journals.GoesOn (installed opening) (journal_of facts opening.meter) booked.kind booked.entry
+  pub goes_on : journals.GoesOn (installed opening) (journal_of facts opening.meter) booked.kind
+      booked.entry
   pub installation : installation_of (fact.Entry booked ∷ facts) opening
       ≡ moved_by booked.kind booked.entry (installation_of facts opening)
   pub rows : let before = rows_of facts opening in
       rows_of (fact.Entry booked ∷ facts) opening ≡ new_row before booked.kind booked.entry ∷ before
   pub joined : let shares = shares_of (step_from (installation_of facts opening) booked.entry) in
-      rows_of_opening (fact.Entry booked ∷ facts) opening ≡ with_shares (rows_of_opening facts opening) shares
+      rows_of_opening (fact.Entry booked ∷ facts) opening
+      ≡ with_shares (rows_of_opening facts opening) shares
   pub added : let shares = shares_of (step_from (installation_of facts opening) booked.entry) in
-      rows_of_opening (fact.Entry booked ∷ facts) opening ≡ with_each shares (rows_of_opening facts opening)
+      rows_of_opening (fact.Entry booked ∷ facts) opening
+      ≡ with_each shares (rows_of_opening facts opening)
 
 abbrev pub EntriesMoveOn : Type 0
-EntriesMoveOn = (booked : BookedEntry) (facts : List Fact) (opening : Opening) → AreLawful (fact.Entry booked ∷ facts)
+EntriesMoveOn = (booked : BookedEntry) (facts : List Fact) (opening : Opening)
+    → AreLawful (fact.Entry booked ∷ facts)
     → opening_of facts booked.meter ≡ Some opening → MovesOn booked facts opening

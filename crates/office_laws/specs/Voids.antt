@@ -26,7 +26,8 @@ pub record GivesWay (voided : VoidedEntry) (facts : List Fact) (opening : Openin
         total = entry.steps.staying + energy_in (steps_put (installed opening) around);
         ended = before.ended;
       }
-  pub rows : let change = changed_by voided.place around.next (last_before (opened opening) around) in
+  pub rows : let change =
+      changed_by voided.place around.next (last_before (opened opening) around) in
       rows_of (fact.Void voided ∷ facts) opening ≡ map change (rows_of facts opening)
   pub intervals : let out = all_shares (steps_out (installed opening) around) in
       let put = all_shares (steps_put (installed opening) around) in
@@ -36,4 +37,5 @@ pub record GivesWay (voided : VoidedEntry) (facts : List Fact) (opening : Openin
 
 abbrev pub VoidedEntriesGiveWay : Type 0
 VoidedEntriesGiveWay = (voided : VoidedEntry) (facts : List Fact) (opening : Opening)
-    → AreLawful (fact.Void voided ∷ facts) → opening_of facts voided.meter ≡ Some opening → GivesWay voided facts opening
+    → AreLawful (fact.Void voided ∷ facts) → opening_of facts voided.meter ≡ Some opening
+    → GivesWay voided facts opening

@@ -17,7 +17,8 @@ pub record AreListed (books : ListBooks) (held : List Fact) : Type 0 where
 
 -- with these facts behind the others, figures that were those of the list are so again
 abbrev pub GoOn : (facts : List Fact) → (old new : ListBooks) → Type 0
-GoOn facts old new = (held : List Fact) → old.facts.items ≡ reverse held → AreFigures old.figures held
+GoOn facts old new = (held : List Fact) → old.facts.items ≡ reverse held
+    → AreFigures old.figures held
     → AreFigures new.figures (with_facts facts held)
 
 -- one of these lists of facts is held

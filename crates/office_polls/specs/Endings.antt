@@ -19,7 +19,8 @@ pub record IsPending (history : History) (number : ℕ) : Type 0 where
   pub waits : Contains (flat_map pending_on (lines_of history)) number
 
 abbrev pub EndsOnce : History → Poll → Type 0
-EndsOnce history poll = ((outcome : Outcome) × HasEnded history poll.number outcome) ⊎ IsPending history poll.number
+EndsOnce history poll =
+    ((outcome : Outcome) × HasEnded history poll.number outcome) ⊎ IsPending history poll.number
 
 abbrev pub EachEndsOnce : History → Type 0
 EachEndsOnce history = All (EndsOnce history) (polls_in (facts_of history))

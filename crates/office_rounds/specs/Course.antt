@@ -76,7 +76,8 @@ is_ending first (note.Held meter raw cause) = false
 -- how many polls of the round ended with an event
 abbrev pub endings_of : (past : History) → (earlier : List Answered) → Answered → ℕ
 endings_of past earlier one =
-    count_by (is_ending (first_poll earlier)) (notes_after (history_behind past earlier) one.at one.event one.result)
+    count_by (is_ending (first_poll earlier))
+    (notes_after (history_behind past earlier) one.at one.event one.result)
 
 -- how many of its polls have ended
 abbrev pub polls_ended : (past : History) → List Answered → ℕ
@@ -101,7 +102,8 @@ next_left started ended planned =
 
 -- So it is behind an event with which a poll of the round has ended.
 abbrev pub next_after : (endings started ended planned : ℕ) → Next
-next_after endings started ended planned = if endings == 0 then Take else next_left started ended planned
+next_after endings started ended planned =
+    if endings == 0 then Take else next_left started ended planned
 
 -- Behind the connection the reads are started from the first on.
 abbrev pub next_behind : Event → Next → Next
@@ -115,7 +117,8 @@ next_behind (event.Asked asked) next = next
 abbrev pub next_in : (past : History) → List Answered → Next
 next_in past [] = Connect
 next_in past (one ∷ earlier) = next_behind one.event (next_after (endings_of past earlier one)
-    (reads_started (one ∷ earlier)) (polls_ended past (one ∷ earlier)) (reads_planned (one ∷ earlier)))
+    (reads_started (one ∷ earlier)) (polls_ended past (one ∷ earlier))
+    (reads_planned (one ∷ earlier)))
 
 -- What is taken from the link: a piece, a tick where nothing came, or the end.
 abbrev pub IsTaken : (device : Option (List ℕ)) → Event → Type 0
@@ -127,7 +130,8 @@ IsTaken device (event.Command c) = ⊥
 IsTaken device (event.Asked asked) = ⊥
 
 abbrev pub start_from : (device : Option (List ℕ)) → ℕ → Event
-start_from device read = event.Command (command.StartRound (record { device = device; from = read }))
+start_from device read =
+    event.Command (command.StartRound (record { device = device; from = read }))
 
 -- the event does what is next
 abbrev pub Does : (device : Option (List ℕ)) → Next → Event → Type 0

@@ -21,7 +21,8 @@ is_link_fault (Err Output) = false
 is_link_fault (Err TurnsUsed) = false
 
 -- the text was printed whole, or a part of it where a writing failed
-abbrev pub IsPrinted : {X : Type 0} → Result X RoundFault → (text : List ℕ) → (old new : Option (List ℕ)) → Type 0
+abbrev pub IsPrinted : {X : Type 0} → Result X RoundFault → (text : List ℕ)
+    → (old new : Option (List ℕ)) → Type 0
 IsPrinted (Ok x) text old new = Appends old new text
 IsPrinted (Err (Refused why)) text old new = Appends old new text
 IsPrinted (Err Link) text old new = Appends old new text
@@ -30,7 +31,8 @@ IsPrinted (Err TurnsUsed) text old new = Appends old new text
 
 -- The frames were given whole; or a part of them where the link failed, or where a writing did, so that the latest start
 -- was not printed.
-abbrev pub AreGiven : {X : Type 0} → Result X RoundFault → (frames : List ℕ) → (old new : Option (List ℕ)) → Type 0
+abbrev pub AreGiven : {X : Type 0} → Result X RoundFault → (frames : List ℕ)
+    → (old new : Option (List ℕ)) → Type 0
 AreGiven (Ok x) frames old new = Appends old new frames
 AreGiven (Err (Refused why)) frames old new = Appends old new frames
 AreGiven (Err Link) frames old new = GotPart frames old new

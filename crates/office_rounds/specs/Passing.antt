@@ -14,7 +14,8 @@ pub record Lasts {B : Type 0} (ledger : B → Ledger) (old new : Office B) : Typ
 
 -- so many takes, of a count that stays at 2^64 - 1
 abbrev pub AreTakes : (takes before after : ℕ) → Type 0
-AreTakes takes before after = (count : ℕ) → before ≡ min count (2 ^ 64 - 1) → after ≡ min (count + takes) (2 ^ 64 - 1)
+AreTakes takes before after = (count : ℕ) → before ≡ min count (2 ^ 64 - 1)
+    → after ≡ min (count + takes) (2 ^ 64 - 1)
 
 abbrev pub AreAtMost : (most before after : ℕ) → Type 0
 AreAtMost most before after = (takes : ℕ) × (takes ≤ most) × AreTakes takes before after

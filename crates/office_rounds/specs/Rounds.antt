@@ -48,14 +48,16 @@ abbrev pub passage : (begun ended : Desk) → (from to : Wire) → Passage
 passage begun ended from to = record { begun = begun; ended = ended; from = from; to = to }
 
 -- The office stands behind the events that were fed, each answered as its definition says.
-pub record IsFed {B : Type 0} (ledger : B → Ledger) (past : History) (begun now : Desk) (office : Office B)
+pub record IsFed {B : Type 0} (ledger : B → Ledger) (past : History) (begun now : Desk)
+    (office : Office B)
     (fed : List Answered) : Type 0 where
   pub stands : Stands ledger (history_behind past fed) office
   pub answered : AreAnswered past begun.failures now.failures fed
 
 -- none of the device's polls waits
 abbrev pub NoneWaits : (device : Option (List ℕ)) → History → Type 0
-NoneWaits device history = (line : Line) → line_of (lines_of history) device ≡ Some line → pending_on line ≡ []
+NoneWaits device history = (line : Line) → line_of (lines_of history) device ≡ Some line
+    → pending_on line ≡ []
 
 -- So it is, unless the office has stopped, since the books or memory failed.
 abbrev pub IsSettled : {B : Type 0} → (device : Option (List ℕ)) → History → Office B → Type 0
@@ -63,7 +65,8 @@ IsSettled device history office = (is_stopped office ≡ true) ⊎ NoneWaits dev
 
 -- The round came to its end: all that was next was fed, and the device is gone. What was taken are the pieces that were
 -- fed, what was given are the frames that the office wanted sent, and what it told was printed.
-pub record IsRound {B : Type 0} (ledger : B → Ledger) (device : Option (List ℕ)) (past : History) (through : Passage)
+pub record IsRound {B : Type 0} (ledger : B → Ledger) (device : Option (List ℕ)) (past : History)
+    (through : Passage)
     (office : Office B) : Type 0 where
   pub fed : List Answered
   pub leaves : IsFed ledger past through.begun through.ended office fed
@@ -76,7 +79,8 @@ pub record IsRound {B : Type 0} (ledger : B → Ledger) (device : Option (List �
   pub settled : IsSettled device (history_behind past fed) office
 
 -- The connection was refused: nothing else was fed, taken, given or printed.
-pub record IsNotConnected {B : Type 0} (ledger : B → Ledger) (device : Option (List ℕ)) (past : History) (through : Passage)
+pub record IsNotConnected {B : Type 0} (ledger : B → Ledger) (device : Option (List ℕ))
+    (past : History) (through : Passage)
     (office : Office B) (why : Refusal) : Type 0 where
   pub at : ℕ
   pub leaves : IsFed ledger past through.begun through.ended office
@@ -86,15 +90,19 @@ pub record IsNotConnected {B : Type 0} (ledger : B → Ledger) (device : Option 
   pub printed : Appends through.begun.printed through.ended.printed []
 
 -- the latest of these events was next behind the others, and was refused
-abbrev pub IsRefused : (device : Option (List ℕ)) → (past : History) → Refusal → List Answered → Type 0
+abbrev pub IsRefused : (device : Option (List ℕ)) → (past : History) → Refusal → List Answered
+    → Type 0
 IsRefused device past why [] = ⊥
 IsRefused device past why (one ∷ earlier) =
-    AreNext device past earlier × Does device (next_in past earlier) one.event × (one.result ≡ Err why)
+    AreNext device past earlier × Does device (next_in past earlier) one.event
+    × (one.result ≡ Err why)
 
 -- What was fed until the round was broken off: all that was next, and where the office refused, the event that it
 -- refused; or there was no memory for a piece.
-abbrev pub BreaksOff : (device : Option (List ℕ)) → (past : History) → RoundFault → List Answered → Type 0
-BreaksOff device past (Refused why) fed = IsRefused device past why fed ⊎ (AreNext device past fed × (why ≡ refusal.Memory))
+abbrev pub BreaksOff : (device : Option (List ℕ)) → (past : History) → RoundFault → List Answered
+    → Type 0
+BreaksOff device past (Refused why) fed =
+    IsRefused device past why fed ⊎ (AreNext device past fed × (why ≡ refusal.Memory))
 BreaksOff device past Link fed = AreNext device past fed
 BreaksOff device past Output fed = AreNext device past fed
 BreaksOff device past TurnsUsed fed = AreNext device past fed
@@ -102,9 +110,11 @@ BreaksOff device past TurnsUsed fed = AreNext device past fed
 -- The moment at which the device is gone then: the clock's, or where that was set back, or is past the last moment of
 -- all, that of the latest event.
 abbrev pub gone_at : (latest moment : ℕ) → ℕ
-gone_at latest moment = if nat_lt moment latest || nat_lt moment_limit moment then latest else moment
+gone_at latest moment =
+    if nat_lt moment latest || nat_lt moment_limit moment then latest else moment
 
-pub record IsGoneAt (past : History) (begun now : Option (List ℕ)) (earlier : List Answered) (at : ℕ) : Type 0 where
+pub record IsGoneAt (past : History) (begun now : Option (List ℕ)) (earlier : List Answered)
+    (at : ℕ) : Type 0 where
   pub between : Option (List ℕ)
   pub timed : AreTimed begun between earlier
   pub moment : ℕ
@@ -117,7 +127,8 @@ IsToldOf cause fault = (fault ≡ cause) ⊎ (fault ≡ Output)
 
 -- The round was broken off: what was fed until then was next, and the last thing that was fed is that the device is gone,
 -- as by a failed read or write. Whether the office accepts that changes nothing of the fault.
-pub record IsBrokenOff {B : Type 0} (ledger : B → Ledger) (device : Option (List ℕ)) (past : History) (through : Passage)
+pub record IsBrokenOff {B : Type 0} (ledger : B → Ledger) (device : Option (List ℕ))
+    (past : History) (through : Passage)
     (office : Office B) (fault : RoundFault) : Type 0 where
   pub cause : RoundFault
   pub told : IsToldOf cause fault
@@ -128,20 +139,26 @@ pub record IsBrokenOff {B : Type 0} (ledger : B → Ledger) (device : Option (Li
   pub leaves : IsFed ledger past through.begun through.ended office (gone ∷ earlier)
   pub timed : IsGoneAt past through.begun.moments through.ended.moments earlier gone.at
   pub taken : Consumes through.from.remaining through.to.remaining (pieces_behind earlier)
-  pub given : AreGiven {X = Unit {0}} (Err cause) (frames_behind past earlier) through.from.given through.to.given
-  pub printed : IsPrinted {X = Unit {0}} (Err fault) (text_behind past (gone ∷ earlier)) through.begun.printed through.ended.printed
+  pub given : AreGiven {X = Unit {0}} (Err cause) (frames_behind past earlier) through.from.given
+      through.to.given
+  pub printed : IsPrinted {X = Unit {0}} (Err fault) (text_behind past (gone ∷ earlier))
+      through.begun.printed through.ended.printed
   pub settled : IsSettled device (history_behind past (gone ∷ earlier)) office
 
-abbrev pub IsNotConnectedBy : {B : Type 0} → (B → Ledger) → (device : Option (List ℕ)) → History → Passage → Office B
+abbrev pub IsNotConnectedBy : {B : Type 0} → (B → Ledger) → (device : Option (List ℕ)) → History
+    → Passage → Office B
     → RoundFault → Type 0
-IsNotConnectedBy ledger device past through office (Refused why) = IsNotConnected ledger device past through office why
+IsNotConnectedBy ledger device past through office (Refused why) =
+    IsNotConnected ledger device past through office why
 IsNotConnectedBy ledger device past through office Link = ⊥
 IsNotConnectedBy ledger device past through office Output = ⊥
 IsNotConnectedBy ledger device past through office TurnsUsed = ⊥
 
 -- what a round does
-abbrev pub Rounds : {B : Type 0} → (B → Ledger) → (device : Option (List ℕ)) → (past : History) → Passage → Office B
+abbrev pub Rounds : {B : Type 0} → (B → Ledger) → (device : Option (List ℕ)) → (past : History)
+    → Passage → Office B
     → Result (Unit {0}) RoundFault → Type 0
 Rounds ledger device past through office (Ok x) = IsRound ledger device past through office
 Rounds ledger device past through office (Err fault) =
-    IsNotConnectedBy ledger device past through office fault ⊎ IsBrokenOff ledger device past through office fault
+    IsNotConnectedBy ledger device past through office fault
+    ⊎ IsBrokenOff ledger device past through office fault

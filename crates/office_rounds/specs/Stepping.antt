@@ -34,23 +34,28 @@ abbrev pub counted : ℕ → ℕ
 counted n = min n (2 ^ 64 - 1)
 
 -- the office stands behind the answer to an event, and tells of it
-pub record IsTaken {B : Type 0} (ledger : B → Ledger) (past : History) (at : ℕ) (e : Event) (reply : Result Answer Refusal)
+pub record IsTaken {B : Type 0} (ledger : B → Ledger) (past : History) (at : ℕ) (e : Event)
+    (reply : Result Answer Refusal)
     (begun now : Desk) (office : Office B) : Type 0 where
   pub stands : Stands ledger (with_answer past at e reply) office
   pub answer : IsAnswer past at e begun.failures now.failures reply
   pub told : IsTold past at e reply office
 
 -- what feeding an event does, and printing what is told of it
-pub record IsUnprinted {B : Type 0} (ledger : B → Ledger) (past : History) (at : ℕ) (e : Event) (begun now : Desk)
+pub record IsUnprinted {B : Type 0} (ledger : B → Ledger) (past : History) (at : ℕ) (e : Event)
+    (begun now : Desk)
     (office : Office B) : Type 0 where
   pub given : Answer
   pub taken : IsTaken ledger past at e (Ok given) begun now office
-  pub printed : IsPrinted {X = Unit {0}} (Err Output) (told_text past at e (Ok given)) begun.printed now.printed
+  pub printed : IsPrinted {X = Unit {0}} (Err Output) (told_text past at e (Ok given)) begun.printed
+      now.printed
 
-abbrev pub Feeds : {B : Type 0} → (B → Ledger) → History → (at : ℕ) → Event → (begun now : Desk) → Office B
+abbrev pub Feeds : {B : Type 0} → (B → Ledger) → History → (at : ℕ) → Event → (begun now : Desk)
+    → Office B
     → Result Answer RoundFault → Type 0
 Feeds ledger past at e begun now office (Ok given) =
-    IsTaken ledger past at e (Ok given) begun now office × Appends begun.printed now.printed (told_text past at e (Ok given))
+    IsTaken ledger past at e (Ok given) begun now office
+    × Appends begun.printed now.printed (told_text past at e (Ok given))
 Feeds ledger past at e begun now office (Err (Refused why)) =
     IsTaken ledger past at e (Err why) begun now office × Appends begun.printed now.printed []
 Feeds ledger past at e begun now office (Err Output) = IsUnprinted ledger past at e begun now office
@@ -58,9 +63,10 @@ Feeds ledger past at e begun now office (Err Link) = ⊥
 Feeds ledger past at e begun now office (Err TurnsUsed) = ⊥
 
 -- Where an event of a device is refused since the office has stopped, it had; it stops where such an event fails.
-pub record Stops (was : Bool) (e : Event) (reply : Result Answer Refusal) (now : Bool) : Type 0 where
-  pub before : reply ≡ Err refusal.Stopped → was ≡ true
-  pub after : now ≡ (was || stops e reply)
+pub record Stops (was : Bool) (e : Event) (reply : Result Answer Refusal) (now : Bool) : Type 0
+  where
+    pub before : reply ≡ Err refusal.Stopped → was ≡ true
+    pub after : now ≡ (was || stops e reply)
 
 abbrev pub FeedStops : (was : Bool) → Event → Result Answer RoundFault → (now : Bool) → Type 0
 FeedStops was e (Ok given) now = Unit {0}
@@ -73,7 +79,8 @@ abbrev pub RefusedStops : (was : Bool) → Event → Result Answer Refusal → (
 RefusedStops was e reply now = (why : Refusal) → reply ≡ Err why → Stops was e reply now
 
 -- The end of a round was told, and printed; or not printed, since a writing had failed.
-pub record EndsPrinted {B : Type 0} (ledger : B → Ledger) (past : History) (at : ℕ) (e : Event) (cause : RoundFault)
+pub record EndsPrinted {B : Type 0} (ledger : B → Ledger) (past : History) (at : ℕ) (e : Event)
+    (cause : RoundFault)
     (begun now : Desk) (old new : Office B) (fault : RoundFault) : Type 0 where
   pub reply : Result Answer Refusal
   pub taken : IsTaken ledger past at e reply begun now new
@@ -102,7 +109,8 @@ is_output Output = true
 is_output TurnsUsed = false
 
 -- an answer is printed, or a part of it where a writing failed
-abbrev pub Prints : Answer → (text : List ℕ) → (old new : Option (List ℕ)) → Result Answer RoundFault → Type 0
+abbrev pub Prints : Answer → (text : List ℕ) → (old new : Option (List ℕ))
+    → Result Answer RoundFault → Type 0
 Prints given text old new (Ok told) = (told ≡ given) × Appends old new text
 Prints given text old new (Err (Refused why)) = ⊥
 Prints given text old new (Err Link) = ⊥
@@ -117,7 +125,8 @@ latest_behind Output at latest = at
 latest_behind TurnsUsed at latest = latest
 
 -- what a round has counted
-pub record Counts (device : Option (List ℕ)) (past : History) (fed : List Answered) (round : Progress) : Type 0 where
+pub record Counts (device : Option (List ℕ)) (past : History) (fed : List Answered)
+    (round : Progress) : Type 0 where
   pub device_is : round.device ≡ device
   pub latest : round.latest ≡ latest_of (history_behind past fed)
   pub first : round.first ≡ first_poll fed
@@ -133,7 +142,8 @@ pub record IsNew (round : Progress) : Type 0 where
   pub ended : round.ended ≡ 0
 
 -- All that was next was fed so far, and printed.
-pub record Going {B : Type 0} (ledger : B → Ledger) (device : Option (List ℕ)) (past : History) (begun now : Desk)
+pub record Going {B : Type 0} (ledger : B → Ledger) (device : Option (List ℕ)) (past : History)
+    (begun now : Desk)
     (office : Office B) (fed : List Answered) (round : Progress) : Type 0 where
   pub leaves : IsFed ledger past begun now office fed
   pub next : AreNext device past fed
@@ -142,25 +152,31 @@ pub record Going {B : Type 0} (ledger : B → Ledger) (device : Option (List ℕ
   pub counts : Counts device past fed round
 
 -- It was broken off.
-pub record Broken {B : Type 0} (ledger : B → Ledger) (device : Option (List ℕ)) (past : History) (begun now : Desk)
+pub record Broken {B : Type 0} (ledger : B → Ledger) (device : Option (List ℕ)) (past : History)
+    (begun now : Desk)
     (office : Office B) (fed : List Answered) (round : Progress) (cause : RoundFault) : Type 0 where
   pub leaves : IsFed ledger past begun now office fed
   pub course : BreaksOff device past cause fed
   pub timed : AreTimed begun.moments now.moments fed
-  pub printed : IsPrinted {X = Unit {0}} (Err cause) (text_behind past fed) begun.printed now.printed
+  pub printed : IsPrinted {X = Unit {0}} (Err cause) (text_behind past fed) begun.printed
+      now.printed
   pub device_is : round.device ≡ device
   pub latest : round.latest ≡ latest_of (history_behind past fed)
 
 -- what was taken from the link is what was fed, and what was given to it is what the office wanted sent
-pub record IsWired {X : Type 0} (past : History) (from to : Wire) (fed : List Answered) (result : Result X RoundFault) : Type 0 where
+pub record IsWired {X : Type 0} (past : History) (from to : Wire) (fed : List Answered)
+    (result : Result X RoundFault) : Type 0 where
   pub taken : Consumes from.remaining to.remaining (pieces_behind fed)
   pub given : AreGiven result (frames_behind past fed) from.given to.given
 
 -- One more event was fed, which was next.
-pub record GoesOn {B : Type 0} (ledger : B → Ledger) (device : Option (List ℕ)) (past : History) (begun now : Desk)
-    (office : Office B) (fed : List Answered) (one : Answered) (round : Progress) (endings : ℕ) : Type 0 where
+pub record GoesOn {B : Type 0} (ledger : B → Ledger) (device : Option (List ℕ)) (past : History)
+    (begun now : Desk)
+    (office : Office B) (fed : List Answered) (one : Answered) (round : Progress) (endings : ℕ) :
+    Type 0 where
   pub going : Going ledger device past begun now office (one ∷ fed) round
-  pub told : outgoing_in office ≡ outgoing_after (history_behind past fed) one.at one.event one.result
+  pub told : outgoing_in office
+      ≡ outgoing_after (history_behind past fed) one.at one.event one.result
   pub ended : endings ≡ endings_of past fed one
 
 -- of an event that was refused no frames are sent; of one that was not printed they are not sent either
@@ -170,19 +186,24 @@ IsUnsent Link result = ⊥
 IsUnsent Output result = Unit {0}
 IsUnsent TurnsUsed result = ⊥
 
-abbrev pub Told : {B : Type 0} → (B → Ledger) → (device : Option (List ℕ)) → History → (begun now : Desk) → Office B
+abbrev pub Told : {B : Type 0} → (B → Ledger) → (device : Option (List ℕ)) → History
+    → (begun now : Desk) → Office B
     → List Answered → Answered → Progress → Result ℕ RoundFault → Type 0
-Told ledger device past begun now office fed one round (Ok endings) = GoesOn ledger device past begun now office fed one round endings
+Told ledger device past begun now office fed one round (Ok endings) =
+    GoesOn ledger device past begun now office fed one round endings
 Told ledger device past begun now office fed one round (Err cause) =
     Broken ledger device past begun now office (one ∷ fed) round cause × IsUnsent cause one.result
 
 -- What a step of a round does that was going: it goes on, or is broken off.
-abbrev pub Steps : {B X : Type 0} → (B → Ledger) → (device : Option (List ℕ)) → History → (begun now : Desk) → (from to : Wire)
+abbrev pub Steps : {B X : Type 0} → (B → Ledger) → (device : Option (List ℕ)) → History
+    → (begun now : Desk) → (from to : Wire)
     → Office B → List Answered → Progress → Result X RoundFault → (X → Next) → Type 0
 Steps ledger device past begun now from to office fed round (Ok x) next =
-    Going ledger device past begun now office fed round × IsWired {X = Unit {0}} past from to fed (Ok tt) × (next_in past fed ≡ next x)
+    Going ledger device past begun now office fed round
+    × IsWired {X = Unit {0}} past from to fed (Ok tt) × (next_in past fed ≡ next x)
 Steps ledger device past begun now from to office fed round (Err cause) next =
-    Broken ledger device past begun now office fed round cause × IsWired {X = Unit {0}} past from to fed (Err cause)
+    Broken ledger device past begun now office fed round cause
+    × IsWired {X = Unit {0}} past from to fed (Err cause)
 
 -- where a step of a round finds it and leaves it
 pub record Scene (B : Type 0) : Type 0 where
@@ -196,35 +217,45 @@ scene office desk wire round = record { office = office; desk = desk; wire = wir
 
 -- A step does so of every round that has come so far and is to do this next, if no wrong answer of a store was taken as
 -- true until now.
-abbrev pub StepsFrom : {B X : Type 0} → (B → Ledger) → (old new : Scene B) → (now : Progress → List Answered → History → Next)
+abbrev pub StepsFrom : {B X : Type 0} → (B → Ledger) → (old new : Scene B)
+    → (now : Progress → List Answered → History → Next)
     → Result X RoundFault → (X → Next) → Type 0
 StepsFrom ledger old new now result next =
     (device : Option (List ℕ)) (past : History) (begun : Desk) (from : Wire) (fed : List Answered)
-    → Going ledger device past begun old.desk old.office fed old.round → IsWired {X = Unit {0}} past from old.wire fed (Ok tt)
+    → Going ledger device past begun old.desk old.office fed old.round
+    → IsWired {X = Unit {0}} past from old.wire fed (Ok tt)
     → next_in past fed ≡ now old.round fed past → (ledger (books_in new.office)).is_clean
-    → (later : List Answered) × Steps ledger device past begun new.desk from new.wire new.office later new.round result next
+    → (later : List Answered)
+    × Steps ledger device past begun new.desk from new.wire new.office later new.round result next
 
 -- what the connection of a device does
-abbrev pub Connects : {B : Type 0} → (B → Ledger) → (device : Option (List ℕ)) → History → (begun now : Desk) → Office B → Progress
+abbrev pub Connects : {B : Type 0} → (B → Ledger) → (device : Option (List ℕ)) → History
+    → (begun now : Desk) → Office B → Progress
     → Result (Unit {0}) RoundFault → Type 0
 Connects ledger device past begun now office round (Ok x) =
-    (at : ℕ) × ((given : Answer) × Going ledger device past begun now office (connection device at (Ok given) ∷ []) round
+    (at : ℕ) × ((given : Answer)
+    × Going ledger device past begun now office (connection device at (Ok given) ∷ []) round
     × (round.started ≡ 0))
 Connects ledger device past begun now office round (Err (Refused why)) =
-    (at : ℕ) × IsFed ledger past begun now office (connection device at (Err why) ∷ []) × Tells begun.moments now.moments at
+    (at : ℕ) × IsFed ledger past begun now office (connection device at (Err why) ∷ [])
+    × Tells begun.moments now.moments at
     × Appends begun.printed now.printed []
 Connects ledger device past begun now office round (Err Output) =
-    (at : ℕ) × ((given : Answer) × Broken ledger device past begun now office (connection device at (Ok given) ∷ []) round Output)
+    (at : ℕ) × ((given : Answer)
+    × Broken ledger device past begun now office (connection device at (Ok given) ∷ []) round
+    Output)
 Connects ledger device past begun now office round (Err Link) = ⊥
 Connects ledger device past begun now office round (Err TurnsUsed) = ⊥
 
 -- A round that was broken off is closed: the last thing that was fed is that the device is gone.
-pub record Closes {B : Type 0} (ledger : B → Ledger) (device : Option (List ℕ)) (past : History) (begun now : Desk)
+pub record Closes {B : Type 0} (ledger : B → Ledger) (device : Option (List ℕ)) (past : History)
+    (begun now : Desk)
     (office : Office B) (earlier : List Answered) (cause fault : RoundFault) : Type 0 where
   pub told : IsToldOf cause fault
   pub gone : Answered
   pub event : gone.event ≡ event.Gone device closing.Failed
   pub leaves : IsFed ledger past begun now office (gone ∷ earlier)
   pub timed : IsGoneAt past begun.moments now.moments earlier gone.at
-  pub printed : IsPrinted {X = Unit {0}} (Err fault) (text_behind past (gone ∷ earlier)) begun.printed now.printed
+  pub printed : IsPrinted {X = Unit {0}} (Err fault) (text_behind past (gone ∷ earlier))
+      begun.printed now.printed
   pub settled : IsSettled device (history_behind past (gone ∷ earlier)) office

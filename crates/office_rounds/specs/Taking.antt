@@ -26,7 +26,8 @@ next_by false endings next = if endings == 0 then Take else next
 
 -- what the answer of a take is to the office: a piece of the device, that it is gone at the end, a tick where nothing came
 abbrev pub IsEventOf : (device : Option (List ℕ)) → Result Took LinkFailed → Event → Type 0
-IsEventOf device (Ok (Bytes count)) e = (piece : List ℕ) × (length piece ≡ count) × (e ≡ event.Bytes device piece)
+IsEventOf device (Ok (Bytes count)) e =
+    (piece : List ℕ) × (length piece ≡ count) × (e ≡ event.Bytes device piece)
 IsEventOf device (Ok End) e = e ≡ event.Gone device closing.Gone
 IsEventOf device (Ok Idle) e = e ≡ event.Tick
 IsEventOf device (Err failed) e = ⊥
@@ -36,11 +37,14 @@ abbrev pub IsLast : Option LastTake → Result Took LinkFailed → Type 0
 IsLast last answer = last ≡ Some (record { room = 260; answer = answer })
 
 -- One take, and the event of its answer; or none, since there was no memory for a piece.
-abbrev pub Brings : (device : Option (List ℕ)) → Result Event RoundFault → (before after : ℕ) → Option LastTake → Type 0
+abbrev pub Brings : (device : Option (List ℕ)) → Result Event RoundFault → (before after : ℕ)
+    → Option LastTake → Type 0
 Brings device (Ok e) before after last =
-    (after ≡ risen true before) × ((answer : Result Took LinkFailed) × IsLast last answer × IsEventOf device answer e)
+    (after ≡ risen true before)
+    × ((answer : Result Took LinkFailed) × IsLast last answer × IsEventOf device answer e)
 Brings device (Err (Refused why)) before after last = (after ≡ before) × (why ≡ refusal.Memory)
-Brings device (Err Link) before after last = (after ≡ risen true before) × IsLast last (Err (record {}))
+Brings device (Err Link) before after last =
+    (after ≡ risen true before) × IsLast last (Err (record {}))
 Brings device (Err Output) before after last = ⊥
 Brings device (Err TurnsUsed) before after last = ⊥
 

@@ -16,7 +16,8 @@ use Rattle.office_core.specs.Taking.{IsAnswer}
 -- what the office has accepted behind these events, where it had accepted `past` before them
 abbrev pub history_behind : (past : History) → List Answered → History
 history_behind past [] = past
-history_behind past (one ∷ earlier) = with_answer (history_behind past earlier) one.at one.event one.result
+history_behind past (one ∷ earlier) =
+    with_answer (history_behind past earlier) one.at one.event one.result
 
 -- Each event is answered as its definition says after those before it, or it failed outside, which is counted.
 abbrev pub AreAnswered : (past : History) → (before after : ℕ) → List Answered → Type 0
@@ -27,7 +28,8 @@ AreAnswered past before after (one ∷ earlier) =
 
 -- What is printed of an answer: of an accepted event what a script prints, of a refused one nothing.
 abbrev pub told_text : History → (at : ℕ) → Event → Result Answer Refusal → List ℕ
-told_text past at e (Ok given) = accepted_text given (notes_after past at e (Ok given)) (outgoing_after past at e (Ok given))
+told_text past at e (Ok given) =
+    accepted_text given (notes_after past at e (Ok given)) (outgoing_after past at e (Ok given))
 told_text past at e (Err why) = []
 
 abbrev pub text_behind : (past : History) → List Answered → List ℕ
@@ -39,7 +41,8 @@ text_behind past (one ∷ earlier) =
 abbrev pub frames_behind : (past : History) → List Answered → List ℕ
 frames_behind past [] = []
 frames_behind past (one ∷ earlier) =
-    frames_behind past earlier ++ outgoing_after (history_behind past earlier) one.at one.event one.result
+    frames_behind past earlier
+    ++ outgoing_after (history_behind past earlier) one.at one.event one.result
 
 -- the bytes of the device that they bring
 abbrev pub piece_in : Event → List ℕ

@@ -123,7 +123,8 @@ opening_of facts meter = find (λ opening. same opening.meter meter) (openings_i
 
 -- the registers of a device, in the order in which they were added
 abbrev pub registers_of : List Fact → List ℕ → List Register
-registers_of facts device = reverse (filter (λ register. same register.device device) (registers_in facts))
+registers_of facts device =
+    reverse (filter (λ register. same register.device device) (registers_in facts))
 
 -- the latest installation at a register
 abbrev pub installed_at : List Fact → List ℕ → Option Opening
@@ -136,11 +137,13 @@ if_some (point ∷ points) list = Some list
 
 abbrev pub list_of : List Fact → List ℕ → Option Planned
 list_of facts device =
-    option_and_then (λ put. if_some put.list.points put.list) (find (λ put. same put.device device) (lists_in facts))
+    option_and_then (λ put. if_some put.list.points put.list)
+    (find (λ put. same put.device device) (lists_in facts))
 
 -- the kept answer under a caller and a number
 abbrev pub reply_of : List Fact → (caller : List ℕ) → (number : ℕ) → Option Reply
-reply_of facts caller number = find (λ reply. same reply.caller caller && (reply.number == number)) (replies_in facts)
+reply_of facts caller number =
+    find (λ reply. same reply.caller caller && (reply.number == number)) (replies_in facts)
 
 -- the poll of a number, and what is recorded of its end
 abbrev pub poll_of : List Fact → ℕ → Option Poll
@@ -154,7 +157,8 @@ end_of facts number = find (λ ended. ended.poll == number) (ended_in facts)
 
 -- the polls that have no outcome, in the order in which they were started
 abbrev pub pending_in : List Fact → List Poll
-pending_in facts = filter (λ poll. length (ends_of facts poll.number) == 0) (reverse (polls_in facts))
+pending_in facts =
+    filter (λ poll. length (ends_of facts poll.number) == 0) (reverse (polls_in facts))
 
 -- when a fact was recorded; devices, their lists and registers have no moment
 abbrev pub moment_in : Fact → ℕ

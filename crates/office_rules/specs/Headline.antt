@@ -23,25 +23,29 @@ end_by false None = None
 -- the polls that were started on a session, with their outcomes
 abbrev pub polls_on : Device → (restarted : Bool) → List session.Event → List (ℕ × Option Outcome)
 polls_on device restarted events =
-    map (λ result. (result.0.number, end_by restarted result.1)) (session.results device.timeout [] events)
+    map (λ result. (result.0.number, end_by restarted result.1))
+    (session.results device.timeout [] events)
 
 abbrev pub polls_on_present : Device → Option (List session.Event) → List (ℕ × Option Outcome)
 polls_on_present device None = []
 polls_on_present device (Some events) = polls_on device false events
 
 abbrev pub polls_on_ended : Device → List EndedSession → List (ℕ × Option Outcome)
-polls_on_ended device sessions = flat_map (λ ended. polls_on device ended.restarted ended.events) sessions
+polls_on_ended device sessions =
+    flat_map (λ ended. polls_on device ended.restarted ended.events) sessions
 
 -- the polls of a device, and of all devices
 abbrev pub polls_of_line : Line → List (ℕ × Option Outcome)
-polls_of_line line = polls_on_present line.device line.present ++ polls_on_ended line.device line.ended
+polls_of_line line =
+    polls_on_present line.device line.present ++ polls_on_ended line.device line.ended
 
 abbrev pub polls_of_lines : List Line → List (ℕ × Option Outcome)
 polls_of_lines lines = flat_map polls_of_line lines
 
 -- The outcome of a poll, by the session on which it was started.
 abbrev pub outcome_in : List Line → ℕ → Option Outcome
-outcome_in lines number = option_and_then (λ poll. poll.1) (find (λ poll. poll.0 == number) (polls_of_lines lines))
+outcome_in lines number =
+    option_and_then (λ poll. poll.1) (find (λ poll. poll.0 == number) (polls_of_lines lines))
 
 -- the polls that wait in the present session of a device
 abbrev pub waiting : Device → Option (List session.Event) → List ℕ

@@ -67,13 +67,15 @@ outcome_of (session.Lost cause) = outcome.Lost cause
 
 -- What an outcome means for the meters: an answer is read, anything else is not.
 abbrev pub with_words : ℕ → (number : ℕ) → session.Settlement → List Fact → List Fact
-with_words at number (session.Answered words) facts = with_reply at (poll_of facts number) words facts
+with_words at number (session.Answered words) facts =
+    with_reply at (poll_of facts number) words facts
 with_words at number _ facts = facts
 
 -- The facts after a poll ended: its outcome, and then the readings of its reply.
 abbrev pub with_outcome : ℕ → (ℕ × session.Settlement) → List Fact → List Fact
 with_outcome at settled facts =
-    with_words at settled.0 settled.1 (fact.Outcome (record { poll = settled.0; at = at; outcome = outcome_of settled.1 }) ∷ facts)
+    with_words at settled.0 settled.1
+    (fact.Outcome (record { poll = settled.0; at = at; outcome = outcome_of settled.1 }) ∷ facts)
 
 -- the facts after these polls ended, one after the other
 abbrev pub with_outcomes : ℕ → List (ℕ × session.Settlement) → List Fact → List Fact
@@ -81,14 +83,18 @@ with_outcomes at [] facts = facts
 with_outcomes at (settled ∷ later) facts = with_outcomes at later (with_outcome at settled facts)
 
 -- the outcomes that these events settle on a session, in order
-abbrev pub settled_in : Device → List session.Event → List session.Event → List (ℕ × session.Settlement)
+abbrev pub settled_in : Device → List session.Event → List session.Event
+    → List (ℕ × session.Settlement)
 settled_in device before [] = []
 settled_in device before (happening ∷ later) =
-    session.outcomes_at device.timeout before happening ++ settled_in device (before ++ happening ∷ []) later
+    session.outcomes_at device.timeout before happening
+    ++ settled_in device (before ++ happening ∷ []) later
 
-abbrev pub settled_on : (number at : ℕ) → Event → Device → Option (List session.Event) → List (ℕ × session.Settlement)
+abbrev pub settled_on : (number at : ℕ) → Event → Device → Option (List session.Event)
+    → List (ℕ × session.Settlement)
 settled_on number at e device None = []
-settled_on number at e device (Some before) = settled_in device before (reaches number at [] e device before)
+settled_on number at e device (Some before) =
+    settled_in device before (reaches number at [] e device before)
 
 abbrev pub settled_by : (number at : ℕ) → Event → Line → List (ℕ × session.Settlement)
 settled_by number at e line = settled_on number at e line.device line.present
@@ -109,15 +115,38 @@ scale_by (given.Register address) = source.Register address
 
 abbrev pub register_by : AddRegister → (name device : List ℕ) → Fact
 register_by c name device =
-    fact.Register (record { name = name; device = device; function = function_by c.function; address = c.address; scale = scale_by c.scale })
+    fact.Register
+    (record {
+      name = name;
+      device = device;
+      function = function_by c.function;
+      address = c.address;
+      scale = scale_by c.scale;
+    })
 
 abbrev pub opening_by : ℕ → Install → (register meter : List ℕ) → Fact
 opening_by at c register meter =
-    fact.Opening (record { meter = meter; register = register; ceiling = c.ceiling; range = c.range; at = at; raw = c.raw; sf = c.sf })
+    fact.Opening (record {
+      meter = meter;
+      register = register;
+      ceiling = c.ceiling;
+      range = c.range;
+      at = at;
+      raw = c.raw;
+      sf = c.sf;
+    })
 
 -- what an exchange installs
 abbrev pub installed_by : Exchange → Install
-installed_by c = record { register = c.register; meter = c.meter; raw = c.raw; sf = c.sf; ceiling = c.ceiling; range = c.range }
+installed_by c =
+    record {
+      register = c.register;
+      meter = c.meter;
+      raw = c.raw;
+      sf = c.sf;
+      ceiling = c.ceiling;
+      range = c.range;
+    }
 
 -- when a number was read that someone hands in
 abbrev pub read_at : (at : ℕ) → Option ℕ → ℕ
@@ -131,11 +160,36 @@ pub record Made : Type 0 where
   pub entry : Entry
 
 abbrev pub made_by : (at : ℕ) → Last → Command → Option Made
-made_by at last (command.Exchange c) = Some (record { register = c.register; kind = kind.Closing; entry = entry.Step at c.last c.rolls })
-made_by at last (command.Reset c) = Some (record { register = c.register; kind = kind.Reset; entry = entry.Change at c.before c.after last.sf })
-made_by at last (command.Rescale c) = Some (record { register = c.register; kind = kind.Rescale; entry = entry.Change at c.before c.after c.sf })
-made_by at last (command.Manual c) = Some (record { register = c.register; kind = kind.Manual; entry = entry.Step (read_at at c.at) c.raw c.rolls })
-made_by at last (command.Close c) = Some (record { register = c.register; kind = kind.Closing; entry = entry.Step at c.raw c.rolls })
+made_by at last (command.Exchange c) =
+    Some (record {
+      register = c.register;
+      kind = kind.Closing;
+      entry = entry.Step at c.last c.rolls;
+    })
+made_by at last (command.Reset c) =
+    Some (record {
+      register = c.register;
+      kind = kind.Reset;
+      entry = entry.Change at c.before c.after last.sf;
+    })
+made_by at last (command.Rescale c) =
+    Some (record {
+      register = c.register;
+      kind = kind.Rescale;
+      entry = entry.Change at c.before c.after c.sf;
+    })
+made_by at last (command.Manual c) =
+    Some (record {
+      register = c.register;
+      kind = kind.Manual;
+      entry = entry.Step (read_at at c.at) c.raw c.rolls;
+    })
+made_by at last (command.Close c) =
+    Some (record {
+      register = c.register;
+      kind = kind.Closing;
+      entry = entry.Step at c.raw c.rolls;
+    })
 made_by at last _ = None
 
 -- the register at which a command corrects or closes the meter
@@ -149,16 +203,21 @@ corrected_at _ = None
 
 abbrev pub made_on : (at : ℕ) → Command → Installation → Option Fact
 made_on at c row = option_map
-    (λ made. fact.Entry (record { meter = row.opening.meter; kind = made.kind; entry = made.entry }))
+    (λ made. fact.Entry
+    (record { meter = row.opening.meter; kind = made.kind; entry = made.entry }))
     (made_by at row.last c)
 
 -- the entry that it makes at the meter that is open there
 abbrev pub entries_by : (at : ℕ) → List Fact → Command → List Fact
 entries_by at facts c =
-    option_to_list (option_and_then (made_on at c) (option_and_then (open_at facts) (corrected_at c)))
+    option_to_list
+    (option_and_then (made_on at c) (option_and_then (open_at facts) (corrected_at c)))
 
 abbrev pub openings_by : (at : ℕ) → Install → List Fact
-openings_by at c = option_to_list (option_and_then (λ register. option_map (λ meter. opening_by at c register meter) c.meter) c.register)
+openings_by at c =
+    option_to_list
+    (option_and_then (λ register. option_map (λ meter. opening_by at c register meter) c.meter)
+    c.register)
 
 -- the reads that a command wants sent
 abbrev pub reads_of : Planned → List ReadSpan
@@ -170,7 +229,8 @@ round_spans from (Some list) = drop from (reads_of list)
 
 abbrev pub spans_by : List Fact → Command → List ReadSpan
 spans_by facts (command.StartPoll c) = c.span ∷ []
-spans_by facts (command.StartRound c) = round_spans c.from (option_and_then (list_of facts) c.device)
+spans_by facts (command.StartRound c) =
+    round_spans c.from (option_and_then (list_of facts) c.device)
 spans_by facts _ = []
 
 abbrev pub spans_in : List Fact → Option Command → List ReadSpan
@@ -183,35 +243,51 @@ sends_from number at spans None = []
 sends_from number at spans (Some line) = sends_at number at line.device line.present spans
 
 abbrev pub sends_by : (number at : ℕ) → List Line → List Fact → Command → List Send
-sends_by number at lines facts c = sends_from number at (spans_by facts c) (line_of lines (started_on c))
+sends_by number at lines facts c =
+    sends_from number at (spans_by facts c) (line_of lines (started_on c))
 
 -- their polls
 abbrev pub poll_by : (at : ℕ) → Device → Send → Fact
 poll_by at device send =
-    fact.Poll (record { number = send.number; device = device.name; unit = device.unit; at = at; id = send.id; span = send.span })
+    fact.Poll (record {
+      number = send.number;
+      device = device.name;
+      unit = device.unit;
+      at = at;
+      id = send.id;
+      span = send.span;
+    })
 
 abbrev pub polls_from : (number at : ℕ) → List ReadSpan → Option Line → List Fact
 polls_from number at spans None = []
-polls_from number at spans (Some line) = map (poll_by at line.device) (sends_at number at line.device line.present spans)
+polls_from number at spans (Some line) =
+    map (poll_by at line.device) (sends_at number at line.device line.present spans)
 
 -- The facts that a command adds, in order. What was handed in for a name is one, where the command is accepted.
 abbrev pub added_by : (number at : ℕ) → List Line → List Fact → Command → List Fact
-added_by number at lines facts (command.AddDevice c) = option_to_list (option_map fact.Device (device_by c))
+added_by number at lines facts (command.AddDevice c) =
+    option_to_list (option_map fact.Device (device_by c))
 added_by number at lines facts (command.PutList c) =
-    option_to_list (option_map (λ device. fact.List (record { device = device; list = c.list })) c.device)
+    option_to_list
+    (option_map (λ device. fact.List (record { device = device; list = c.list })) c.device)
 added_by number at lines facts (command.AddRegister c) =
-    option_to_list (option_and_then (λ name. option_map (λ device. register_by c name device) c.device) c.name)
+    option_to_list
+    (option_and_then (λ name. option_map (λ device. register_by c name device) c.device) c.name)
 added_by number at lines facts (command.Install c) = openings_by at c
-added_by number at lines facts (command.Exchange c) = entries_by at facts (command.Exchange c) ++ openings_by at (installed_by c)
+added_by number at lines facts (command.Exchange c) =
+    entries_by at facts (command.Exchange c) ++ openings_by at (installed_by c)
 added_by number at lines facts (command.Reset c) = entries_by at facts (command.Reset c)
 added_by number at lines facts (command.Rescale c) = entries_by at facts (command.Rescale c)
 added_by number at lines facts (command.Manual c) = entries_by at facts (command.Manual c)
 added_by number at lines facts (command.Close c) = entries_by at facts (command.Close c)
 added_by number at lines facts (command.Void c) =
-    option_to_list (option_map (λ meter. fact.Void (record { meter = meter; place = c.place; at = at })) c.meter)
-added_by number at lines facts (command.StartPoll c) = polls_from number at (c.span ∷ []) (line_of lines c.device)
+    option_to_list
+    (option_map (λ meter. fact.Void (record { meter = meter; place = c.place; at = at })) c.meter)
+added_by number at lines facts (command.StartPoll c) =
+    polls_from number at (c.span ∷ []) (line_of lines c.device)
 added_by number at lines facts (command.StartRound c) =
-    polls_from number at (round_spans c.from (option_and_then (list_of facts) c.device)) (line_of lines c.device)
+    polls_from number at (round_spans c.from (option_and_then (list_of facts) c.device))
+    (line_of lines c.device)
 
 -- the kind under which the answer to a command is kept
 abbrev pub kind_of : Command → CommandKind
@@ -230,16 +306,26 @@ kind_of (command.StartRound c) = done.Start
 
 abbrev pub reply_by : (at : ℕ) → Asked → List Fact
 reply_by at asked = option_to_list (option_map
-    (λ caller. fact.Reply (record { caller = caller; number = asked.number; request = asked.request; kind = kind_of asked.command; at = at }))
+    (λ caller. fact.Reply
+    (record {
+      caller = caller;
+      number = asked.number;
+      request = asked.request;
+      kind = kind_of asked.command;
+      at = at;
+    }))
     asked.caller)
 
 -- The facts after an event, the devices standing as they did before it.
 abbrev pub facts_after : (number at : ℕ) → Event → List Line → List Fact → List Fact
 facts_after number at (event.Connected given) lines facts = facts
-facts_after number at (event.Bytes given piece) lines facts = with_settled number at (event.Bytes given piece) lines facts
+facts_after number at (event.Bytes given piece) lines facts =
+    with_settled number at (event.Bytes given piece) lines facts
 facts_after number at event.Tick lines facts = with_settled number at event.Tick lines facts
-facts_after number at (event.Gone given closing) lines facts = with_settled number at (event.Gone given closing) lines facts
-facts_after number at (event.Command c) lines facts = reverse (added_by number at lines facts c) ++ facts
+facts_after number at (event.Gone given closing) lines facts =
+    with_settled number at (event.Gone given closing) lines facts
+facts_after number at (event.Command c) lines facts =
+    reverse (added_by number at lines facts c) ++ facts
 facts_after number at (event.Asked asked) lines facts =
     reverse (added_by number at lines facts asked.command ++ reply_by at asked) ++ facts
 
@@ -255,11 +341,13 @@ abbrev mutual
   pub facts_of : History → List Fact
   facts_of [] = []
   facts_of (Opened at ∷ past) = with_lost at (facts_of past)
-  facts_of (Fed at e ∷ past) = facts_after (next_poll (facts_of past)) at e (lines_of past) (facts_of past)
+  facts_of (Fed at e ∷ past) =
+      facts_after (next_poll (facts_of past)) at e (lines_of past) (facts_of past)
 
   -- The devices, and what happened on their sessions.
   pub lines_of : History → List Line
   lines_of [] = []
   lines_of (Opened at ∷ past) = map line_restarted (lines_of past)
   lines_of (Fed at e ∷ past) =
-      lines_after (next_poll (facts_of past)) at (spans_in (facts_of past) (command_in e)) e (lines_of past)
+      lines_after (next_poll (facts_of past)) at (spans_in (facts_of past) (command_in e)) e
+      (lines_of past)

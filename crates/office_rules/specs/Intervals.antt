@@ -12,7 +12,8 @@ use Rattle.office_rules.specs.Meters.{installed, journal_of}
 
 -- The rows of an installation: one for each interval that a step between its entries that stand touches, in order.
 abbrev pub rows_of_opening : List Fact → Opening → List Share
-rows_of_opening facts opening = books.interval_rows (installed opening) (journal_of facts opening.meter)
+rows_of_opening facts opening =
+    books.interval_rows (installed opening) (journal_of facts opening.meter)
 
 abbrev pub rows_of_installed : List Fact → Option Opening → List Share
 rows_of_installed facts None = []
@@ -23,7 +24,8 @@ rows_of_meter facts meter = rows_of_installed facts (opening_of facts meter)
 
 -- the installations at a register, in their order
 abbrev pub installations_at : List Fact → List ℕ → List Opening
-installations_at facts register = reverse (filter (λ opening. same opening.register register) (openings_in facts))
+installations_at facts register =
+    reverse (filter (λ opening. same opening.register register) (openings_in facts))
 
 -- The rows of a register: those of its installations, one after the other. Their starts never fall.
 abbrev pub rows_of_register : List Fact → List ℕ → List Share

@@ -80,7 +80,8 @@ Fits facts (fact.Device device) = DeviceFits facts device
 Fits facts (fact.List put) = ListFits facts put
 Fits facts (fact.Register register) = RegisterFits facts register
 Fits facts (fact.Opening opening) = OpeningFits facts opening
-Fits facts (fact.Entry booked) = LineFits facts booked.meter (journal.Entered booked.kind booked.entry)
+Fits facts (fact.Entry booked) =
+    LineFits facts booked.meter (journal.Entered booked.kind booked.entry)
 Fits facts (fact.Hold held) = HoldFits facts held
 Fits facts (fact.Void voided) = LineFits facts voided.meter (journal.Voided voided.place)
 Fits facts (fact.Poll poll) = PollFits facts poll

@@ -23,10 +23,12 @@ held_line held = journal.Held (record { at = held.at; raw = held.raw; sf = held.
 
 -- what a fact is in the journal of a meter
 abbrev pub line_of : (meter : List ℕ) → Fact → Option journal.Line
-line_of meter (fact.Entry booked) = if same booked.meter meter then Some (journal.Entered booked.kind booked.entry) else None
+line_of meter (fact.Entry booked) =
+    if same booked.meter meter then Some (journal.Entered booked.kind booked.entry) else None
 line_of meter (fact.Hold held) =
     if same held.meter meter then Some (held_line held) else None
-line_of meter (fact.Void voided) = if same voided.meter meter then Some (journal.Voided voided.place) else None
+line_of meter (fact.Void voided) =
+    if same voided.meter meter then Some (journal.Voided voided.place) else None
 line_of meter _ = None
 
 -- The journal of a meter, the latest line first.
@@ -38,7 +40,8 @@ abbrev pub opened : Opening → Last
 opened opening = record { at = opening.at; raw = opening.raw; sf = opening.sf }
 
 abbrev pub installed : Opening → Installed
-installed opening = record { range = opening.range; ceiling = opening.ceiling; opening = opened opening }
+installed opening =
+    record { range = opening.range; ceiling = opening.ceiling; opening = opened opening }
 
 -- the rows of a meter after its opening, and the entries that stand
 abbrev pub rows_of : List Fact → Opening → List EntryRow
@@ -91,4 +94,6 @@ place_in facts opening around = record {
 
 abbrev pub entry_at : List Fact → (meter : List ℕ) → (place : ℕ) → Option EntryPlace
 entry_at facts meter place =
-    option_and_then (λ opening. option_map (place_in facts opening) (journal.row_at place (rows_of facts opening))) (opening_of facts meter)
+    option_and_then
+    (λ opening. option_map (place_in facts opening)
+    (journal.row_at place (rows_of facts opening))) (opening_of facts meter)

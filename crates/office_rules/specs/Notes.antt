@@ -43,7 +43,9 @@ reading_note reading row = as_note row.opening.meter reading (judgement row read
 abbrev pub register_notes : ℕ → Poll → List ℕ → Register → List Fact → List Note
 register_notes at poll words register facts =
     if is_read_by poll.span register
-    then option_to_list (option_map (reading_note (reading_of at poll.span words register)) (open_at facts register.name))
+    then option_to_list
+    (option_map (reading_note (reading_of at poll.span words register))
+    (open_at facts register.name))
     else []
 
 abbrev pub registers_notes : ℕ → Poll → List ℕ → List Register → List Fact → List Note
@@ -54,17 +56,20 @@ registers_notes at poll words (register ∷ registers) facts =
 
 abbrev pub reply_notes : ℕ → Option Poll → List ℕ → List Fact → List Note
 reply_notes at None words facts = []
-reply_notes at (Some poll) words facts = registers_notes at poll words (registers_of facts poll.device) facts
+reply_notes at (Some poll) words facts =
+    registers_notes at poll words (registers_of facts poll.device) facts
 
 abbrev pub words_notes : ℕ → (number : ℕ) → session.Settlement → List Fact → List Note
-words_notes at number (session.Answered words) facts = reply_notes at (poll_of facts number) words facts
+words_notes at number (session.Answered words) facts =
+    reply_notes at (poll_of facts number) words facts
 words_notes at number _ facts = []
 
 -- the notes of a poll that ended: its outcome, and then the readings of its reply
 abbrev pub outcome_notes : ℕ → (ℕ × session.Settlement) → List Fact → List Note
 outcome_notes at settled facts =
     note.Outcome settled.0 (outcome_of settled.1)
-    ∷ words_notes at settled.0 settled.1 (fact.Outcome (record { poll = settled.0; at = at; outcome = outcome_of settled.1 }) ∷ facts)
+    ∷ words_notes at settled.0 settled.1
+    (fact.Outcome (record { poll = settled.0; at = at; outcome = outcome_of settled.1 }) ∷ facts)
 
 abbrev pub outcomes_notes : ℕ → List (ℕ × session.Settlement) → List Fact → List Note
 outcomes_notes at [] facts = []
@@ -79,23 +84,28 @@ settled_notes number at e (line ∷ lines) facts =
 
 -- The notes of an event.
 abbrev pub notes_of : (number at : ℕ) → Event → List Line → List Fact → List Note
-notes_of number at (event.Bytes given piece) lines facts = settled_notes number at (event.Bytes given piece) lines facts
+notes_of number at (event.Bytes given piece) lines facts =
+    settled_notes number at (event.Bytes given piece) lines facts
 notes_of number at event.Tick lines facts = settled_notes number at event.Tick lines facts
-notes_of number at (event.Gone given closing) lines facts = settled_notes number at (event.Gone given closing) lines facts
+notes_of number at (event.Gone given closing) lines facts =
+    settled_notes number at (event.Gone given closing) lines facts
 notes_of number at _ lines facts = []
 
 -- the frame of a read that is sent on the session of a device
 abbrev pub frame_of : Device → Send → List ℕ
-frame_of device send = spelling send.id device.unit (request_bytes (request_of (span_view send.span)))
+frame_of device send =
+    spelling send.id device.unit (request_bytes (request_of (span_view send.span)))
 
 abbrev pub frames_from : (number at : ℕ) → List ReadSpan → Option Line → List ℕ
 frames_from number at spans None = []
-frames_from number at spans (Some line) = flat_map (frame_of line.device) (sends_at number at line.device line.present spans)
+frames_from number at spans (Some line) =
+    flat_map (frame_of line.device) (sends_at number at line.device line.present spans)
 
 -- The bytes that an event wants sent: the frames of the polls that it starts.
 abbrev pub frames_by : (number at : ℕ) → List Line → List Fact → Option Command → List ℕ
 frames_by number at lines facts None = []
-frames_by number at lines facts (Some c) = frames_from number at (spans_by facts c) (line_of lines (started_on c))
+frames_by number at lines facts (Some c) =
+    frames_from number at (spans_by facts c) (line_of lines (started_on c))
 
 abbrev pub outgoing_of : (number at : ℕ) → Event → List Line → List Fact → List ℕ
 outgoing_of number at e lines facts = frames_by number at lines facts (command_in e)
@@ -103,10 +113,12 @@ outgoing_of number at e lines facts = frames_by number at lines facts (command_i
 -- What is told once an event was answered: nothing where it was refused, or was asked before.
 abbrev pub notes_after : History → (at : ℕ) → Event → Result Answer Refusal → List Note
 notes_after past at e (Ok (answer.Again k)) = []
-notes_after past at e (Ok given) = notes_of (next_poll (facts_of past)) at e (lines_of past) (facts_of past)
+notes_after past at e (Ok given) =
+    notes_of (next_poll (facts_of past)) at e (lines_of past) (facts_of past)
 notes_after past at e (Err why) = []
 
 abbrev pub outgoing_after : History → (at : ℕ) → Event → Result Answer Refusal → List ℕ
 outgoing_after past at e (Ok (answer.Again k)) = []
-outgoing_after past at e (Ok given) = outgoing_of (next_poll (facts_of past)) at e (lines_of past) (facts_of past)
+outgoing_after past at e (Ok given) =
+    outgoing_of (next_poll (facts_of past)) at e (lines_of past) (facts_of past)
 outgoing_after past at e (Err why) = []

@@ -30,7 +30,8 @@ poll_row_of facts number = option_map (poll_row facts) (poll_of facts number)
 
 -- these registers lie in the span
 abbrev pub holds : ReadSpan → (address count : ℕ) → Bool
-holds span address count = nat_le span.address address && nat_le (address + count) (span.address + span.count)
+holds span address count =
+    nat_le span.address address && nat_le (address + count) (span.address + span.count)
 
 abbrev pub holds_scale : ReadSpan → ScaleSource → Bool
 holds_scale span (source.Fixed sf) = true
@@ -39,7 +40,8 @@ holds_scale span (source.Register address) = holds span address 1
 -- the span is read by the register's function, and holds its counter and its scale
 abbrev pub is_read_by : ReadSpan → Register → Bool
 is_read_by span register =
-    (code_of span.function == code_of register.function) && holds span register.address 2 && holds_scale span register.scale
+    (code_of span.function == code_of register.function) && holds span register.address 2
+    && holds_scale span register.scale
 
 -- the word at an address, among the words of the span
 abbrev pub word_at : ReadSpan → (words : List ℕ) → (address : ℕ) → ℕ
@@ -64,14 +66,23 @@ reading_of at span words register = record {
 -- the verdict on a reading of an installation
 abbrev pub judgement : Installation → Reading → Verdict
 judgement row reading =
-    verdict_of row.opening.range (record { ceiling = row.opening.ceiling; total = row.total }) row.last reading
+    verdict_of row.opening.range (record { ceiling = row.opening.ceiling; total = row.total })
+    row.last reading
 
 -- An accepted reading is an entry of its meter. A held one is kept with its cause.
 abbrev pub as_fact : (meter : List ℕ) → (poll : ℕ) → Reading → Verdict → Fact
 as_fact meter poll reading (Accepted rolls step) =
-    fact.Entry (record { meter = meter; kind = kind.Reading; entry = Step reading.at reading.raw rolls })
+    fact.Entry (record
+    { meter = meter; kind = kind.Reading; entry = Step reading.at reading.raw rolls })
 as_fact meter poll reading (Held cause) =
-    fact.Hold (record { meter = meter; poll = poll; at = reading.at; raw = reading.raw; sf = reading.sf; cause = cause })
+    fact.Hold (record {
+      meter = meter;
+      poll = poll;
+      at = reading.at;
+      raw = reading.raw;
+      sf = reading.sf;
+      cause = cause;
+    })
 
 abbrev pub reading_fact : (poll : ℕ) → Reading → Installation → Fact
 reading_fact poll reading row = as_fact row.opening.meter poll reading (judgement row reading)
@@ -85,7 +96,8 @@ with_reading poll reading (Some row) facts = reading_fact poll reading row ∷ f
 abbrev pub with_register : ℕ → Poll → List ℕ → Register → List Fact → List Fact
 with_register at poll words register facts =
     if is_read_by poll.span register
-    then with_reading poll.number (reading_of at poll.span words register) (open_at facts register.name) facts
+    then with_reading poll.number (reading_of at poll.span words register)
+    (open_at facts register.name) facts
     else facts
 
 -- the facts after a reply came to these registers, one after the other
@@ -98,4 +110,5 @@ with_registers at poll words (register ∷ registers) facts =
 -- which they were added.
 abbrev pub with_reply : ℕ → Option Poll → List ℕ → List Fact → List Fact
 with_reply at None words facts = facts
-with_reply at (Some poll) words facts = with_registers at poll words (registers_of facts poll.device) facts
+with_reply at (Some poll) words facts =
+    with_registers at poll words (registers_of facts poll.device) facts

@@ -56,20 +56,23 @@ has_no_meter facts register = is_none (option_and_then (installation_at facts) r
 -- the entries of a meter have the places from 2 on; the opening has the place 1
 abbrev pub has_place : List Fact → (place : ℕ) → Option Opening → Bool
 has_place facts place None = false
-has_place facts place (Some opening) = nat_le 1 place && nat_le place (length (rows_of facts opening) + 1)
+has_place facts place (Some opening) =
+    nat_le 1 place && nat_le place (length (rows_of facts opening) + 1)
 
 -- NotFound: no device, list, register, meter or entry has the name or the place that a command speaks of.
 abbrev pub asks_unknown : List Line → List Fact → Command → Bool
 asks_unknown lines facts (command.AddDevice c) = false
 asks_unknown lines facts (command.PutList c) = is_none (line_of lines c.device)
 asks_unknown lines facts (command.AddRegister c) = is_none (line_of lines c.device)
-asks_unknown lines facts (command.Install c) = is_none (option_and_then (register_of facts) c.register)
+asks_unknown lines facts (command.Install c) =
+    is_none (option_and_then (register_of facts) c.register)
 asks_unknown lines facts (command.Exchange c) = has_no_meter facts c.register
 asks_unknown lines facts (command.Reset c) = has_no_meter facts c.register
 asks_unknown lines facts (command.Rescale c) = has_no_meter facts c.register
 asks_unknown lines facts (command.Manual c) = has_no_meter facts c.register
 asks_unknown lines facts (command.Close c) = has_no_meter facts c.register
-asks_unknown lines facts (command.Void c) = not (has_place facts c.place (option_and_then (opening_of facts) c.meter))
+asks_unknown lines facts (command.Void c) =
+    not (has_place facts c.place (option_and_then (opening_of facts) c.meter))
 asks_unknown lines facts (command.StartPoll c) = is_none (line_of lines c.device)
 asks_unknown lines facts (command.StartRound c) =
     is_none (line_of lines c.device) || is_none (option_and_then (list_of facts) c.device)
@@ -77,9 +80,11 @@ asks_unknown lines facts (command.StartRound c) =
 -- Exists: a device, a register or a meter has the new name, or a meter is open at the register.
 abbrev pub asks_taken : List Line → List Fact → Command → Bool
 asks_taken lines facts (command.AddDevice c) = is_some (line_of lines c.name)
-asks_taken lines facts (command.AddRegister c) = is_some (option_and_then (register_of facts) c.name)
+asks_taken lines facts (command.AddRegister c) =
+    is_some (option_and_then (register_of facts) c.name)
 asks_taken lines facts (command.Install c) =
-    is_some (option_and_then (opening_of facts) c.meter) || is_some (option_and_then (open_at facts) c.register)
+    is_some (option_and_then (opening_of facts) c.meter)
+    || is_some (option_and_then (open_at facts) c.register)
 asks_taken lines facts (command.Exchange c) = is_some (option_and_then (opening_of facts) c.meter)
 asks_taken lines facts _ = false
 
@@ -149,7 +154,8 @@ is_bad_address (given.Register address) = nat_lt 65535 address
 -- a meter that can't be installed: its name is none, its range is none, it can't show the number, or its ceiling is none
 abbrev pub is_bad_meter : (meter : Option (List ℕ)) → (range raw ceiling : ℕ) → Bool
 is_bad_meter meter range raw ceiling =
-    is_none meter || is_outside 65536 4294967296 range || nat_le range raw || is_outside 1 1000000000 ceiling
+    is_none meter || is_outside 65536 4294967296 range || nat_le range raw
+    || is_outside 1 1000000000 ceiling
 
 abbrev pub is_later : (at : ℕ) → Option ℕ → Bool
 is_later at None = false
@@ -162,7 +168,8 @@ asks_bad_field at (command.AddRegister c) =
     is_none c.name || is_outside 3 4 c.function || nat_lt 65534 c.address || is_bad_address c.scale
     || nat_lt 125 (registers_spanned c.address c.scale)
 asks_bad_field at (command.Install c) = is_bad_meter c.meter c.range c.raw c.ceiling
-asks_bad_field at (command.Exchange c) = nat_lt 255 c.rolls || is_bad_meter c.meter c.range c.raw c.ceiling
+asks_bad_field at (command.Exchange c) =
+    nat_lt 255 c.rolls || is_bad_meter c.meter c.range c.raw c.ceiling
 asks_bad_field at (command.Manual c) = nat_lt 255 c.rolls || is_later at c.at
 asks_bad_field at (command.Close c) = nat_lt 255 c.rolls
 asks_bad_field at _ = false
@@ -170,7 +177,8 @@ asks_bad_field at _ = false
 -- Limit, too: there is no room for one more, or the plan has no such read.
 abbrev pub is_full_of_registers : List Fact → Option (List ℕ) → Bool
 is_full_of_registers facts None = false
-is_full_of_registers facts (Some device) = nat_le register_limit (length (registers_of facts device))
+is_full_of_registers facts (Some device) =
+    nat_le register_limit (length (registers_of facts device))
 
 abbrev pub is_crowded : List Line → List Fact → Command → Bool
 is_crowded lines facts (command.AddDevice c) = nat_le device_limit (length lines)
@@ -182,7 +190,8 @@ is_crowded lines facts _ = false
 
 -- Limit: for each reason, with what the open meter can't show.
 abbrev pub asks_beyond : List Line → List Fact → (at : ℕ) → Command → Bool
-asks_beyond lines facts at c = asks_bad_field at c || is_crowded lines facts c || asks_faulty facts at fault.NotBelowRange c
+asks_beyond lines facts at c =
+    asks_bad_field at c || is_crowded lines facts c || asks_faulty facts at fault.NotBelowRange c
 
 -- Store: the number of the last poll that a command starts would be past the greatest.
 abbrev pub is_start : Command → Bool
@@ -194,7 +203,8 @@ abbrev pub sent_count : List Line → List Fact → (at : ℕ) → Command → �
 sent_count lines facts at c = length (sends_by (next_poll facts) at lines facts c)
 
 abbrev pub asks_past_numbers : List Line → List Fact → (at : ℕ) → Command → Bool
-asks_past_numbers lines facts at c = is_start c && nat_lt poll_limit (length (polls_in facts) + sent_count lines facts at c)
+asks_past_numbers lines facts at c =
+    is_start c && nat_lt poll_limit (length (polls_in facts) + sent_count lines facts at c)
 
 -- NotVoidable: the entry is no reading that stands, or the next that stands is none.
 abbrev pub is_not_voidable : Option EntryPlace → Bool
@@ -202,7 +212,8 @@ is_not_voidable None = true
 is_not_voidable (Some place) = not (is_voidable place.row place.next)
 
 abbrev pub voided_place : List Fact → Command → Option EntryPlace
-voided_place facts (command.Void c) = option_and_then (λ meter. entry_at facts meter c.place) c.meter
+voided_place facts (command.Void c) =
+    option_and_then (λ meter. entry_at facts meter c.place) c.meter
 voided_place facts _ = None
 
 abbrev pub asks_unvoidable : List Fact → Command → Bool
@@ -211,11 +222,14 @@ asks_unvoidable facts _ = false
 
 -- NotPlausible: the verdict holds the next entry after those before the voided one.
 abbrev pub verdict_between : Installation → Entry → Option Verdict
-verdict_between before (entry.Step at raw rolls) = Some (judgement before (reading_at before.last at raw))
+verdict_between before (entry.Step at raw rolls) =
+    Some (judgement before (reading_at before.last at raw))
 verdict_between before (entry.Change at set_before after sf) = None
 
 abbrev pub verdict_at : Option EntryPlace → Option Verdict
-verdict_at place = option_and_then (λ p. option_and_then (λ (next : EntryRow). verdict_between p.before next.entry) p.next) place
+verdict_at place =
+    option_and_then
+    (λ p. option_and_then (λ (next : EntryRow). verdict_between p.before next.entry) p.next) place
 
 abbrev pub same_cause : Cause → Cause → Bool
 same_cause a b = cause_number a == cause_number b
@@ -239,7 +253,8 @@ asks_wrongly lines facts at c refusal.Busy = asks_busy lines c
 asks_wrongly lines facts at c refusal.Limit = asks_beyond lines facts at c
 asks_wrongly lines facts at c (refusal.Store store.Refused) = asks_past_numbers lines facts at c
 asks_wrongly lines facts at c refusal.NotVoidable = asks_unvoidable facts c
-asks_wrongly lines facts at c (refusal.NotPlausible why) = is_held_for why (verdict_at (voided_place facts c))
+asks_wrongly lines facts at c (refusal.NotPlausible why) =
+    is_held_for why (verdict_at (voided_place facts c))
 asks_wrongly lines facts at c _ = false
 
 -- The same of an event of a device: it is unknown, or it is connected already, or not.
@@ -259,7 +274,8 @@ is_bad_request asked _ = false
 
 abbrev pub is_wrong : List Line → List Fact → (at : ℕ) → Event → Refusal → Bool
 is_wrong lines facts at (event.Command c) why = asks_wrongly lines facts at c why
-is_wrong lines facts at (event.Asked asked) why = asks_wrongly lines facts at asked.command why || is_bad_request asked why
+is_wrong lines facts at (event.Asked asked) why =
+    asks_wrongly lines facts at asked.command why || is_bad_request asked why
 is_wrong lines facts at e why = comes_wrongly lines e why
 
 -- it comes before the latest accepted one, or past the limit
@@ -270,26 +286,32 @@ is_mistimed latest at _ = false
 
 -- Whether an event is refused for a reason, after these accepted ones.
 abbrev pub refuses : History → (at : ℕ) → Event → Refusal → Bool
-refuses past at e why = is_mistimed (latest_of past) at why || is_wrong (lines_of past) (facts_of past) at e why
+refuses past at e why =
+    is_mistimed (latest_of past) at why || is_wrong (lines_of past) (facts_of past) at e why
 
 -- The reasons, in the order in which they are looked at: those that lie in what is asked, and then that the store can number no
 -- more polls.
 abbrev pub all_causes : List Cause
-all_causes = cause.NotAccumulated ∷ cause.ScaleChanged ∷ cause.NotLater ∷ cause.SpanTooLong ∷ cause.GapTooLong ∷ cause.TooFast
+all_causes = cause.NotAccumulated ∷ cause.ScaleChanged ∷ cause.NotLater ∷ cause.SpanTooLong
+    ∷ cause.GapTooLong ∷ cause.TooFast
     ∷ cause.TotalFull ∷ cause.NotBelowRange ∷ []
 
 abbrev pub reasons : List Refusal
-reasons = refusal.NotFound ∷ refusal.Exists ∷ refusal.ClockBack ∷ refusal.BadScale ∷ refusal.NegativeStep ∷ refusal.NotLater
-    ∷ refusal.SpanTooLong ∷ refusal.TotalFull ∷ refusal.Ended ∷ refusal.Busy ∷ refusal.Limit ∷ refusal.NotVoidable
+reasons = refusal.NotFound ∷ refusal.Exists ∷ refusal.ClockBack ∷ refusal.BadScale
+    ∷ refusal.NegativeStep ∷ refusal.NotLater
+    ∷ refusal.SpanTooLong ∷ refusal.TotalFull ∷ refusal.Ended ∷ refusal.Busy ∷ refusal.Limit
+    ∷ refusal.NotVoidable
     ∷ map refusal.NotPlausible all_causes ++ refusal.Store store.Refused ∷ []
 
 -- What was kept of a request that was asked before: the same request is answered as it was, another is refused.
 abbrev pub by_reply : Asked → Reply → Result CommandKind Refusal
-by_reply asked reply = if bytes_eq reply.request asked.request then Ok reply.kind else Err refusal.Reused
+by_reply asked reply =
+    if bytes_eq reply.request asked.request then Ok reply.kind else Err refusal.Reused
 
 abbrev pub kept_of : List Fact → Event → Option (Result CommandKind Refusal)
 kept_of facts (event.Asked asked) =
-    option_map (by_reply asked) (option_and_then (λ caller. reply_of facts caller asked.number) asked.caller)
+    option_map (by_reply asked)
+    (option_and_then (λ caller. reply_of facts caller asked.number) asked.caller)
 kept_of facts _ = None
 
 -- Why an event that was not asked before is refused after these accepted ones, if it is.
@@ -317,7 +339,8 @@ AreAccepted (Fed at e ∷ past) = IsAccepted past at e × AreAccepted past
 
 -- What an accepted command is answered. A start tells its first poll, how many polls, and how many reads there are.
 abbrev pub reads_in_all : List Fact → Command → ℕ
-reads_in_all facts (command.StartRound c) = length (round_spans 0 (option_and_then (list_of facts) c.device))
+reads_in_all facts (command.StartRound c) =
+    length (round_spans 0 (option_and_then (list_of facts) c.device))
 reads_in_all facts _ = 1
 
 abbrev pub answer_to : List Line → List Fact → (at : ℕ) → Command → Answer
@@ -340,13 +363,15 @@ abbrev pub unless_refused : Answer → Option Refusal → Result Answer Refusal
 unless_refused given None = Ok given
 unless_refused given (Some why) = Err why
 
-abbrev pub unless_kept : Result Answer Refusal → Option (Result CommandKind Refusal) → Result Answer Refusal
+abbrev pub unless_kept : Result Answer Refusal → Option (Result CommandKind Refusal)
+    → Result Answer Refusal
 unless_kept given None = given
 unless_kept given (Some kept) = by_kept kept
 
 abbrev pub response_of : History → (at : ℕ) → Event → Result Answer Refusal
 response_of past at e =
-    unless_kept (unless_refused (answer_of (lines_of past) (facts_of past) at e) (refusal_of past at e)) (kept_of (facts_of past) e)
+    unless_kept (unless_refused (answer_of (lines_of past) (facts_of past) at e)
+    (refusal_of past at e)) (kept_of (facts_of past) e)
 
 -- What was accepted once an event was answered: a refused one, and one that was asked before, change nothing.
 abbrev pub with_answer : History → (at : ℕ) → Event → Result Answer Refusal → History

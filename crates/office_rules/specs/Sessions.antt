@@ -49,7 +49,8 @@ started_on _ = None
 -- the device is connected, and its session would not refuse a start that comes now
 abbrev pub is_startable : Device → Option (List session.Event) → Bool
 is_startable device None = false
-is_startable device (Some events) = is_none (start_fault device.timeout device.window events (last_moment events))
+is_startable device (Some events) =
+    is_none (start_fault device.timeout device.window events (last_moment events))
 
 -- one read that is sent: the number of its poll, its transaction id, and its registers
 pub record Send : Type 0 where
@@ -69,28 +70,34 @@ sends_on number at device before (span ∷ spans) =
     then send ∷ sends_on (number + 1) at device (before ++ start_by at device send ∷ []) spans
     else []
 
-abbrev pub sends_at : (number at : ℕ) → Device → Option (List session.Event) → List ReadSpan → List Send
+abbrev pub sends_at : (number at : ℕ) → Device → Option (List session.Event) → List ReadSpan
+    → List Send
 sends_at number at device None spans = []
 sends_at number at device (Some before) spans = sends_on number at device before spans
 
 -- the starts of a command on the session of a device
-abbrev pub starts_by : (number at : ℕ) → List ReadSpan → Option Command → Device → List session.Event → List session.Event
+abbrev pub starts_by : (number at : ℕ) → List ReadSpan → Option Command → Device
+    → List session.Event → List session.Event
 starts_by number at spans None device before = []
 starts_by number at spans (Some c) device before =
-    if is_named (started_on c) device.name then map (start_by at device) (sends_on number at device before spans) else []
+    if is_named (started_on c) device.name
+    then map (start_by at device) (sends_on number at device before spans) else []
 
 -- What an event of the office is on the session of a device, if it reaches it. A tick reaches each session, a piece or an
 -- end that of its own device, starts that of the device that is polled; `number` is the number of the next poll, and
 -- `spans` are the reads that the event wants sent.
-abbrev pub reaches : (number at : ℕ) → List ReadSpan → Event → Device → List session.Event → List session.Event
+abbrev pub reaches : (number at : ℕ) → List ReadSpan → Event → Device → List session.Event
+    → List session.Event
 reaches number at spans (event.Connected given) device before = []
 reaches number at spans (event.Bytes given piece) device before =
     if is_named given device.name then session.Piece at piece ∷ [] else []
 reaches number at spans event.Tick device before = session.Tick at ∷ []
 reaches number at spans (event.Gone given closing) device before =
     if is_named given device.name then session.Close at closing ∷ [] else []
-reaches number at spans (event.Command c) device before = starts_by number at spans (Some c) device before
-reaches number at spans (event.Asked asked) device before = starts_by number at spans (Some asked.command) device before
+reaches number at spans (event.Command c) device before =
+    starts_by number at spans (Some c) device before
+reaches number at spans (event.Asked asked) device before =
+    starts_by number at spans (Some asked.command) device before
 
 -- the connection to this device was made
 abbrev pub connects : Event → Device → Bool
@@ -104,7 +111,8 @@ is_close _ = false
 
 -- The line after these events on its session.
 abbrev pub with_happenings : Line → List session.Event → List session.Event → Line
-with_happenings line before [] = record { device = line.device; ended = line.ended; present = Some before }
+with_happenings line before [] =
+    record { device = line.device; ended = line.ended; present = Some before }
 with_happenings line before (happening ∷ later) =
     if is_close happening
     then record {
@@ -114,9 +122,11 @@ with_happenings line before (happening ∷ later) =
     }
     else with_happenings line (before ++ happening ∷ []) later
 
-abbrev pub line_reached : (number at : ℕ) → List ReadSpan → Event → Line → Option (List session.Event) → Line
+abbrev pub line_reached : (number at : ℕ) → List ReadSpan → Event → Line
+    → Option (List session.Event) → Line
 line_reached number at spans e line None = line
-line_reached number at spans e line (Some before) = with_happenings line before (reaches number at spans e line.device before)
+line_reached number at spans e line (Some before) =
+    with_happenings line before (reaches number at spans e line.device before)
 
 -- The line after an event of the office.
 abbrev pub line_after : (number at : ℕ) → List ReadSpan → Event → Line → Line
@@ -127,7 +137,10 @@ line_after number at spans e line =
 
 -- the device that a command adds, if its name is one
 abbrev pub device_by : AddDevice → Option Device
-device_by c = option_map (λ name. record { name = name; unit = c.unit; timeout = c.timeout; window = c.window }) c.name
+device_by c =
+    option_map (λ name.
+    record { name = name; unit = c.unit; timeout = c.timeout; window = c.window })
+    c.name
 
 -- the line of a new device
 abbrev pub new_line : Option Device → List Line
@@ -140,7 +153,8 @@ lines_added _ = []
 
 -- The lines after an event.
 abbrev pub lines_after : (number at : ℕ) → List ReadSpan → Event → List Line → List Line
-lines_after number at spans e lines = map (line_after number at spans e) lines ++ lines_added (command_in e)
+lines_after number at spans e lines =
+    map (line_after number at spans e) lines ++ lines_added (command_in e)
 
 -- The lines after the office was opened anew: no device is connected.
 abbrev pub ended_by_restart : Option (List session.Event) → List EndedSession

@@ -22,7 +22,8 @@ history_behind past (one ∷ earlier) = with_asked (history_behind past earlier)
 
 -- The office stands behind at most so many requests. One that could not be answered, since the store or memory failed or
 -- the office had stopped, is none of them.
-pub record ServesUpTo {B : Type 0} (most : ℕ) (ledger : B → Ledger) (past : History) (office : Office B) : Type 0 where
+pub record ServesUpTo {B : Type 0} (most : ℕ) (ledger : B → Ledger) (past : History)
+    (office : Office B) : Type 0 where
   pub requests : List Request
   pub few : length requests ≤ most
   pub stands : Stands ledger (history_behind past requests) office

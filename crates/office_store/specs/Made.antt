@@ -8,7 +8,8 @@ use Rattle.office_store.specs.declared.books.SqlBooks.{SqlBooks}
 use Rattle.office_store.specs.declared.books.Unopened.{Unopened}
 
 -- the zone of the books, or why there are none
-abbrev pub told_by : {S : Type 0} {g : Ghosts S} → Result (SqlBooks S g) (Unopened S) → Result Zone OpenFault
+abbrev pub told_by : {S : Type 0} {g : Ghosts S} → Result (SqlBooks S g) (Unopened S)
+    → Result Zone OpenFault
 told_by (Ok books) = Ok books.zone
 told_by (Err unopened) = Err unopened.fault
 

@@ -19,4 +19,5 @@ module _ {S : Type 0} (g : Ghosts S) (zone : List ℕ) where
   -- It holds them yet, and where a stop left these or others, it leaves one of them.
   pub record HoldsYet (old new : Held S) (facts : List Fact) : Type 0 where
     pub holds : HoldsFacts g zone new facts
-    pub leaves : (left : List (List Fact)) → IsOneOf left facts → LeavesFacts g zone old left → LeavesFacts g zone new left
+    pub leaves : (left : List (List Fact)) → IsOneOf left facts → LeavesFacts g zone old left
+        → LeavesFacts g zone new left

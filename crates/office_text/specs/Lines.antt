@@ -18,7 +18,8 @@ pub record HasWritten {W : Type 0} (contents : W → Option (List ℕ)) (text : 
   pub part : new.failed ≡ true → GotPart text (contents old.output.now) (contents new.output.now)
 
 -- The line of a day is written, unless a write failed before: then the day is dropped.
-pub record WritesLine {W : Type 0} (contents : W → Option (List ℕ)) (line : List ℕ) (old new : DayLines W)
+pub record WritesLine {W : Type 0} (contents : W → Option (List ℕ)) (line : List ℕ)
+    (old new : DayLines W)
     : Type 0 where
   pub written : old.failed ≡ false → HasWritten contents line 1 old new
   pub dropped : old.failed ≡ true → new ≡ old

@@ -13,14 +13,16 @@ use Rattle.socket_link.specs.Clocks as clocks
 use Rattle.office_text.specs.Telling.{IsTold}
 
 -- The office stands behind its opening: what waited is lost.
-pub record Opens {B : Type 0} (ledger : B → Ledger) (past : History) (moments later : Option (List ℕ))
+pub record Opens {B : Type 0} (ledger : B → Ledger) (past : History)
+    (moments later : Option (List ℕ))
     (office : Office B) : Type 0 where
   pub at : ℕ
   pub timed : clocks.Tells moments later at
   pub stands : Stands ledger (Opened at ∷ past) office
 
 -- The opening is refused as its definition says, or failed outside; the books stand as they did, and the reason is printed.
-pub record TellsUnopened (past : History) (moments later : Option (List ℕ)) (old new : Ledger) (status : Status)
+pub record TellsUnopened (past : History) (moments later : Option (List ℕ)) (old new : Ledger)
+    (status : Status)
     (held holds : Option (List ℕ)) : Type 0 where
   pub at : ℕ
   pub timed : clocks.Tells moments later at

@@ -26,17 +26,21 @@ last_line count (Ok done) = end_line count
 last_line count (Err why) = refused_line why
 
 -- All days of the register by the clocks of the zone, in their order; or the reason alone.
-abbrev pub IsReport : Zone → History → (register : Option (List ℕ)) → Result (Unit {0}) Refusal → (text : List ℕ) → Type 0
+abbrev pub IsReport : Zone → History → (register : Option (List ℕ)) → Result (Unit {0}) Refusal
+    → (text : List ℕ) → Type 0
 IsReport zone past register (Ok done) text =
-    (days : List DayTotal) × AreDaysNamed zone (facts_of past) register (map account_of days) × (text ≡ days_text days)
+    (days : List DayTotal) × AreDaysNamed zone (facts_of past) register (map account_of days)
+    × (text ≡ days_text days)
 IsReport zone past register (Err why) text = text ≡ refused_line why
 
 -- What is printed with which end. It is refused where there is no register of the name, and else only where the books or
 -- memory failed or the office had stopped, over the count of the books' failures before and after.
-pub record ReportPrints (zone : Zone) (past : History) (register : Option (List ℕ)) (before after : ℕ)
+pub record ReportPrints (zone : Zone) (past : History) (register : Option (List ℕ))
+    (before after : ℕ)
     (text : List ℕ) (meant : Status) : Type 0 where
   pub reply : Result (Unit {0}) Refusal
-  pub answer : IsFound (is_there (option_and_then (register_of (facts_of past)) register)) before after reply
+  pub answer : IsFound (is_there (option_and_then (register_of (facts_of past)) register)) before
+      after reply
   pub is : IsReport zone past register reply text
   pub means : meant ≡ meant_by reply
 

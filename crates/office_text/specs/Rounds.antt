@@ -14,7 +14,8 @@ use Rattle.script_text.specs.AnswerText.{refused_line}
 use Rattle.sun_points.specs.Writing.{GotPart}
 
 -- A refusal is printed, or a part of it, and then the fault is that of the writing. Nothing is printed of other ends.
-abbrev pub IsRefusalTold : (done result : Result (Unit {0}) RoundFault) → (old new : Option (List ℕ)) → Type 0
+abbrev pub IsRefusalTold : (done result : Result (Unit {0}) RoundFault)
+    → (old new : Option (List ℕ)) → Type 0
 IsRefusalTold (Ok x) result old new = (result ≡ Ok x) × (new ≡ old)
 IsRefusalTold (Err (Refused why)) result old new =
     ((result ≡ Err (Refused why)) × Appends old new (refused_line why))
@@ -26,10 +27,12 @@ IsRefusalTold (Err TurnsUsed) result old new = (result ≡ Err TurnsUsed) × (ne
 -- the passage of the round itself, which had printed so much
 abbrev pub without_cause : Passage → (printed : Option (List ℕ)) → Passage
 without_cause through printed =
-    passage through.begun (desk printed through.ended.moments through.ended.failures) through.from through.to
+    passage through.begun (desk printed through.ended.moments through.ended.failures) through.from
+    through.to
 
 -- A round, and behind what it printed the refusal that broke it off.
-pub record PollsRound {B : Type 0} (ledger : B → Ledger) (device : Option (List ℕ)) (past : History) (through : Passage)
+pub record PollsRound {B : Type 0} (ledger : B → Ledger) (device : Option (List ℕ)) (past : History)
+    (through : Passage)
     (office : Office B) (result : Result (Unit {0}) RoundFault) : Type 0 where
   pub printed : Option (List ℕ)
   pub done : Result (Unit {0}) RoundFault

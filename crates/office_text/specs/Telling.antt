@@ -11,7 +11,8 @@ IsTold text meant status old new =
     ((status ≡ meant) × Appends old new text) ⊎ ((status ≡ Failed) × GotPart text old new)
 
 -- So it is with one of these texts, each of which means an end.
-pub record Tells (Prints : List ℕ → Status → Type 0) (status : Status) (old new : Option (List ℕ)) : Type 0 where
+pub record Tells (Prints : List ℕ → Status → Type 0) (status : Status) (old new : Option (List ℕ)) :
+    Type 0 where
   pub text : List ℕ
   pub meant : Status
   pub prints : Prints text meant

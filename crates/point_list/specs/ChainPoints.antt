@@ -25,7 +25,9 @@ chain_name place name = codes "m" ++ (decimal place ++ (codes "." ++ name))
 -- the scale point of this name, if it is among the points of the model
 abbrev pub chain_scale : ℕ → List ModelPoint → Option (List ℕ) → PointScale
 chain_scale place others None = Unscaled
-chain_scale place others (Some name) = if list_any (λ other. bytes_eq other.name name) others then Named (chain_name place name) else Unscaled
+chain_scale place others (Some name) =
+    if list_any (λ other. bytes_eq other.name name) others then Named (chain_name place name)
+    else Unscaled
 
 -- a point of the model at a place, the others of which are these; chains are read by holding registers
 abbrev pub listed : ℕ → ℕ → List ModelPoint → ModelPoint → ListedPoint
@@ -39,12 +41,14 @@ listed place id others point = record {
 }
 
 abbrev pub model_points : Words → ℕ → Model → List ListedPoint
-model_points word place model = map (listed place model.id (points_in word model)) (points_in word model)
+model_points word place model =
+    map (listed place model.id (points_in word model)) (points_in word model)
 
 -- the points of models, the first of which has this place
 abbrev pub points_from : Words → ℕ → List Model → List ListedPoint
 points_from word place [] = []
-points_from word place (model ∷ models) = model_points word place model ++ points_from word (place + 1) models
+points_from word place (model ∷ models) =
+    model_points word place model ++ points_from word (place + 1) models
 
 -- the points of a chain, whose first model has place 1
 abbrev pub points_of_chain : Chain → List ListedPoint
@@ -52,4 +56,5 @@ points_of_chain chain = points_from (words_of chain) 1 (models_of chain)
 
 -- points that are too many are told as the row behind the most
 abbrev pub chain_faults : List ListedPoint → List FaultyRow
-chain_faults points = if nat_le (length points) 512 then [] else record { row = 514; fault = TooMany } ∷ []
+chain_faults points =
+    if nat_le (length points) 512 then [] else record { row = 514; fault = TooMany } ∷ []

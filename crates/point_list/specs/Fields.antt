@@ -16,7 +16,8 @@ number_of field = number_of_digits 10 field
 
 -- a whole number from low to high
 abbrev pub number_within : ℕ → ℕ → List ℕ → Option ℕ
-number_within low high field = option_and_then (λ n. if nat_le low n && nat_le n high then Some n else None) (number_of field)
+number_within low high field =
+    option_and_then (λ n. if nat_le low n && nat_le n high then Some n else None) (number_of field)
 
 -- the registers that function 3 or 4 reads
 abbrev pub table_read_by : ℕ → Option RegisterTable
@@ -28,7 +29,8 @@ table_of field = option_and_then table_read_by (number_of field)
 -- `string` and 1 to 125
 abbrev pub text_type_of : List ℕ → Option PointType
 text_type_of field =
-    if starts_with (λ a b. a == b) field (codes "string") then option_and_then (λ n. Some (kind.Text n)) (number_within 1 125 (drop 6 field)) else None
+    if starts_with (λ a b. a == b) field (codes "string")
+    then option_and_then (λ n. Some (kind.Text n)) (number_within 1 125 (drop 6 field)) else None
 
 abbrev pub type_of : List ℕ → Option PointType
 type_of field =
@@ -51,4 +53,5 @@ minus (suc n) = negsuc n
 abbrev pub fixed_scale_of : List ℕ → Option ℤ
 fixed_scale_of [] = None
 fixed_scale_of (first ∷ rest) =
-    if first == 45 then option_map minus (number_within 0 10 rest) else option_map pos (number_within 0 10 (first ∷ rest))
+    if first == 45 then option_map minus (number_within 0 10 rest)
+    else option_map pos (number_within 0 10 (first ∷ rest))

@@ -6,12 +6,15 @@ use Rattle.point_list.specs.Points.{IsPointList}
 
 -- A text without faulty rows spells a list.
 abbrev pub FaultlessTextsSpell : Type 0
-FaultlessTextsSpell = (text : List ℕ) → list_faults (rows_read text) ≡ [] → (points : List ListedPoint) × SpellsList text points
+FaultlessTextsSpell = (text : List ℕ) → list_faults (rows_read text) ≡ []
+    → (points : List ListedPoint) × SpellsList text points
 
 -- A text spells no two lists.
 abbrev pub SpelledListIsOne : Type 0
-SpelledListIsOne = (text : List ℕ) (points others : List ListedPoint) → SpellsList text points → SpellsList text others → points ≡ others
+SpelledListIsOne = (text : List ℕ) (points others : List ListedPoint) → SpellsList text points
+    → SpellsList text others → points ≡ others
 
 -- What a text spells keeps what every list keeps.
 abbrev pub SpelledListsAreLawful : Type 0
-SpelledListsAreLawful = (text : List ℕ) (points : List ListedPoint) → SpellsList text points → IsPointList points
+SpelledListsAreLawful = (text : List ℕ) (points : List ListedPoint) → SpellsList text points
+    → IsPointList points

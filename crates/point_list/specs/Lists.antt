@@ -24,7 +24,8 @@ named_scale field = if is_name field then Some (Named field) else None
 -- the scale of a point: none, a number from -10 to 10, or the name of a scale point
 abbrev pub scale_spelled : List ℕ → Option PointScale
 scale_spelled [] = Some Unscaled
-scale_spelled (first ∷ rest) = option_or (option_map Fixed (fixed_scale_of (first ∷ rest))) (named_scale (first ∷ rest))
+scale_spelled (first ∷ rest) =
+    option_or (option_map Fixed (fixed_scale_of (first ∷ rest))) (named_scale (first ∷ rest))
 
 abbrev pub name_spelled : List ℕ → Option (List ℕ)
 name_spelled field = if is_name field then Some field else None
@@ -37,8 +38,17 @@ spelled_with spelled scaled row =
     option_and_then (λ area.
     option_and_then (λ address.
     option_and_then (λ kind.
-    option_map (λ scale. record { name = name; table = table; area = area; address = address; kind = kind; scale = scale })
-    scaled) (type_of row.kind)) (number_within 0 65535 row.address)) (number_within 0 255 row.area)) (table_of row.function)) spelled
+    option_map (λ scale.
+    record {
+      name = name;
+      table = table;
+      area = area;
+      address = address;
+      kind = kind;
+      scale = scale;
+    })
+    scaled) (type_of row.kind)) (number_within 0 65535 row.address)) (number_within 0 255 row.area))
+    (table_of row.function)) spelled
 
 -- the point that six fields spell
 abbrev pub point_spelled : RowText → Option ListedPoint
@@ -82,7 +92,8 @@ scale_faults points some = map (λ point. scale_fault points point point.scale) 
 abbrev pub faulty_rows : ℕ → List (Option RowFault) → List FaultyRow
 faulty_rows row [] = []
 faulty_rows row (None ∷ faults) = faulty_rows (row + 1) faults
-faulty_rows row (Some fault ∷ faults) = record { row = row; fault = fault } ∷ faulty_rows (row + 1) faults
+faulty_rows row (Some fault ∷ faults) =
+    record { row = row; fault = fault } ∷ faulty_rows (row + 1) faults
 
 -- faults of scale points are looked for only where no row has another
 abbrev pub or_else : List FaultyRow → List FaultyRow → List FaultyRow
@@ -91,13 +102,17 @@ or_else (row ∷ rows) others = row ∷ rows
 
 -- the faulty rows below the header; the header is row 1
 abbrev pub faults_below : List (List (List ℕ)) → List FaultyRow
-faults_below rows = or_else (faulty_rows 2 (row_faults rows (length rows))) (faulty_rows 2 (scale_faults (points_of rows) (points_of rows)))
+faults_below rows =
+    or_else (faulty_rows 2 (row_faults rows (length rows)))
+    (faulty_rows 2 (scale_faults (points_of rows) (points_of rows)))
 
 -- name,function,area,address,type,scale
 abbrev pub is_header_text : RowText → Bool
 is_header_text row =
-    bytes_eq row.name (codes "name") && bytes_eq row.function (codes "function") && bytes_eq row.area (codes "area")
-    && bytes_eq row.address (codes "address") && bytes_eq row.kind (codes "type") && bytes_eq row.scale (codes "scale")
+    bytes_eq row.name (codes "name") && bytes_eq row.function (codes "function")
+    && bytes_eq row.area (codes "area")
+    && bytes_eq row.address (codes "address") && bytes_eq row.kind (codes "type")
+    && bytes_eq row.scale (codes "scale")
 
 abbrev pub is_header : List (List ℕ) → Bool
 is_header fields = option_map_or is_header_text (six_fields fields) false

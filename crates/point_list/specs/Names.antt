@@ -10,4 +10,5 @@ is_name_byte byte = is_ascii_alphanumeric byte || byte == 95 || byte == 46
 -- 1 to 32 such bytes, the first a letter
 abbrev pub is_name : List ℕ → Bool
 is_name [] = false
-is_name (first ∷ rest) = is_ascii_alphabetic first && nat_le (length rest) 31 && list_all is_name_byte rest
+is_name (first ∷ rest) =
+    is_ascii_alphabetic first && nat_le (length rest) 31 && list_all is_name_byte rest

@@ -48,8 +48,11 @@ pub record IsGroup (point scale : ListedPoint) : Type 0 where
 -- a scale is for a type that takes one; a named one is that of a sunssf point of the list, in one group with the point
 abbrev pub HasLawfulScale : List ListedPoint → ListedPoint → PointScale → Type 0
 HasLawfulScale points point Unscaled = Unit {0}
-HasLawfulScale points point (Fixed exponent) = IsTrue (takes_scale point.kind) × IsTrue (int_le (negsuc 9) exponent && int_le exponent (pos 10))
-HasLawfulScale points point (Named name) = IsTrue (takes_scale point.kind) × IsSomeAnd (scale_point points name) (IsGroup point)
+HasLawfulScale points point (Fixed exponent) =
+    IsTrue (takes_scale point.kind)
+    × IsTrue (int_le (negsuc 9) exponent && int_le exponent (pos 10))
+HasLawfulScale points point (Named name) =
+    IsTrue (takes_scale point.kind) × IsSomeAnd (scale_point points name) (IsGroup point)
 
 -- what every point list keeps
 pub record IsPointList (points : List ListedPoint) : Type 0 where

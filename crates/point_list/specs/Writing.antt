@@ -7,7 +7,8 @@ use Rattle.point_list.specs.declared.writing.WriteListFault.TheVariants.{Write, 
 
 -- The text was handed over in one call, and Write says that this call failed; nothing was, where there was no memory
 -- for the text.
-abbrev pub HandsOver : {S : Type 0} → (S → List ℕ → Result (Unit {0}) Error → S → Type 0) → Result (Unit {0}) WriteListFault → List ℕ → S → S → Type 0
+abbrev pub HandsOver : {S : Type 0} → (S → List ℕ → Result (Unit {0}) Error → S → Type 0)
+    → Result (Unit {0}) WriteListFault → List ℕ → S → S → Type 0
 HandsOver takes (Ok done) text old new = takes old text (Ok done) new
 HandsOver takes (Err Write) text old new = (error : Error) × takes old text (Err error) new
 HandsOver takes (Err Memory) text old new = new ≡ old

@@ -27,10 +27,12 @@ scale_text (Named name) = name
 
 abbrev pub row_of : ListedPoint → List (List ℕ)
 row_of point =
-    point.name ∷ decimal (function_of point.table) ∷ decimal point.area ∷ decimal point.address ∷ type_text point.kind ∷ scale_text point.scale ∷ []
+    point.name ∷ decimal (function_of point.table) ∷ decimal point.area ∷ decimal point.address
+    ∷ type_text point.kind ∷ scale_text point.scale ∷ []
 
 abbrev pub header_row : List (List ℕ)
-header_row = codes "name" ∷ codes "function" ∷ codes "area" ∷ codes "address" ∷ codes "type" ∷ codes "scale" ∷ []
+header_row = codes "name" ∷ codes "function" ∷ codes "area" ∷ codes "address" ∷ codes "type"
+    ∷ codes "scale" ∷ []
 
 -- the text of rows
 unfoldable pub rows_text : List (List (List ℕ)) → List ℕ

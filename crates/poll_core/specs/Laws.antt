@@ -18,7 +18,8 @@ outcomes_by_poll timeout events = filter_map with_outcome (results timeout [] ev
 -- what each event settles, event by event
 abbrev pub outcomes_after : ℕ → List Event → List Event → List (ℕ × Settlement)
 outcomes_after timeout before [] = []
-outcomes_after timeout before (event ∷ later) = outcomes_at timeout before event ++ outcomes_after timeout (before ++ event ∷ []) later
+outcomes_after timeout before (event ∷ later) =
+    outcomes_at timeout before event ++ outcomes_after timeout (before ++ event ∷ []) later
 
 abbrev pub outcomes_by_event : ℕ → List Event → List (ℕ × Settlement)
 outcomes_by_event timeout events = outcomes_after timeout [] events
@@ -41,7 +42,10 @@ numbers_pending timeout events = map (λ poll. poll.number) (pending timeout eve
 
 -- of these polls each that the event settles, with its outcome
 abbrev pub settled_among : List Event → Event → List Poll → List (ℕ × Settlement)
-settled_among before event polls = filter_map (λ poll. option_map (λ outcome. (poll.number, outcome)) (settled_by before event poll)) polls
+settled_among before event polls =
+    filter_map (λ poll.
+    option_map (λ outcome. (poll.number, outcome)) (settled_by before event poll))
+    polls
 
 -- a poll and what settled it, with one event more
 abbrev pub with_event : List Event → Event → Poll × Option Settlement → Poll × Option Settlement
@@ -63,11 +67,13 @@ pub record Waits (timeout : ℕ) (events : List Event) (poll : Poll) : Type 0 wh
 
 -- A session accepts the event after these: its moment isn't back, and a start isn't refused.
 abbrev pub Accepts : ℕ → ℕ → List Event → Event → Type 0
-Accepts timeout window before (Start moment poll unit span) = start_fault timeout window before moment ≡ None
+Accepts timeout window before (Start moment poll unit span) =
+    start_fault timeout window before moment ≡ None
 Accepts timeout window before (Piece moment bytes) = last_moment before ≤ moment
 Accepts timeout window before (Tick moment) = last_moment before ≤ moment
 Accepts timeout window before (Close moment closing) = last_moment before ≤ moment
 
 abbrev pub AcceptsAll : ℕ → ℕ → List Event → List Event → Type 0
 AcceptsAll timeout window before [] = Unit {0}
-AcceptsAll timeout window before (event ∷ later) = Accepts timeout window before event × AcceptsAll timeout window (before ++ event ∷ []) later
+AcceptsAll timeout window before (event ∷ later) =
+    Accepts timeout window before event × AcceptsAll timeout window (before ++ event ∷ []) later

@@ -87,7 +87,8 @@ is_for poll frame = (tid_of frame == poll.id) && (protocol_of frame == 0)
 
 -- the frames whose last byte the event brought, after these events
 unfoldable pub frames_at : List Event → Event → List (List ℕ)
-frames_at before event = drop (length (frames (stream before))) (frames (stream before ++ bytes_of event))
+frames_at before event =
+    drop (length (frames (stream before))) (frames (stream before ++ bytes_of event))
 
 -- why the event ends the session, if it does: it garbles the stream, or closes
 unfoldable pub ending_at : List Event → Event → Option LostCause
@@ -101,16 +102,25 @@ unfoldable pub settled_by : List Event → Event → Poll → Option Settlement
 settled_by before event poll =
     if is_start event then None
     else if due (moment_of event) poll then Some Silent
-    else option_or (option_map (answer poll) (find (is_for poll) (frames_at before event))) (option_map Lost (ending_at before event))
+    else option_or (option_map (answer poll) (find (is_for poll) (frames_at before event)))
+    (option_map Lost (ending_at before event))
 
 -- the first later event that settles the poll, and by what
 abbrev pub outcome : List Event → List Event → Poll → Option Settlement
 outcome before [] poll = None
-outcome before (event ∷ later) poll = option_or (settled_by before event poll) (outcome (before ++ event ∷ []) later poll)
+outcome before (event ∷ later) poll =
+    option_or (settled_by before event poll) (outcome (before ++ event ∷ []) later poll)
 
 -- the poll that the event starts, if it is a start
 abbrev pub started : ℕ → List Event → Event → Option Poll
-started timeout before (Start moment poll unit span) = Some (record { number = poll; id = next_id before; unit = unit; span = span; deadline = moment + timeout })
+started timeout before (Start moment poll unit span) =
+    Some (record {
+      number = poll;
+      id = next_id before;
+      unit = unit;
+      span = span;
+      deadline = moment + timeout;
+    })
 started timeout before (Piece moment bytes) = None
 started timeout before (Tick moment) = None
 started timeout before (Close moment closing) = None
@@ -123,11 +133,13 @@ result_of before later (Some poll) = (poll, outcome before later poll) ∷ []
 abbrev pub results : ℕ → List Event → List Event → List (Poll × Option Settlement)
 results timeout before [] = []
 results timeout before (event ∷ later) =
-    result_of (before ++ event ∷ []) later (started timeout before event) ++ results timeout (before ++ event ∷ []) later
+    result_of (before ++ event ∷ []) later (started timeout before event)
+    ++ results timeout (before ++ event ∷ []) later
 
 -- the polls with no outcome
 unfoldable pub pending : ℕ → List Event → List Poll
-pending timeout events = map (λ result. result.0) (filter (λ result. is_none result.1) (results timeout [] events))
+pending timeout events =
+    map (λ result. result.0) (filter (λ result. is_none result.1) (results timeout [] events))
 
 -- The outcomes of one event, in order: silence by start, then frame by frame, then the lost by start.
 abbrev pub silences : List Poll → List (ℕ × Settlement)
@@ -156,4 +168,5 @@ outcomes_at timeout before event =
     if is_start event then []
     else silences (filter (due (moment_of event)) (pending timeout before))
     ++ by_frame (frames_at before event) (alive (moment_of event) (pending timeout before))
-    ++ losses (ending_at before event) (unmatched (frames_at before event) (alive (moment_of event) (pending timeout before)))
+    ++ losses (ending_at before event)
+    (unmatched (frames_at before event) (alive (moment_of event) (pending timeout before)))

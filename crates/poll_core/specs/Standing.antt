@@ -49,7 +49,8 @@ pub record Stands (session : State) (events : List Event) : Type 0 where
 
 -- what the session has yet to tell: who is due is silent, and at the end the others are lost
 abbrev pub owed_by : ℕ → Option LostCause → List Poll → List (ℕ × Settlement)
-owed_by moment ending polls = silences (filter (due moment) polls) ++ losses ending (alive moment polls)
+owed_by moment ending polls =
+    silences (filter (due moment) polls) ++ losses ending (alive moment polls)
 
 abbrev pub owed : State → List (ℕ × Settlement)
 owed session = owed_by session.last session.ending session.polls
@@ -60,11 +61,13 @@ if_going None polls = polls
 if_going (Some cause) polls = []
 
 -- The session stands within an event after these: it has told so many of its outcomes, and owes the others.
-pub record Within (session : State) (events : List Event) (event : Event) (told : List (ℕ × Settlement)) : Type 0 where
+pub record Within (session : State) (events : List Event) (event : Event)
+    (told : List (ℕ × Settlement)) : Type 0 where
   pub last : session.last ≡ moment_of event
   pub next : session.next ≡ next_id (events ++ event ∷ [])
   pub whole : told ++ owed session ≡ outcomes_at session.timeout events event
-  pub polls : if_going session.ending (alive session.last session.polls) ≡ pending session.timeout (events ++ event ∷ [])
+  pub polls : if_going session.ending (alive session.last session.polls)
+      ≡ pending session.timeout (events ++ event ∷ [])
   pub over : is_some session.ending ≡ is_over (events ++ event ∷ [])
   pub none_after : is_closed events ≡ true → pending session.timeout events ≡ []
   pub held : session.ending ≡ None → session.reader.rest ≡ rest (stream (events ++ event ∷ []))
@@ -79,9 +82,13 @@ call_of (Close moment closing) = Some (call.Close closing)
 -- Before a call: nothing of the event has come, or the call goes on.
 abbrev pub Before : State → List Event → Event → List (ℕ × Settlement) → Type 0
 Before session events event told =
-    (Stands session events × (bytes_of event ≡ []) × (told ≡ [])) ⊎ ((session.settling ≡ call_of event) × Within session events event told)
+    (Stands session events × (bytes_of event ≡ []) × (told ≡ []))
+    ⊎ ((session.settling ≡ call_of event) × Within session events event told)
 
 -- After it: one more outcome is told, or there was none left, and all were told.
-abbrev pub After : State → List Event → Event → List (ℕ × Settlement) → Option (ℕ × Settlement) → Type 0
-After session events event told None = Stands session (events ++ event ∷ []) × (told ≡ outcomes_at session.timeout events event)
-After session events event told (Some settled) = (session.settling ≡ call_of event) × Within session events event (told ++ settled ∷ [])
+abbrev pub After : State → List Event → Event → List (ℕ × Settlement) → Option (ℕ × Settlement)
+    → Type 0
+After session events event told None =
+    Stands session (events ++ event ∷ []) × (told ≡ outcomes_at session.timeout events event)
+After session events event told (Some settled) =
+    (session.settling ≡ call_of event) × Within session events event (told ++ settled ∷ [])

@@ -25,17 +25,23 @@ least_fault window polls next last over moment =
 
 -- why a start at a moment is refused after these events, if it is
 abbrev pub start_fault : ℕ → ℕ → List Event → ℕ → Option StartFault
-start_fault timeout window events moment = least_fault window (pending timeout events) (next_id events) (last_moment events) (is_over events) moment
+start_fault timeout window events moment =
+    least_fault window (pending timeout events) (next_id events) (last_moment events)
+    (is_over events)
+    moment
 
 -- whether a start fits behind so many others: the session goes on, there is room, and no poll that waits has its id
 abbrev pub start_fits : ℕ → List Poll → ℕ → Bool → ℕ → Bool
 start_fits window polls next over before =
-    not over && nat_lt (length polls + before) window && not (list_any (has_id ((next + before) % 65536)) polls)
+    not over && nat_lt (length polls + before) window
+    && not (list_any (has_id ((next + before) % 65536)) polls)
 
 -- So many starts in a row fit, and no more.
 pub record HasRoom (session : State) (count : ℕ) : Type 0 where
-  pub fit : (k : ℕ) → k < count → start_fits session.window session.polls session.next (is_some session.ending) k ≡ true
-  pub no_more : start_fits session.window session.polls session.next (is_some session.ending) count ≡ false
+  pub fit : (k : ℕ) → k < count
+      → start_fits session.window session.polls session.next (is_some session.ending) k ≡ true
+  pub no_more : start_fits session.window session.polls session.next (is_some session.ending) count
+      ≡ false
 
 abbrev pub AreStarts : List Event → Type 0
 AreStarts events = AllByRecursion (λ event. is_start event ≡ true) events
@@ -44,5 +50,8 @@ AreStarts events = AllByRecursion (λ event. is_start event ≡ true) events
 -- that isn't back isn't refused, and once so many were made, every other is.
 pub record IsReady (timeout window : ℕ) (events : List Event) (id count : ℕ) : Type 0 where
   pub next : id ≡ next_id events
-  pub succeed : (starts : List Event) (moment : ℕ) → AreStarts starts → length starts < count → last_moment (events ++ starts) ≤ moment → start_fault timeout window (events ++ starts) moment ≡ None
-  pub no_more : (starts : List Event) (moment : ℕ) → AreStarts starts → length starts ≡ count → IsSome (start_fault timeout window (events ++ starts) moment)
+  pub succeed : (starts : List Event) (moment : ℕ) → AreStarts starts → length starts < count
+      → last_moment (events ++ starts) ≤ moment
+      → start_fault timeout window (events ++ starts) moment ≡ None
+  pub no_more : (starts : List Event) (moment : ℕ) → AreStarts starts → length starts ≡ count
+      → IsSome (start_fault timeout window (events ++ starts) moment)

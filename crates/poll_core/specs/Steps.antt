@@ -19,12 +19,17 @@ AreApart polls = (id : ℕ) → length (filter (has_id id) polls) ≤ 1
 -- the place of the first poll that passes, if one does
 abbrev pub FindsFirst : (Poll → Bool) → List Poll → Option ℕ → Type 0
 FindsFirst test polls None = filter test polls ≡ []
-FindsFirst test polls (Some i) = (i < length polls) × (filter test (take i polls) ≡ []) × ((d : Poll) → test (get_or polls i d) ≡ true)
+FindsFirst test polls (Some i) =
+    (i < length polls) × (filter test (take i polls) ≡ [])
+    × ((d : Poll) → test (get_or polls i d) ≡ true)
 
 -- the first poll that passes is taken out, if one does
 abbrev pub TakesOut : (Poll → Bool) → List Poll → Option Poll → List Poll → Type 0
 TakesOut test old None new = (new ≡ old) × (filter test old ≡ [])
-TakesOut test old (Some poll) new = (filter test old ≡ poll ∷ filter test new) × (filter (λ p. not (test p)) new ≡ filter (λ p. not (test p)) old) × (length old ≡ suc (length new))
+TakesOut test old (Some poll) new =
+    (filter test old ≡ poll ∷ filter test new)
+    × (filter (λ p. not (test p)) new ≡ filter (λ p. not (test p)) old)
+    × (length old ≡ suc (length new))
 
 -- how a poll that is taken out ended; the frame is the one that the reader holds
 abbrev pub outcome_by : Poll → SettledBy → Option (List ℕ) → Settlement
@@ -47,19 +52,27 @@ told_by taken frame = (taken.poll.number, outcome_by taken.poll taken.by frame)
 
 -- one outcome that is owed is told, or none was
 abbrev pub TellsOwed : ℕ → Option LostCause → List Poll → Option SettledPoll → List Poll → Type 0
-TellsOwed moment ending old None new = (new ≡ old) × (owed_by moment ending old ≡ []) × (alive moment old ≡ old) × (is_some ending ≡ true → old ≡ [])
-TellsOwed moment ending old (Some taken) new = ((frame : Option (List ℕ)) → owed_by moment ending old ≡ told_by taken frame ∷ owed_by moment ending new) × (if_going ending (alive moment new) ≡ if_going ending (alive moment old)) × (length old ≡ suc (length new))
+TellsOwed moment ending old None new =
+    (new ≡ old) × (owed_by moment ending old ≡ []) × (alive moment old ≡ old)
+    × (is_some ending ≡ true → old ≡ [])
+TellsOwed moment ending old (Some taken) new =
+    ((frame : Option (List ℕ))
+    → owed_by moment ending old ≡ told_by taken frame ∷ owed_by moment ending new)
+    × (if_going ending (alive moment new) ≡ if_going ending (alive moment old))
+    × (length old ≡ suc (length new))
 
 -- the reader goes on by these bytes, which end these frames
 abbrev pub FeedsOn : List ℕ → List ℕ → List (List ℕ) → List ℕ → Type 0
-FeedsOn old piece ended new = (bytes : List ℕ) (before : List (List ℕ)) → Reads bytes before old → Reads (bytes ++ piece) (before ++ ended) new
+FeedsOn old piece ended new = (bytes : List ℕ) (before : List (List ℕ)) → Reads bytes before old
+    → Reads (bytes ++ piece) (before ++ ended) new
 
 abbrev pub told_list : Option Poll → Option (List ℕ) → List (ℕ × Settlement)
 told_list None frame = []
 told_list (Some poll) frame = (poll.number, outcome_by poll by.Frame frame) ∷ []
 
 -- The bytes ended frames of which at most the last has the id of a poll: that one is taken out, and the reader holds its frame.
-pub record Finds (old piece : List ℕ) (polls : List Poll) (found : Option Poll) (held : Held) (others : List Poll) : Type 0 where
+pub record Finds (old piece : List ℕ) (polls : List Poll) (found : Option Poll) (held : Held)
+    (others : List Poll) : Type 0 where
   pub ended : List (List ℕ)
   pub feeds : FeedsOn old piece ended held.rest
   pub told : by_frame ended polls ≡ told_list found held.frame
@@ -67,7 +80,8 @@ pub record Finds (old piece : List ℕ) (polls : List Poll) (found : Option Poll
 
 -- one frame of the protocol that came whole
 abbrev pub FindsBy : List ℕ → List Poll → Option Poll → List Poll → Type 0
-FindsBy frame old found new = (by_frame (frame ∷ []) old ≡ told_list found (Some frame)) × (unmatched (frame ∷ []) old ≡ new)
+FindsBy frame old found new =
+    (by_frame (frame ∷ []) old ≡ told_list found (Some frame)) × (unmatched (frame ∷ []) old ≡ new)
 
 abbrev pub OneLess : List Poll → Option Poll → List Poll → Type 0
 OneLess old None new = new ≡ old

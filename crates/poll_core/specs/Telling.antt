@@ -37,20 +37,24 @@ LendsReply settled = is_some settled.reply ≡ is_answered settled.outcome
 
 -- no call is under way, or this one is, at this moment
 abbrev pub IsCall : Call → State → ℕ → Type 0
-IsCall call session moment = (session.settling ≡ None) ⊎ ((session.settling ≡ Some call) × (session.last ≡ moment))
+IsCall call session moment =
+    (session.settling ≡ None) ⊎ ((session.settling ≡ Some call) × (session.last ≡ moment))
 
 -- What a call does that brings an event, or more bytes of a piece: an outcome more is told, and a poll less waits.
-pub record Tells (old new : State) (before after : List ℕ → Event) (settled : Option (ℕ × Settlement)) : Type 0 where
+pub record Tells (old new : State) (before after : List ℕ → Event)
+    (settled : Option (ℕ × Settlement)) : Type 0 where
   pub timeout : new.timeout ≡ old.timeout
   pub window : new.window ≡ old.window
   pub last : new.last ≡ moment_of (after [])
   pub settling : new.settling ≡ (if is_some settled then call_of (after []) else None)
   pub less : is_some settled ≡ true → length new.polls < length old.polls
-  pub told : (events : List Event) (bytes : List ℕ) (told : List (ℕ × Settlement)) → Before old events (before bytes) told → After new events (after bytes) told settled
+  pub told : (events : List Event) (bytes : List ℕ) (told : List (ℕ × Settlement))
+      → Before old events (before bytes) told → After new events (after bytes) told settled
 
 -- by a piece at a moment, of which these bytes were taken
 abbrev pub TellsPiece : State → State → ℕ → List ℕ → Option (ℕ × Settlement) → Type 0
-TellsPiece old new moment taken = Tells old new (λ bytes. Piece moment bytes) (λ bytes. Piece moment (bytes ++ taken))
+TellsPiece old new moment taken =
+    Tells old new (λ bytes. Piece moment bytes) (λ bytes. Piece moment (bytes ++ taken))
 
 abbrev pub TellsEvent : State → State → Event → Option (ℕ × Settlement) → Type 0
 TellsEvent old new event = Tells old new (λ _. event) (λ _. event)

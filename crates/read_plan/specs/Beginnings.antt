@@ -24,7 +24,8 @@ ends_by run limit =
 
 -- the greatest last register of the items of an area that end within reach of its first register
 pub record IsGreatestEnd (items : List Run) (begin : Run) (end : ℕ) : Type 0 where
-  pub at_item : Any (λ item. SameArea begin item × (item.end ≤ begin.first + 125) × (item.end ≡ end)) items
+  pub at_item : Any
+      (λ item. SameArea begin item × (item.end ≤ begin.first + 125) × (item.end ≡ end)) items
   pub last : All (λ item. SameArea begin item → item.end ≤ begin.first + 125 → item.end ≤ end) items
 
 -- a read from a beginning to the greatest end within reach

@@ -14,11 +14,17 @@ use Rattle.read_plan.specs.declared.run.Run.{Run}
 
 -- the registers of a point
 abbrev pub point_run : ListedPoint → Run
-point_run point = record { table = point.table; area = point.area; first = point.address; end = end_of point }
+point_run point =
+    record { table = point.table; area = point.area; first = point.address; end = end_of point }
 
 -- the least run with both, of one area
 abbrev pub joined : Run → Run → Run
-joined a b = record { table = a.table; area = a.area; first = min a.first b.first; end = max a.end b.end }
+joined a b = record {
+  table = a.table;
+  area = a.area;
+  first = min a.first b.first;
+  end = max a.end b.end;
+}
 
 abbrev pub with_scale : Run → Option ListedPoint → Run
 with_scale run None = run
@@ -35,7 +41,8 @@ run_named runs name = get_by (λ key. slice_cmp nat_cmp name key.now) runs
 
 -- at each name the registers of its scale point
 abbrev pub AreScaleRuns : List ListedPoint → BTreeMap (Bor (List ℕ)) Run → Type 0
-AreScaleRuns points runs = (name : List ℕ) → run_named runs name ≡ option_map point_run (scale_point points name)
+AreScaleRuns points runs = (name : List ℕ)
+    → run_named runs name ≡ option_map point_run (scale_point points name)
 
 -- an item is the least run with a point and its scale point
 abbrev pub item_of : List ListedPoint → ListedPoint → Run

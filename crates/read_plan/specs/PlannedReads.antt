@@ -16,7 +16,13 @@ table_of InputRegisters = Input
 
 -- the registers of a read
 abbrev pub read_run : PlannedRead → Run
-read_run read = record { table = table_of read.span.function; area = read.area; first = read.span.address; end = read.span.address + read.span.count }
+read_run read =
+    record {
+      table = table_of read.span.function;
+      area = read.area;
+      first = read.span.address;
+      end = read.span.address + read.span.count;
+    }
 
 abbrev pub read_runs : List PlannedRead → List Run
 read_runs reads = map read_run reads
@@ -34,7 +40,8 @@ BeginsInside item start = (item.first ≤ start) × (start < item.end)
 -- what every plan keeps
 pub record IsPlan (plan : Planned) : Type 0 where
   pub each : length plan.starts ≡ length plan.items
-  pub begun : (k : ℕ) (d : Run) → k < length plan.items → BeginsInside (slice_index_or plan.items k d) (slice_index plan.starts k)
+  pub begun : (k : ℕ) (d : Run) → k < length plan.items
+      → BeginsInside (slice_index_or plan.items k d) (slice_index plan.starts k)
   pub readable : All IsReadable plan.items
   pub inside : All (λ item. item.end ≤ 65536) plan.items
   pub rule : FollowsRule plan.items (read_runs plan.reads)

@@ -56,7 +56,8 @@ pub record LiesWithinReach (read item : Run) : Type 0 where
 
 -- a read begins at the first register of the first item of its area that no earlier read holds
 pub record BeginsAtFirstUnheld (items earlier : List Run) (read : Run) : Type 0 where
-  pub at_item : Any (λ item. SameArea read item × (item.first ≡ read.first) × ¬ IsHeld earlier item) items
+  pub at_item : Any (λ item. SameArea read item × (item.first ≡ read.first) × ¬ IsHeld earlier item)
+      items
   pub first : All (λ item. SameArea read item → item.first < read.first → IsHeld earlier item) items
 
 -- a read ends at the greatest last register of the items within its reach
@@ -67,6 +68,7 @@ pub record EndsAtLastInReach (items : List Run) (read : Run) : Type 0 where
 -- the plan of the rule
 pub record FollowsRule (items reads : List Run) : Type 0 where
   pub ordered : AllPairs ComesBefore reads
-  pub begins : (k : ℕ) (d : Run) → k < length reads → BeginsAtFirstUnheld items (take k reads) (slice_index_or reads k d)
+  pub begins : (k : ℕ) (d : Run) → k < length reads
+      → BeginsAtFirstUnheld items (take k reads) (slice_index_or reads k d)
   pub ends : All (EndsAtLastInReach items) reads
   pub held : All (IsHeld reads) items

@@ -19,29 +19,41 @@ closing_word closing.Failed = codes "failed"
 -- faults, and the numbers of a start, which may be no registers that can be read.
 abbrev pub command_form : Command → Option (List Field)
 command_form (command.AddDevice c) =
-    Some (Word (codes "device") ∷ Of AnyName c.name ∷ Of Number c.unit ∷ Of Number c.timeout ∷ Of Number c.window ∷ [])
+    Some (Word (codes "device") ∷ Of AnyName c.name ∷ Of Number c.unit ∷ Of Number c.timeout
+    ∷ Of Number c.window ∷ [])
 command_form (command.AddRegister c) =
-    Some (Word (codes "register") ∷ Of AnyName c.name ∷ Of AnyName c.device ∷ Of Number c.function ∷ Of Number c.address ∷ Of Scale c.scale ∷ [])
+    Some (Word (codes "register") ∷ Of AnyName c.name ∷ Of AnyName c.device ∷ Of Number c.function
+    ∷ Of Number c.address ∷ Of Scale c.scale ∷ [])
 command_form (command.Install c) =
-    Some (Word (codes "install") ∷ Of AnyName c.register ∷ Of AnyName c.meter ∷ Of Number c.raw ∷ Of Signed c.sf ∷ Of Number c.ceiling ∷ Of Range c.range ∷ [])
+    Some (Word (codes "install") ∷ Of AnyName c.register ∷ Of AnyName c.meter ∷ Of Number c.raw
+    ∷ Of Signed c.sf ∷ Of Number c.ceiling ∷ Of Range c.range ∷ [])
 command_form (command.Exchange c) =
     Some (Word (codes "exchange") ∷ Of AnyName c.register ∷ Of Number c.last ∷ Of Number c.rolls
-    ∷ Of AnyName c.meter ∷ Of Number c.raw ∷ Of Signed c.sf ∷ Of Number c.ceiling ∷ Of Range c.range ∷ [])
-command_form (command.Reset c) = Some (Word (codes "reset") ∷ Of AnyName c.register ∷ Of Number c.before ∷ Of Number c.after ∷ [])
+    ∷ Of AnyName c.meter ∷ Of Number c.raw ∷ Of Signed c.sf ∷ Of Number c.ceiling ∷ Of Range c.range
+    ∷ [])
+command_form (command.Reset c) =
+    Some (Word (codes "reset") ∷ Of AnyName c.register ∷ Of Number c.before ∷ Of Number c.after
+    ∷ [])
 command_form (command.Rescale c) =
-    Some (Word (codes "rescale") ∷ Of AnyName c.register ∷ Of Number c.before ∷ Of Number c.after ∷ Of Signed c.sf ∷ [])
+    Some (Word (codes "rescale") ∷ Of AnyName c.register ∷ Of Number c.before ∷ Of Number c.after
+    ∷ Of Signed c.sf ∷ [])
 command_form (command.Manual c) =
-    Some (Word (codes "manual") ∷ Of AnyName c.register ∷ Of Number c.raw ∷ Of Number c.rolls ∷ Of Moment c.at ∷ [])
-command_form (command.Close c) = Some (Word (codes "close") ∷ Of AnyName c.register ∷ Of Number c.raw ∷ Of Number c.rolls ∷ [])
-command_form (command.Void c) = Some (Word (codes "void") ∷ Of AnyName c.meter ∷ Of Number c.place ∷ [])
-command_form (command.StartRound c) = Some (Word (codes "round") ∷ Of AnyName c.device ∷ Of Number c.from ∷ [])
+    Some (Word (codes "manual") ∷ Of AnyName c.register ∷ Of Number c.raw ∷ Of Number c.rolls
+    ∷ Of Moment c.at ∷ [])
+command_form (command.Close c) =
+    Some (Word (codes "close") ∷ Of AnyName c.register ∷ Of Number c.raw ∷ Of Number c.rolls ∷ [])
+command_form (command.Void c) =
+    Some (Word (codes "void") ∷ Of AnyName c.meter ∷ Of Number c.place ∷ [])
+command_form (command.StartRound c) =
+    Some (Word (codes "round") ∷ Of AnyName c.device ∷ Of Number c.from ∷ [])
 command_form (command.PutList c) = None
 command_form (command.StartPoll c) = None
 
 -- What stands behind the moment of an event. No line asks under a name and a number of its own.
 abbrev pub event_form : Event → Option (List Field)
 event_form (event.Connected device) = Some (Word (codes "connect") ∷ Of AnyName device ∷ [])
-event_form (event.Bytes device piece) = Some (Word (codes "bytes") ∷ Of AnyName device ∷ Of Hex piece ∷ [])
+event_form (event.Bytes device piece) =
+    Some (Word (codes "bytes") ∷ Of AnyName device ∷ Of Hex piece ∷ [])
 event_form event.Tick = Some (Word (codes "tick") ∷ [])
 event_form (event.Gone device closing) = Some (Word (closing_word closing) ∷ Of AnyName device ∷ [])
 event_form (event.Command c) = command_form c
@@ -50,9 +62,11 @@ event_form (event.Asked asked) = None
 -- What the words of a line spell.
 abbrev pub form_of : ScriptLine → Option (List Field)
 form_of (line.Event at event) = option_map (λ form. Of Number at ∷ form) (event_form event)
-form_of (line.List at list) = Some (Of Number at ∷ Word (codes "list") ∷ Of AnyName list.device ∷ Of Hex list.text ∷ [])
+form_of (line.List at list) =
+    Some (Of Number at ∷ Word (codes "list") ∷ Of AnyName list.device ∷ Of Hex list.text ∷ [])
 form_of (line.Start at start) =
-    Some (Of Number at ∷ Word (codes "start") ∷ Of AnyName start.device ∷ Of Number start.function ∷ Of Number start.address ∷ Of Number start.count ∷ [])
+    Some (Of Number at ∷ Word (codes "start") ∷ Of AnyName start.device ∷ Of Number start.function
+    ∷ Of Number start.address ∷ Of Number start.count ∷ [])
 form_of (line.Meter name) = Some (Word (codes "meter") ∷ Of AnyName name ∷ [])
 form_of (line.Intervals name) = Some (Word (codes "intervals") ∷ Of AnyName name ∷ [])
 form_of (line.Days name) = Some (Word (codes "days") ∷ Of AnyName name ∷ [])

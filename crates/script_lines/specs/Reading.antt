@@ -28,7 +28,8 @@ Values (kind ∷ kinds) = Value kind × Values kinds
 -- what is made of the values of all words
 abbrev pub made : {X : Type 0} (kinds : List Kind) → (Values kinds → X) → List (List ℕ) → Option X
 made [] make words = nothing_more words >>= λ none. Some (make none)
-made (kind ∷ kinds) make words = first_value kind words >>= λ first. made kinds (λ values. make (first.0, values)) first.1
+made (kind ∷ kinds) make words =
+    first_value kind words >>= λ first. made kinds (λ values. make (first.0, values)) first.1
 
 -- the words behind the word that says what happens
 abbrev pub kinds_of : Verb → List Kind
@@ -52,13 +53,33 @@ kinds_of verb.Failed = AnyName ∷ []
 
 -- the line that the words say
 abbrev pub line_of : (verb : Verb) → (at : ℕ) → Values (kinds_of verb) → ScriptLine
-line_of verb.Device at v = line.Event at (event.Command (command.AddDevice (record { name = v.0; unit = v.1.0; timeout = v.1.1.0; window = v.1.1.1.0 })))
+line_of verb.Device at v =
+    line.Event at
+    (event.Command
+    (command.AddDevice
+    (record { name = v.0; unit = v.1.0; timeout = v.1.1.0; window = v.1.1.1.0 })))
 line_of verb.List at v = line.List at (record { device = v.0; text = v.1.0 })
 line_of verb.Register at v =
-    line.Event at (event.Command (command.AddRegister (record { name = v.0; device = v.1.0; function = v.1.1.0; address = v.1.1.1.0; scale = v.1.1.1.1.0 })))
+    line.Event at
+    (event.Command
+    (command.AddRegister
+    (record {
+      name = v.0;
+      device = v.1.0;
+      function = v.1.1.0;
+      address = v.1.1.1.0;
+      scale = v.1.1.1.1.0;
+    })))
 line_of verb.Install at v =
     line.Event at (event.Command (command.Install
-    (record { register = v.0; meter = v.1.0; raw = v.1.1.0; sf = v.1.1.1.0; ceiling = v.1.1.1.1.0; range = v.1.1.1.1.1.0 })))
+    (record {
+      register = v.0;
+      meter = v.1.0;
+      raw = v.1.1.0;
+      sf = v.1.1.1.0;
+      ceiling = v.1.1.1.1.0;
+      range = v.1.1.1.1.1.0;
+    })))
 line_of verb.Exchange at v =
     line.Event at (event.Command (command.Exchange (record {
       register = v.0;
@@ -70,14 +91,28 @@ line_of verb.Exchange at v =
       ceiling = v.1.1.1.1.1.1.0;
       range = v.1.1.1.1.1.1.1.0;
     })))
-line_of verb.Reset at v = line.Event at (event.Command (command.Reset (record { register = v.0; before = v.1.0; after = v.1.1.0 })))
-line_of verb.Rescale at v = line.Event at (event.Command (command.Rescale (record { register = v.0; before = v.1.0; after = v.1.1.0; sf = v.1.1.1.0 })))
-line_of verb.Manual at v = line.Event at (event.Command (command.Manual (record { register = v.0; raw = v.1.0; rolls = v.1.1.0; at = v.1.1.1.0 })))
-line_of verb.Close at v = line.Event at (event.Command (command.Close (record { register = v.0; raw = v.1.0; rolls = v.1.1.0 })))
-line_of verb.Void at v = line.Event at (event.Command (command.Void (record { meter = v.0; place = v.1.0 })))
+line_of verb.Reset at v =
+    line.Event at
+    (event.Command (command.Reset (record { register = v.0; before = v.1.0; after = v.1.1.0 })))
+line_of verb.Rescale at v =
+    line.Event at
+    (event.Command
+    (command.Rescale
+    (record { register = v.0; before = v.1.0; after = v.1.1.0; sf = v.1.1.1.0 })))
+line_of verb.Manual at v =
+    line.Event at
+    (event.Command
+    (command.Manual (record { register = v.0; raw = v.1.0; rolls = v.1.1.0; at = v.1.1.1.0 })))
+line_of verb.Close at v =
+    line.Event at
+    (event.Command (command.Close (record { register = v.0; raw = v.1.0; rolls = v.1.1.0 })))
+line_of verb.Void at v =
+    line.Event at (event.Command (command.Void (record { meter = v.0; place = v.1.0 })))
 line_of verb.Connect at v = line.Event at (event.Connected v.0)
-line_of verb.Start at v = line.Start at (record { device = v.0; function = v.1.0; address = v.1.1.0; count = v.1.1.1.0 })
-line_of verb.Round at v = line.Event at (event.Command (command.StartRound (record { device = v.0; from = v.1.0 })))
+line_of verb.Start at v =
+    line.Start at (record { device = v.0; function = v.1.0; address = v.1.1.0; count = v.1.1.1.0 })
+line_of verb.Round at v =
+    line.Event at (event.Command (command.StartRound (record { device = v.0; from = v.1.0 })))
 line_of verb.Bytes at v = line.Event at (event.Bytes v.0 v.1.0)
 line_of verb.Tick at v = line.Event at event.Tick
 line_of verb.Gone at v = line.Event at (event.Gone v.0 closing.Gone)
@@ -117,7 +152,8 @@ line_asked question.Poll v = line.Poll v.0
 
 abbrev pub asked_by : Question → List (List ℕ) → Option ScriptLine
 asked_by question.Meter words = made (kinds_asked question.Meter) (line_asked question.Meter) words
-asked_by question.Intervals words = made (kinds_asked question.Intervals) (line_asked question.Intervals) words
+asked_by question.Intervals words =
+    made (kinds_asked question.Intervals) (line_asked question.Intervals) words
 asked_by question.Days words = made (kinds_asked question.Days) (line_asked question.Days) words
 asked_by question.Poll words = made (kinds_asked question.Poll) (line_asked question.Poll) words
 
@@ -184,7 +220,9 @@ abbrev pub device_bytes_said : List (List ℕ) → Option (Option (List ℕ) × 
 device_bytes_said words = made (AnyName ∷ Hex ∷ []) (λ values. (values.0, values.1.0)) words
 
 abbrev pub SaysPiece : Option (Option (List ℕ) × List ℕ) → Type 0
-SaysPiece found = (device : Option (List ℕ)) × (piece : List ℕ) × (found ≡ Some (device, piece)) × (0 < length piece)
+SaysPiece found =
+    (device : Option (List ℕ)) × (piece : List ℕ) × (found ≡ Some (device, piece))
+    × (0 < length piece)
 
 -- a line was said that brings one byte or more
 abbrev pub SaysBytes : Option ScriptLine → Type 0

@@ -23,7 +23,8 @@ fed_text past at e (Ok given) = flat_map note_line (notes_after past at e (Ok gi
 fed_text past at e (Err why) = refused_line why
 
 -- an event is fed, and accepted or not
-pub record FedPrints (now : Stage) (at : ℕ) (e : Event) (accepted : Bool) (printed : List ℕ) (next : Stage)
+pub record FedPrints (now : Stage) (at : ℕ) (e : Event) (accepted : Bool) (printed : List ℕ)
+    (next : Stage)
     : Type 0 where
   pub reply : Result Answer Refusal
   pub is : IsReply now at e reply
@@ -40,7 +41,8 @@ FedAll device at now (latest ∷ earlier) printed next =
     × FedPrints mid at (fed device latest) true here next × (printed ≡ before ++ here)
 
 -- Then `ok` is printed, or what came next was refused.
-abbrev pub FedEnds : (device : Option (List ℕ)) → (at : ℕ) → Stage → (printed : List ℕ) → (next : Stage) → Type 0
+abbrev pub FedEnds : (device : Option (List ℕ)) → (at : ℕ) → Stage → (printed : List ℕ)
+    → (next : Stage) → Type 0
 FedEnds device at now printed next =
     ((printed ≡ codes "ok\n") × (next ≡ now))
     ⊎ ((last : Came) × FedPrints now at (fed device last) false printed next)
@@ -50,7 +52,8 @@ abbrev pub most_takes : ℕ
 most_takes = 100000
 
 -- What comes back on a device's connection is fed, and prints this.
-pub record AnswersPrint (device : Option (List ℕ)) (at : ℕ) (now : Stage) (printed : List ℕ) (next : Stage)
+pub record AnswersPrint (device : Option (List ℕ)) (at : ℕ) (now : Stage) (printed : List ℕ)
+    (next : Stage)
     : Type 0 where
   pub brought : List Came
   pub before : List ℕ

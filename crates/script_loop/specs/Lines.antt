@@ -61,7 +61,8 @@ pub record StandsBy (now next : LoopStage) : Type 0 where
   pub connected : next.connected ≡ now.connected
 
 -- Where a start is accepted, what was started is printed, its frames go to the stand-in, and what comes back is fed.
-abbrev pub Started : Result Answer Refusal → (at : ℕ) → (device : Option (List ℕ)) → Event → (now : LoopStage)
+abbrev pub Started : Result Answer Refusal → (at : ℕ) → (device : Option (List ℕ)) → Event
+    → (now : LoopStage)
     → (printed : List ℕ) → (next : LoopStage) → Type 0
 Started (Ok given) at device e now printed next =
     (rest : List ℕ) × (printed ≡ reply_text now.script.past at e (Ok given) ++ rest)
@@ -85,7 +86,8 @@ pub record PlainPrints (at : ℕ) (e : Event) (now : LoopStage) (printed : List 
   pub by : StandsBy now next
 
 -- so does a connection, and from then on a line has asked for one
-pub record ConnectPrints (at : ℕ) (e : Event) (now : LoopStage) (printed : List ℕ) (next : LoopStage)
+pub record ConnectPrints (at : ℕ) (e : Event) (now : LoopStage) (printed : List ℕ)
+    (next : LoopStage)
     : Type 0 where
   pub prints : EventPrints now.script at e printed next.script
   pub maps : next.maps ≡ now.maps
@@ -102,7 +104,8 @@ CommandPrints (Some device) at e now printed next = StartsPrint at device e now 
 CommandPrints None at e now printed next = PlainPrints at e now printed next
 
 -- A line has no bytes of a device: they are the stand-in's.
-abbrev pub HappensPrints : (at : ℕ) → Event → (now : LoopStage) → (printed : List ℕ) → (next : LoopStage) → Type 0
+abbrev pub HappensPrints : (at : ℕ) → Event → (now : LoopStage) → (printed : List ℕ)
+    → (next : LoopStage) → Type 0
 HappensPrints at (event.Connected device) now printed next =
     ConnectPrints at (event.Connected device) now printed next
 HappensPrints at (event.Bytes device piece) now printed next = ⊥
@@ -111,14 +114,16 @@ HappensPrints at (event.Gone device closing) now printed next =
     PlainPrints at (event.Gone device closing) now printed next
 HappensPrints at (event.Command asked) now printed next =
     CommandPrints (round_of asked) at (event.Command asked) now printed next
-HappensPrints at (event.Asked asked) now printed next = PlainPrints at (event.Asked asked) now printed next
+HappensPrints at (event.Asked asked) now printed next =
+    PlainPrints at (event.Asked asked) now printed next
 
 abbrev pub IsBytes : Event → Type 0
 IsBytes (event.Bytes device piece) = Unit {0}
 IsBytes other = ⊥
 
 -- A start prints so where its numbers are registers that can be read, and else that it is refused.
-abbrev pub ReadPrints : (at : ℕ) → GivenStart → (now : LoopStage) → (printed : List ℕ) → (next : LoopStage) → Type 0
+abbrev pub ReadPrints : (at : ℕ) → GivenStart → (now : LoopStage) → (printed : List ℕ)
+    → (next : LoopStage) → Type 0
 ReadPrints at start now printed next =
     ((span : ReadSpan) × IsSpanOf start span
     × StartsPrint at start.device (start_event start span) now printed next)
@@ -131,7 +136,8 @@ pub record AlikePrints (said : ScriptLine) (now : LoopStage) (printed : List ℕ
   pub prints : LinePrints now.script said printed next.script
   pub by : StandsBy now next
 
-abbrev pub SaidPrints : ScriptLine → (now : LoopStage) → (printed : List ℕ) → (next : LoopStage) → Type 0
+abbrev pub SaidPrints : ScriptLine → (now : LoopStage) → (printed : List ℕ) → (next : LoopStage)
+    → Type 0
 SaidPrints (line.Event at e) now printed next = HappensPrints at e now printed next
 SaidPrints (line.Start at start) now printed next = ReadPrints at start now printed next
 SaidPrints said now printed next = AlikePrints said now printed next
@@ -144,10 +150,12 @@ abbrev pub IsNoBankLine : List (List ℕ) → Type 0
 IsNoBankLine words = (said : BankLine) → IsBankLine words said → ⊥
 
 -- Words that are a line of the bank or of a script, carried out.
-abbrev pub WordsPrint : List (List ℕ) → (now : LoopStage) → (printed : List ℕ) → (next : LoopStage) → Type 0
+abbrev pub WordsPrint : List (List ℕ) → (now : LoopStage) → (printed : List ℕ) → (next : LoopStage)
+    → Type 0
 WordsPrint words now printed next =
     ((said : BankLine) × IsBankLine words said × BankPrints said now printed next)
-    ⊎ (IsNoBankLine words × (said : ScriptLine) × IsLine words said × SaidPrints said now printed next)
+    ⊎ (IsNoBankLine words × (said : ScriptLine) × IsLine words said
+    × SaidPrints said now printed next)
 
 -- Words that are none, or may not stand where they do.
 abbrev pub AreWrong : (connected : Bool) → List (List ℕ) → Type 0

@@ -18,7 +18,8 @@ use Rattle.script_loop.specs.Standings.{LoopStage}
 abbrev pub LoopPrints : LoopStage → List Line → (printed : List ℕ) → Status → Type 0
 LoopPrints now [] printed status = (printed ≡ []) × (status ≡ Fine)
 LoopPrints now (first ∷ lines) printed status =
-    (AreWrong now.connected (words_of first.text) × (printed ≡ bad_line first.number) × (status ≡ Refused))
+    (AreWrong now.connected (words_of first.text) × (printed ≡ bad_line first.number)
+    × (status ≡ Refused))
     ⊎ ((here rest : List ℕ) × (next : LoopStage) × WordsPrint (words_of first.text) now here next
     × LoopPrints next lines rest status × (printed ≡ here ++ rest))
 
@@ -30,7 +31,8 @@ begun zone maps = record { script = beginning zone; maps = maps; connected = fal
 abbrev pub TextPrints : Zone → (text printed : List ℕ) → Status → Type 0
 TextPrints zone text printed status =
     ((printed ≡ no_office) × (status ≡ Refused))
-    ⊎ ((maps : Maps) × AreUnset maps × LoopPrints (begun zone maps) (speaking_lines text) printed status)
+    ⊎ ((maps : Maps) × AreUnset maps
+    × LoopPrints (begun zone maps) (speaking_lines text) printed status)
 
 -- An input prints what its text prints, where it isn't too long.
 pub record InputPrints (zone : Zone) (input printed : List ℕ) (status : Status) : Type 0 where

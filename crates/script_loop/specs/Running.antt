@@ -13,7 +13,8 @@ use Rattle.script_loop.specs.Loops.{InputPrints, LoopPrints, TextPrints}
 use Rattle.script_loop.specs.Standings.{CarriedOut, Desk, LoopStage, stage_on}
 
 -- A line was carried out, or is wrong; where a write or memory failed nothing is said.
-abbrev pub LineRuns : Result Bool Error → (Prints : LoopStage → List ℕ → LoopStage → Type 0) → (Wrong : Type 0)
+abbrev pub LineRuns : Result Bool Error → (Prints : LoopStage → List ℕ → LoopStage → Type 0)
+    → (Wrong : Type 0)
     → (from to : Desk) → Type 0
 LineRuns (Ok true) Prints Wrong from to =
     (past : History) → Stands ledger_of past from.office → CarriedOut Prints past from to
@@ -21,8 +22,10 @@ LineRuns (Ok false) Prints Wrong from to = Wrong × Appends from.output to.outpu
 LineRuns (Err error) Prints Wrong from to = ⊤
 
 -- what was written is all that is printed; of a run that failed nothing is said
-abbrev pub Writes : (Prints : List ℕ → Status → Type 0) → Status → (output output' : Option (List ℕ)) → Type 0
-Writes Prints Fine output output' = (printed : List ℕ) × Appends output output' printed × Prints printed Fine
+abbrev pub Writes : (Prints : List ℕ → Status → Type 0) → Status
+    → (output output' : Option (List ℕ)) → Type 0
+Writes Prints Fine output output' =
+    (printed : List ℕ) × Appends output output' printed × Prints printed Fine
 Writes Prints Refused output output' =
     (printed : List ℕ) × Appends output output' printed × Prints printed Refused
 Writes Prints Failed output output' = ⊤
@@ -34,7 +37,8 @@ TellsText text Refused output output' = Appends output output' text
 TellsText text Failed output output' = ⊤
 
 -- lines that were run from a desk
-abbrev pub LinesRun : Status → (text : List ℕ) → (from : Desk) → (output' : Option (List ℕ)) → Type 0
+abbrev pub LinesRun : Status → (text : List ℕ) → (from : Desk) → (output' : Option (List ℕ))
+    → Type 0
 LinesRun status text from output' =
     (past : History) → Stands ledger_of past from.office
     → Writes (LoopPrints (stage_on past from) (speaking_lines text)) status from.output output'
@@ -42,5 +46,6 @@ LinesRun status text from output' =
 abbrev pub TextRuns : Zone → (text : List ℕ) → Status → (output output' : Option (List ℕ)) → Type 0
 TextRuns zone text status output output' = Writes (TextPrints zone text) status output output'
 
-abbrev pub InputRuns : Zone → (input : List ℕ) → Status → (output output' : Option (List ℕ)) → Type 0
+abbrev pub InputRuns : Zone → (input : List ℕ) → Status → (output output' : Option (List ℕ))
+    → Type 0
 InputRuns zone input status output output' = Writes (InputPrints zone input) status output output'

@@ -32,7 +32,8 @@ stage_on past here =
     record { script = stage_of past here.office; maps = here.maps; connected = here.connected }
 
 -- This was printed, and the office stands after it.
-pub record CarriedOut (Prints : LoopStage → List ℕ → LoopStage → Type 0) (past : History) (from to : Desk)
+pub record CarriedOut (Prints : LoopStage → List ℕ → LoopStage → Type 0) (past : History)
+    (from to : Desk)
     : Type 0 where
   pub printed : List ℕ
   pub after : History

@@ -20,4 +20,5 @@ later_moments (moment ∷ next ∷ later) = next ∷ later
 -- a clock whose moments are known tells the next, and goes on behind it
 abbrev pub Tells : Option (List ℕ) → Option (List ℕ) → ℕ → Type 0
 Tells None new moment = Unit {0}
-Tells (Some moments) new moment = (moment ≡ next_moment moments) × (new ≡ Some (later_moments moments))
+Tells (Some moments) new moment =
+    (moment ≡ next_moment moments) × (new ≡ Some (later_moments moments))

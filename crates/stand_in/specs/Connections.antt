@@ -7,6 +7,7 @@ use Rattle.mb_device.specs.declared.serving.ServeFault.{ServeFault}
 use Rattle.mb_device.specs.declared.trick.Trick.{Trick}
 
 -- A server that has taken nothing yet serves the connection, and plays these tricks on its answers.
-pub record ServesSome (tricks : List (ℕ × Trick)) (result : Result ℕ ServeFault) (old new : Around) : Type 0 where
+pub record ServesSome (tricks : List (ℕ × Trick)) (result : Result ℕ ServeFault)
+    (old new : Around) : Type 0 where
   pub left : Standing
   pub serves : Serves [] (begun tricks) result old new left

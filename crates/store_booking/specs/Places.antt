@@ -27,14 +27,17 @@ abbrev pub next_in : List Row → Result ℕ RowFault
 next_in rows = place_after (slice_get rows 0)
 
 -- what is made of the tables goes with the answer
-abbrev pub Answered : {X E : Type 0} → Result X E → (X → Content → Content → Type 0) → Content → Content → Type 0
+abbrev pub Answered : {X E : Type 0} → Result X E → (X → Content → Content → Type 0) → Content
+    → Content → Type 0
 Answered (Ok x) Makes = Makes x
 Answered (Err e) Makes = λ held after. ⊤
 
 -- The answer is what is seen of a row that passes, and nothing was changed.
-pub record IsSeenIn {X A : Type 0} (tree : ℕ) (columns : X → Row) (passes : X → Bool) (IsSeen : X → A → Type 0) (answer : A) (held after : Content) : Type 0 where
+pub record IsSeenIn {X A : Type 0} (tree : ℕ) (columns : X → Row) (passes : X → Bool)
+    (IsSeen : X → A → Type 0) (answer : A) (held after : Content) : Type 0 where
   pub same : after ≡ held
-  pub seen : (rows : List X) → HasRows tree columns rows held → IsFound passes IsSeen rows (Some answer)
+  pub seen : (rows : List X) → HasRows tree columns rows held
+      → IsFound passes IsSeen rows (Some answer)
 
 abbrev pub StandsThere : Installed → LastRow → Type 0
 StandsThere i last = last ≡ i.row.last

@@ -23,7 +23,8 @@ use Rattle.store_booking.specs.Places.{StandsThere}
 -- The tables say that the meter stands there, and nothing was changed.
 pub record IsStanding (meter : List ℕ) (standing : Standing) (held after : Content) : Type 0 where
   pub same : after ≡ held
-  pub behind : IsBehind entry_tree.entries entry_columns (is_of meter) entry_place standing.place held
+  pub behind : IsBehind entry_tree.entries entry_columns (is_of meter) entry_place standing.place
+      held
   pub last : (rows : List Installed) → HasRows meter_tree.installations installed_columns rows held
       → IsFound (is_meter meter) StandsThere rows (Some standing.last)
   pub range : (rows : List Ranged) → HasRows meter_tree.ranges ranged_columns rows held
@@ -39,18 +40,27 @@ stands_at last total = record { moment = last.at; raw = last.raw; sf = last.sf; 
 -- Where the entry is booked, this is where the meter stands then, and the step up to there.
 abbrev pub Advances : Standing → Entry → Advance → Type 0
 Advances standing e advance =
-    (last : Last) (step : Step) → entered_behind standing.range standing.last.total (counter_of standing.last) e ≡ Ok (last, step)
+    (last : Last) (step : Step)
+    → entered_behind standing.range standing.last.total (counter_of standing.last) e
+    ≡ Ok (last, step)
     → (advance.last ≡ stands_at last (standing.last.total + step.mwh)) × (advance.step ≡ step)
 
 -- a meter that stands there, closed or as it was
 abbrev pub settled : LastRow → (is_closing : Bool) → Installed → Installed
-settled last is_closing i = record i { row = record i.row { last = last; is_ended = if is_closing then true else i.row.is_ended } }
+settled last is_closing i =
+    record i {
+      row = record i.row
+          { last = last; is_ended = if is_closing then true else i.row.is_ended };
+    }
 
 abbrev pub Settles : (meter : List ℕ) → LastRow → (is_closing : Bool) → Content → Content → Type 0
-Settles meter last is_closing = Edits meter_tree.installations installed_columns (changed_where (is_meter meter) (settled last is_closing))
+Settles meter last is_closing =
+    Edits meter_tree.installations installed_columns
+    (changed_where (is_meter meter) (settled last is_closing))
 
 -- One more entry of a meter: its row, the energy of its step, and where the meter stands then.
-pub record EntersEntry (meter : List ℕ) (row : EntryRow) (advance : Advance) (is_closing : Bool) (held after : Content) : Type 0 where
+pub record EntersEntry (meter : List ℕ) (row : EntryRow) (advance : Advance) (is_closing : Bool)
+    (held after : Content) : Type 0 where
   pub one : Content
   pub two : Content
   pub entry : Edits entry_tree.entries entry_columns (with_row (entered meter row)) held one

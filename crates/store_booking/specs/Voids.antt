@@ -30,14 +30,16 @@ pub record IsSaidIn (Say : List Fact → Type 0) (held after : Content) : Type 0
   pub says : (zone : List ℕ) (facts : List Fact) → AreOf zone facts held → Say facts
 
 -- the journal of a meter that was installed
-pub record IsJournalFrom (facts : List Fact) (first : Opening) (journal : MeterJournal) : Type 0 where
-  pub range : journal.range ≡ first.range
-  pub opening : journal.opening ≡ opened first
-  pub rows : latest_first journal.rows.items ≡ rows_of facts first
+pub record IsJournalFrom (facts : List Fact) (first : Opening) (journal : MeterJournal) : Type 0
+  where
+    pub range : journal.range ≡ first.range
+    pub opening : journal.opening ≡ opened first
+    pub rows : latest_first journal.rows.items ≡ rows_of facts first
 
 abbrev pub IsJournalOf : (meter : List ℕ) → List Fact → MeterJournal → Type 0
 IsJournalOf meter facts journal =
-    (opening : Opening) → opening_of facts meter ≡ Some opening → IsJournalFrom facts opening journal
+    (opening : Opening) → opening_of facts meter ≡ Some opening
+    → IsJournalFrom facts opening journal
 
 -- ---- what is left
 
@@ -46,16 +48,21 @@ abbrev pub HasRolls : (opening : Last) → Around → Option Rollover → Type 0
 HasRolls opening around None = around.next ≡ None
 HasRolls opening around (Some rollover) =
     (next : EntryRow) × (around.next ≡ Some next)
-    × (rollover ≡ record { place = next.place; rolls = rolls_of (with_rolls (last_before opening around) next.entry) })
+    × (rollover ≡ record {
+      place = next.place;
+      rolls = rolls_of (with_rolls (last_before opening around) next.entry);
+    })
 
 abbrev pub IsNextOf : MeterJournal → (place : ℕ) → Option Rollover → Type 0
 IsNextOf journal place next =
-    (around : Around) × (row_at place (latest_first journal.rows.items) ≡ Some around) × HasRolls journal.opening around next
+    (around : Around) × (row_at place (latest_first journal.rows.items) ≡ Some around)
+    × HasRolls journal.opening around next
 
 -- where the counter stands after these entries, their energy, and their interval rows
-pub record IsAccountOf (range : ℕ) (opening : Last) (es : List Entry) (account : Account) : Type 0 where
-  pub last : account.last ≡ stands_at (last_of opening es) (whole_energy range opening es)
-  pub shares : account.shares.items ≡ rows_of_steps (steps_of range opening es)
+pub record IsAccountOf (range : ℕ) (opening : Last) (es : List Entry) (account : Account) : Type 0
+  where
+    pub last : account.last ≡ stands_at (last_of opening es) (whole_energy range opening es)
+    pub shares : account.shares.items ≡ rows_of_steps (steps_of range opening es)
 
 -- The entry at the place is there, and this is left when it is voided.
 pub record Corrects (journal : MeterJournal) (place : ℕ) (made : Correction) : Type 0 where
@@ -67,7 +74,8 @@ pub record Corrects (journal : MeterJournal) (place : ℕ) (made : Correction) :
 
 abbrev pub rolled_next : (meter : List ℕ) → Option Rollover → List Entered → List Entered
 rolled_next meter None rows = rows
-rolled_next meter (Some next) rows = changed_where (is_entry meter next.place) (rolled next.rolls) rows
+rolled_next meter (Some next) rows =
+    changed_where (is_entry meter next.place) (rolled next.rolls) rows
 
 abbrev pub RollsNext : (meter : List ℕ) → Option Rollover → Content → Content → Type 0
 RollsNext meter next = Edits entries entry_columns (rolled_next meter next)
@@ -79,9 +87,11 @@ pub record KeepsAccount (meter : List ℕ) (account : Account) (held after : Con
   pub stands : Settles meter account.last false one after
 
 -- One void of a meter's entry: its row, the next entry's rollovers, and the meter's account then.
-pub record EntersVoid (meter : List ℕ) (place moment : ℕ) (made : Correction) (held after : Content) : Type 0 where
+pub record EntersVoid (meter : List ℕ) (place moment : ℕ) (made : Correction)
+    (held after : Content) : Type 0 where
   pub one : Content
   pub two : Content
-  pub void : Edits voids voided_columns (with_row (record { meter = meter; place = place; moment = moment })) held one
+  pub void : Edits voids voided_columns
+      (with_row (record { meter = meter; place = place; moment = moment })) held one
   pub next : RollsNext meter made.next one two
   pub account : KeepsAccount meter made.account two after

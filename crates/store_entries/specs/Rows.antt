@@ -35,8 +35,10 @@ pub record Entered : Type 0 where
 
 abbrev pub entry_columns : Entered → Row
 entry_columns e =
-    Text e.meter ∷ Int (pos e.entry.place) ∷ Int (pos (kind_number e.entry.kind)) ∷ Int (pos e.entry.moment)
-    ∷ Int (pos e.entry.raw) ∷ Int (pos e.entry.rolls) ∷ Int (pos e.entry.after) ∷ Int e.entry.sf ∷ []
+    Text e.meter ∷ Int (pos e.entry.place) ∷ Int (pos (kind_number e.entry.kind))
+    ∷ Int (pos e.entry.moment)
+    ∷ Int (pos e.entry.raw) ∷ Int (pos e.entry.rolls) ∷ Int (pos e.entry.after) ∷ Int e.entry.sf
+    ∷ []
 
 -- the entry of a meter at a place, one of a meter, and one with other rollovers
 abbrev pub is_entry : (meter : List ℕ) → (place : ℕ) → Entered → Bool
@@ -59,7 +61,8 @@ pub record IsSoundEntry (e : EntryRow) : Type 0 where
 -- what the queries show of an entry
 abbrev pub entry_shown : Entered → Row
 entry_shown e =
-    Int (pos e.entry.place) ∷ Int (pos (kind_number e.entry.kind)) ∷ Int (pos e.entry.moment) ∷ Int (pos e.entry.raw)
+    Int (pos e.entry.place) ∷ Int (pos (kind_number e.entry.kind)) ∷ Int (pos e.entry.moment)
+    ∷ Int (pos e.entry.raw)
     ∷ Int (pos e.entry.rolls) ∷ Int (pos e.entry.after) ∷ Int e.entry.sf ∷ []
 
 abbrev pub IsRow : Entered → EntryRow → Type 0
@@ -84,7 +87,15 @@ entry_in row =
     and_then (or_damaged (whole_in 0 255 (column row 4))) (λ rolls.
     and_then (or_damaged (whole_in 0 4294967295 (column row 5))) (λ after.
     and_then (or_damaged (within 3 (column row 6))) (λ sf.
-    Ok (record { place = place; kind = kind; moment = moment; raw = raw; rolls = rolls; after = after; sf = sf }))))))))
+    Ok (record {
+      place = place;
+      kind = kind;
+      moment = moment;
+      raw = raw;
+      rolls = rolls;
+      after = after;
+      sf = sf;
+    }))))))))
 
 abbrev pub entry_place : Entered → ℕ
 entry_place e = e.entry.place

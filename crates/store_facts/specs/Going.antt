@@ -11,9 +11,12 @@ abbrev pub HasMade : (Content → Content → Type 0) → Content → Database �
 HasMade Makes held db = (after : Content) × Makes held after × AreTables db after
 
 -- At Ok a call inside a transaction makes other tables of those that there were. Nothing is committed.
-pub record Goes {X E : Type 0} (old new : State) (result : Result X E) (Makes : Content → Content → Type 0) : Type 0 where
-  pub kept : HasCleanDisk new → IsTrue old.in_transaction → (held : Content) → AreTables old.now held → KeepsCommit old new
-  pub makes : HasCleanDisk new → IsTrue old.in_transaction → (held : Content) → AreTables old.now held
+pub record Goes {X E : Type 0} (old new : State) (result : Result X E)
+    (Makes : Content → Content → Type 0) : Type 0 where
+  pub kept : HasCleanDisk new → IsTrue old.in_transaction → (held : Content)
+      → AreTables old.now held → KeepsCommit old new
+  pub makes : HasCleanDisk new → IsTrue old.in_transaction → (held : Content)
+      → AreTables old.now held
       → OnOk result (IsTrue new.in_transaction × HasMade Makes held new.now)
   pub survives : Survives old new (λ _. ⊥)
 
@@ -24,13 +27,16 @@ pub record AreMade (old : State) (Makes : Content → Content → Type 0) (trees
   pub same : trees ≡ db.trees
 
 -- All is committed at Ok, or nothing is. A stop leaves what there was, or all.
-pub record Commits {X E : Type 0} (old new : State) (result : Result X E) (Makes : Content → Content → Type 0) : Type 0 where
+pub record Commits {X E : Type 0} (old new : State) (result : Result X E)
+    (Makes : Content → Content → Type 0) : Type 0 where
   pub ok : HasCleanDisk new → (held : Content) → AreTables old.now held
       → OnOk result (IsTrue old.is_open × IsTrue new.is_open × HasMade Makes held new.committed)
-  pub err : HasCleanDisk new → (held : Content) → AreTables old.now held → OnErr result (KeepsCommit old new)
+  pub err : HasCleanDisk new → (held : Content) → AreTables old.now held
+      → OnErr result (KeepsCommit old new)
   pub survives : Survives old new (AreMade old Makes)
 
 -- A question was answered of the rows of a table, whatever they are, and nothing was changed.
-pub record Told {A X : Type 0} (tree : ℕ) (columns : X → Row) (Answers : List X → A → Type 0) (answer : A) (held after : Content) : Type 0 where
+pub record Told {A X : Type 0} (tree : ℕ) (columns : X → Row) (Answers : List X → A → Type 0)
+    (answer : A) (held after : Content) : Type 0 where
   pub same : after ≡ held
   pub answers : (rows : List X) → HasRows tree columns rows held → Answers rows answer

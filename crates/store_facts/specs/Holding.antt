@@ -32,28 +32,35 @@ module _ {S : Type 0} (g : Ghosts S) (zone : List ℕ) where
   -- While the connection is open and its store gave back what was written, the last commit has the tables of these facts.
   unfoldable pub HoldsFacts : Held S → List Fact → Type 0
   HoldsFacts h facts =
-      HasCleanDisk (state g h) → IsTrue (state g h).is_open → HasFacts zone facts (state g h).committed
+      HasCleanDisk (state g h) → IsTrue (state g h).is_open
+      → HasFacts zone facts (state g h).committed
 
   -- Whatever a stop leaves now has the tables of one of these lists.
   unfoldable pub LeavesFacts : Held S → List (List Fact) → Type 0
-  LeavesFacts h left = HasCleanDisk (state g h) → (trees : Trees) → (state g h).may_leave trees → IsLeft zone left trees
+  LeavesFacts h left = HasCleanDisk (state g h) → (trees : Trees) → (state g h).may_leave trees
+      → IsLeft zone left trees
 
   -- A look-up outside a transaction commits nothing, and a stop leaves what it left.
   pub record OnlyLooks (old new : Held S) : Type 0 where
     pub clean : HasCleanDisk (state g new) → HasCleanDisk (state g old)
     pub mode : old.in_transaction ≡ false → new.in_transaction ≡ false
-    pub kept : (facts : List Fact) → HoldsFacts old facts → HasCleanDisk (state g new) → KeepsCommit (state g old) (state g new)
+    pub kept : (facts : List Fact) → HoldsFacts old facts → HasCleanDisk (state g new)
+        → KeepsCommit (state g old) (state g new)
     pub left : (facts : List Fact) → HoldsFacts old facts → HasCleanDisk (state g new)
         → (trees : Trees) → (state g new).may_leave trees → (state g old).may_leave trees
 
   -- Facts that may follow those that are held were booked at Ok, all of them, and a stop leaves nothing else from then on.
   -- At a fault none is held, and a stop may yet leave all of them. To book no facts does nothing.
-  pub record BooksFacts {X E : Type 0} (fs : List Fact) (old new : Held S) (result : Result X E) : Type 0 where
+  pub record BooksFacts {X E : Type 0} (fs : List Fact) (old new : Held S) (result : Result X E) :
+      Type 0 where
     pub clean : HasCleanDisk (state g new) → HasCleanDisk (state g old)
-    pub booked : (facts : List Fact) → HoldsFacts old facts → AreLawful (reverse fs ++ facts) → OnOk result (HoldsFacts new (reverse fs ++ facts))
-    pub settled : fs ≢ [] → (facts : List Fact) → HoldsFacts old facts → AreLawful (reverse fs ++ facts)
+    pub booked : (facts : List Fact) → HoldsFacts old facts → AreLawful (reverse fs ++ facts)
+        → OnOk result (HoldsFacts new (reverse fs ++ facts))
+    pub settled : fs ≢ [] → (facts : List Fact) → HoldsFacts old facts
+        → AreLawful (reverse fs ++ facts)
         → OnOk result (LeavesFacts new ((reverse fs ++ facts) ∷ []))
     pub refused : (facts : List Fact) → HoldsFacts old facts → OnErr result (HoldsFacts new facts)
-    pub under_way : (facts : List Fact) (left : List (List Fact)) → HoldsFacts old facts → AreLawful (reverse fs ++ facts) → LeavesFacts old left
+    pub under_way : (facts : List Fact) (left : List (List Fact)) → HoldsFacts old facts
+        → AreLawful (reverse fs ++ facts) → LeavesFacts old left
         → OnErr result (LeavesFacts new (left ++ (reverse fs ++ facts) ∷ []))
     pub nothing : fs ≡ [] → (new ≡ old) × IsOk result

@@ -64,7 +64,12 @@ placed_on row before (x ∷ xs) = row (before + 1) x ∷ placed_on row (before +
 abbrev pub added : (place : ℕ) → Device → Added
 added place device = record {
   name = device.name;
-  row = record { place = place; unit = device.unit; timeout = device.timeout; window = device.window };
+  row = record {
+    place = place;
+    unit = device.unit;
+    timeout = device.timeout;
+    window = device.window;
+  };
 }
 
 -- the function that reads the registers of a table
@@ -78,7 +83,12 @@ listed device place point = record {
   name = point.name;
   kind = type_text point.kind;
   scale = scale_text point.scale;
-  row = record { place = place; function = function_of point.table; area = point.area; address = point.address };
+  row = record {
+    place = place;
+    function = function_of point.table;
+    area = point.area;
+    address = point.address;
+  };
 }
 
 -- the points that were put last for a device, in order
@@ -97,7 +107,12 @@ abbrev pub registered : (place : ℕ) → Register → Registered
 registered place register = record {
   name = register.name;
   device = register.device;
-  row = record { place = place; function = register.function; address = register.address; scale = scale_as register.scale };
+  row = record {
+    place = place;
+    function = register.function;
+    address = register.address;
+    scale = scale_as register.scale;
+  };
 }
 
 -- ---- meters
@@ -108,13 +123,19 @@ begun opening = record { opening = opening; last = opened opening; total = 0; en
 
 -- where an installation stands
 abbrev pub last_row : Installation → LastRow
-last_row row = record { moment = row.last.at; raw = row.last.raw; sf = row.last.sf; total = row.total }
+last_row row =
+    record { moment = row.last.at; raw = row.last.raw; sf = row.last.sf; total = row.total }
 
 abbrev pub installed_as : (place : ℕ) → Installation → Installed
 installed_as place row = record {
   meter = row.opening.meter;
   register = row.opening.register;
-  row = record { place = place; ceiling = row.opening.ceiling; is_ended = row.ended; last = last_row row };
+  row = record {
+    place = place;
+    ceiling = row.opening.ceiling;
+    is_ended = row.ended;
+    last = last_row row;
+  };
 }
 
 abbrev pub installed_row : List Fact → (place : ℕ) → Opening → Installed
@@ -165,7 +186,15 @@ entry_row sf row = record {
 
 abbrev pub opening_row : Opening → EntryRow
 opening_row opening =
-    record { place = 1; kind = kind.Opening; moment = opening.at; raw = opening.raw; rolls = 0; after = 0; sf = opening.sf }
+    record {
+      place = 1;
+      kind = kind.Opening;
+      moment = opening.at;
+      raw = opening.raw;
+      rolls = 0;
+      after = 0;
+      sf = opening.sf;
+    }
 
 abbrev pub entered : (meter : List ℕ) → EntryRow → Entered
 entered meter row = record { meter = meter; entry = row }
@@ -178,7 +207,8 @@ scale_behind opening rows = (last_of (opened opening) (entries_in rows)).sf
 abbrev pub entered_rows : Opening → List journal.EntryRow → List Entered
 entered_rows opening [] = entered opening.meter (opening_row opening) ∷ []
 entered_rows opening (row ∷ rows) =
-    entered opening.meter (entry_row (scale_behind opening (row ∷ rows)) row) ∷ entered_rows opening rows
+    entered opening.meter (entry_row (scale_behind opening (row ∷ rows)) row)
+    ∷ entered_rows opening rows
 
 -- the entries of a meter
 abbrev pub entries_at : List Fact → Option Opening → List Entered

@@ -33,20 +33,23 @@ pub record ArePoints (facts : List Fact) (held : Content) : Type 0 where
   pub rows : List Listed
   pub there : HasRows list_tree.points point_columns rows held
   pub each : (device : List ℕ)
-      → IsPermutation (filter (is_point_of device) rows) (placed_on (listed device) 0 (points_of facts device))
+      → IsPermutation (filter (is_point_of device) rows)
+      (placed_on (listed device) 0 (points_of facts device))
 
 -- The entries of each meter are its opening and what came after.
 pub record AreEntries (facts : List Fact) (held : Content) : Type 0 where
   pub rows : List Entered
   pub there : HasRows entry_tree.entries entry_columns rows held
-  pub each : (meter : List ℕ) → IsPermutation (filter (is_entry_of meter) rows) (entries_of facts meter)
+  pub each : (meter : List ℕ)
+      → IsPermutation (filter (is_entry_of meter) rows) (entries_of facts meter)
 
 -- The rows of each meter have the energy of its intervals.
 pub record AreIntervals (facts : List Fact) (held : Content) : Type 0 where
   pub rows : List Interval
   pub there : HasRows interval_tree.intervals interval_columns rows held
   pub each : (meter : List ℕ)
-      → IsPermutation (filter (is_interval_of meter) rows) (map (interval_of meter) (rows_of_meter facts meter))
+      → IsPermutation (filter (is_interval_of meter) rows)
+      (map (interval_of meter) (rows_of_meter facts meter))
 
 -- The tables have the rows of these lawful facts, the latest first, and name this zone.
 pub record AreOf (zone : List ℕ) (facts : List Fact) (held : Content) : Type 0 where
@@ -54,8 +57,10 @@ pub record AreOf (zone : List ℕ) (facts : List Fact) (held : Content) : Type 0
   pub meta : HasRows meta_tree meta_columns (zone ∷ []) held
   pub devices : HasRows list_tree.devices device_columns (placed added (devices_in facts)) held
   pub points : ArePoints facts held
-  pub registers : HasRows list_tree.registers register_columns (placed registered (registers_in facts)) held
-  pub installations : HasRows meter_tree.installations installed_columns (placed (installed_row facts) (openings_in facts)) held
+  pub registers : HasRows list_tree.registers register_columns
+      (placed registered (registers_in facts)) held
+  pub installations : HasRows meter_tree.installations installed_columns
+      (placed (installed_row facts) (openings_in facts)) held
   pub ranges : HasRows meter_tree.ranges ranged_columns (map ranged (openings_in facts)) held
   pub entries : AreEntries facts held
   pub voids : HasRows entry_tree.voids voided_columns (map voided (voids_in facts)) held

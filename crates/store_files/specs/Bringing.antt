@@ -29,7 +29,8 @@ full_range i = record { meter = i.meter; range = 4294967296 }
 
 -- a range for each installation, where there were none
 abbrev pub HasRanges : Layout → (held after : Content) → Type 0
-HasRanges First held after = (is : List Installed) → HasRows installations installed_columns is held → HasRows ranges ranged_columns (map full_range is) after
+HasRanges First held after = (is : List Installed) → HasRows installations installed_columns is held
+    → HasRows ranges ranged_columns (map full_range is) after
 HasRanges Second held after = after ranges ≡ held ranges
 HasRanges Third held after = after ranges ≡ held ranges
 
@@ -48,7 +49,8 @@ pub record IsBrought (layout : Layout) (zone : List ℕ) (held after : Content) 
 
 -- a file of this layout becomes one of version 3
 abbrev pub Brings : Layout → (zone : List ℕ) → Database → Database → Type 0
-Brings layout zone old new = (held : Content) → IsFile layout zone old held → (after : Content) × IsBrought layout zone held after × AreTables new after
+Brings layout zone old new = (held : Content) → IsFile layout zone old held
+    → (after : Content) × IsBrought layout zone held after × AreTables new after
 
 -- ---- the meters of a file of version 1, as a question shows them
 
@@ -78,17 +80,24 @@ GivesRanges shown = Edits ranges ranged_columns (with_ranges shown)
 -- what the statements of an opening of a file of version 1 do, where these rows show its meters
 abbrev pub BringsFirst : (shown : List Row) → Database → Database → Type 0
 BringsFirst shown old new =
-    (zone : List ℕ) (held : Content) → IsFile First zone old held → ((is : List Installed) → HasRows installations installed_columns is held → IsPermutation (map meter_shown is) shown)
+    (zone : List ℕ) (held : Content) → IsFile First zone old held
+    → ((is : List Installed) → HasRows installations installed_columns is held
+    → IsPermutation (map meter_shown is) shown)
     → (after : Content) × IsBrought First zone held after × AreTables new after
 
 abbrev pub BringsSecond : Database → Database → Type 0
 BringsSecond old new = (zone : List ℕ) → Brings Second zone old new
 
 -- What an opening leaves of a connection to a file: the file of version 3, or what there was. A stop leaves one or the other.
-pub record OpensFile {X E : Type 0} (layout : Layout) (zone : List ℕ) (held : Content) (old new : State) (result : Result X E) : Type 0 where
-  pub ok : OnOk result (IsTrue new.is_open × (after : Content) × IsBrought layout zone held after × AreTables new.committed after)
+pub record OpensFile {X E : Type 0} (layout : Layout) (zone : List ℕ) (held : Content)
+    (old new : State) (result : Result X E) : Type 0 where
+  pub ok : OnOk result
+      (IsTrue new.is_open × (after : Content) × IsBrought layout zone held after
+      × AreTables new.committed after)
   pub err : OnErr result (KeepsCommit old new)
-  pub survives : Survives old new (λ trees. (after : Content) × IsBrought layout zone held after × (db : Database) × AreTables db after × (trees ≡ db.trees))
+  pub survives : Survives old new
+      (λ trees. (after : Content) × IsBrought layout zone held after × (db : Database)
+      × AreTables db after × (trees ≡ db.trees))
 
 -- an open connection to such a file, with nothing that waits for a commit
 pub record IsOpenTo (layout : Layout) (zone : List ℕ) (held : Content) (s : State) : Type 0 where

@@ -20,7 +20,11 @@ is_index_of tables i = list_any (λ (t : Table). t.tree == i.table) tables
 abbrev pub first_tables : ℕ → Schema
 first_tables n =
     let tables = take n books_schema.tables in
-    record { tables = tables; indexes = filter (is_index_of tables) books_schema.indexes; views = [] }
+    record {
+      tables = tables;
+      indexes = filter (is_index_of tables) books_schema.indexes;
+      views = [];
+    }
 
 abbrev pub version_of : Layout → ℕ
 version_of First = 1

@@ -12,4 +12,5 @@ pub record IsNew (zone : List ℕ) (held : Content) : Type 0 where
 
 -- a database without tables becomes one with new tables
 abbrev pub Makes : (zone : List ℕ) → Database → Database → Type 0
-Makes zone old new = old.schema ≡ no_schema → (held : Content) × IsNew zone held × AreTables new held
+Makes zone old new = old.schema ≡ no_schema
+    → (held : Content) × IsNew zone held × AreTables new held

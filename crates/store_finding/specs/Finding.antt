@@ -14,9 +14,12 @@ use Rattle.store_finding.specs.Each.{AreEach}
 
 -- What is answered is what the facts say. Damage is told only where the facts have what the tables can't, and nothing is
 -- changed.
-pub record Finds {S A : Type 0} (g : Ghosts S) (old new : Held S) (result : Result A RowFault) (Says : List Fact → A → Type 0) (AreSound : List Fact → Type 0) : Type 0 where
-  pub answer : (zone : List ℕ) (facts : List Fact) → HoldsFacts g zone old facts → HasCleanDisk (state g new) → IfOk result (Says facts)
-  pub fault : (zone : List ℕ) (facts : List Fact) → HoldsFacts g zone old facts → HasCleanDisk (state g new) → AreSound facts
+pub record Finds {S A : Type 0} (g : Ghosts S) (old new : Held S) (result : Result A RowFault)
+    (Says : List Fact → A → Type 0) (AreSound : List Fact → Type 0) : Type 0 where
+  pub answer : (zone : List ℕ) (facts : List Fact) → HoldsFacts g zone old facts
+      → HasCleanDisk (state g new) → IfOk result (Says facts)
+  pub fault : (zone : List ℕ) (facts : List Fact) → HoldsFacts g zone old facts
+      → HasCleanDisk (state g new) → AreSound facts
       → IfErr result (λ e. e ≢ Damaged)
   pub looks : (zone : List ℕ) → OnlyLooks g zone old new
 
@@ -25,6 +28,8 @@ abbrev pub OfLawful : {A : Type 0} → (List Fact → A → Type 0) → List Fac
 OfLawful Says facts a = AreLawful facts × Says facts a
 
 -- Rows that stand for values are read as those values, in order. Damage is told only where a value is out of its ranges.
-pub record ReadsAll {A T X : Type 0} (rows : List Row) (shown : X → Row) (IsSeen : X → A → Type 0) (IsSound : X → Type 0) (items : T → List A) (result : Result T RowFault) : Type 0 where
+pub record ReadsAll {A T X : Type 0} (rows : List Row) (shown : X → Row) (IsSeen : X → A → Type 0)
+    (IsSound : X → Type 0) (items : T → List A) (result : Result T RowFault) : Type 0 where
   pub read : (xs : List X) → rows ≡ map shown xs → IfOk result (λ v. AreEach IsSeen xs (items v))
-  pub fault : (xs : List X) → rows ≡ map shown xs → AllByRecursion IsSound xs → IfErr result (λ e. e ≢ Damaged)
+  pub fault : (xs : List X) → rows ≡ map shown xs → AllByRecursion IsSound xs
+      → IfErr result (λ e. e ≢ Damaged)

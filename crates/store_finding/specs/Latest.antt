@@ -16,7 +16,9 @@ greatest moment (x ∷ xs) = max (moment x) (greatest moment xs)
 
 -- openings and the entries after them
 abbrev pub latest_entered : List Fact → ℕ
-latest_entered facts = max (greatest (λ o. o.at) (openings_in facts)) (greatest (λ b. moment_of b.entry) (entries_in facts))
+latest_entered facts =
+    max (greatest (λ o. o.at) (openings_in facts))
+    (greatest (λ b. moment_of b.entry) (entries_in facts))
 
 abbrev pub latest_voided : List Fact → ℕ
 latest_voided facts = greatest (λ v. v.at) (voids_in facts)

@@ -29,7 +29,14 @@ point_with named typed scaled row =
     and_then (or_damaged (name_spelled named)) (λ name.
     and_then (or_damaged (type_of typed)) (λ kind.
     and_then (or_damaged (scale_spelled scaled)) (λ scale.
-    Ok (record { name = name; table = table_from row.function; area = row.area; address = row.address; kind = kind; scale = scale }))))
+    Ok (record {
+      name = name;
+      table = table_from row.function;
+      area = row.area;
+      address = row.address;
+      kind = kind;
+      scale = scale;
+    }))))
 
 -- the texts of its type and its scale spell these
 pub record IsSpelled (p : ListedPoint) : Type 0 where
@@ -37,7 +44,8 @@ pub record IsSpelled (p : ListedPoint) : Type 0 where
   pub scale : scale_spelled (scale_text p.scale) ≡ Some p.scale
 
 abbrev pub IsPointOf : Listed → ListedPoint → Type 0
-IsPointOf row point = (device : List ℕ) (place : ℕ) (p : ListedPoint) → IsSpelled p → row ≡ listed device place p → point ≡ p
+IsPointOf row point = (device : List ℕ) (place : ℕ) (p : ListedPoint) → IsSpelled p
+    → row ≡ listed device place p → point ≡ p
 
 -- its texts spell something
 pub record IsReadablePoint (p : Listed) : Type 0 where
@@ -47,4 +55,5 @@ pub record IsReadablePoint (p : Listed) : Type 0 where
   pub scale : (s : PointScale) × (scale_spelled p.scale ≡ Some s)
 
 abbrev pub HasReadablePoints : List Fact → (device : List ℕ) → Type 0
-HasReadablePoints facts device = AllByRecursion IsReadablePoint (placed_on (listed device) 0 (points_of facts device))
+HasReadablePoints facts device =
+    AllByRecursion IsReadablePoint (placed_on (listed device) 0 (points_of facts device))

@@ -33,8 +33,11 @@ use Rattle.store_facts.specs.Rows.{added, registered, started, outcome_row}
 abbrev pub device_with : (name : List ℕ) → DeviceRow → Result Device RowFault
 device_with text row =
     and_then (or_damaged (named text)) (λ name.
-    and_then (or_damaged (if nat_le 1 row.timeout && nat_le row.timeout 60 then Some row.timeout else None)) (λ timeout.
-    and_then (or_damaged (if nat_le 1 row.window && nat_le row.window 16 then Some row.window else None)) (λ window.
+    and_then (or_damaged
+    (if nat_le 1 row.timeout && nat_le row.timeout 60 then Some row.timeout else None))
+    (λ timeout.
+    and_then (or_damaged
+    (if nat_le 1 row.window && nat_le row.window 16 then Some row.window else None)) (λ window.
     Ok (record { name = name; unit = row.unit; timeout = timeout; window = window }))))
 
 -- whatever device the row stands for, it is this
@@ -51,7 +54,13 @@ abbrev pub register_with : (name device : List ℕ) → RegisterRow → Result R
 register_with text of row =
     and_then (or_damaged (named text)) (λ name.
     and_then (or_damaged (named of)) (λ device.
-    Ok (record { name = name; device = device; function = row.function; address = row.address; scale = source_from row.scale })))
+    Ok (record {
+      name = name;
+      device = device;
+      function = row.function;
+      address = row.address;
+      scale = source_from row.scale;
+    })))
 
 abbrev pub IsRegisterOf : Registered → Register → Type 0
 IsRegisterOf row register = (place : ℕ) (r : Register) → row ≡ registered place r → register ≡ r

@@ -26,7 +26,8 @@ abbrev pub HasReadableDevices : List Fact → Type 0
 HasReadableDevices facts = AllByRecursion IsReadableDevice (placed added (devices_in facts))
 
 abbrev pub HasReadableRegisters : List Fact → Type 0
-HasReadableRegisters facts = AllByRecursion IsReadableRegister (placed registered (registers_in facts))
+HasReadableRegisters facts =
+    AllByRecursion IsReadableRegister (placed registered (registers_in facts))
 
 abbrev pub HasReadablePolls : List Fact → Type 0
 HasReadablePolls facts = AllByRecursion IsReadablePoll (map started (polls_in facts))

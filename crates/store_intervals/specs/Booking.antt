@@ -32,7 +32,8 @@ with_shares meter (share ∷ shares) rows = with_shares meter shares (with_share
 
 abbrev pub without_shares : (meter : List ℕ) → List Share → List Interval → List Interval
 without_shares meter [] rows = rows
-without_shares meter (share ∷ shares) rows = without_shares meter shares (without_share meter share rows)
+without_shares meter (share ∷ shares) rows =
+    without_shares meter shares (without_share meter share rows)
 
 -- no row has more energy than a meter can have
 abbrev pub AreSmall : List Interval → Type 0
@@ -40,7 +41,8 @@ AreSmall = AllByRecursion (λ i. i.share.mwh ≤ greatest_total)
 
 -- the row of the share's interval has its energy
 abbrev pub HasEnergy : (meter : List ℕ) → Share → List Interval → Type 0
-HasEnergy meter share = AllByRecursion (λ i. IsTrue (is_at meter share.start i) → share.mwh ≤ i.share.mwh)
+HasEnergy meter share =
+    AllByRecursion (λ i. IsTrue (is_at meter share.start i) → share.mwh ≤ i.share.mwh)
 
 -- each share is in the row of its interval when it is taken out
 abbrev pub AreTherein : (meter : List ℕ) → List Share → List Interval → Type 0
@@ -49,18 +51,21 @@ AreTherein meter (share ∷ shares) rows =
     HasEnergy meter share rows × AreTherein meter shares (without_share meter share rows)
 
 -- Whatever rows the table had, if they may be edited so, it has what the edit makes of them. Every other table stays.
-pub record EditsIf (May : List Interval → Type 0) (edit : List Interval → List Interval) (held after : Content) : Type 0 where
+pub record EditsIf (May : List Interval → Type 0) (edit : List Interval → List Interval)
+    (held after : Content) : Type 0 where
   pub rows : (is : List Interval) → HasRows intervals interval_columns is held → May is
       → HasRows intervals interval_columns (edit is) after
   pub others : (t : ℕ) → t ≢ intervals → after t ≡ held t
 
 -- Shares of a meter are booked, where no row comes to have more than a meter can have.
 abbrev pub BooksShares : (meter : List ℕ) → List Share → Content → Content → Type 0
-BooksShares meter shares = EditsIf (λ is. AreSmall (with_shares meter shares is)) (with_shares meter shares)
+BooksShares meter shares =
+    EditsIf (λ is. AreSmall (with_shares meter shares is)) (with_shares meter shares)
 
 -- Shares of a meter are taken out, where the rows have them.
 abbrev pub TakesShares : (meter : List ℕ) → List Share → Content → Content → Type 0
-TakesShares meter shares = EditsIf (λ is. AreSmall is × AreTherein meter shares is) (without_shares meter shares)
+TakesShares meter shares =
+    EditsIf (λ is. AreSmall is × AreTherein meter shares is) (without_shares meter shares)
 
 -- The rows of a meter from a start on go.
 abbrev pub DropsFrom : (meter : List ℕ) → (start : ℕ) → Content → Content → Type 0

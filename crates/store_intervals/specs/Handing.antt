@@ -20,17 +20,21 @@ use Rattle.store_intervals.specs.Rows.{Interval, interval_columns, is_of, start_
 
 -- The sink took shares in their ranges, and nothing else.
 abbrev pub TookSome : {K : Type 0} → (takes : K → Share → K → Type 0) → (before after : K) → Type 0
-TookSome takes before after = (shares : List Share) × AllByRecursion IsSoundShare shares × TakesAll takes before shares after
+TookSome takes before after =
+    (shares : List Share) × AllByRecursion IsSoundShare shares × TakesAll takes before shares after
 
 -- What the sink took begins the shares that the rows of some tables have, in order, and at Ok is all of them. Whatever the
 -- tables hold, it took nothing but shares in their ranges. Damage is told only where some row is out of them.
-pub record HandsOn {S K Tables : Type 0} (g : Ghosts S) (old new : Held S) (takes : K → Share → K → Type 0) (before after : K)
-    (result : Result (Unit {0}) RowFault) (Have : Tables → Content → Type 0) (AreSharesOf : Tables → List Share → Type 0)
+pub record HandsOn {S K Tables : Type 0} (g : Ghosts S) (old new : Held S)
+    (takes : K → Share → K → Type 0) (before after : K)
+    (result : Result (Unit {0}) RowFault) (Have : Tables → Content → Type 0)
+    (AreSharesOf : Tables → List Share → Type 0)
     (AreSound : Tables → Type 0) : Type 0 where
   pub asks : Asks g old new
   pub begun : HasCleanDisk (state g new) → (held : Content) → AreTables (state g old).now held
       → (rows : Tables) → Have rows held
-      → (after ≡ before) ⊎ ((all : List Share) × AreSharesOf rows all × TakesFirst takes before all after)
+      → (after ≡ before)
+      ⊎ ((all : List Share) × AreSharesOf rows all × TakesFirst takes before all after)
   pub whole : HasCleanDisk (state g new) → (held : Content) → AreTables (state g old).now held
       → (rows : Tables) → Have rows held
       → OnOk result ((all : List Share) × AreSharesOf rows all × TakesAll takes before all after)
@@ -45,7 +49,8 @@ HaveIntervals = HasRows intervals interval_columns
 
 abbrev pub AreSharesOfMeter : (meter : List ℕ) → List Interval → List Share → Type 0
 AreSharesOfMeter meter rows all =
-    (found : List Interval) × AreFound (is_of meter) (FirstFirst start_of) rows found × (all ≡ map (λ i. i.share) found)
+    (found : List Interval) × AreFound (is_of meter) (FirstFirst start_of) rows found
+    × (all ≡ map (λ i. i.share) found)
 
 abbrev pub AreSoundIntervals : List Interval → Type 0
 AreSoundIntervals = AllByRecursion IsSoundInterval
@@ -66,7 +71,8 @@ lies_at register p = bytes_eq p.1.meter p.0.meter && is_at register p.0
 
 abbrev pub ComesAfter : Installed × Interval → Installed × Interval → Type 0
 ComesAfter p q =
-    (installed_place p.0 < installed_place q.0) ⊎ ((installed_place p.0 ≡ installed_place q.0) × (start_of p.1 ≤ start_of q.1))
+    (installed_place p.0 < installed_place q.0)
+    ⊎ ((installed_place p.0 ≡ installed_place q.0) × (start_of p.1 ≤ start_of q.1))
 
 abbrev pub AreSharesAt : (register : List ℕ) → Lying → List Share → Type 0
 AreSharesAt register lying all =
@@ -84,20 +90,24 @@ abbrev pub AreShares : List Row → List Share → Type 0
 AreShares = AllZip (λ row share. share_in row ≡ Ok share)
 
 -- a query that changes nothing was asked, whose answer begins with these rows
-abbrev pub IsAsked : {S : Type 0} → Ghosts S → (sql : List ℕ) → (params : Row) → (old asked : Held S) → (given : List Row) → Type 0
+abbrev pub IsAsked : {S : Type 0} → Ghosts S → (sql : List ℕ) → (params : Row)
+    → (old asked : Held S) → (given : List Row) → Type 0
 IsAsked g sql params old asked given =
     IsUnchanged (state g old) (state g asked) × Begins sql params (state g asked) given
 
 -- The rows of a query were read from the first on and handed on as shares, at Ok all of them. A row that can't be read as
 -- a share is damage.
 pub record HandsOnQuery {S K : Type 0} (g : Ghosts S) (sql : List ℕ) (params : Row) (old : Held S)
-    (takes : K → Share → K → Type 0) (before after : K) (result : Result (Unit {0}) RowFault) : Type 0 where
+    (takes : K → Share → K → Type 0) (before after : K) (result : Result (Unit {0}) RowFault) : Type
+    0 where
   pub given : List Row
   pub shares : List Share
   pub begun : (given ≡ []) ⊎ ((asked : Held S) × IsAsked g sql params old asked given)
   pub read : AreShares given shares
   pub taken : TakesAll takes before shares after
-  pub whole : OnOk result ((asked : Held S) × (end : Held S) × IsUnchanged (state g old) (state g asked)
+  pub whole : OnOk result
+      ((asked : Held S) × (end : Held S) × IsUnchanged (state g old) (state g asked)
       × Shown sql params (state g asked) (state g end) given)
   pub damaged : result ≡ Err Damaged
-      → (asked : Held S) × (row : Row) × IsAsked g sql params old asked (given ++ row ∷ []) × (share_in row ≡ Err Damaged)
+      → (asked : Held S) × (row : Row) × IsAsked g sql params old asked (given ++ row ∷ [])
+      × (share_in row ≡ Err Damaged)

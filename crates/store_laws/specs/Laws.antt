@@ -11,12 +11,14 @@ use Rattle.store_facts.specs.Holding.{HasFacts, IsLeft}
 -- All facts that tables are of are the same books, and the zone is one.
 abbrev pub TablesTellTheirFacts : Type 0
 TablesTellTheirFacts = (zone others_zone : List ℕ) (facts others : List Fact) (held : Content)
-    → AreOf zone facts held → AreOf others_zone others held → AreSame facts others × (zone ≡ others_zone)
+    → AreOf zone facts held → AreOf others_zone others held
+    → AreSame facts others × (zone ≡ others_zone)
 
 -- The same of all facts that a database has.
 abbrev pub DatabasesTellTheirFacts : Type 0
 DatabasesTellTheirFacts = (zone others_zone : List ℕ) (facts others : List Fact) (db : Database)
-    → HasFacts zone facts db → HasFacts others_zone others db → AreSame facts others × (zone ≡ others_zone)
+    → HasFacts zone facts db → HasFacts others_zone others db
+    → AreSame facts others × (zone ≡ others_zone)
 
 -- A database of the trees that a stop left has the facts that it left, since trees list one schema.
 abbrev pub LeftFactsAreFound : Type 0

@@ -25,11 +25,15 @@ pub record Added : Type 0 where
   pub row : DeviceRow
 
 abbrev pub device_columns : Added → Row
-device_columns d = Int (pos d.row.place) ∷ Null ∷ Text d.name ∷ Int (pos d.row.unit) ∷ Int (pos d.row.timeout) ∷ Int (pos d.row.window) ∷ []
+device_columns d =
+    Int (pos d.row.place) ∷ Null ∷ Text d.name ∷ Int (pos d.row.unit) ∷ Int (pos d.row.timeout)
+    ∷ Int (pos d.row.window) ∷ []
 
 -- what the queries show of it
 abbrev pub device_shown : Added → Row
-device_shown d = Int (pos d.row.place) ∷ Text d.name ∷ Int (pos d.row.unit) ∷ Int (pos d.row.timeout) ∷ Int (pos d.row.window) ∷ []
+device_shown d =
+    Int (pos d.row.place) ∷ Text d.name ∷ Int (pos d.row.unit) ∷ Int (pos d.row.timeout)
+    ∷ Int (pos d.row.window) ∷ []
 
 abbrev pub device_place : Added → ℕ
 device_place d = d.row.place
@@ -75,7 +79,8 @@ pub record Listed : Type 0 where
 
 abbrev pub point_columns : Listed → Row
 point_columns p =
-    Text p.device ∷ Int (pos p.row.place) ∷ Text p.name ∷ Int (pos (code_of p.row.function)) ∷ Int (pos p.row.area)
+    Text p.device ∷ Int (pos p.row.place) ∷ Text p.name ∷ Int (pos (code_of p.row.function))
+    ∷ Int (pos p.row.area)
     ∷ Int (pos p.row.address) ∷ Text p.kind ∷ Text p.scale ∷ []
 
 abbrev pub point_shown : Listed → Row
@@ -108,7 +113,14 @@ pub record IsPoint (p : Listed) (a : Point) : Type 0 where
 
 -- a point as it stands in the list of a device
 abbrev pub listed_at : (device : List ℕ) → Point → Listed
-listed_at device p = record { device = device; name = string_bytes p.name; kind = string_bytes p.kind; scale = string_bytes p.scale; row = p.row }
+listed_at device p =
+    record {
+      device = device;
+      name = string_bytes p.name;
+      kind = string_bytes p.kind;
+      scale = string_bytes p.scale;
+      row = p.row;
+    }
 
 -- the points of a device come to the others, or stand in the place of those that it had
 abbrev pub with_points : (device : List ℕ) → List Point → List Listed → List Listed
@@ -149,12 +161,14 @@ pub record Registered : Type 0 where
 
 abbrev pub register_columns : Registered → Row
 register_columns r =
-    Int (pos r.row.place) ∷ Null ∷ Text r.name ∷ Text r.device ∷ Int (pos (code_of r.row.function)) ∷ Int (pos r.row.address)
+    Int (pos r.row.place) ∷ Null ∷ Text r.name ∷ Text r.device ∷ Int (pos (code_of r.row.function))
+    ∷ Int (pos r.row.address)
     ∷ Int (pos (scale_kind r.row.scale)) ∷ Int (scale_number r.row.scale) ∷ []
 
 abbrev pub register_shown : Registered → Row
 register_shown r =
-    Int (pos r.row.place) ∷ Text r.name ∷ Text r.device ∷ Int (pos (code_of r.row.function)) ∷ Int (pos r.row.address)
+    Int (pos r.row.place) ∷ Text r.name ∷ Text r.device ∷ Int (pos (code_of r.row.function))
+    ∷ Int (pos r.row.address)
     ∷ Int (pos (scale_kind r.row.scale)) ∷ Int (scale_number r.row.scale) ∷ []
 
 abbrev pub register_place : Registered → ℕ

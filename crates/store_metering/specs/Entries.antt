@@ -21,10 +21,17 @@ use Rattle.store_entries.specs.Rows.{Entered, Voided, entry_shown, voided_shown,
 use Rattle.store_facts.specs.Rows.{entered_rows, voided}
 
 abbrev pub step_row : journal_kind.EntryKind → EntryRow → (stands : Bool) → journal.EntryRow
-step_row k e stands = record { place = e.place; kind = k; entry = entry.Step e.moment e.raw e.rolls; stands = stands }
+step_row k e stands =
+    record { place = e.place; kind = k; entry = entry.Step e.moment e.raw e.rolls; stands = stands }
 
 abbrev pub change_row : journal_kind.EntryKind → EntryRow → (stands : Bool) → journal.EntryRow
-change_row k e stands = record { place = e.place; kind = k; entry = entry.Change e.moment e.raw e.after e.sf; stands = stands }
+change_row k e stands =
+    record {
+      place = e.place;
+      kind = k;
+      entry = entry.Change e.moment e.raw e.after e.sf;
+      stands = stands;
+    }
 
 -- the row of an entry; an opening has none
 abbrev pub row_by : EntryKind → EntryRow → (stands : Bool) → Option journal.EntryRow
@@ -59,10 +66,12 @@ pub record ShowsVoids (meter : List ℕ) (facts : List Fact) (rows : List Row) :
 
 -- the rows of a journal are those of these entries and voids, in their order
 abbrev pub AreJournal : (entries voids : List Row) → List journal.EntryRow → Type 0
-AreJournal entries voids rows = (es : List Entered) (vs : List Voided) → entries ≡ map entry_shown es
+AreJournal entries voids rows = (es : List Entered) (vs : List Voided)
+    → entries ≡ map entry_shown es
     → voids ≡ map voided_shown vs → rows ≡ filter_map (row_among vs) es
 
 -- the rows of a meter, the oldest first
 abbrev pub FindsJournal : (meter : List ℕ) → List Fact → List journal.EntryRow → Type 0
 FindsJournal meter facts rows =
-    (opening : Opening) → opening_of facts meter ≡ Some opening → latest_first rows ≡ rows_of facts opening
+    (opening : Opening) → opening_of facts meter ≡ Some opening
+    → latest_first rows ≡ rows_of facts opening

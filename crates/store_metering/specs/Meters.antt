@@ -12,10 +12,11 @@ use Rattle.store_entries.specs.declared.rows.EntryRow.{EntryRow}
 use Rattle.store_facts.specs.Rows.{installed_row, opening_row}
 
 -- the row is that of an opening, which is the only one of its meter
-pub record IsRowOf (facts : List Fact) (opening : Opening) (found : stored.Installation) : Type 0 where
-  pub place : ℕ
-  pub row : IsInstalled (installed_row facts place opening) found
-  pub alone : opening_of facts opening.meter ≡ Some opening
+pub record IsRowOf (facts : List Fact) (opening : Opening) (found : stored.Installation) : Type 0
+  where
+    pub place : ℕ
+    pub row : IsInstalled (installed_row facts place opening) found
+    pub alone : opening_of facts opening.meter ≡ Some opening
 
 -- the row of an opening was found, or none where there is no opening
 abbrev pub FindsRow : List Fact → Option Opening → Option stored.Installation → Type 0
@@ -26,11 +27,13 @@ FindsRow facts (Some opening) (Some row) = IsRowOf facts opening row
 -- how many counts the counter of the meter has, and the entry of its opening
 abbrev pub FindsRange : (meter : List ℕ) → List Fact → Option ℕ → Type 0
 FindsRange meter facts found =
-    IfSome found (λ range. (opening : Opening) → opening_of facts meter ≡ Some opening → range ≡ opening.range)
+    IfSome found (λ range. (opening : Opening) → opening_of facts meter ≡ Some opening
+    → range ≡ opening.range)
 
 abbrev pub FindsFirst : (meter : List ℕ) → List Fact → Option EntryRow → Type 0
 FindsFirst meter facts found =
-    IfSome found (λ entry. (opening : Opening) → opening_of facts meter ≡ Some opening → entry ≡ opening_row opening)
+    IfSome found (λ entry. (opening : Opening) → opening_of facts meter ≡ Some opening
+    → entry ≡ opening_row opening)
 
 -- the opening that the rows of three tables are, and the installation
 abbrev pub opening_from : stored.Installation → (range : ℕ) → EntryRow → Opening
@@ -54,7 +57,8 @@ standing_from opening row = record {
 
 -- the installation of a row that was found
 abbrev pub IsStanding : stored.Installation → List Fact → Installation → Type 0
-IsStanding row facts found = (opening : Opening) → IsRowOf facts opening row → found ≡ installation_of facts opening
+IsStanding row facts found = (opening : Opening) → IsRowOf facts opening row
+    → found ≡ installation_of facts opening
 
 -- the greatest place counts the meters
 abbrev pub CountsOpenings : List Fact → Option ℕ → Type 0

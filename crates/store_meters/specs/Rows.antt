@@ -30,14 +30,16 @@ pub record Installed : Type 0 where
 abbrev pub installed_columns : Installed → Row
 installed_columns i =
     Int (pos i.row.place) ∷ Null ∷ Text i.meter ∷ Text i.register ∷ Int (pos i.row.ceiling)
-    ∷ Int (pos (ended_number i.row.is_ended)) ∷ Int (pos i.row.last.moment) ∷ Int (pos i.row.last.raw)
+    ∷ Int (pos (ended_number i.row.is_ended)) ∷ Int (pos i.row.last.moment)
+    ∷ Int (pos i.row.last.raw)
     ∷ Int i.row.last.sf ∷ Int (pos i.row.last.total) ∷ []
 
 -- what the queries show of it
 abbrev pub installed_shown : Installed → Row
 installed_shown i =
     Int (pos i.row.place) ∷ Text i.meter ∷ Text i.register ∷ Int (pos i.row.ceiling)
-    ∷ Int (pos (ended_number i.row.is_ended)) ∷ Int (pos i.row.last.moment) ∷ Int (pos i.row.last.raw)
+    ∷ Int (pos (ended_number i.row.is_ended)) ∷ Int (pos i.row.last.moment)
+    ∷ Int (pos i.row.last.raw)
     ∷ Int i.row.last.sf ∷ Int (pos i.row.last.total) ∷ []
 
 abbrev pub is_meter : (meter : List ℕ) → Installed → Bool

@@ -17,9 +17,11 @@ abbrev pub is_pending : List OutcomeRow → Started → Bool
 is_pending ended p = not (list_any (is_outcome_of p.row.number) ended)
 
 -- The rows that are answered show the polls without an outcome, in order of their numbers.
-abbrev pub ShowsPending : {S A E : Type 0} → Ghosts S → (old new : Held S) → (result : Result A E) → (rows : A → List Row) → Type 0
+abbrev pub ShowsPending : {S A E : Type 0} → Ghosts S → (old new : Held S) → (result : Result A E)
+    → (rows : A → List Row) → Type 0
 ShowsPending g old new result rows =
     HasCleanDisk (state g new) → (held : Content) → AreTables (state g old).now held
     → (started : List Started) → HasRows polls poll_columns started held
     → (ended : List OutcomeRow) → HasRows outcomes outcome_columns ended held
-    → IfOk result (λ answer. Shows (is_pending ended) (FirstFirst poll_number) poll_shown started (rows answer))
+    → IfOk result
+    (λ answer. Shows (is_pending ended) (FirstFirst poll_number) poll_shown started (rows answer))

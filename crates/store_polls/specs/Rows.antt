@@ -33,13 +33,15 @@ pub record Started : Type 0 where
 
 abbrev pub poll_columns : Started → Row
 poll_columns p =
-    Int (pos p.row.number) ∷ Null ∷ Text p.device ∷ Int (pos p.row.unit) ∷ Int (pos p.row.started) ∷ Int (pos p.row.id)
+    Int (pos p.row.number) ∷ Null ∷ Text p.device ∷ Int (pos p.row.unit) ∷ Int (pos p.row.started)
+    ∷ Int (pos p.row.id)
     ∷ Int (pos (code_of p.row.function)) ∷ Int (pos p.row.address) ∷ Int (pos p.row.count) ∷ []
 
 -- what the queries show of it
 abbrev pub poll_shown : Started → Row
 poll_shown p =
-    Int (pos p.row.number) ∷ Text p.device ∷ Int (pos p.row.unit) ∷ Int (pos p.row.started) ∷ Int (pos p.row.id)
+    Int (pos p.row.number) ∷ Text p.device ∷ Int (pos p.row.unit) ∷ Int (pos p.row.started)
+    ∷ Int (pos p.row.id)
     ∷ Int (pos (code_of p.row.function)) ∷ Int (pos p.row.address) ∷ Int (pos p.row.count) ∷ []
 
 abbrev pub number_shown : Started → Row
@@ -85,17 +87,27 @@ poll_in row =
     and_then (or_damaged (function_in (column row 5))) (λ function.
     and_then (or_damaged (whole_in 0 65535 (column row 6))) (λ address.
     and_then (or_damaged (whole_in 1 (greatest_count address) (column row 7))) (λ count.
-    Ok (record { number = number; unit = unit; started = started; id = id; function = function; address = address; count = count }))))))))
+    Ok (record {
+      number = number;
+      unit = unit;
+      started = started;
+      id = id;
+      function = function;
+      address = address;
+      count = count;
+    }))))))))
 
 -- ---- outcomes
 
 abbrev pub outcome_columns : OutcomeRow → Row
 outcome_columns o =
-    Int (pos o.poll) ∷ Null ∷ Int (pos o.moment) ∷ Int (pos (outcome_number o.outcome)) ∷ Int (pos (outcome_code o.outcome)) ∷ []
+    Int (pos o.poll) ∷ Null ∷ Int (pos o.moment) ∷ Int (pos (outcome_number o.outcome))
+    ∷ Int (pos (outcome_code o.outcome)) ∷ []
 
 abbrev pub outcome_shown : OutcomeRow → Row
 outcome_shown o =
-    Int (pos o.poll) ∷ Int (pos o.moment) ∷ Int (pos (outcome_number o.outcome)) ∷ Int (pos (outcome_code o.outcome)) ∷ []
+    Int (pos o.poll) ∷ Int (pos o.moment) ∷ Int (pos (outcome_number o.outcome))
+    ∷ Int (pos (outcome_code o.outcome)) ∷ []
 
 abbrev pub is_outcome_of : (poll : ℕ) → OutcomeRow → Bool
 is_outcome_of poll o = o.poll == poll
@@ -163,13 +175,15 @@ pub record Held : Type 0 where
 
 abbrev pub hold_columns : Held → Row
 hold_columns h =
-    Int (pos h.row.place) ∷ Null ∷ Text h.meter ∷ Int (pos h.row.poll) ∷ Int (pos h.row.moment) ∷ Int (pos h.row.raw)
+    Int (pos h.row.place) ∷ Null ∷ Text h.meter ∷ Int (pos h.row.poll) ∷ Int (pos h.row.moment)
+    ∷ Int (pos h.row.raw)
     ∷ Int h.row.sf ∷ Int (pos (cause_number h.row.cause)) ∷ []
 
 -- what INSERT is handed of it
 abbrev pub hold_shown : Held → Row
 hold_shown h =
-    Int (pos h.row.place) ∷ Text h.meter ∷ Int (pos h.row.poll) ∷ Int (pos h.row.moment) ∷ Int (pos h.row.raw)
+    Int (pos h.row.place) ∷ Text h.meter ∷ Int (pos h.row.poll) ∷ Int (pos h.row.moment)
+    ∷ Int (pos h.row.raw)
     ∷ Int h.row.sf ∷ Int (pos (cause_number h.row.cause)) ∷ []
 
 abbrev pub hold_place : Held → ℕ
@@ -228,7 +242,10 @@ pub record Kept : Type 0 where
   pub moment : ℕ
 
 abbrev pub reply_columns : Kept → Row
-reply_columns k = Text k.caller ∷ Int (pos k.number) ∷ Blob k.request ∷ Text (kind_word k.kind) ∷ Int (pos k.moment) ∷ []
+reply_columns k =
+    Text k.caller ∷ Int (pos k.number) ∷ Blob k.request ∷ Text (kind_word k.kind)
+    ∷ Int (pos k.moment)
+    ∷ []
 
 abbrev pub reply_shown : Kept → Row
 reply_shown k = Blob k.request ∷ Text (kind_word k.kind) ∷ []

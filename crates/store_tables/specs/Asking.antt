@@ -14,35 +14,52 @@ use Rattle.store_tables.specs.Answer.{AreFound}
 pub record Asks {S : Type 0} (g : Ghosts S) (old new : Held S) : Type 0 where
   pub clean : HasCleanDisk (state g new) → HasCleanDisk (state g old)
   pub mode : old.in_transaction ≡ false → new.in_transaction ≡ false
-  pub kept : HasCleanDisk (state g new) → (held : Content) → AreTables (state g old).now held → KeepsCommit (state g old) (state g new)
-  pub survives : (held : Content) → AreTables (state g old).now held → Survives (state g old) (state g new) (λ _. ⊥)
+  pub kept : HasCleanDisk (state g new) → (held : Content) → AreTables (state g old).now held
+      → KeepsCommit (state g old) (state g new)
+  pub survives : (held : Content) → AreTables (state g old).now held
+      → Survives (state g old) (state g new) (λ _. ⊥)
 
 -- the same inside a transaction, which a question that is answered leaves as it was
-pub record AsksInside {S X E : Type 0} (g : Ghosts S) (old new : Held S) (result : Result X E) : Type 0 where
-  pub kept : HasCleanDisk (state g new) → (held : Content) → AreTables (state g old).now held → KeepsCommit (state g old) (state g new)
-  pub unchanged : HasCleanDisk (state g new) → (held : Content) → AreTables (state g old).now held → IsTrue old.in_transaction → OnOk result (IsTrue new.in_transaction × ((state g new).now ≡ (state g old).now))
+pub record AsksInside {S X E : Type 0} (g : Ghosts S) (old new : Held S) (result : Result X E) :
+    Type 0 where
+  pub kept : HasCleanDisk (state g new) → (held : Content) → AreTables (state g old).now held
+      → KeepsCommit (state g old) (state g new)
+  pub unchanged : HasCleanDisk (state g new) → (held : Content) → AreTables (state g old).now held
+      → IsTrue old.in_transaction
+      → OnOk result (IsTrue new.in_transaction × ((state g new).now ≡ (state g old).now))
   pub survives : Survives (state g old) (state g new) (λ _. ⊥)
 
 -- What a SELECT shows of the rows of a table that pass, in the order that it asks for.
-abbrev pub Shows : {X : Type 0} → (passes : X → Bool) → (Later : X → X → Type 0) → (shown : X → Row) → (rows : List X) → (answer : List Row) → Type 0
-Shows {X} passes Later shown rows answer = (found : List X) × AreFound passes Later rows found × (answer ≡ map shown found)
+abbrev pub Shows : {X : Type 0} → (passes : X → Bool) → (Later : X → X → Type 0) → (shown : X → Row)
+    → (rows : List X) → (answer : List Row) → Type 0
+Shows {X} passes Later shown rows answer =
+    (found : List X) × AreFound passes Later rows found × (answer ≡ map shown found)
 
 -- the same, cut to its first row
-abbrev pub ShowsFirst : {X : Type 0} → (passes : X → Bool) → (Later : X → X → Type 0) → (shown : X → Row) → (rows : List X) → (answer : List Row) → Type 0
-ShowsFirst {X} passes Later shown rows answer = (found : List X) × AreFound passes Later rows found × (answer ≡ take 1 (map shown found))
+abbrev pub ShowsFirst : {X : Type 0} → (passes : X → Bool) → (Later : X → X → Type 0)
+    → (shown : X → Row) → (rows : List X) → (answer : List Row) → Type 0
+ShowsFirst {X} passes Later shown rows answer =
+    (found : List X) × AreFound passes Later rows found × (answer ≡ take 1 (map shown found))
 
 -- The answer is told of the rows of one table, whatever they are.
-abbrev pub Tells : {S A E X : Type 0} → Ghosts S → (old new : Held S) → (tree : ℕ) → (columns : X → Row) → (result : Result A E) → (Answers : List X → A → Type 0) → Type 0
+abbrev pub Tells : {S A E X : Type 0} → Ghosts S → (old new : Held S) → (tree : ℕ)
+    → (columns : X → Row) → (result : Result A E) → (Answers : List X → A → Type 0) → Type 0
 Tells {S} {A} {E} {X} g old new tree columns result Answers =
-    HasCleanDisk (state g new) → (held : Content) → AreTables (state g old).now held → (rows : List X) → HasRows tree columns rows held → IfOk result (Answers rows)
+    HasCleanDisk (state g new) → (held : Content) → AreTables (state g old).now held
+    → (rows : List X) → HasRows tree columns rows held → IfOk result (Answers rows)
 
 -- A row that stands for a value is read as that value. Damage is told only where the value is out of its ranges.
-pub record ReadsRow {A X : Type 0} (row : Row) (shown : X → Row) (IsSeen : X → A → Type 0) (IsSound : X → Type 0) (result : Result A RowFault) : Type 0 where
+pub record ReadsRow {A X : Type 0} (row : Row) (shown : X → Row) (IsSeen : X → A → Type 0)
+    (IsSound : X → Type 0) (result : Result A RowFault) : Type 0 where
   pub read : (x : X) → row ≡ shown x → IfOk result (IsSeen x)
   pub fault : (x : X) → row ≡ shown x → IsSound x → IfErr result (λ e. e ≢ Damaged)
 
 -- A look-up asks, and answers of the rows of one table. Damage is told only where some row is out of its ranges.
-pub record LooksUp {S A X : Type 0} (g : Ghosts S) (old new : Held S) (tree : ℕ) (columns : X → Row) (IsSound : X → Type 0) (result : Result A RowFault) (Answers : List X → A → Type 0) : Type 0 where
-  pub asks : Asks g old new
-  pub answer : Tells g old new tree columns result Answers
-  pub fault : HasCleanDisk (state g new) → (held : Content) → AreTables (state g old).now held → (rows : List X) → HasRows tree columns rows held → AllByRecursion IsSound rows → IfErr result (λ e. e ≢ Damaged)
+pub record LooksUp {S A X : Type 0} (g : Ghosts S) (old new : Held S) (tree : ℕ) (columns : X → Row)
+    (IsSound : X → Type 0) (result : Result A RowFault) (Answers : List X → A → Type 0) : Type 0
+  where
+    pub asks : Asks g old new
+    pub answer : Tells g old new tree columns result Answers
+    pub fault : HasCleanDisk (state g new) → (held : Content) → AreTables (state g old).now held
+        → (rows : List X) → HasRows tree columns rows held → AllByRecursion IsSound rows
+        → IfErr result (λ e. e ≢ Damaged)

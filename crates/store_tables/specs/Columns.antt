@@ -32,7 +32,8 @@ within bound (Blob b) = None
 
 -- a function by which registers are read
 abbrev pub function_of : ℕ → Option ReadFunction
-function_of code = if code == 3 then Some HoldingRegisters else if code == 4 then Some InputRegisters else None
+function_of code =
+    if code == 3 then Some HoldingRegisters else if code == 4 then Some InputRegisters else None
 
 abbrev pub function_in : Value → Option ReadFunction
 function_in v = option_and_then function_of (whole_in 3 4 v)
@@ -42,6 +43,7 @@ or_damaged None = Err Damaged
 or_damaged (Some x) = Ok x
 
 -- the next column, unless this one is damaged
-abbrev pub and_then : {X Y : Type 0} → Result X RowFault → (X → Result Y RowFault) → Result Y RowFault
+abbrev pub and_then : {X Y : Type 0} → Result X RowFault → (X → Result Y RowFault)
+    → Result Y RowFault
 and_then (Err e) next = Err e
 and_then (Ok x) next = next x

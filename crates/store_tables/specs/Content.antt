@@ -45,7 +45,8 @@ pub record AreApart (rows : List Row) : Type 0 where
 -- A database of this schema has these rows.
 pub record AreTablesIn (form : Schema) (db : Database) (held : Content) : Type 0 where
   pub schema : db.schema ≡ form
-  pub rows : (t : ℕ) → HasTree form.tables t → IsPermutation (map (told (is_numbered t)) (db.trees t)) (held t)
+  pub rows : (t : ℕ) → HasTree form.tables t
+      → IsPermutation (map (told (is_numbered t)) (db.trees t)) (held t)
   pub apart : (t : ℕ) → HasTree form.tables t → AreApart (db.trees t)
   pub sound : IsDatabase db
 
@@ -61,7 +62,8 @@ abbrev pub HasRows : {X : Type 0} → (tree : ℕ) → (columns : X → Row) →
 HasRows tree columns xs held = IsPermutation (map columns xs) (held tree)
 
 -- Whatever rows the table had, it has what the edit makes of them. Every other table stays.
-pub record Edits {X : Type 0} (tree : ℕ) (columns : X → Row) (edit : List X → List X) (held after : Content) : Type 0 where
+pub record Edits {X : Type 0} (tree : ℕ) (columns : X → Row) (edit : List X → List X)
+    (held after : Content) : Type 0 where
   pub rows : (xs : List X) → HasRows tree columns xs held → HasRows tree columns (edit xs) after
   pub others : (t : ℕ) → t ≢ tree → after t ≡ held t
 

@@ -30,7 +30,8 @@ next_after model = model.address + 2 + model.length
 -- models stand one after another, the first at an address, and another address follows them
 abbrev pub Follow : Words → ℕ → List Model → ℕ → Type 0
 Follow word from [] next = from ≡ next
-Follow word from (model ∷ models) next = (model.address ≡ from) × Stands word model × Follow word (next_after model) models next
+Follow word from (model ∷ models) next =
+    (model.address ≡ from) × Stands word model × Follow word (next_after model) models next
 
 -- at most 64 models from behind the mark on
 pub record IsLawful (word : Words) (base : ℕ) (models : List Model) (next : ℕ) : Type 0 where

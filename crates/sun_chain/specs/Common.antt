@@ -42,7 +42,8 @@ words_or_none (Some value) = text_words value
 
 -- a text of a model, by its first register and how many it has: no words where it isn't there
 abbrev pub text_in : Words → Model → ℕ → ℕ → List ℕ
-text_in word model offset count = words_or_none (option_map (value_of (Text count)) (registers_in word model offset count))
+text_in word model offset count =
+    words_or_none (option_map (value_of (Text count)) (registers_in word model offset count))
 
 abbrev pub number_of : Value → Option ℕ
 number_of Absent = None
@@ -52,7 +53,8 @@ number_of (Bits bits) = None
 number_of (WordsOf words) = None
 
 abbrev pub device_address_in : Words → Model → Option ℕ
-device_address_in word model = option_and_then (λ words. number_of (value_of Uint16 words)) (registers_in word model 66 1)
+device_address_in word model =
+    option_and_then (λ words. number_of (value_of Uint16 words)) (registers_in word model 66 1)
 
 abbrev pub common_in : Words → Model → Said
 common_in word model = record {

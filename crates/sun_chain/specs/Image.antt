@@ -8,15 +8,20 @@ abbrev pub Words : Type 0
 Words = ℕ → Option ℕ
 
 abbrev pub word_in : Image → Words
-word_in image address = if slice_index_or image.read.items address false then Some (slice_index image.words.items address) else None
+word_in image address =
+    if slice_index_or image.read.items address false
+    then Some (slice_index image.words.items address)
+    else None
 
 -- words put at an address and the ones behind it, in place of what stood there
 abbrev pub put_words : Words → ℕ → List ℕ → Words
 put_words word address words at =
-    if nat_le address at && nat_lt at (address + length words) then Some (slice_index words (at - address)) else word at
+    if nat_le address at && nat_lt at (address + length words)
+    then Some (slice_index words (at - address)) else word at
 
 -- so many words from an address on, where each was read
 unfoldable pub words_in : Words → ℕ → ℕ → Option (List ℕ)
 words_in word address zero = Some []
 words_in word address (suc count) =
-    option_and_then (λ first. option_map (λ rest. first ∷ rest) (words_in word (address + 1) count)) (word address)
+    option_and_then (λ first. option_map (λ rest. first ∷ rest) (words_in word (address + 1) count))
+    (word address)

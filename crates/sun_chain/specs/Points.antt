@@ -46,7 +46,8 @@ seen point = record {
 -- so many registers of a model, if they lie inside it and were read
 abbrev pub registers_in : Words → Model → ℕ → ℕ → Option (List ℕ)
 registers_in word model offset count =
-    if nat_le (offset + count) (2 + model.length) then words_in word (model.address + offset) count else None
+    if nat_le (offset + count) (2 + model.length) then words_in word (model.address + offset) count
+    else None
 
 -- a register of a model, if it lies inside it and was read
 abbrev pub register_in : Words → Model → ℕ → Option ℕ
@@ -55,11 +56,13 @@ register_in word model offset =
 
 -- the word of a scale point, by its register: 0 where it isn't there
 abbrev pub scale_word_in : Words → Model → Option ℕ → Option ℕ
-scale_word_in word model scale = option_map (λ offset. unwrap_or (register_in word model offset) 0) scale
+scale_word_in word model scale =
+    option_map (λ offset. unwrap_or (register_in word model offset) 0) scale
 
 -- the value of a point of the table, if all of its registers are there
 abbrev pub value_in : Words → Model → Row → Option Value
-value_in word model row = option_map (value_of row.ty) (registers_in word model row.offset (registers_of row.ty))
+value_in word model row =
+    option_map (value_of row.ty) (registers_in word model row.offset (registers_of row.ty))
 
 abbrev pub point_in : Words → Model → Row → Option Named
 point_in word model row =

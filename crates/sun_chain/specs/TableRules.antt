@@ -37,11 +37,13 @@ is_scale_point offset row = is_sunssf row.ty && row.offset == offset
 
 -- the point that scales this one, if any does, is in the table
 abbrev pub has_its_scale : List Row → Row → Bool
-has_its_scale rows row = unwrap_or (option_map (λ offset. list_any (is_scale_point offset) rows) row.scale) true
+has_its_scale rows row =
+    unwrap_or (option_map (λ offset. list_any (is_scale_point offset) rows) row.scale) true
 
 -- a table for models of this length: behind the ID and the length, its points stand in order, inside the model, with their scale points
 abbrev pub is_lawful_table : ℕ → List Row → Bool
-is_lawful_table length rows = ascends_from 2 rows && list_all (lies_inside length) rows && list_all (has_its_scale rows) rows
+is_lawful_table length rows =
+    ascends_from 2 rows && list_all (lies_inside length) rows && list_all (has_its_scale rows) rows
 
 -- the length of a known model; model 1 may have one more register, for padding
 abbrev pub length_of_known : ℕ → ℕ
@@ -58,4 +60,5 @@ TablesAreLawful = (id : ℕ) → IsTrue (is_lawful_table (length_of_known id) (t
 -- each point begins at or behind the end of the one before, and the first at or behind this address
 abbrev pub StandInOrder : ℕ → List Named → Type 0
 StandInOrder from [] = Unit {0}
-StandInOrder from (point ∷ points) = (from ≤ point.address) × StandInOrder (point.address + registers_of point.ty) points
+StandInOrder from (point ∷ points) =
+    (from ≤ point.address) × StandInOrder (point.address + registers_of point.ty) points

@@ -179,11 +179,13 @@ row_of found = row found.name.now found.offset (type_of found.ty) found.scale
 
 -- the offset of the point that scales the first point of a name
 abbrev pub scale_offset_in : List Row → List ℕ → Option ℕ
-scale_offset_in rows name = option_and_then (λ scaled. scaled.scale) (find (λ scaled. bytes_eq scaled.name name) rows)
+scale_offset_in rows name =
+    option_and_then (λ scaled. scaled.scale) (find (λ scaled. bytes_eq scaled.name name) rows)
 
 -- the name of the first point at an offset
 abbrev pub name_at_in : List Row → ℕ → Option (List ℕ)
-name_at_in rows offset = option_map (λ scaling. scaling.name) (find (λ scaling. scaling.offset == offset) rows)
+name_at_in rows offset =
+    option_map (λ scaling. scaling.name) (find (λ scaling. scaling.offset == offset) rows)
 
 -- the name of the point that scales the point of a name
 abbrev pub scale_name_in : List Row → List ℕ → Option (List ℕ)

@@ -36,7 +36,8 @@ pub record Lacks (word : Words) (fault : ChainFault) : Type 0 where
   pub models : List Model
   pub next : ℕ
   pub lawful : IsLawful word base models next
-  pub longest : (others : List Model) (other_next : ℕ) → IsLawful word base others other_next → length others ≤ length models
+  pub longest : (others : List Model) (other_next : ℕ) → IsLawful word base others other_next
+      → length others ≤ length models
   pub lack : first_lack word (length models) next ≡ Some fault
 
 abbrev pub Fails : Words → ChainFault → Type 0

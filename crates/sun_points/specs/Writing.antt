@@ -12,12 +12,14 @@ abbrev pub GotPart : List ℕ → Option (List ℕ) → Option (List ℕ) → Ty
 GotPart text old new = (part unwritten : List ℕ) × (text ≡ part ++ unwritten) × Appends old new part
 
 -- the writer got the text, or a part of it where the call failed
-abbrev pub GotText : {X E : Type 0} → Result X E → List ℕ → Option (List ℕ) → Option (List ℕ) → Type 0
+abbrev pub GotText : {X E : Type 0} → Result X E → List ℕ → Option (List ℕ) → Option (List ℕ)
+    → Type 0
 GotText (Ok done) text old new = Appends old new text
 GotText (Err error) text old new = GotPart text old new
 
 -- A call with nothing to write is fine, and a write that was interrupted is no error: it is made again.
-pub record TakesText {X : Type 0} (result : Result X Error) (text : List ℕ) (old new : Option (List ℕ)) : Type 0 where
+pub record TakesText {X : Type 0} (result : Result X Error) (text : List ℕ)
+    (old new : Option (List ℕ)) : Type 0 where
   pub bytes : GotText result text old new
   pub nothing : text ≡ [] → IsOk result
   pub made_again : IfErr result (λ error. error_kind error ≢ Interrupted)

@@ -55,7 +55,8 @@ abbrev pub device_in : Text → Option Place
 device_in part =
     let address = address_in part in
     if is_empty (name_in part) || is_empty (host_in address) then None
-    else given (port_in address) (λ port. Some (record { name = name_in part; host = host_in address; port = port }))
+    else given (port_in address)
+    (λ port. Some (record { name = name_in part; host = host_in address; port = port }))
 
 -- what stands round the first `=`, and round the last `:`
 abbrev pub CutsAtEquals : Text → Option (Bor Text × Bor Text) → Type 0
@@ -88,7 +89,8 @@ have_distinct_names parts = are_distinct (names_in (texts parts))
 -- 1 to 64 devices, each with a name of its own
 abbrev pub devices_of : List Text → Option (List Place)
 devices_of parts =
-    if nat_le (length parts) 64 && are_distinct (names_in parts) then each_of device_in parts else None
+    if nat_le (length parts) 64 && are_distinct (names_in parts) then each_of device_in parts
+    else None
 
 abbrev pub devices_in : Text → Option (List Place)
 devices_in text = devices_of (slice_split is_comma text)
@@ -100,4 +102,5 @@ IsFault (fault.Part part why) due = None ≡ due
 
 abbrev pub Reads : {Z : Type 0} → Option (List Place) → Result (Vec Device Z) ListFault → Type 0
 Reads due result =
-    MatchResult result (λ devices. Some (places_of devices.items) ≡ due) (λ fault. IsFault fault due)
+    MatchResult result (λ devices. Some (places_of devices.items) ≡ due)
+    (λ fault. IsFault fault due)
