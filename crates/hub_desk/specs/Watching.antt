@@ -11,6 +11,7 @@ use Rattle.hub_status.specs.Counting.{noted_all, refused}
 use Rattle.hub_status.specs.declared.counting.Counts.{Counts}
 use Rattle.hub_status.specs.declared.device.DeviceState.{DeviceState}
 use Rattle.office_hub.specs.Showing.{Shown}
+use Rattle.hub_desk.specs.Sending.{IsSentFor, queues_of}
 use Rattle.hub_desk.specs.declared.desk.Desk.{Desk}
 
 abbrev pub unconnected : (name : Option (List ℕ)) → DeviceState
@@ -70,3 +71,4 @@ pub record Keeps (old : Desk) (shown : Shown) (new : Desk) : Type 0 where
   pub counts : new.counts ≡ counted shown.answer shown.notes old.counts
   pub states : new.states.items
       ≡ followed_for shown.place shown.at shown.event shown.answer shown.notes old.states.items
+  pub outgoing : IsSentFor shown.place shown.event shown.frames (queues_of old) (queues_of new)

@@ -1,5 +1,6 @@
 //! The desk.
 use crate::following::{followed, unconnected};
+use crate::sending::put_frames;
 use hub_status::{Counts, DeviceState};
 use office_events::{Answer, Event, Name, Note, Refusal};
 use office_hub::Witness;
@@ -13,19 +14,21 @@ pub struct Desk {
     pub counts: Counts,
     /// How each device stands, by its place.
     pub states: Vec<DeviceState>,
-    // What is to be sent to each.
-    outgoing: Vec<Vec<u8>>,
+    /// What is to be sent to each.
+    pub outgoing: Vec<Vec<u8>>,
 }
 
 impl Desk {
-    ghost use Rattle.std.specs.Prelude.{◌≡◌, [], IfOk, map};
+    ghost use Rattle.std.specs.Prelude.{◌≡◌, [], IfOk, map, slice_set};
     ghost use Rattle.hub_status.specs.Counting.{nothing};
+    ghost use Rattle.hub_desk.specs.Sending.{IsSentTo, queues_of, taken_at};
     ghost use Rattle.hub_desk.specs.Watching.{unconnected};
 
     /// A desk for devices of these names, of which none is connected.
     pub fn new(alloc: Global, names: &[Option<Name>]) -> Result<Desk, AllocError>
         ensures counts { IfOk result (λ desk. desk.counts ≡ nothing) }
         ensures states { IfOk result (λ desk. desk.states.items ≡ map unconnected names.now) }
+        ensures outgoing { IfOk result (λ desk. queues_of desk ≡ map (λ name. []) names.now) }
     {
         let mut states = Vec::new(alloc);
         let mut outgoing = Vec::new(alloc);
@@ -43,7 +46,10 @@ impl Desk {
 
     /// Takes what is to be sent to a device, in order. Frames for which there was no memory are not among it; their polls
     /// end silent.
+    #[tactic(auto, using(crate::proofs::Queues::taken_there, crate::proofs::Queues::taken_nowhere))]
     pub fn take_outgoing(&mut self, place: usize) -> Vec<u8>
+        ensures taken { result.items ≡ taken_at place (queues_of self.old) }
+        ensures left { queues_of self.new ≡ slice_set (queues_of self.old) place [] }
         ensures counts { self.new.counts ≡ self.old.counts }
         ensures states { self.new.states ≡ self.old.states }
     {
@@ -53,16 +59,16 @@ impl Desk {
         Vec::new(self.alloc)
     }
 
-    // Frames are to be sent to a device; what was left from before its end is not.
+    // Frames are to be sent to a device.
+    #[tactic(auto, using(crate::proofs::Queues::sent_at, crate::proofs::Queues::sent_nowhere))]
     fn send(&mut self, place: usize, event: &Event, frames: &[u8])
         ensures counts { self.new.counts ≡ self.old.counts }
         ensures states { self.new.states ≡ self.old.states }
+        ensures outgoing { IsSentTo place event.now frames.now (queues_of self.old)
+            (queues_of self.new) }
     {
         if place < self.outgoing.len() {
-            if matches!(event, Event::Gone(_, _)) {
-                self.outgoing[place] = Vec::new(self.alloc);
-            }
-            let _done = self.outgoing[place].extend_from_slice(frames);
+            put_frames(&mut self.outgoing[place], event, frames);
         }
     }
 }
@@ -75,6 +81,7 @@ impl Desk {
     fn count(&mut self, answer: Result<Answer, Refusal>, notes: &[Note])
         ensures counts { self.new.counts ≡ counted answer notes.now self.old.counts }
         ensures states { self.new.states ≡ self.old.states }
+        ensures outgoing { self.new.outgoing ≡ self.old.outgoing }
     {
         if answer.is_err() {
             self.counts.refuse();
@@ -94,6 +101,7 @@ impl Desk {
         ensures counts { self.new.counts ≡ self.old.counts }
         ensures states { self.new.states.items
             ≡ followed_at place at event.now answer notes.now self.old.states.items }
+        ensures outgoing { self.new.outgoing ≡ self.old.outgoing }
     {
         if place < self.states.len() {
             self.states[place] = followed(self.states[place], at, event, answer, notes);

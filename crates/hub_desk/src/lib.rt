@@ -5,6 +5,7 @@
 mod desk;
 mod following;
 mod lines;
+mod sending;
 
 pub use desk::Desk;
 pub use lines::{put_lines, put_sum};

@@ -1,6 +1,10 @@
-use Rattle.std.proofs.Common.{◌≡◌, map, take}
+use Rattle.std.proofs.Common.{◌≡◌, map, take, []}
 use Rattle.hub_desk.specs.Watching.{unconnected}
 use Rattle.hub_desk.proofs.desk.Desk.new.Given as goal
 
 abbrev pub invariant-loop-name : goal.invariant-loop-name
-invariant-loop-name l = l.states.items ≡ map unconnected (take l.name-index l.names)
+invariant-loop-name l =
+    record {
+      states : l.states.items ≡ map unconnected (take l.name-index l.names);
+      outgoing : map (λ queue. queue.items) l.outgoing.items ≡ map (λ name. []) (take l.name-index l.names);
+    }
