@@ -1,0 +1,36 @@
+//! The numbers of the faults of rounds, and what they say.
+use office_events::Refusal;
+use office_rounds::RoundFault;
+use std::test::Fail;
+
+const FAULTS: [(RoundFault, u8, &str); 4] = [
+    (
+        RoundFault::Refused(Refusal::Memory),
+        1,
+        "the office refused an event of the round: memory ran out",
+    ),
+    (
+        RoundFault::Link,
+        2,
+        "a read or a write of the connection failed",
+    ),
+    (
+        RoundFault::Output,
+        3,
+        "what the office told could not be printed",
+    ),
+    (
+        RoundFault::TurnsUsed,
+        4,
+        "the round was not over after 100000 reads",
+    ),
+];
+
+#[test]
+fn faults_have_numbers_and_say_what_happened(rt: HostRuntime) -> Result<(), Fail> {
+    for (fault, number, text) in FAULTS {
+        assert_eq!(rt; fault.number(), number);
+        assert_eq!(rt; format!(in rt.alloc(); "{fault}")?.as_str(), text);
+    }
+    Ok(())
+}
