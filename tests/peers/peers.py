@@ -178,7 +178,6 @@ def corrections():
         ("/registers/spare/install", {"meter": "s1", "raw": 100, "sf": 0, "ceiling": 1000}, "install"),
         ("/registers/spare/manual", {"raw": 110, "rolls": 0}, "manual"),
         ("/registers/spare/manual", {"raw": 115, "rolls": 0}, "manual"),
-        ("/meters/s1/void", {"place": 2}, "void"),
         ("/registers/spare/reset", {"before": 120, "after": 0}, "reset"),
         ("/registers/spare/rescale", {"before": 10, "after": 1, "sf": 1}, "rescale"),
         ("/registers/spare/exchange", {"last": 2, "rolls": 0, "meter": "s2", "raw": 7, "sf": 1, "ceiling": 1000}, "exchange"),
@@ -225,8 +224,9 @@ def faults():
     ]
 
 
-def meter_told(name, last, sf, total, ended, turn=2**32):
-    wanted = {"at": "T", "ended": ended, "last": last, "meter": name, "range": turn, "sf": sf, "total": str(total)}
+def meter_told(name, register, last, sf, total, ended):
+    about = {"at": "T", "ended": ended, "last": last, "meter": name, "range": 2**32}
+    wanted = {**about, "register": register, "sf": sf, "total": str(total)}
     return "200 " + json.dumps(wanted, separators=(",", ":")).replace('"T"', "T")
 
 
@@ -238,7 +238,7 @@ def try_routes(db):
     """Every route, by curl; the plant is set up by it."""
     (ROOM / "big").write_text("x" * 65537)
     setting, correcting, wrong = set_up(), corrections(), faults()
-    desk = Desk(db, len(setting) + len(correcting) + len(wrong) + 4)
+    desk = Desk(db, len(setting) + len(correcting) + len(wrong) + 5)
     for number, (path, body, done) in enumerate(setting, 1):
         same(f"POST {path}", desk.put(path, number, body), f'200 {{"done":"{done}"}}')
     for what, path, words, reply in wrong:
@@ -249,15 +249,18 @@ def try_routes(db):
     for number, (path, body, done) in enumerate(correcting, 101):
         time.sleep(1.1)
         same(f"POST {path}", desk.put(path, number, body), f'200 {{"done":"{done}"}}')
-    same("GET /meters/s1", without_moments(desk.ask("/meters/s1")), meter_told("s1", 2, 1, 40000, True))
-    same("GET /meters/s2", without_moments(desk.ask("/meters/s2")), meter_told("s2", 9, 1, 20000, True))
+    same("what was read by hand can't be voided", desk.put("/meters/s1/void", 150, {"place": 2}), '409 {"refused":16}')
+    same("GET /meters/s1", without_moments(desk.ask("/meters/s1")), meter_told("s1", "spare", 2, 1, 40000, True))
+    same("GET /meters/s2", without_moments(desk.ask("/meters/s2")), meter_told("s2", "spare", 9, 1, 20000, True))
     has_ended("serve", desk.child)
 
 
-def try_answers(db, polls):
-    """What the questions answer behind the rounds."""
-    desk = Desk(db, 5)
-    same("GET /meters/m1", without_moments(desk.ask("/meters/m1")), meter_told("m1", 5200 + 100 * polls, 0, 200000 + 100000 * polls, False))
+def try_answers(db, rounds):
+    """What the questions answer behind the rounds, and the void of a meter's last reading."""
+    polls = rounds - 1
+    desk = Desk(db, 7)
+    wanted = meter_told("m1", "main", 5200 + 100 * polls, 0, 200000 + 100000 * polls, False)
+    same("GET /meters/m1", without_moments(desk.ask("/meters/m1")), wanted)
     told = '200 {"code":0,"device":"inv","moment":T,"outcome":1,"poll":1,"started":T}'
     same("GET /polls/1", without_moments(desk.ask("/polls/1")), told)
     for path, rows in (("/meters/m1/intervals", 2), ("/registers/main/days", 3), ("/registers/far/days", 3)):
@@ -265,7 +268,13 @@ def try_answers(db, polls):
         energy = sum(int(line.split()[rows - 1]) for line in lines[:-1])
         wanted = {"/registers/far/days": 136000 + 10000 * polls}.get(path, 200000 + 100000 * polls)
         same(f"GET {path}", (lines[-1:], energy), ([f"end {len(lines) - 1}"], wanted))
+    same("POST /meters/l1/void", desk.put("/meters/l1/void", 201, {"place": rounds + 1}), '200 {"done":"void"}')
+    last, total = (990 + 10 * polls, 98000 + 1000 * polls) if polls else (10, 0)
+    told = without_moments(desk.ask("/meters/l1"))
+    same("GET /meters/l1 behind the void", told, meter_told("l1", "low", last, -1, total, False))
     has_ended("serve behind the rounds", desk.child)
+    same("sqlite3: voids", sql(db, "SELECT meter, place FROM voids"), [f"l1|{rounds + 1}"])
+    energy_adds_up(db, "behind a void")
 
 
 def plant(turn):
@@ -323,7 +332,12 @@ def try_rows(db, rounds):
             "inv|3|FAR|3|0|40300|acc32|",
             "inv|4|LOW|4|0|30000|acc32|",
         ],
-        "SELECT * FROM registers": ["1|main|inv|3|40094|1|40096", "2|far|inv|3|40300|0|0", "3|low|inv|4|30000|0|-1", "4|spare|inv|3|40500|0|0"],
+        "SELECT * FROM registers": [
+            "1|main|inv|3|40094|1|40096",
+            "2|far|inv|3|40300|0|0",
+            "3|low|inv|4|30000|0|-1",
+            "4|spare|inv|3|40500|0|0",
+        ],
         "SELECT place, meter, register, ceiling, ended, last_raw, last_sf, total FROM installations": [
             f"1|m1|main|1000000000|0|{5200 + 100 * last}|0|{200000 + 100000 * last}",
             f"2|f1|far|100000|0|{100 + 10 * last}|0|{136000 + 10000 * last}",
@@ -331,7 +345,10 @@ def try_rows(db, rounds):
             "4|s1|spare|1000|1|2|1|40000",
             "5|s2|spare|1000|1|9|1|20000",
         ],
-        'SELECT meter, "range" FROM ranges ORDER BY meter': ["f1|65536", "l1|4294967296", "m1|4294967296", "s1|4294967296", "s2|4294967296"],
+        'SELECT meter, "range" FROM ranges ORDER BY meter': [
+            "f1|65536",
+            *(f"{meter}|4294967296" for meter in ("l1", "m1", "s1", "s2")),
+        ],
         'SELECT place, kind, raw, rolls, "after", sf FROM entries WHERE meter = \'s1\'': [
             "1|1|100|0|0|0",
             "2|3|110|0|0|0",
@@ -340,10 +357,12 @@ def try_rows(db, rounds):
             "5|6|10|0|1|1",
             "6|4|2|0|0|1",
         ],
-        "SELECT meter, place FROM voids": ["s1|2"],
+        "SELECT meter, place FROM voids": [],
         "SELECT count(*) FROM holds": ["0"],
         "SELECT poll, device, unit, tid, function, address, count FROM polls": [
-            f"{3 * turn + 1 + at}|inv|{UNIT}|{at}|{read}" for turn in range(rounds) for at, read in enumerate(("3|40094|3", "3|40300|2", "4|30000|2"))
+            f"{3 * turn + 1 + at}|inv|{UNIT}|{at}|{read}"
+            for turn in range(rounds)
+            for at, read in enumerate(("3|40094|3", "3|40300|2", "4|30000|2"))
         ],
         "SELECT poll, outcome, code FROM outcomes": [f"{poll}|1|0" for poll in range(1, polls + 1)],
         "SELECT caller, number, kind FROM replies ORDER BY number": [
@@ -428,7 +447,7 @@ def main():
             time.sleep(1.1)
         rounds = len(servers())
         carried_out(try_rows, db, rounds)
-        carried_out(try_answers, db, rounds - 1)
+        carried_out(try_answers, db, rounds)
         carried_out(try_kills, db, rounds)
     print(f"{tally[True]} passed, {tally[False]} failed")
     return 1 if tally[False] else 0

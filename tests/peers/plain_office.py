@@ -50,8 +50,10 @@ class Office:
         self.db.execute("PRAGMA foreign_keys = ON")
         self.device = device
         self.unit, self.timeout, self.window = self.one('SELECT unit, timeout, "window" FROM devices WHERE name = ?', device)
-        self.plan = self.db.execute("SELECT function, address FROM points WHERE device = ? ORDER BY function, area, address", (device,)).fetchall()
-        self.registers = self.db.execute("SELECT name, function, address FROM registers WHERE device = ? ORDER BY place", (device,)).fetchall()
+        reads = "SELECT function, address FROM points WHERE device = ? ORDER BY function, area, address"
+        self.plan = self.db.execute(reads, (device,)).fetchall()
+        registers = "SELECT name, function, address FROM registers WHERE device = ? ORDER BY place"
+        self.registers = self.db.execute(registers, (device,)).fetchall()
         self.next_poll = self.one("SELECT coalesce(max(poll), 0) + 1 FROM polls")[0]
         self.next_hold = self.one("SELECT coalesce(max(place), 0) + 1 FROM holds")[0]
         self.pending = {}
@@ -102,7 +104,8 @@ class Office:
         print("\n".join([*told, "ok"]))
 
     def book(self, poll, register, now, raw):
-        meter = self.one("SELECT meter, ceiling, last_moment, last_raw, last_sf, total FROM installations WHERE register = ? AND ended = 0", register)
+        columns = "meter, ceiling, last_moment, last_raw, last_sf, total"
+        meter = self.one(f"SELECT {columns} FROM installations WHERE register = ? AND ended = 0", register)
         name, _, last_at, last, sf, total = meter
         turn = self.one('SELECT "range" FROM ranges WHERE meter = ?', name)[0]
         cause = cause_of(meter, turn, now, raw)

@@ -73,7 +73,8 @@ def compare(program, server, reads, turns):
         where = next(at for at, both in enumerate(zip(ours, plain)) if both[0] != both[1])
         sys.exit(f"rounds.py: they have not booked the same: {ours[where][:3]}, {plain[where][:3]}")
     (mine, cost), (theirs, price) = (tuple(statistics.median(it[part] for it in side) for part in (0, 1)) for side in zip(*runs))
-    print(f"{reads} polls, {METERS} meters: sunreg {reads / mine:.0f} booked polls a second, Python {reads / theirs:.0f}, ratio {theirs / mine:.2f};"
+    print(f"{reads} polls, {METERS} meters: sunreg {reads / mine:.0f} booked polls a second,"
+          f" Python {reads / theirs:.0f}, ratio {theirs / mine:.2f};"
           f" of the processor {1000 * cost:.0f} ms, {1000 * price:.0f} ms, ratio {price / max(cost, 1e-6):.2f}", flush=True)
 
 

@@ -37,7 +37,8 @@ def main():
     for count in (2, 125):
         runs = [(measured(ours, client, reads, count), measured(theirs, client, reads, count)) for _ in range(TURNS)]
         (mine, cost), (peer, price) = ((max(it[0] for it in side), min(it[1] for it in side)) for side in zip(*runs))
-        print(f"{reads} reads of {count} registers: sunreg {mine:.0f} a second, {os.path.basename(server)} {peer:.0f}, ratio {mine / peer:.2f};"
+        print(f"{reads} reads of {count} registers: sunreg {mine:.0f} a second,"
+              f" {os.path.basename(server)} {peer:.0f}, ratio {mine / peer:.2f};"
               f" processor time a read {cost:.1f} us, {price:.1f} us", flush=True)
 
 
