@@ -12,11 +12,18 @@ program=$(readlink -f "$program")
 room=$(mktemp -d)
 trap 'rm -rf "$room"' EXIT
 
+# python_of_pymodbus: the Python that has pymodbus: apt's is that of /usr/bin
+python_of_pymodbus() {
+    for it in python3 /usr/bin/python3; do
+        "$it" -B "$here/peers/pymodbus_peer.py" version > "$room/said" 2>&1 && echo "$it" && break
+    done
+}
+
 # has NAME: whether one of the peers, or of the tools, is here
 has() {
     case $1 in
         libmodbus) printf '#include <modbus.h>\n' | cc -E $(flags --cflags) - > "$room/said" 2>&1 ;;
-        pymodbus) python3 "$here/peers/pymodbus_peer.py" version > "$room/said" 2>&1 ;;
+        pymodbus) [ -n "$(python_of_pymodbus)" ] ;;
         *) command -v "$1" > "$room/said" ;;
     esac
 }
@@ -75,4 +82,5 @@ if has cc && has libmodbus; then
         fi
     done
 fi
-PYTHONDONTWRITEBYTECODE=1 python3 "$here/peers/peers.py" "$program" $peers
+python=$(python_of_pymodbus)
+PYTHONDONTWRITEBYTECODE=1 "${python:-python3}" "$here/peers/peers.py" "$program" $peers

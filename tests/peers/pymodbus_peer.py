@@ -48,10 +48,8 @@ def reply_to(client, kind, values, of_unit):
 
 def answer(client, kind, values, of_unit):
     reply = reply_to(client, kind, values, of_unit)
-    if hasattr(reply, "exception_code"):
-        return f"exception {reply.exception_code}"
     if reply.isError():
-        return f"failed: {reply}"
+        return f"exception {reply.exception_code}" if hasattr(reply, "exception_code") else f"failed: {reply}"
     if kind in READS:
         return " ".join(str(int(it)) for it in getattr(reply, READS[kind][1])[:values[1]])
     return "ok"
