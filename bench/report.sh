@@ -1,0 +1,11 @@
+#!/bin/sh
+# Times `sunreg report` over a register's year of quarter hours, beside the program sqlite3 doing the same sum over the same file:
+# `bench/report.sh [PROGRAM [YEARS]]`, out/sunreg by default, which `./sunreg-build` makes. It needs python3 and sqlite3.
+set -eu
+here=$(dirname "$(readlink -f "$0")")
+program=${1:-$here/../out/sunreg}
+[ -x "$program" ] || { echo "report.sh: $program is not built: run ./sunreg-build" >&2; exit 2; }
+for it in python3 sqlite3; do
+    command -v $it > /dev/null || { echo "report.sh: $it is not installed (apt-get install $it)" >&2; exit 2; }
+done
+PYTHONDONTWRITEBYTECODE=1 python3 "$here/../tests/peers/report.py" "$program" ${2:-}

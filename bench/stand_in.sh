@@ -1,0 +1,22 @@
+#!/bin/sh
+# Measures how many reads a second of one client the stand-in answers, beside libmodbus's own server, asked by libmodbus, or, where
+# that is not installed, beside a plain server in C, asked by plain sockets: `bench/stand_in.sh [PROGRAM [READS]]`, out/sunreg by default,
+# which `./sunreg-build` makes. It needs a C compiler and python3; apt's libmodbus-dev and pkg-config have libmodbus.
+set -eu
+here=$(dirname "$(readlink -f "$0")")
+peers=$here/../tests/peers
+program=${1:-$here/../out/sunreg}
+[ -x "$program" ] || { echo "stand_in.sh: $program is not built: run ./sunreg-build" >&2; exit 2; }
+room=$(mktemp -d)
+trap 'rm -rf "$room"' EXIT
+flags=$(pkg-config --cflags --libs libmodbus 2> "$room/said" || echo -I/usr/include/modbus -lmodbus)
+if cc -O2 -DLIBMODBUS -o "$room/reads" "$peers/reads.c" $flags 2> "$room/said" \
+    && cc -O2 -o "$room/libmodbus_server" "$peers/libmodbus_server.c" $flags 2> "$room/said"; then
+    server=libmodbus_server
+else
+    echo "stand_in.sh: libmodbus is not installed: beside a plain server in C"
+    server=plain_server
+    cc -O2 -o "$room/reads" "$peers/reads.c"
+    cc -O2 -o "$room/plain_server" "$peers/plain_server.c"
+fi
+PYTHONDONTWRITEBYTECODE=1 python3 "$peers/stand_in.py" "$program" "$room/reads" "$room/$server" ${2:-}
