@@ -1,5 +1,4 @@
-//! The headline over books in a database, and tests of these: scripts over a database in memory give the answers that they
-//! give over books in memory.
+//! Tests of books in a database: scripts over a database in memory give the answers that they give over books in memory.
 #![tactic(auto)]
 
 #[cfg(test)]
@@ -10,8 +9,5 @@ mod made;
 mod opening;
 #[cfg(test)]
 mod requests;
-mod runs;
 #[cfg(test)]
 mod scripts;
-
-pub use runs::run_stored;

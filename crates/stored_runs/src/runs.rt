@@ -1,5 +1,5 @@
 //! Runs over books in a database.
-ghost use Rattle.std.specs.Prelude.{ℕ, List, IfOk};
+ghost use Rattle.std.specs.Prelude.{ℕ, List, [], IfOk, IfSome};
 ghost use Rattle.office_core.specs.Running.{IsRecorded, accepted_by};
 ghost use Rattle.office_core.specs.Standing.{books_in};
 ghost use Rattle.office_lawful.specs.Laws.{IsPast};
@@ -10,7 +10,7 @@ use office_books::Books;
 use office_core::{Run, run};
 use office_events::{Event, Refusal};
 use office_store::SqlBooks;
-use sqlite::Alter;
+use sqlite::{Alter, Connection};
 use std::alloc::Global;
 
 /// Where books in a database hold the facts of what was accepted before, and a stop leaves nothing else, the headline holds
@@ -21,11 +21,37 @@ pub fn run_stored<S: Alter + Drop>(
     opened: u64,
     events: &[(u64, Event)],
 ) -> Result<Run<SqlBooks<S>>, (SqlBooks<S>, Refusal)>
-    ensures { (zone : List ℕ) (past : History) → IsPast past
+    ensures headline { (zone : List ℕ) (past : History) → IsPast past
         → HoldsAlone S.Store zone books.connection (facts_of past)
         → IfOk result (λ run. (⟦<SqlBooks<S> as Books>⟧.ledger (books_in run.office)).is_clean
         → IsRecorded (⟦<SqlBooks<S> as Books>⟧.ledger (books_in run.office))
         (accepted_by past opened events.now run)) }
+    ensures clean { IfOk result (λ run.
+        (⟦<SqlBooks<S> as Books>⟧.ledger (books_in run.office)).is_clean
+        → (⟦<SqlBooks<S> as Books>⟧.ledger books).is_clean) }
 {
     run(alloc, books, opened, events)
+}
+
+/// The same over new books, for the days of a zone: no premise is left but that of the store. None: the books were not
+/// made, or the office was not opened.
+pub fn run_anew<S: Alter + Drop>(
+    alloc: Global,
+    connection: Connection<S>,
+    zone: &str,
+    opened: u64,
+    events: &[(u64, Event)],
+) -> Option<Run<SqlBooks<S>>>
+    ensures { IfSome result (λ run.
+        (⟦<SqlBooks<S> as Books>⟧.ledger (books_in run.office)).is_clean
+        → IsRecorded (⟦<SqlBooks<S> as Books>⟧.ledger (books_in run.office))
+        (accepted_by [] opened events.now run)) }
+{
+    let Ok(books) = SqlBooks::create(alloc, connection, zone) else {
+        return None;
+    };
+    match run_stored(alloc, books, opened, events) {
+        Ok(done) => Some(done),
+        Err(_) => None,
+    }
 }
