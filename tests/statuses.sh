@@ -110,8 +110,25 @@ is 'no such option' 2 '' "error: unexpected argument '--version' found"
 status=$?
 is 'a word that is not in UTF-8' 2 '' 'error: the words are not in UTF-8'
 
-for words in 'create --db x --zone UTC0' 'report --db x --register r' 'serve --db x --port 1 --connections 1' \
-    'round --db x --device d --port 1' 'run --db x --listen 1 --every 1 --devices d=h:1'; do
+office=$room/office.db
+run '' create --db "$office" --zone nowhere
+is 'create: a text that is no zone' 2 '' \
+    "error: invalid value 'nowhere' for '--zone <TEXT>': no POSIX time zone, as UTC0 or CET-1CEST,M3.5.0,M10.5.0/3"
+run '' report --db "$office" --register r
+is 'report: no such file' 3 '' 'failed'
+run '' create --db "$office" --zone UTC0
+is 'create' 0 '' ''
+run '' create --db "$office" --zone UTC0
+is 'create: a file with tables' 3 '' 'failed'
+run '' report --db "$office" --register r
+is 'report: no such register' 1 'refused 1' ''
+run '' serve --db "$room" --port 1 --connections 1
+is 'serve: a folder' 3 '' 'failed'
+run '' serve --db "$office" --port 65536 --connections 1
+is 'serve: a port out of range' 2 '' "error: invalid value '65536' for '--port <N>': not a number from 1 to 65535"
+run '' round --db "$office" --device d --port 1
+is 'round: no device listens' 3 '' 'failed'
+for words in 'run --db x --listen 1 --every 1 --devices d=h:1'; do
     run '' $words
     is "${words%% *}: not there yet" 3 '' 'failed'
 done

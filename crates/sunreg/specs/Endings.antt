@@ -2,6 +2,12 @@
 use Rattle.std.specs.Prelude.{ℕ}
 use Rattle.command_io.specs.declared.status.Status.{Status}
 use Rattle.command_io.specs.declared.status.Status.TheVariants as status
+use Rattle.command_io.specs.Statuses.{status_number}
+use Rattle.office_text.specs.Rounds.{round_status}
+use Rattle.office_program.specs.declared.polling.Polling.{Polling}
+use Rattle.office_program.specs.declared.polling.Polling.TheVariants as polling
+use Rattle.office_program.specs.declared.serving.Serving.{Serving}
+use Rattle.office_program.specs.declared.serving.Serving.TheVariants as serving
 use Rattle.sunreg.specs.declared.ending.Ending.{Ending}
 use Rattle.sunreg.specs.declared.ending.Ending.TheVariants.{Fine, Refused, Wrong, NoText, NoZone, Failed}
 use Rattle.sunreg.specs.declared.ending.Failure.TheVariants.{Streams}
@@ -20,3 +26,16 @@ abbrev pub ending_of : Status → Ending
 ending_of status.Fine = Fine
 ending_of status.Refused = Refused
 ending_of status.Failed = Failed Streams
+
+-- how serving ends the command
+abbrev pub serving_number : Serving → ℕ
+serving_number serving.Served = 0
+serving_number (serving.Unopened why) = status_number why
+serving_number serving.NoPort = 3
+serving_number serving.Broken = 3
+
+-- how a round ends the command
+abbrev pub polling_number : Polling → ℕ
+polling_number (polling.Polled done) = status_number (round_status done)
+polling_number (polling.Unopened why) = status_number why
+polling_number polling.Unconnected = 3

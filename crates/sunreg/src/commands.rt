@@ -1,5 +1,6 @@
 //! The commands, over the streams and sockets of the process.
 use crate::ending::{Ending, Failure, ending_of};
+use crate::offices::{create, report, round, serve};
 use bank_text::{SetupParts, set_up};
 use chain_text::chain_text;
 use command_io::{Buffered, Status};
@@ -25,11 +26,20 @@ pub(crate) fn carry_out<'a>(rt: &HostRuntime, line: &CommandLine<'a>) -> Ending<
             port,
             connections,
         } => stand_in(rt, host, port, connections),
-        CommandLine::Create { .. }
-        | CommandLine::Serve { .. }
-        | CommandLine::Round { .. }
-        | CommandLine::Report { .. }
-        | CommandLine::Run { .. } => Ending::Failed(Failure::Lacking),
+        CommandLine::Create { db, zone } => create(rt, db, zone),
+        CommandLine::Serve {
+            db,
+            port,
+            connections,
+        } => serve(rt, db, port, connections),
+        CommandLine::Round {
+            db,
+            device,
+            host,
+            port,
+        } => round(rt, db, device, host, port),
+        CommandLine::Report { db, register } => report(rt, db, register),
+        CommandLine::Run { .. } => Ending::Failed(Failure::Lacking),
     }
 }
 
@@ -86,8 +96,8 @@ fn stand_in<'a>(rt: &HostRuntime, host: &'a str, port: u16, connections: u32) ->
     }
 }
 
-// The status of a command once all that it printed was given out.
-fn flushed<W: Write>(status: Status, output: &mut Buffered<W>) -> Status {
+/// The status of a command once all that it printed was given out.
+pub(crate) fn flushed<W: Write>(status: Status, output: &mut Buffered<W>) -> Status {
     match output.flush() {
         Ok(()) => status,
         Err(_) => Status::Failed,

@@ -1,9 +1,15 @@
 //! How the program ends, and what it says of it.
 ghost use Rattle.std.specs.Prelude.{◌≡◌};
 ghost use Rattle.std.specs.Process.{exit_status};
-ghost use Rattle.sunreg.specs.Endings.{ending_number, ending_of};
+ghost use Rattle.command_io.specs.Statuses.{status_number};
+ghost use Rattle.office_text.specs.Rounds.{round_status};
+ghost use Rattle.sunreg.specs.Endings.{ending_number, ending_of, polling_number, serving_number};
 
 use command_io::Status;
+use office_files::FileFault;
+use office_program::{Polling, Serving};
+use office_rounds::RoundFault;
+use office_store::OpenFault;
 use std::fmt;
 use std::fmt::{Display, Formatter};
 use std::io::Write;
@@ -21,6 +27,18 @@ pub(crate) enum Failure<'a> {
     Loopback,
     /// No connection was accepted.
     Listening,
+    /// There is no connection to the database in a file.
+    File { path: &'a str, fault: FileFault },
+    /// The tables of a new office were not made.
+    Unmade { path: &'a str, fault: OpenFault },
+    /// A file holds no office that could be opened.
+    Unopened { path: &'a str, fault: OpenFault },
+    /// A device was not connected.
+    Unconnected { host: &'a str, port: u16 },
+    /// The connection to a device failed in a round.
+    Broken { host: &'a str, port: u16 },
+    /// A round had all the takes that it may have.
+    Endless { host: &'a str, port: u16 },
     /// The program has no such command yet.
     Lacking,
 }
@@ -39,11 +57,53 @@ impl<'a> Display for Failure<'a> {
             ),
             Failure::Loopback => write!(f, "127.0.0.1 can't be listened on"),
             Failure::Listening => write!(f, "no more connections can be accepted"),
+            Failure::File { path, fault } => write!(f, "{path}: {fault}"),
+            Failure::Unmade { path, fault } => {
+                write!(f, "{path}: ")?;
+                f.write_str(why_unmade(*fault))
+            }
+            Failure::Unopened { path, fault } => {
+                write!(f, "{path}: ")?;
+                f.write_str(why_unopened(*fault))
+            }
+            Failure::Unconnected { host, port } => write!(
+                f,
+                "port {port} of {host} isn't answered: does the device run, and is this its address?"
+            ),
+            Failure::Broken { host, port } => write!(
+                f,
+                "the connection to port {port} of {host} failed in the round; what was booked stays"
+            ),
+            Failure::Endless { host, port } => write!(
+                f,
+                "port {port} of {host} sent on and on without answering; what was booked stays"
+            ),
             Failure::Lacking => write!(
                 f,
                 "this command is not there yet; sunreg help tells the others"
             ),
         }
+    }
+}
+
+// Why the tables of an office were not made, and what to do.
+fn why_unmade(fault: OpenFault) -> &'static str {
+    match fault {
+        OpenFault::NotOurs => "it has tables already: give another file, or leave out create",
+        OpenFault::Zone => "the zone is none",
+        OpenFault::Store => "the tables can't be written: look at its rights and the disk's room",
+        OpenFault::Memory => "memory ran out",
+    }
+}
+
+// Why an office was not opened, and what to do.
+fn why_unopened(fault: OpenFault) -> &'static str {
+    match fault {
+        OpenFault::NotOurs =>
+            "it holds no office, or one of a later program: sunreg create makes one in a new file",
+        OpenFault::Zone => "the zone in its table meta is none: give a copy that is whole",
+        OpenFault::Store => "the database in it failed: look at its rights and the disk's room",
+        OpenFault::Memory => "memory ran out",
     }
 }
 
@@ -70,6 +130,42 @@ pub(crate) fn ending_of(status: Status) -> Ending<'static>
         Status::Fine => Ending::Fine,
         Status::Refused => Ending::Refused,
         Status::Failed => Ending::Failed(Failure::Streams),
+    }
+}
+
+// The ending of a round that was begun.
+fn ending_of_round<'a>(done: Result<(), RoundFault>, host: &'a str, port: u16) -> Ending<'a>
+    ensures { ending_number result ≡ status_number (round_status done) }
+{
+    match done {
+        Ok(()) => Ending::Fine,
+        Err(RoundFault::Refused(_)) => Ending::Refused,
+        Err(RoundFault::Link) => Ending::Failed(Failure::Broken { host, port }),
+        Err(RoundFault::Output) => Ending::Failed(Failure::Streams),
+        Err(RoundFault::TurnsUsed) => Ending::Failed(Failure::Endless { host, port }),
+    }
+}
+
+/// The ending of serving at a port of a host.
+pub(crate) fn ending_of_serving<'a>(end: Serving, host: &'a str, port: u16) -> Ending<'a>
+    ensures { ending_number result ≡ serving_number end }
+{
+    match end {
+        Serving::Served => Ending::Fine,
+        Serving::Unopened(status) => ending_of(status),
+        Serving::NoPort => Ending::Failed(Failure::Port { host, port }),
+        Serving::Broken => Ending::Failed(Failure::Listening),
+    }
+}
+
+/// The ending of a round of the device at a port of a host.
+pub(crate) fn ending_of_polling<'a>(end: Polling, host: &'a str, port: u16) -> Ending<'a>
+    ensures { ending_number result ≡ polling_number end }
+{
+    match end {
+        Polling::Polled(done) => ending_of_round(done, host, port),
+        Polling::Unopened(status) => ending_of(status),
+        Polling::Unconnected => Ending::Failed(Failure::Unconnected { host, port }),
     }
 }
 

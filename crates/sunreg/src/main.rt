@@ -3,6 +3,7 @@
 
 mod commands;
 mod ending;
+mod offices;
 
 use crate::commands::carry_out;
 use crate::ending::{Ending, Failure, exit_code, say};

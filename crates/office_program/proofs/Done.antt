@@ -1,0 +1,122 @@
+-- What was done with an office that was opened.
+use Rattle.std.proofs.Common.{◌≡◌, ◌⊎◌, inl, inr, ℕ, List, Option, Result, ◌∷◌, refl, sym, subst}
+use Rattle.command_io.specs.declared.status.Status.{Status}
+use Rattle.office_events.specs.Names.{named}
+use Rattle.office_rules.specs.History.{History, Opened}
+use Rattle.office_books.specs.Ledgers.{Ledger}
+use Rattle.office_core.specs.Standing.{After, Stands, books_in}
+use Rattle.office_core.specs.Taking.{failures_of}
+use Rattle.office_core.specs.declared.office.Office.{Office}
+use Rattle.office_text.specs.Opening.{Opens}
+use Rattle.office_text.specs.Reports.{Asks, ReportPrints}
+use Rattle.office_text.specs.Telling.{Tells}
+use Rattle.office_program.specs.Opened.{WithOffice}
+use Rattle.office_program.specs.Reporting.{Reports, TellsReport}
+use Rattle.office_program.specs.Serving.{Serves, ServesPort, TellsServing}
+use Rattle.office_program.specs.declared.serving.Serving.{Serving}
+use Rattle.office_program.specs.declared.serving.Serving.TheVariants.{Served, Unopened, NoPort, Broken}
+use Rattle.office_program.specs.Polling.{PollsPort, TellsPolling}
+use Rattle.office_program.specs.declared.polling.Polling.{Polling}
+use Rattle.office_program.specs.declared.polling.Polling.TheVariants as polling
+
+-- books that are handed back are as clean as those of the office that was left
+kept : {B : Type 0} (ledger : B → Ledger) (left : Office B) (back : B) → back ≡ books_in left → (ledger back).is_clean
+    → (ledger (books_in left)).is_clean
+kept {B = B} ledger left back is clean = let P : B → Type 0 = λ b. (ledger b).is_clean in subst P is clean
+
+pub reported : {B W : Type 0} (ledger : B → Ledger) (contents : W → Option (List ℕ)) (past : History) (register : List ℕ)
+    (name : Option (List ℕ)) (moments later : Option (List ℕ)) (books back : B) (opened left : Office B) (before silent : W)
+    (holds : Option (List ℕ)) (status : Status)
+    → name ≡ named register
+    → ((ledger (books_in opened)).is_clean → Opens ledger past moments later opened)
+    → silent ≡ before
+    → After ledger opened left (λ behind. Tells (ReportPrints (ledger (books_in opened)).zone behind name
+    (failures_of ledger opened) (failures_of ledger left)) status (contents silent) holds)
+    → Asks ledger opened left → back ≡ books_in left → (ledger back).is_clean
+    → TellsReport ledger past register moments later books back (contents before) holds status
+reported {W = W} ledger contents past register name moments later books back opened left before silent holds status names opens same prints asks is clean =
+    let whole = kept ledger left back is clean in
+    let behind = opens (asks.only.clean whole) in
+    let P : W → Type 0 = λ w. Tells (ReportPrints (ledger (books_in opened)).zone (Opened behind.at ∷ past) name
+    (failures_of ledger opened) (failures_of ledger left)) status (contents w) holds in
+    let Q : Option (List ℕ) → Type 0 = λ n. Tells (ReportPrints (ledger (books_in opened)).zone (Opened behind.at ∷ past) n
+    (failures_of ledger opened) (failures_of ledger left)) status (contents before) holds in
+    inr (record {
+      then = later;
+      opened = opened;
+      opens = behind;
+      left = left;
+      does = record {
+        prints = subst Q names (subst P same (prints _ behind.stands whole));
+        stands = asks.only.stands _ behind.stands;
+        once = refl;
+      };
+      handed = is;
+    })
+
+pub served : {B : Type 0} (ledger : B → Ledger) (past : History) (connections : ℕ) (moments then later : Option (List ℕ))
+    (books back : B) (opened left : Office B) (held holds : Option (List ℕ)) (end : Serving)
+    → ((ledger (books_in opened)).is_clean → Opens ledger past moments then opened)
+    → ((ledger (books_in left)).is_clean → (ledger (books_in opened)).is_clean)
+    → After ledger opened left (λ behind. ServesPort connections ledger behind opened left end)
+    → holds ≡ held → back ≡ books_in left → (ledger back).is_clean
+    → TellsServing ledger past connections moments later books back held holds end
+served ledger past connections moments then later books back opened left held holds Served opens lasts serves silent is clean =
+    let whole = kept ledger left back is clean in
+    let behind = opens (lasts whole) in
+    record {
+      then = then;
+      opened = opened;
+      opens = behind;
+      left = left;
+      handed = is;
+      does = record { serves = serves _ behind.stands whole; silent = silent };
+    }
+served ledger past connections moments then later books back opened left held holds NoPort opens lasts serves silent is clean =
+    let whole = kept ledger left back is clean in
+    let behind = opens (lasts whole) in
+    record {
+      then = then;
+      opened = opened;
+      opens = behind;
+      left = left;
+      handed = is;
+      does = record { serves = serves _ behind.stands whole; silent = silent };
+    }
+served ledger past connections moments then later books back opened left held holds Broken opens lasts serves silent is clean =
+    let whole = kept ledger left back is clean in
+    let behind = opens (lasts whole) in
+    record {
+      then = then;
+      opened = opened;
+      opens = behind;
+      left = left;
+      handed = is;
+      does = record { serves = serves _ behind.stands whole; silent = silent };
+    }
+served ledger past connections moments then later books back opened left held holds (Unopened status) opens lasts serves silent is clean =
+    let whole = kept ledger left back is clean in
+    let behind = opens (lasts whole) in absurd (serves _ behind.stands whole)
+
+pub polled : {B W : Type 0} (ledger : B → Ledger) (contents : W → Option (List ℕ)) (past : History) (device : List ℕ)
+    (moments then later : Option (List ℕ)) (books back : B) (opened left : Office B) (before silent : W)
+    (holds : Option (List ℕ)) (end : Polling)
+    → ((ledger (books_in opened)).is_clean → Opens ledger past moments then opened)
+    → silent ≡ before
+    → ((ledger (books_in left)).is_clean → (ledger (books_in opened)).is_clean)
+    → After ledger opened left (λ behind. PollsPort ledger device later (contents silent) holds end behind then opened left)
+    → back ≡ books_in left → (ledger back).is_clean
+    → TellsPolling ledger past device moments later books back (contents before) holds end
+polled {W = W} ledger contents past device moments then later books back opened left before silent holds (polling.Polled done) opens same lasts polls is clean =
+    let whole = kept ledger left back is clean in
+    let behind = opens (lasts whole) in
+    let P : W → Type 0 = λ w. PollsPort ledger device later (contents w) holds (polling.Polled done) (Opened behind.at ∷ past) then opened left in
+    record { then = then; opened = opened; opens = behind; left = left; handed = is; does = subst P same (polls _ behind.stands whole) }
+polled {W = W} ledger contents past device moments then later books back opened left before silent holds polling.Unconnected opens same lasts polls is clean =
+    let whole = kept ledger left back is clean in
+    let behind = opens (lasts whole) in
+    let P : W → Type 0 = λ w. PollsPort ledger device later (contents w) holds polling.Unconnected (Opened behind.at ∷ past) then opened left in
+    record { then = then; opened = opened; opens = behind; left = left; handed = is; does = subst P same (polls _ behind.stands whole) }
+polled {W = W} ledger contents past device moments then later books back opened left before silent holds (polling.Unopened status) opens same lasts polls is clean =
+    let whole = kept ledger left back is clean in
+    let behind = opens (lasts whole) in absurd (polls _ behind.stands whole)

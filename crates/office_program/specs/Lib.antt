@@ -1,0 +1,4 @@
+pub mod Opened
+pub mod Reporting
+pub mod Serving
+pub mod Polling

@@ -1,0 +1,20 @@
+-- What a command over an office does: it opens one over books, does something with it, and hands the books back.
+use Rattle.std.specs.Prelude.{◌≡◌, ℕ, List, ◌∷◌, Option}
+use Rattle.office_rules.specs.History.{History, Opened}
+use Rattle.office_books.specs.Ledgers.{Ledger}
+use Rattle.office_core.specs.Standing.{books_in}
+use Rattle.office_core.specs.declared.office.Office.{Office}
+use Rattle.office_text.specs.Opening.{Opens}
+
+-- The office was opened, and printed nothing of it; this was done with it behind its opening, between what was opened and
+-- what was left, from what the clock would tell then on; and the books of that are handed back.
+pub record WithOffice {B : Type 0} (ledger : B → Ledger) (past : History)
+    (moments : Option (List ℕ)) (back : B)
+    (Does : (behind : History) → (then : Option (List ℕ)) → (opened left : Office B) → Type 0)
+    : Type 0 where
+  pub then : Option (List ℕ)
+  pub opened : Office B
+  pub opens : Opens ledger past moments then opened
+  pub left : Office B
+  pub does : Does (Opened opens.at ∷ past) then opened left
+  pub handed : back ≡ books_in left

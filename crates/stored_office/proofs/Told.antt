@@ -1,0 +1,13 @@
+-- What is told of books that were made, or not.
+use Rattle.std.proofs.Common.{◌≡◌, Result, Ok, Err, ap}
+
+-- A value is no error.
+pub not_both : {Z E : Type 0} (zone : Z) (fault : E) → Ok zone ≡ Err fault → ⊥
+not_both zone fault both = cc
+
+-- An error that is told in place of a value is told in place of another.
+pub same_fault : {Z Y E : Type 0} (told meant : E) → (let r : Result Z E = Err told in r) ≡ Err meant
+    → (let r : Result Y E = Err told in r) ≡ Err meant
+same_fault {Y = Y} {E = E} told meant same =
+    let is : told ≡ meant = cc in
+    ap (λ e. let r : Result Y E = Err e in r) is

@@ -1,0 +1,171 @@
+#!/bin/sh
+# Runs the built program's commands over an office in a file, with curl, sqlite3 and its own stand-in:
+# `tests/files.sh [PROGRAM]`, out/sunreg by default, which `./sunreg-build` makes. It ends on 'N passed, M failed'.
+set -u
+here=$(dirname "$(readlink -f "$0")")
+program=$(readlink -f "${1:-$here/../out/sunreg}")
+[ -x "$program" ] || { echo "files.sh: $program is not built: run ./sunreg-build" >&2; exit 2; }
+for tool in curl sqlite3; do
+    command -v $tool > /dev/null || apt-get install -y -q $tool > /dev/null || { echo "files.sh: $tool lacks" >&2; exit 2; }
+done
+room=$(mktemp -d)
+children=''
+trap 'for it in $children; do kill -9 "$it" 2> /dev/null; done; rm -rf "$room"' EXIT
+cd "$room"
+passed=0
+failed=0
+port=${FILES_PORT:-18471}
+device=$((port + 1))
+
+# same WHAT GOT WANTED: holds what came to what is wanted
+same() {
+    if [ "$2" = "$3" ]; then
+        passed=$((passed + 1))
+    else
+        failed=$((failed + 1))
+        echo "$1: '$2', and not '$3'"
+    fi
+}
+
+# is WHAT STATUS OUT ERR: holds the last run to what is wanted; of standard error its first line
+is() {
+    same "$1" "$status $(cat out) / $(head -n 1 err)" "$2 $3 / $4"
+    if [ "$2" = 3 ]; then
+        same "$1: lines on standard error" "$(wc -l < err)" 2
+    fi
+}
+
+# run WORDS..: runs the program, and keeps what comes
+run() {
+    "$program" "$@" > out 2> err < /dev/null
+    status=$?
+}
+
+# ask PATH [WORDS..]: asks the serving program, and prints the reply's status and body
+ask() {
+    path=$1
+    shift
+    curl -s -w '%{http_code} ' -o body --max-time 30 --retry 100 --retry-connrefused --retry-delay 1 "$@" "http://127.0.0.1:$port$path"
+    cat body
+}
+
+# put PATH NUMBER BODY: asks a command
+put() {
+    ask "$1" -H 'Office-Caller: desk' -H "Office-Request: $2" --data-binary "$3"
+}
+
+# stand_in COUNT RAW: starts a device for so many connections, whose meter shows so much
+stand_in() {
+    printf 'area holding 40000 100\nset holding 40095 %s\n' "$2" \
+        | "$program" stand-in --port "$device" --connections "$1" > stand_in 2>&1 &
+    child=$!
+    children="$children $child"
+    sleep 1
+}
+
+run create --db office.db --zone nowhere
+is 'a text that is no zone' 2 '' "error: invalid value 'nowhere' for '--zone <TEXT>': no POSIX time zone, as UTC0 or CET-1CEST,M3.5.0,M10.5.0/3"
+same 'no zone makes no file' "$(ls office.db 2> /dev/null)" ''
+for words in 'report --register main' "serve --port $port --connections 1" "round --device inv --port $device"; do
+    run ${words%% *} --db none.db ${words#* }
+    is "${words%% *}: a file that is missing" 3 '' 'failed'
+done
+same 'no file is made' "$(ls none.db 2> /dev/null)" ''
+echo 'no database' > text.db
+run report --db text.db --register main
+is 'a text is no database' 3 '' 'failed'
+run create --db "$room" --zone UTC0
+is 'a folder is no file' 3 '' 'failed'
+sqlite3 other.db 'CREATE TABLE other (n INTEGER)'
+run report --db other.db --register main
+is 'the tables of another' 3 '' 'failed'
+run create --db other.db --zone UTC0
+is 'a file that has tables' 3 '' 'failed'
+
+run create --db office.db --zone CET-1CEST,M3.5.0,M10.5.0/3
+is 'create' 0 '' ''
+run create --db office.db --zone UTC0
+is 'create again' 3 '' 'failed'
+run report --db office.db --register main
+is 'no register yet' 1 'refused 1' ''
+run report --db office.db --register 'no name'
+is 'no name' 1 'refused 1' ''
+run round --db office.db --device inv --port "$device"
+is 'no device listens' 3 '' 'failed'
+
+"$program" serve --db office.db --port "$port" --connections 8 > served 2>&1 < /dev/null &
+child=$!
+children="$children $child"
+same 'a device' "$(put /devices 1 '{"name":"inv","unit":1,"timeout":60,"window":1}')" '200 {"done":"device"}'
+list='name,function,area,address,type,scale
+wh,3,0,40094,acc32,
+'
+same 'its list' "$(put /devices/inv/list 2 "$list")" '200 {"done":"list"}'
+same 'a register' "$(put /registers 3 '{"name":"main","device":"inv","function":3,"address":40094,"fixed":0}')" '200 {"done":"register"}'
+same 'a meter' "$(put /registers/main/install 4 '{"meter":"m1","raw":5000,"sf":0,"ceiling":1000000000}')" '200 {"done":"install"}'
+same 'a repeat' "$(put /registers/main/install 4 '{"meter":"m1","raw":5000,"sf":0,"ceiling":1000000000}')" '200 {"done":"install"}'
+same 'another request under its number' "$(put /registers/main/install 4 '{"meter":"m2","raw":5000,"sf":0,"ceiling":1}')" '409 {"refused":11}'
+run report --db office.db --register main
+is 'a file that another has open' 3 '' 'failed'
+same 'no days yet' "$(ask /registers/main/days)" '200 end 0'
+same 'an unknown meter' "$(ask /meters/none)" '404 {"refused":1}'
+wait "$child"
+same 'serving ends behind its connections' "$? $(cat served)" '0 '
+"$program" stand-in --port "$port" --connections 1 > /dev/null 2>&1 < /dev/null &
+child=$!
+children="$children $child"
+sleep 1
+run serve --db office.db --port "$port" --connections 1
+is 'a port that is taken' 3 '' 'failed'
+kill -9 "$child"
+
+sleep 2
+stand_in 1 5200
+run round --db office.db --device inv --port "$device"
+is 'a round' 0 'ok
+started 1 1 1 00000000000601039c9e0002
+poll 1 answered
+reading m1 5200 rolls 0 step 200000
+ok
+ok' ''
+run report --db office.db --register main
+same 'the energy of the days' "$status $(awk '/^end/ { days = $2 } !/^end/ { sum += $3; lines += 1 } END { print sum, days == lines }' out)" '0 200000 1'
+stand_in 1 5200
+run round --db office.db --device other --port "$device"
+is 'an unknown device' 1 'refused 1' ''
+
+stand_in 2 5300
+kill -STOP "$child"
+"$program" round --db office.db --device inv --port "$device" > out 2> err < /dev/null &
+round=$!
+for turn in $(seq 60); do
+    grep -q started out && break
+    sleep 1
+done
+kill -9 "$round"
+wait "$round" 2> /dev/null
+kill -CONT "$child"
+same 'a poll waits behind the stop' "$(sqlite3 office.db 'SELECT (SELECT count(*) FROM polls) - (SELECT count(*) FROM outcomes)')" 1
+run round --db office.db --device inv --port "$device"
+is 'a round behind the stop' 0 'ok
+started 3 1 1 00000000000601039c9e0002
+poll 3 answered
+reading m1 5300 rolls 0 step 100000
+ok
+ok' ''
+same 'the poll that waited is lost' "$(sqlite3 office.db 'SELECT outcome, code FROM outcomes WHERE poll = 2')" '5|4'
+run report --db office.db --register main
+same 'the energy behind the stop' "$status $(awk '!/^end/ { sum += $3 } END { print sum }' out)" '0 300000'
+same 'the file is whole' "$(sqlite3 office.db 'PRAGMA integrity_check; PRAGMA foreign_key_check')" ok
+bash "$here/schema.sh" wanted.db
+same 'its tables are those of docs/SCHEMA.md' "$(sqlite3 office.db 'SELECT name, sql FROM sqlite_schema' | md5sum)" "$(sqlite3 wanted.db 'SELECT name, sql FROM sqlite_schema' | md5sum)"
+same 'its version and zone' "$(sqlite3 office.db 'SELECT version, zone FROM meta')" '3|CET-1CEST,M3.5.0,M10.5.0/3'
+run report --db office.db --register main
+same 'the file opens behind sqlite3' "$status" 0
+if [ -w /dev/full ]; then
+    "$program" report --db office.db --register main > /dev/full 2> err < /dev/null
+    same 'a write that fails' "$? $(head -n 1 err)" '3 failed'
+fi
+
+echo "$passed passed, $failed failed"
+[ "$failed" = 0 ]
