@@ -1,0 +1,47 @@
+//! Why a run ended.
+use command_io::Status;
+use std::alloc::AllocError;
+use std::error::Error;
+use std::fmt;
+use std::fmt::{Display, Formatter};
+
+/// Why a run ended before its time.
+#[derive(Clone, Copy, Debug, PartialEq, Eq)]
+pub enum RunFault {
+    /// The office was not opened, as was printed, and the command ends so.
+    Unopened(Status),
+    /// The port can't be listened on.
+    Port,
+    /// The system can't tell which sockets are ready.
+    Sockets,
+    /// A printing failed.
+    Output,
+    /// The office has stopped, since its store failed while it settled a device's event.
+    Stopped,
+    /// Memory ran out.
+    Memory,
+}
+
+impl From<AllocError> for RunFault {
+    fn from(_error: AllocError) -> RunFault {
+        RunFault::Memory
+    }
+}
+
+impl Display for RunFault {
+    fn fmt<W: fmt::Write>(&self, f: &mut Formatter<W>) -> fmt::Result {
+        match self {
+            RunFault::Unopened(_) => write!(f, "the office was not opened"),
+            RunFault::Port => write!(f, "the port can't be listened on: is it taken?"),
+            RunFault::Sockets => write!(f, "the system can't tell which sockets are ready"),
+            RunFault::Output => write!(f, "standard output can't be written"),
+            RunFault::Stopped => write!(
+                f,
+                "the office has stopped, since its file failed: look at the disk, and start again"
+            ),
+            RunFault::Memory => write!(f, "memory ran out"),
+        }
+    }
+}
+
+impl Error for RunFault {}

@@ -1,0 +1,57 @@
+//! A run over books.
+ghost use Rattle.std.specs.Prelude.{◌≡◌};
+ghost use Rattle.office_core.specs.Leaving.{BooksStand};
+ghost use Rattle.office_rules.specs.History.{History};
+ghost use Rattle.office_text.specs.Passing.{Lasts};
+ghost use Rattle.office_running.specs.Runs.{BooksRun};
+
+use crate::fault::RunFault;
+use crate::opening::left_in;
+use crate::running::run_open;
+use crate::settings::{Settings, Site};
+use office_books::Books;
+use office_text::open_office;
+use socket_link::Clock;
+use std::alloc::Global;
+use std::io::Write;
+use std::net::Net;
+
+/// The books that a run hands back, and how it ended.
+#[derive(Drop)]
+pub struct Ran<B> {
+    pub books: B,
+    pub end: Result<(), RunFault>,
+}
+
+/// Opens an office over books, polls its devices on a schedule and answers HTTP on a port, until the time is up. It prints
+/// up to which moment the books go and how many polls are lost, and `listening PORT` once the port is open; then a line an
+/// event. A clock that is set back is told once, and what comes then comes at the latest moment. All that the office is fed comes
+/// at moments of the clock, in seconds since 1970-01-01 UTC.
+pub fn run_office<R: Net + std::rt::Clock, B: Books, C: Clock, W: Write>(
+    rt: &R,
+    alloc: Global,
+    mut books: B,
+    settings: &Settings,
+    sites: &[Site],
+    clock: &mut C,
+    output: &mut W,
+) -> Ran<B>
+    ensures books { (past : History) → BooksStand (B.ledger books) past
+        → (B.ledger result.books).is_clean → BooksRun (B.ledger result.books) past }
+    ensures lasts { Lasts (B.ledger books) (B.ledger result.books) }
+{
+    let left = left_in(&mut books);
+    match open_office(alloc, books, clock, output) {
+        Ok(mut office) => {
+            let end = run_open(rt, alloc, left, settings, sites, &mut office, clock, output);
+            Ran {
+                books: office.into_books(),
+                end,
+            }
+        }
+        Err(unopened) => Ran {
+            books: unopened.books,
+            end: Err(RunFault::Unopened(unopened.status)),
+        },
+    }
+}

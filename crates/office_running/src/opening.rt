@@ -1,0 +1,51 @@
+//! What books tell before they are opened.
+ghost use Rattle.std.specs.Prelude.{IfSome};
+ghost use Rattle.office_core.specs.Leaving.{BooksStand};
+ghost use Rattle.office_rules.specs.History.{History};
+ghost use Rattle.office_text.specs.Passing.{Lasts};
+ghost use Rattle.office_running.specs.Runs.{IsLeft};
+
+use crate::fault::RunFault;
+use office_books::Books;
+use std::io::Write;
+
+/// What was left in books.
+#[derive(Clone, Copy, Debug, PartialEq, Eq)]
+pub(crate) struct Left {
+    /// Up to which moment they go, in seconds since 1970-01-01 UTC.
+    pub(crate) latest: u64,
+    /// How many polls wait in them.
+    pub(crate) waiting: usize,
+}
+
+/// What was left in books; none where they failed.
+pub(crate) fn left_in<B: Books>(books: &mut B) -> Option<Left>
+    ensures stands { (past : History) → BooksStand (B.ledger books.old) past
+        → BooksStand (B.ledger books.new) past }
+    ensures left { (past : History) → BooksStand (B.ledger books.old) past
+        → (B.ledger books.new).is_clean → IfSome result (λ left. IsLeft past left) }
+    ensures lasts { Lasts (B.ledger books.old) (B.ledger books.new) }
+{
+    let latest = books.latest();
+    let pending = books.pending();
+    match (latest, pending) {
+        (Ok(latest), Ok(pending)) => Some(Left {
+            latest,
+            waiting: pending.len(),
+        }),
+        (Ok(_), Err(_)) => None,
+        (Err(_), _) => None,
+    }
+}
+
+/// Prints it.
+pub(crate) fn print_left<W: Write>(left: Option<Left>, output: &mut W) -> Result<(), RunFault> {
+    let Some(left) = left else {
+        return Ok(());
+    };
+    let Left { latest, waiting } = left;
+    match writeln!(output, "books to {latest} lost {waiting}") {
+        Ok(()) => Ok(()),
+        Err(_) => Err(RunFault::Output),
+    }
+}

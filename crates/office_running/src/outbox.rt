@@ -1,0 +1,94 @@
+//! What is still to be written to a socket.
+use mio::net::TcpStream;
+use std::alloc::{AllocError, Global};
+use std::io::{ErrorKind, Write};
+
+/// How many reads, or writes, one look at a socket may take.
+pub(crate) const MOST_CALLS: u32 = 16;
+
+/// What a read, or a write, came to.
+#[derive(Clone, Copy, Debug, PartialEq, Eq)]
+pub(crate) enum Went {
+    /// On.
+    On,
+    /// The socket has no more for now, or takes no more.
+    Waits,
+    /// The connection is over.
+    Over,
+}
+
+/// What a read, or a write, came to that failed.
+pub(crate) fn went_by(kind: ErrorKind) -> Went {
+    match kind {
+        ErrorKind::WouldBlock => Went::Waits,
+        ErrorKind::Interrupted => Went::On,
+        _ => Went::Over,
+    }
+}
+
+/// Bytes, of which a beginning was written.
+#[derive(Drop)]
+pub(crate) struct Outbox {
+    bytes: Vec<u8>,
+    written: usize,
+}
+
+impl Outbox {
+    pub(crate) fn of(bytes: Vec<u8>) -> Outbox {
+        Outbox { bytes, written: 0 }
+    }
+
+    pub(crate) fn empty(alloc: Global) -> Outbox {
+        Outbox::of(Vec::new(alloc))
+    }
+
+    /// Whether it never had any bytes.
+    pub(crate) fn is_empty(&self) -> bool {
+        self.bytes.is_empty()
+    }
+
+    /// Whether all of it was written.
+    pub(crate) fn is_written(&self) -> bool {
+        self.bytes.len() <= self.written
+    }
+
+    /// Puts bytes behind those that it has.
+    pub(crate) fn put(&mut self, bytes: &[u8]) -> Result<(), AllocError> {
+        if self.is_written() {
+            self.bytes.clear();
+            self.written = 0;
+        }
+        self.bytes.extend_from_slice(bytes)
+    }
+
+    // Writes what is left once.
+    fn write(&mut self, stream: &TcpStream) -> Went {
+        let mut stream: &TcpStream = stream;
+        let Some(rest) = self.bytes.get(self.written..) else {
+            return Went::Over;
+        };
+        match stream.write(rest) {
+            Ok(0) => Went::Over,
+            Ok(count) => {
+                self.written = self.written.saturating_add(count);
+                Went::On
+            }
+            Err(error) => went_by(error.kind()),
+        }
+    }
+
+    /// Writes what is left, as far as the socket takes it. On where all of it was written, or where there is more to write
+    /// at once.
+    pub(crate) fn write_all(&mut self, stream: &TcpStream) -> Went {
+        for _write in 0..MOST_CALLS {
+            if self.is_written() {
+                return Went::On;
+            }
+            let went = self.write(stream);
+            if went != Went::On {
+                return went;
+            }
+        }
+        Went::On
+    }
+}

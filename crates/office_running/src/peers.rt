@@ -1,0 +1,168 @@
+//! The connections of peers.
+use crate::outbox::{MOST_CALLS, Outbox, Went, went_by};
+use hub_asking::Asked;
+use mio::net::TcpStream;
+use std::alloc::Global;
+use std::io::Read;
+use std::net::Shutdown;
+
+/// The most bytes of a request: of its head, and of its body.
+const MOST_ASKED: usize = 73_728;
+
+/// How often a request may be tried whether it is whole, as its pieces come.
+const MOST_TRIES: u32 = 256;
+
+/// A connection of a peer.
+#[derive(Drop)]
+pub(crate) struct Peer {
+    pub(crate) stream: TcpStream,
+    /// What it has asked so far.
+    pub(crate) asked: Vec<u8>,
+    /// Whether something may have come that was not looked at.
+    pub(crate) ready: bool,
+    /// Until when what still comes is dropped, once the reply was written.
+    pub(crate) lingers: Option<u64>,
+    reply: Outbox,
+    tries: u32,
+    ended: bool,
+    over: bool,
+}
+
+// Whether an empty line has come, or more than any head may have.
+fn has_head(asked: &[u8]) -> bool {
+    8192 <= asked.len()
+        || asked.windows(2).any(|w| w == b"\n\n".as_slice())
+        || asked.windows(3).any(|w| w == b"\n\r\n".as_slice())
+}
+
+impl Peer {
+    pub(crate) fn new(alloc: Global, stream: TcpStream) -> Peer {
+        Peer {
+            stream,
+            asked: Vec::new(alloc),
+            ready: true,
+            lingers: None,
+            reply: Outbox::empty(alloc),
+            tries: 0,
+            ended: false,
+            over: false,
+        }
+    }
+
+    /// Whether the connection is over.
+    pub(crate) fn is_over(&self) -> bool {
+        self.over
+    }
+
+    /// Whether it has been replied to.
+    pub(crate) fn has_reply(&self) -> bool {
+        !self.reply.is_empty()
+    }
+
+    // Keeps a piece of what came.
+    fn keep(&mut self, piece: &[u8]) -> Went {
+        if self.has_reply() {
+            return Went::On;
+        }
+        if MOST_ASKED < self.asked.len().saturating_add(piece.len()) {
+            return Went::Over;
+        }
+        match self.asked.extend_from_slice(piece) {
+            Ok(()) => Went::On,
+            Err(_) => Went::Over,
+        }
+    }
+
+    // Reads a piece of what came.
+    fn read(&mut self) -> Went {
+        let mut room = [0u8; 4096];
+        match self.stream.read(&mut room) {
+            Ok(0) => Went::Over,
+            Ok(count) => match room.get(..count) {
+                Some(piece) => self.keep(piece),
+                None => Went::Over,
+            },
+            Err(error) => went_by(error.kind()),
+        }
+    }
+
+    // Reads what came.
+    fn read_all(&mut self) -> Went {
+        for _read in 0..MOST_CALLS {
+            let went = self.read();
+            if went != Went::On {
+                return went;
+            }
+        }
+        Went::On
+    }
+
+    // Whether its reply is being written.
+    fn is_given(&self) -> bool {
+        self.has_reply() && self.lingers.is_none()
+    }
+
+    /// Reads what came. It answers whether the office is to be asked what comes of it.
+    pub(crate) fn hear(&mut self) -> bool {
+        if self.is_given() {
+            self.ready = false;
+            return false;
+        }
+        let before = self.asked.len();
+        let went = self.read_all();
+        self.ready = went == Went::On;
+        self.ended = went == Went::Over;
+        let has_more = before < self.asked.len() && has_head(&self.asked);
+        if has_more && self.tries < MOST_TRIES {
+            self.tries = self.tries.saturating_add(1);
+            return true;
+        }
+        if self.ended || has_more {
+            self.over = true;
+        }
+        false
+    }
+
+    /// Takes what came of what was asked.
+    pub(crate) fn take(&mut self, asked: Asked) {
+        match asked {
+            Asked::Open => self.over = self.ended,
+            Asked::Replied(reply) => {
+                self.over = reply.is_empty();
+                self.reply = Outbox::of(reply);
+            }
+            Asked::Failed => self.over = true,
+        }
+    }
+
+    /// Writes the reply, as far as the socket takes it, and says that nothing more comes. What the peer sends until it has
+    /// closed is dropped, for a second or two: a socket that is closed with bytes unread is reset, and the peer may then lose its
+    /// reply.
+    pub(crate) fn give(&mut self, moment: u64) {
+        if self.over || self.lingers.is_some() || !self.has_reply() {
+            return;
+        }
+        match self.reply.write_all(&self.stream) {
+            Went::Waits => {}
+            Went::Over => self.over = true,
+            Went::On => self.close(moment),
+        }
+    }
+
+    // Says that nothing more comes, where the whole reply was written.
+    fn close(&mut self, moment: u64) {
+        self.ready = true;
+        if self.reply.is_written() {
+            self.over = self.stream.shutdown(Shutdown::Write).is_err();
+            self.lingers = Some(moment.saturating_add(2));
+        }
+    }
+
+    /// Whether the reply was written, and what still comes was dropped long enough.
+    pub(crate) fn is_done(&self, moment: u64) -> bool {
+        match self.lingers {
+            Some(until) => until <= moment,
+            None => false,
+        }
+    }
+}

@@ -1,0 +1,241 @@
+//! HTTP on a port.
+ghost use Rattle.office_running.specs.Runs.{Goes};
+
+use crate::fault::RunFault;
+use crate::peers::Peer;
+use crate::voice::Voice;
+use hub_asking::{Asked, Own, ask, own_route, reply_own};
+use hub_peers::{MOST_PEERS, Peers, place_for};
+use hub_schedule::PEER_SECONDS;
+use mio::net::{TcpListener, TcpStream};
+use mio::{Interest, Registry, Token};
+use office_books::Books;
+use office_core::Office;
+use std::alloc::{AllocError, Global};
+use std::io::ErrorKind;
+use std::net::{Net, SocketAddr};
+
+/// The port and its connections. The token of a connection is its place, and that of the port is the number of places.
+#[derive(Drop)]
+pub(crate) struct Serving {
+    alloc: Global,
+    listener: TcpListener,
+    waiting: bool,
+    peers: Peers,
+    connections: Vec<Option<Peer>>,
+}
+
+// Whether the connection of a place has something that was not looked at.
+fn is_ready(connection: &Option<Peer>) -> bool {
+    match connection {
+        Some(peer) => peer.ready,
+        None => false,
+    }
+}
+
+// Whether the connection of a place was replied to, and may be dropped.
+fn is_done(connection: &Option<Peer>, moment: u64) -> bool {
+    match connection {
+        Some(peer) => peer.is_done(moment),
+        None => false,
+    }
+}
+
+// A connection for each place, of which there is none yet.
+fn no_connections(alloc: Global) -> Result<Vec<Option<Peer>>, AllocError> {
+    let mut connections = Vec::new(alloc);
+    for _place in 0..MOST_PEERS {
+        connections.push(None)?;
+    }
+    Ok(connections)
+}
+
+impl Serving {
+    /// Opens the port.
+    pub(crate) fn open<R: Net>(
+        rt: &R,
+        alloc: Global,
+        registry: &Registry,
+        listen: SocketAddr,
+    ) -> Result<Serving, RunFault> {
+        let Ok(mut listener) = TcpListener::bind(rt, listen) else {
+            return Err(RunFault::Port);
+        };
+        if registry
+            .register(&mut listener, Token(MOST_PEERS), Interest::READABLE)
+            .is_err()
+        {
+            return Err(RunFault::Sockets);
+        }
+        let connections = no_connections(alloc)?;
+        Ok(Serving {
+            alloc,
+            listener,
+            waiting: true,
+            peers: Peers::new(),
+            connections,
+        })
+    }
+
+    /// Something may have come for a token.
+    pub(crate) fn mark(&mut self, token: usize) {
+        if token == MOST_PEERS {
+            self.waiting = true;
+        } else if token < self.connections.len() {
+            if let Some(peer) = &mut self.connections[token] {
+                peer.ready = true;
+            }
+        }
+    }
+
+    /// Whether something may have come that was not looked at.
+    pub(crate) fn is_ready(&self) -> bool {
+        self.connections.iter().any(|it| is_ready(it))
+    }
+
+    /// Whether a connection may wait that was not accepted.
+    pub(crate) fn is_waiting(&self) -> bool {
+        self.waiting
+    }
+
+    // Drops the connection of a place.
+    fn end(&mut self, place: usize) {
+        if place < MOST_PEERS && place < self.connections.len() {
+            self.peers.end(place);
+            self.connections[place] = None;
+        }
+    }
+
+    /// Drops the connections that took too long, and those that were replied to.
+    pub(crate) fn sweep(&mut self, moment: u64) {
+        for place in 0..MOST_PEERS {
+            let is_late = self.peers.is_over(place, moment);
+            if is_late
+                || place < self.connections.len() && is_done(&self.connections[place], moment)
+            {
+                self.end(place);
+            }
+        }
+    }
+
+    // Whether there is a place for one more connection: a free one, or that of one which has not asked for a second.
+    fn has_room(&self, moment: u64) -> bool {
+        let Some(place) = place_for(&self.peers.places) else {
+            return false;
+        };
+        if place >= MOST_PEERS {
+            return false;
+        }
+        match self.peers.places[place].silent_until() {
+            Some(until) => until < moment.saturating_add(PEER_SECONDS),
+            None => true,
+        }
+    }
+
+    // Gives a connection a place.
+    fn admit(&mut self, mut stream: TcpStream, registry: &Registry, moment: u64) {
+        let Some(admission) = self.peers.admit(moment, PEER_SECONDS) else {
+            return;
+        };
+        let both = Interest::READABLE | Interest::WRITABLE;
+        let place = admission.place;
+        self.end_peer(place);
+        if registry.register(&mut stream, Token(place), both).is_err() {
+            self.end(place);
+        } else if place < self.connections.len() {
+            self.connections[place] = Some(Peer::new(self.alloc, stream));
+        }
+    }
+
+    // Drops the connection that had a place before.
+    fn end_peer(&mut self, place: usize) {
+        if place < self.connections.len() {
+            self.connections[place] = None;
+        }
+    }
+
+    /// Accepts what waits, as far as there are places.
+    pub(crate) fn accept(&mut self, registry: &Registry, moment: u64) {
+        for _connection in 0..MOST_PEERS {
+            if !self.waiting || !self.has_room(moment) {
+                return;
+            }
+            match self.listener.accept() {
+                Ok((stream, _)) => self.admit(stream, registry, moment),
+                Err(error) => {
+                    self.waiting = error.kind() != ErrorKind::WouldBlock;
+                    return;
+                }
+            }
+        }
+    }
+
+    // The reply of a route that is answered by what was counted.
+    fn reply_own(&self, own: Own, voice: &Voice) -> Asked {
+        let mut text = Vec::new(self.alloc);
+        let desk = &voice.desk;
+        match reply_own(self.alloc, &mut text, own, &desk.counts, &desk.states) {
+            Ok(()) => Asked::Replied(text),
+            Err(_) => Asked::Failed,
+        }
+    }
+
+    // What comes of what a peer has asked.
+    #[tactic(auto, using(crate::proofs::Going::goes_none, crate::proofs::Going::goes_both))]
+    fn reply<B: Books>(
+        &self,
+        request: &[u8],
+        office: &mut Office<B>,
+        voice: &Voice,
+        moment: u64,
+    ) -> Asked
+        ensures { Goes B.ledger office.old office.new }
+    {
+        match own_route(request) {
+            Some(own) => self.reply_own(own, voice),
+            None => ask(self.alloc, request, office, moment),
+        }
+    }
+
+    // Takes the connection of a place whose turn it is.
+    fn take_ready(&mut self, place: usize) -> Option<Peer> {
+        if place < self.connections.len() && is_ready(&self.connections[place]) {
+            return self.connections[place].take();
+        }
+        None
+    }
+
+    // Writes the reply of a peer, where it has one, and puts its connection back unless that is over.
+    fn put_back(&mut self, place: usize, mut peer: Peer, moment: u64) {
+        peer.give(moment);
+        if peer.is_over() {
+            self.end(place);
+        } else if place < MOST_PEERS && place < self.connections.len() {
+            if peer.has_reply() {
+                self.peers.ask(place);
+            }
+            self.connections[place] = Some(peer);
+        }
+    }
+
+    /// Goes on with the connection of a place, where something may have come.
+    #[tactic(auto, using(crate::proofs::Going::goes_none, crate::proofs::Going::goes_both))]
+    pub(crate) fn attend<B: Books>(
+        &mut self,
+        place: usize,
+        office: &mut Office<B>,
+        voice: &Voice,
+        moment: u64,
+    )
+        ensures { Goes B.ledger office.old office.new }
+    {
+        let Some(mut peer) = self.take_ready(place) else {
+            return;
+        };
+        if peer.hear() {
+            let asked = self.reply(&peer.asked, office, voice, moment);
+            peer.take(asked);
+        }
+        self.put_back(place, peer, moment);
+    }
+}

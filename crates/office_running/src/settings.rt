@@ -1,0 +1,23 @@
+//! How a process runs.
+use office_events::Name;
+use std::net::SocketAddr;
+
+/// A device that is polled: its name in the office, which is `None` where no device can have it, and where it is.
+#[derive(Clone, Copy)]
+pub struct Site {
+    pub name: Option<Name>,
+    pub addr: SocketAddr,
+}
+
+/// How a process runs. Times are in seconds.
+#[derive(Clone, Copy)]
+pub struct Settings {
+    /// Where HTTP is answered.
+    pub listen: SocketAddr,
+    /// From one round of a device to its next, 1 to 86,400; what lies outside is taken as the nearest of these.
+    pub every: u64,
+    /// How long the process runs; without an end where that is none.
+    pub whole: Option<u64>,
+    /// Whether each poll has a line.
+    pub verbose: bool,
+}
