@@ -1,0 +1,5 @@
+//! Tests of what peers are replied.
+#![tactic(auto)]
+
+#[cfg(test)]
+mod asks;
