@@ -1,0 +1,5 @@
+//! Tests of the commands over books in memory.
+#![tactic(auto)]
+
+#[cfg(test)]
+mod commands;
