@@ -1,11 +1,12 @@
 #!/usr/bin/env python3
 """refused_in_file.py LIBRARY PROGRAM: refuses the allocations of the commands over a file, under the preloaded LIBRARY.
 
-Over one file come `create`, then `serve` with the requests that set up a meter, then `round` against a device, then `report`. A run of each with none
-refused counts its allocations. Then REFUSED_MOST of them (100; 0 is each) by chance are refused, each alone, and then as many, each with all that come
-later, over a copy of the file as it was before. The run may end with status 1 (`refused 14`) or 3 (`failed` on standard error); a request that is refused 14, or gets no whole reply, changed nothing or is done,
-so that its repeat is done. Behind each run the file is opened with none refused, and must be whole: every poll has an outcome, each meter's energy is
-its last reading less its first, what was printed as booked or answered as done is there, and the same command does then what it does in the run with none refused.
+Over one file come `create`, then `serve` with the requests that set up a meter, then `round` against a device, then `report`. A run of
+each with none refused counts its allocations. Then REFUSED_MOST of them (100; 0 is each) by chance are refused, each alone, and then as many,
+each with all that come later, over a copy of the file as it was before. The run may end with status 1 (`refused 14`) or 3 (`failed` on
+standard error); a request that is refused 14, or gets no whole reply, changed nothing or is done, so that its repeat is done. Behind each run
+the file is opened with none refused, and must be whole: every poll has an outcome, each meter's energy is its last reading less its first,
+what was printed as booked or answered as done is there, and the same command does then what it does in the run with none refused.
 """
 import collections
 import http.client
@@ -285,8 +286,9 @@ def try_all(files, name, command, judge):
 def ended_so(ran):
     """How a run ended, in few words."""
     first = [it[0] for it in ran.seen or ()]
-    lacks = " and a request without a reply" * (ran.status == 0 and None in first) + " and a request refused 14" * any(it and it[0] == 503 for it in first)
-    return f"with status {ran.status}{lacks}"
+    without = " and a request without a reply" * (ran.status == 0 and None in first)
+    refused = " and a request refused 14" * any(it is not None and it[0] == 503 for it in first)
+    return f"with status {ran.status}{without}{refused}"
 
 
 def tried(calls):

@@ -221,7 +221,8 @@ class Soak:
             ends = {0: "ok\n", 1: "\nrefused 10\n", 3: ""}  # (1: what was left could not be asked behind a loss; 3: the link failed)
             is_told = ended.printed.endswith(ends.get(ended.status, "none")) and (ended.status == 3) == ended.said.startswith("failed\n")
             tally_of_rounds[ended.status] += 1
-            holds("a round's status", is_told and (ended.status == 0 or "trick" in bank), f"{ended.status} {ended.printed[-200:]} {ended.said} {bank[-200:]}")
+            more = f"{ended.status} {ended.printed[-200:]} {ended.said} {bank[-200:]}"
+            holds("a round's status", is_told and (ended.status == 0 or "trick" in bank), more)
         return ended.was_stopped
 
     def judge(self):
@@ -300,7 +301,8 @@ class Soak:
         causes = " ".join(f"{cause}:{count}" for cause, count in books.execute("SELECT cause, count(*) FROM holds GROUP BY 1 ORDER BY 1"))
         print(f"{polls} polls in {len(self.rounds)} rounds, the office stopped {self.stops} times, in {time.monotonic() - begun:.0f} seconds")
         print(f"rounds by status {' '.join(f'{status}:{count}' for status, count in sorted(tally_of_rounds.items()))}")
-        print(f"outcomes {ends} (1 answered, 3 silent, 4 malformed, 5 lost), {left} lost by a stop; {kept[0]} readings booked, {kept[1]} held ({causes})")
+        print(f"outcomes {ends} (1 answered, 3 silent, 4 malformed, 5 lost), {left} lost by a stop")
+        print(f"{kept[0]} readings booked, {kept[1]} held ({causes})")
         holds("so many polls in the time", polls >= POLLS, f"{polls}")
         holds("the office was stopped, and some readings were booked", self.stops > 0 and kept[0] > 0)
 
