@@ -10,6 +10,8 @@ One 'refused 14' with status 1 tells that the office couldn't be opened.
 
 A PROGRAM prints 'no memory' where a call was refused memory, and tries it once more. Its other lines, up to where it ends with
 status 3, must be those of the run with none refused.
+
+What the commands over a file may do, refused_in_file.py says.
 """
 import collections
 import os
@@ -17,6 +19,8 @@ import re
 import subprocess
 import sys
 import tempfile
+
+import refused_in_file
 
 ALL = 1 << 60
 # What comes from a device, or settles polls: where it fails, the office stops.
@@ -128,6 +132,7 @@ def main(path, replay, *programs):
     script = text.splitlines()
     counts = [try_all(replay, text, lambda ran, whole: judge_replay(replay, script, ran, whole))]
     counts += [try_all(it, "", judge_program) for it in programs]
+    counts += refused_in_file.try_commands(library, os.path.abspath(replay))
     failed = sum(it for _, it in counts)
     print(f"{sum(it for it, _ in counts)} passed, {failed} failed")
     return 1 if failed else 0

@@ -1,12 +1,20 @@
 #!/usr/bin/env bash
 # Refuses each allocation of the program, and of the small programs in tests/programs/, alone and with all later ones:
-# `tests/refused_allocations.sh`. The program runs tests/every_line.script; what each run may print, tests/refused_allocations.py says.
-# It ends on 'N passed, M failed'. It is no part of the gate. It needs a C compiler, and proves and builds the programs first. (They are named
-# .rattle, since the gate refuses a .rt file outside the crates.)
+# `tests/refused_allocations.sh`. The program runs tests/every_line.script, and then its commands over a file; what each run may print,
+# tests/refused_allocations.py and tests/refused_in_file.py say. Of a command over a file, which allocates thousands of times, it refuses REFUSED_MOST
+# by chance (100; 0 is each, which takes hours) by REFUSED_SEED, and says how many of how many. It ends on 'N passed, M failed'. It is no part of
+# the gate. It needs a C compiler, and proves and builds the programs first. (They are named .rattle, since the gate refuses a .rt file
+# outside the crates.) `tests/refused_allocations.sh PROGRAM` takes a program that is built, and leaves the small ones out.
 set -euo pipefail
+program=${1:+$(readlink -f "$1")}
 cd "$(dirname "$(readlink -f "$0")")"
 . ./scratch.sh
 
+cc -O1 -shared -fPIC -o "$scratch/refuse.so" refuse_allocation.c
+if [ -n "$program" ]; then
+    python3 -B refused_allocations.py "$scratch/refuse.so" every_line.script "$program"
+    exit
+fi
 sunreg="$PWD/../crates/sunreg"
 scratch_rt sunreg "$sunreg" run > /dev/null
 
@@ -16,5 +24,4 @@ for part in "chains mb_wire point_list read_plan sun_chain sun_points" "days int
     scratch "refused_$name" "$needs" "programs/$name.rattle" > "$scratch/printed"
     programs+=("$program")
 done
-cc -O1 -shared -fPIC -o "$scratch/refuse.so" refuse_allocation.c
-python3 refused_allocations.py "$scratch/refuse.so" every_line.script "$sunreg/out/sunreg" "${programs[@]}"
+python3 -B refused_allocations.py "$scratch/refuse.so" every_line.script "$sunreg/out/sunreg" "${programs[@]}"

@@ -1,0 +1,322 @@
+#!/usr/bin/env python3
+"""refused_in_file.py LIBRARY PROGRAM: refuses the allocations of the commands over a file, under the preloaded LIBRARY.
+
+Over one file come `create`, then `serve` with the requests that set up a meter, then `round` against a device, then `report`. A run of
+each with none refused counts its allocations. Then REFUSED_MOST of them (100; 0 is each) by chance are refused, each alone, and then as many,
+each with all that come later, over a copy of the file as it was before. The run may end with status 1 (`refused 14`) or 3 (`failed` on
+standard error); a request that is refused 14, or gets no whole reply, changed nothing or is done, so that its repeat is done. Behind each run
+the file is opened with none refused, and must be whole: every poll has an outcome, each meter's energy is its last reading less its first,
+what was printed as booked or answered as done is there, and the same command does then what it does in the run with none refused.
+"""
+import collections
+import http.client
+import json
+import os
+import random
+import shutil
+import socket
+import sqlite3
+import subprocess
+import sys
+import tempfile
+import threading
+import time
+
+ALL = 1 << 60
+MOST = int(os.environ.get("REFUSED_MOST", "100"))  # of a command, alone and with all later ones; 0: each
+SEED = int(os.environ.get("REFUSED_SEED", time.time_ns() % 1_000_000_007))
+HOST = "127.0.0.1"
+OPENING, SHOWN = 5000, 5200
+REQUESTS = (
+    ("/devices", json.dumps({"name": "inv", "unit": 1, "timeout": 5, "window": 1})),
+    ("/devices/inv/list", "name,function,area,address,type,scale\nwh,3,0,40094,acc32,\n"),
+    ("/registers", json.dumps({"name": "main", "device": "inv", "function": 3, "address": 40094, "fixed": 0})),
+    ("/registers/main/install", json.dumps({"meter": "m1", "raw": OPENING, "sf": 0, "ceiling": 1_000_000_000})),
+)
+SET_UP = (
+    "SELECT * FROM devices",
+    "SELECT * FROM points",
+    "SELECT * FROM registers",
+    "SELECT meter, register, ceiling, ended, last_raw, last_sf, total FROM installations",
+    "SELECT * FROM ranges",
+    "SELECT meter, place, kind, raw, rolls, sf FROM entries",
+    "SELECT caller, number, request, kind FROM replies",
+)
+
+chance = random.Random(SEED)
+Ran = collections.namedtuple("Ran", "status lines said seen calls")
+
+
+class Wrong(Exception):
+    """Why a run is no right one."""
+
+
+def needs(is_so, why):
+    if not is_so:
+        raise Wrong(why)
+
+
+class Device(threading.Thread):
+    """Answers every request with the same counter."""
+
+    def __init__(self):
+        super().__init__(daemon=True)
+        self.listener = socket.create_server((HOST, 0))
+        self.port = self.listener.getsockname()[1]
+
+    def run(self):
+        while True:
+            link, _ = self.listener.accept()
+            try:
+                while asked := link.recv(260):
+                    link.sendall(asked[:4] + b"\0\7" + asked[6:8] + b"\4" + SHOWN.to_bytes(4, "big"))
+            except OSError:
+                pass
+            link.close()
+
+
+class Files:
+    """The program, and the file that its commands work on."""
+
+    def __init__(self, library, program, room):
+        self.library, self.program, self.room = library, program, room
+        self.file = f"{room}/now/office.db"
+        self.device = Device()
+        self.device.start()
+        os.mkdir(f"{room}/now")
+
+    def keep(self, name):
+        shutil.rmtree(f"{self.room}/{name}", ignore_errors=True)
+        shutil.copytree(f"{self.room}/now", f"{self.room}/{name}")
+
+    def bring(self, name):
+        shutil.rmtree(f"{self.room}/now")
+        shutil.copytree(f"{self.room}/{name}", f"{self.room}/now")
+
+    def run(self, words, first=0, last=0, play=None):
+        """Runs a command with its allocations from `first` to `last` refused."""
+        with tempfile.NamedTemporaryFile(prefix="calls-") as counts:
+            counts.write(bytes(8))
+            counts.flush()
+            env = {"LD_PRELOAD": self.library, "COUNTS": counts.name, "REFUSE_FIRST": str(first), "REFUSE_LAST": str(last)}
+            pipes = {"stdin": subprocess.DEVNULL, "stdout": subprocess.PIPE, "stderr": subprocess.PIPE}
+            running = subprocess.Popen([self.program, words[0], "--db", self.file, *words[1:]], env=env, **pipes)
+            seen = play(running) if play else None
+            try:
+                printed, said = running.communicate(timeout=60)
+            except subprocess.TimeoutExpired:
+                running.kill()
+                running.communicate()
+                raise Wrong("it did not end within 60 seconds") from None
+            with open(counts.name, "rb") as it:
+                calls = int.from_bytes(it.read(8), sys.byteorder)
+        needs(running.returncode in (0, 1, 3), f"status {running.returncode}: {said[-300:]}")
+        is_said = said.startswith(b"failed\nsunreg: ") and said.count(b"\n") == 2 and said.endswith(b"\n")
+        needs(is_said if running.returncode == 3 else not said, f"status {running.returncode}, and it says {said[-300:]}")
+        return Ran(running.returncode, printed.decode().splitlines(), said, seen, calls)
+
+    def rows(self, query, name="now"):
+        """Rows of a copy, so that the file stays as the program left it."""
+        shutil.rmtree(f"{self.room}/copy", ignore_errors=True)
+        shutil.copytree(f"{self.room}/{name}", f"{self.room}/copy")
+        books = sqlite3.connect(f"{self.room}/copy/office.db")
+        found = books.execute(query).fetchall()
+        books.close()
+        return found
+
+    def is_whole(self):
+        needs(self.rows("PRAGMA integrity_check") == [("ok",)], "the file is not whole")
+        needs(not self.rows("PRAGMA foreign_key_check"), "a row refers to none")
+        needs(not self.rows("SELECT poll FROM polls WHERE poll NOT IN (SELECT poll FROM outcomes)"), "a poll has no outcome")
+        energy = self.rows("SELECT total FROM installations") + self.rows("SELECT coalesce(sum(mwh), 0) FROM intervals")
+        wanted = self.rows(f"SELECT 1000 * (last_raw - {OPENING}) FROM installations")
+        needs(all(it == wanted[0] for it in energy[: 2 * len(wanted)]), f"the energy is {energy}, and not {wanted}")
+
+    def set_up(self, name):
+        return [self.rows(query, name) for query in SET_UP]
+
+
+def connection(running, port):
+    """A connection to a program, or none where it has ended."""
+    while running.poll() is None:
+        try:
+            return socket.create_connection((HOST, port), timeout=60)
+        except OSError:
+            time.sleep(0.002)
+    return None
+
+
+def ask(running, port, number):
+    """The status and the body of the reply to a request; none where no whole one comes."""
+    link = http.client.HTTPConnection(HOST, port, timeout=60)
+    link.sock = connection(running, port)
+    if link.sock is None:
+        return None
+    try:
+        path, body = REQUESTS[number]
+        link.request("POST", path, body, {"Office-Caller": "desk", "Office-Request": str(number)})
+        answer = link.getresponse()
+        return answer.status, json.loads(answer.read())
+    except (OSError, http.client.HTTPException, ValueError):
+        return None
+    finally:
+        link.close()
+
+
+def asking(port, connections):
+    """Asks each request, again where it gets no reply that it is done, and uses up the connections."""
+
+    def play(running):
+        replies = []
+        for number in range(len(REQUESTS)):
+            replies.append([ask(running, port, number)])
+            if len(replies) + sum(len(it) - 1 for it in replies) < connections and (replies[-1][0] or (0,))[0] != 200:
+                replies[-1].append(ask(running, port, number))
+        while running.poll() is None:
+            link = connection(running, port)
+            if link:
+                link.close()
+        return replies
+
+    return play
+
+
+def free_port():
+    with socket.create_server((HOST, 0)) as it:
+        return it.getsockname()[1]
+
+
+def create(files, first=0, last=0):
+    return files.run(("create", "--zone", "UTC0"), first, last)
+
+
+def serve(files, first=0, last=0):
+    port, connections = free_port(), len(REQUESTS) + 1
+    return files.run(("serve", "--port", str(port), "--connections", str(connections)), first, last, asking(port, connections))
+
+
+def poll(files, first=0, last=0):
+    return files.run(("round", "--device", "inv", "--port", str(files.device.port)), first, last)
+
+
+def report(files, first=0, last=0):
+    return files.run(("report", "--register", "main"), first, last)
+
+
+def judge_create(files, ran, whole, is_alone):
+    needs(not ran.lines, f"it prints {ran.lines}")
+    needs(ran.status in (0, 3), f"status {ran.status}")
+    again = create(files).status
+    needs(again == (3 if ran.status == 0 else 0), f"after status {ran.status} create ends with {again}")
+
+
+def judge_serve(files, ran, whole, is_alone):
+    needs(ran.status != 1 or ran.lines == ["refused 14"], f"it prints {ran.lines}")
+    for replies in ran.seen:
+        for reply in replies:
+            is_done = reply is not None and reply[0] == 200
+            needs(is_done or reply in (None, (503, {"refused": 14})) or not is_alone, f"a reply {reply}")
+        is_over = ran.status != 0
+        needs(not is_alone or is_over or (replies[-1] or (0,))[0] == 200, f"a repeat gets {replies}")
+    kept = {number for (number,) in files.rows("SELECT number FROM replies")}
+    for number, replies in enumerate(ran.seen):
+        statuses = {reply and reply[0] for reply in replies}
+        needs(200 not in statuses or number in kept, f"request {number} was answered {replies}, and is not kept")
+        needs(statuses != {503} or number not in kept, f"request {number} was answered {replies}, and is kept")
+    again = serve(files)
+    needs([it[-1] for it in again.seen] == [it[-1] for it in whole.seen], f"asked again, it answers {again.seen}")
+    needs(files.set_up("now") == files.set_up("after"), f"set up are {files.set_up('now')}, and not {files.set_up('after')}")
+    files.is_whole()
+
+
+def judge_round(files, ran, whole, is_alone):
+    needs(report(files).status == 0, "the office does not open behind it")
+    files.is_whole()
+    booked = [raw for (raw,) in files.rows("SELECT raw FROM entries WHERE kind = 2")]
+    needs(booked in ([], [SHOWN]), f"{booked} were booked")
+    answered = [poll for (poll,) in files.rows("SELECT poll FROM outcomes WHERE outcome = 1")]
+    ended = [int(line.split()[1]) for line in ran.lines if line.startswith("poll ") and line.endswith(" answered")]
+    needs(all(poll in answered for poll in ended), f"polls {ended} were answered, and {answered} are so in the file")
+    told = [int(line.split()[2]) for line in ran.lines if line.startswith("reading ")]
+    needs(all(raw in booked for raw in told), f"told {told}, and booked {booked}")
+    needs(ran.status != 0 or ran.lines == whole.lines, f"it prints {ran.lines}")
+    needs(ran.status != 1 or ran.lines[-1] == "refused 14", f"it prints {ran.lines}")
+    time.sleep(max(0.0, 1.0 - time.time() % 1.0) if booked else 0.0)
+    again = poll(files)
+    needs(again.status == 0 and any(line.endswith(" answered") for line in again.lines), f"the next round prints {again.lines}")
+
+
+def judge_report(files, ran, whole, is_alone):
+    begun = ran.lines[:-1] if ran.status == 1 else ran.lines
+    needs(begun == whole.lines[: len(begun)], f"it prints {ran.lines}")
+    needs(ran.status != 0 or ran.lines == whole.lines, f"it prints {ran.lines}")
+    needs(ran.status != 1 or ran.lines[-1] == "refused 14", f"it prints {ran.lines}")
+    again = report(files)
+    needs((again.status, again.lines) == (0, whole.lines), f"then it prints {again.lines}")
+    files.is_whole()
+
+
+def try_all(files, name, command, judge):
+    """Refuses each allocation of a command, and returns how many runs were right and how many were not."""
+    files.keep("before")
+    whole = command(files)
+    files.keep("after")
+    if whole.status or not whole.calls:
+        raise Wrong(f"{name}: with none refused it ends with status {whole.status} after {whole.calls} allocations: {whole.said[-200:]}")
+    right, failed = 0, 0
+    for how, last in (("alone", 0), ("and all later ones", ALL)):
+        ends = collections.Counter()
+        numbers = tried(whole.calls)
+        for number in numbers:
+            files.bring("before")
+            try:
+                ran = command(files, number, last or number)
+                judge(files, ran, whole, not last)
+                ends[ended_so(ran)] += 1
+            except Wrong as why:
+                failed += 1
+                print(f"{name}: allocation {number} {how}: {why}", flush=True)
+        right += sum(ends.values())
+        ended = ", ".join(f"{count} {end}" for end, count in sorted(ends.items()))
+        print(f"{name}: {len(numbers)} of {whole.calls} allocations refused {how}: {ended}", flush=True)
+    files.bring("after")
+    return right, failed
+
+
+def ended_so(ran):
+    """How a run ended, in few words."""
+    first = [it[0] for it in ran.seen or ()]
+    without = " and a request without a reply" * (ran.status == 0 and None in first)
+    refused = " and a request refused 14" * any(it is not None and it[0] == 503 for it in first)
+    return f"with status {ran.status}{without}{refused}"
+
+
+def tried(calls):
+    """Numbers from 1 to a count: all, or MOST of them, by chance, and the first and the last ones."""
+    if MOST == 0 or calls <= MOST:
+        return range(1, calls + 1)
+    ends = {1, 2, 3, calls - 1, calls}
+    return sorted(ends | set(chance.sample(range(1, calls + 1), MOST)))
+
+
+def try_commands(library, program):
+    """Tries each command in its turn."""
+    print(f"commands over a file: seed {SEED}", flush=True)
+    with tempfile.TemporaryDirectory(prefix="refused-") as room:
+        files = Files(library, program, room)
+        counts = [try_all(files, "create", create, judge_create), try_all(files, "serve", serve, judge_serve)]
+        time.sleep(1.0)  # (a reading of the second of the installation is held)
+        return counts + [try_all(files, "round", poll, judge_round), try_all(files, "report", report, judge_report)]
+
+
+def main(library, program):
+    counts = try_commands(library, program)
+    failed = sum(it for _, it in counts)
+    print(f"{sum(it for it, _ in counts)} passed, {failed} failed")
+    return 1 if failed else 0
+
+
+if __name__ == "__main__":
+    if len(sys.argv) != 3:
+        sys.exit(__doc__)
+    sys.exit(main(*map(os.path.abspath, sys.argv[1:])))

@@ -1,0 +1,321 @@
+#!/usr/bin/env python3
+"""soak.py PROGRAM: polls a misbehaving device by many rounds over one file, and kills the office every few seconds.
+
+Each round has a stand-in of its own, whose counters went on a little, and which plays tricks on some of its answers. Between the office and it
+stands a relay, which keeps every byte that the stand-in gave. Behind each stop the office is opened again, and the books are held to that:
+an answered poll has its reply among the frames that were given, under its number; its reading is booked or held, once, and no other
+reading is; each meter's energy is exactly its last reading less its first, in its total, its quarter hours and its days; and every line
+that the office printed before it was stopped is in the books.
+"""
+import collections
+import contextlib
+import http.client
+import json
+import os
+import random
+import re
+import shutil
+import socket
+import sqlite3
+import subprocess
+import sys
+import tempfile
+import threading
+import time
+
+METERS = 32  # as many as a device may have
+APART = 125  # so many registers from one counter to the next: each is a read of its own
+TURN = 1 << 32
+OPENINGS = [TURN - 60, *(100_000_000 * number for number in range(2, METERS + 1))]  # (the first one turns over)
+HOST = "127.0.0.1"
+KINDS = ("drop", "twice", "later", "id", "unit", "garble", "cut")
+POLLS = int(os.environ.get("SOAK_POLLS", "10000"))
+SECONDS = int(os.environ.get("SOAK_SECONDS", "1800"))
+SEED = int(os.environ.get("SOAK_SEED", time.time_ns() % 1_000_000_007))
+
+Ended = collections.namedtuple("Ended", "status printed said was_stopped")
+Frame = collections.namedtuple("Frame", "tid unit pdu")
+tally = collections.Counter()
+tally_of_rounds = collections.Counter()
+
+
+def holds(what, is_so, more=""):
+    """Counts a comparison."""
+    tally["passed" if is_so else "failed"] += 1
+    if not is_so:
+        print(f"{what}{more and ': '}{more}", flush=True)
+
+
+def frames_in(stream):
+    """The Modbus frames of a stream, up to where it ends or is garbled."""
+    found, at = [], 0
+    while at + 7 <= len(stream):
+        length = int.from_bytes(stream[at + 4 : at + 6], "big")
+        if not 2 <= length <= 254 or at + 6 + length > len(stream):
+            break
+        found.append(Frame(int.from_bytes(stream[at : at + 2], "big"), stream[at + 6], bytes(stream[at + 7 : at + 6 + length])))
+        at += 6 + length
+    return found
+
+
+class Relay:
+    """Hands the bytes of each connection on to a port, and keeps what comes back."""
+
+    def __init__(self):
+        self.listener = socket.create_server((HOST, 0))
+        self.port = self.listener.getsockname()[1]
+        self.to = 0
+        self.given = bytearray()
+        threading.Thread(target=self.run, daemon=True).start()
+
+    def run(self):
+        while True:
+            office, _ = self.listener.accept()
+            threading.Thread(target=self.relay, args=(office, self.to, self.given), daemon=True).start()
+
+    def relay(self, office, port, given):
+        try:
+            device = connected(port)
+        except OSError:  # (the stand-in went with a round that was stopped)
+            office.close()
+            return
+        threading.Thread(target=hand_on, args=(office, device, bytearray()), daemon=True).start()
+        hand_on(device, office, given)
+
+
+def connected(port):
+    """A connection to a port of this machine, for which it waits a minute."""
+    for _ in range(3000):
+        with contextlib.suppress(ConnectionRefusedError):
+            return socket.create_connection((HOST, port))
+        time.sleep(0.02)
+    raise OSError(f"port {port} isn't answered")
+
+
+def hand_on(source, target, kept):
+    """Keeps each piece before it is handed on."""
+    try:
+        while piece := source.recv(4096):
+            kept += piece
+            target.sendall(piece)
+        target.shutdown(socket.SHUT_WR)
+    except OSError:
+        for it in (source, target):
+            it.close()
+
+
+def free_port():
+    with socket.create_server((HOST, 0)) as it:
+        return it.getsockname()[1]
+
+
+class Office:
+    """The program over one file."""
+
+    def __init__(self, program, room):
+        self.program = program
+        self.room = room
+        self.file = f"{room}/office.db"
+
+    def run(self, word, *words, stop_at=None):
+        """Runs a command to its end, or stops it without warning at a moment."""
+        command = [self.program, word, "--db", self.file, *words]
+        ran = subprocess.Popen(command, stdin=subprocess.DEVNULL, stdout=subprocess.PIPE, stderr=subprocess.PIPE)
+        was_stopped = False
+        try:
+            printed, said = ran.communicate(timeout=300 if stop_at is None else max(0.0, stop_at - time.monotonic()))
+        except subprocess.TimeoutExpired:
+            was_stopped = stop_at is not None
+            ran.kill()
+            printed, said = ran.communicate()
+        return Ended(ran.returncode, printed.decode(), said.decode(), was_stopped)
+
+    def set_up(self):
+        """Makes the file, with a device, its list and its meters."""
+        holds("create", self.run("create", "--zone", "UTC0").status == 0)
+        rows = "".join(f"p{at},3,0,{APART * at},acc32,\n" for at in range(METERS))
+        asked = [("/devices", json.dumps({"name": "inv", "unit": 1, "timeout": 1, "window": 16}))]
+        asked += [("/devices/inv/list", f"name,function,area,address,type,scale\n{rows}")]
+        for at, raw in enumerate(OPENINGS):
+            register = {"name": f"r{at}", "device": "inv", "function": 3, "address": APART * at, "fixed": 0}
+            meter = {"meter": f"m{at}", "raw": raw, "sf": 0, "ceiling": 1_000_000_000}
+            asked += [("/registers", json.dumps(register)), (f"/registers/r{at}/install", json.dumps(meter))]
+        port = free_port()
+        words = [self.program, "serve", "--db", self.file, "--port", str(port), "--connections", str(len(asked) + 1)]
+        serving = subprocess.Popen(words, stdin=subprocess.DEVNULL)
+        connected(port).close()
+        for number, (path, body) in enumerate(asked, 1):
+            link = http.client.HTTPConnection(HOST, port, timeout=60)
+            link.request("POST", path, body, {"Office-Caller": "soak", "Office-Request": str(number)})
+            answer = link.getresponse()
+            holds(f"POST {path}", answer.status == 200, f"{answer.status} {answer.read()[:80]}")
+            link.close()
+        holds("serve", serving.wait(60) == 0)
+
+    def books(self):
+        """Rows of the tables, from a copy of the file and of its log."""
+        copy = f"{self.room}/copy"
+        shutil.rmtree(copy, ignore_errors=True)
+        os.mkdir(copy)
+        for name in os.listdir(self.room):
+            if name.startswith("office.db"):
+                shutil.copy(f"{self.room}/{name}", copy)
+        return sqlite3.connect(f"{copy}/office.db")
+
+    def polls(self):
+        """How many polls were started."""
+        books = self.books()
+        count = books.execute("SELECT count(*) FROM polls").fetchone()[0]
+        books.close()
+        return count
+
+
+class Soak:
+    def __init__(self, program, room):
+        self.office = Office(program, room)
+        self.relay = Relay()
+        self.chance = random.Random(SEED)
+        self.counts = list(OPENINGS)
+        self.rounds = []  # of each: the first poll, and the frames that were given
+        self.brought = {}  # of each answered poll: what was given as its reply
+        self.told = collections.defaultdict(set)  # of each meter: the readings that the office printed
+        self.stops = 0
+        self.next_stop = 0.0
+        self.usual = 0.4  # so many seconds a round takes
+
+    def bank(self):
+        """The lines of the next stand-in: its counters went on, and some answers go wrong."""
+        lines = [f"area holding 0 {APART * METERS}"]
+        for at in range(METERS):
+            self.counts[at] += self.chance.randint(1, 5)
+            self.counts[at] += self.counts[at] % TURN == 0  # (a counter that shows 0 counts nothing)
+            shown = self.counts[at] % TURN
+            lines += [f"set holding {APART * at} {shown >> 16}", f"set holding {APART * at + 1} {shown & 0xFFFF}"]
+        for frame in self.chance.sample(range(1, METERS + 1), self.chance.choice((0, 0, 1, 1, 2, 3, 6))):
+            kind = self.chance.choice(KINDS)
+            lines.append(f"trick {frame} {kind}{f' {self.chance.randint(0, 20)}' * (kind == 'cut')}")
+        return "".join(f"{line}\n" for line in lines)
+
+    def round(self):
+        """Polls the whole plan once, with a stand-in of its own; stops the office where its time has come."""
+        self.relay.to, self.relay.given = free_port(), bytearray()
+        words = [self.office.program, "stand-in", "--port", str(self.relay.to), "--connections", "1"]
+        device = subprocess.Popen(words, stdin=subprocess.PIPE, stdout=subprocess.DEVNULL)
+        bank = self.bank()
+        device.stdin.write(bank.encode())
+        device.stdin.close()
+        connected_to = ("--device", "inv", "--port", str(self.relay.port))
+        begun = time.monotonic()
+        stop_at = max(self.next_stop, begun + self.chance.uniform(0.0, self.usual))
+        ended = self.office.run("round", *connected_to, stop_at=stop_at)
+        device.kill()
+        device.wait()
+        lines = ended.printed[: ended.printed.rfind("\n") + 1]
+        for meter, raw in re.findall(r"^reading m(\d+) (\d+) rolls \d+ step \d+$", lines, re.M):
+            self.told[int(meter)].add(int(raw))
+        if ended.was_stopped:
+            self.stops += 1
+            self.next_stop = time.monotonic() + self.chance.uniform(1.0, 3.0)
+        else:
+            self.usual = min(0.4, time.monotonic() - begun)
+            ends = {0: "ok\n", 1: "\nrefused 10\n", 3: ""}  # (1: what was left could not be asked behind a loss; 3: the link failed)
+            is_told = ended.printed.endswith(ends.get(ended.status, "none")) and (ended.status == 3) == ended.said.startswith("failed\n")
+            tally_of_rounds[ended.status] += 1
+            more = f"{ended.status} {ended.printed[-200:]} {ended.said} {bank[-200:]}"
+            holds("a round's status", is_told and (ended.status == 0 or "trick" in bank), more)
+        return ended.was_stopped
+
+    def judge(self):
+        """Opens the office again, and holds the books to what the stand-ins gave."""
+        asked = self.chance.randrange(METERS)
+        days = self.office.run("report", "--register", f"r{asked}")
+        books = self.office.books()
+        same = books.execute("PRAGMA integrity_check").fetchall() == [("ok",)]
+        holds("the file is whole", same and not books.execute("PRAGMA foreign_key_check").fetchall())
+        ends = books.execute("SELECT p.poll, p.tid, p.address, o.outcome FROM polls p LEFT JOIN outcomes o USING (poll) ORDER BY p.poll").fetchall()
+        holds("each poll has its outcome", all(outcome is not None for *_, outcome in ends))
+        holds("polls are numbered from 1", [poll for poll, *_ in ends] == list(range(1, len(ends) + 1)))
+        replies = collections.defaultdict(dict)
+        for poll, tid, address, outcome in ends:
+            if outcome == 1:
+                replies[address][poll] = self.values(poll, tid)
+        held = dict(books.execute("SELECT poll, raw FROM holds"))
+        for meter in range(METERS):
+            self.judge_meter(books, meter, replies[APART * meter], held)
+        told = sum(int(row.split()[-1]) for row in days.printed.splitlines()[:-1])
+        total = books.execute("SELECT total FROM installations WHERE meter = ?", [f"m{asked}"]).fetchone()[0]
+        holds(f"the days of r{asked}", (days.status, told) == (0, total), f"status {days.status}, {told} mWh and not {total}")
+        books.close()
+        return len(ends)
+
+    def values(self, poll, tid):
+        """What was given as the reply to a poll."""
+        if poll not in self.brought:
+            given = next((given for first, given in reversed(self.rounds) if first <= poll), [])
+            pdus = [frame.pdu for frame in given if (frame.tid, frame.unit) == (tid, 1)]
+            self.brought[poll] = {int.from_bytes(pdu[2:], "big") for pdu in pdus if pdu[:2] == b"\x03\x04"}
+        return self.brought[poll]
+
+    def judge_meter(self, books, meter, replies, held):
+        """Holds a meter's entries, total and quarter hours to the replies to its polls."""
+        name, last, energy, wrong = f"m{meter}", OPENINGS[meter], 0, ""
+        rows = books.execute("SELECT kind, raw FROM entries WHERE meter = ? ORDER BY place", [name]).fetchall()
+        booked = collections.deque(raw for kind, raw in rows[1:] if kind == 2)
+        if rows[0] != (1, last) or len(booked) != len(rows) - 1:
+            wrong = f"its entries are {rows[:3]}"
+        for poll, given in sorted(replies.items()):
+            raw = held[poll] if poll in held else booked.popleft() if booked else None
+            if raw not in given:
+                wrong = wrong or f"poll {poll} brought {raw}, and was given {sorted(given)}"
+            elif poll not in held:
+                energy += (raw - last) % TURN
+                last = raw
+        holds(f"the readings of {name} are those that were given, each once", not (wrong or booked), wrong or f"nobody gave {list(booked)[:3]}")
+        total, raw = books.execute("SELECT total, last_raw FROM installations WHERE meter = ?", [name]).fetchone()
+        spread = books.execute("SELECT coalesce(sum(mwh), 0) FROM intervals WHERE meter = ?", [name]).fetchone()[0]
+        turned = TURN * sum(later < earlier for (_, earlier), (_, later) in zip(rows, rows[1:]))
+        wanted = 1000 * (last + turned - OPENINGS[meter])
+        figures = (total, spread, 1000 * energy, raw)
+        holds(f"the energy of {name} is its last reading less its first", figures == (wanted, wanted, wanted, last), f"{figures}, {wanted}")
+        holds(f"what was told of {name} is booked", self.told[meter] <= {raw for _, raw in rows})
+
+    def run(self):
+        self.office.set_up()
+        if tally["failed"]:
+            return
+        time.sleep(1.0)
+        begun, polls = time.monotonic(), 0
+        self.next_stop = begun + 1.0
+        while polls < POLLS and time.monotonic() - begun < SECONDS:
+            at = int(time.time())
+            was_stopped = self.round()
+            self.rounds.append((polls + 1, frames_in(bytes(self.relay.given))))
+            polls = self.judge() if was_stopped else self.office.polls()
+            while int(time.time()) == at:  # (a reading of the same second is held)
+                time.sleep(0.02)
+        polls = self.judge()
+        books = self.office.books()
+        ends = " ".join(f"{outcome}:{count}" for outcome, count in books.execute("SELECT outcome, count(*) FROM outcomes GROUP BY 1 ORDER BY 1"))
+        kept = books.execute("SELECT (SELECT count(*) FROM entries WHERE kind = 2), (SELECT count(*) FROM holds)").fetchone()
+        left = books.execute("SELECT count(*) FROM outcomes WHERE outcome = 5 AND code = 4").fetchone()[0]
+        causes = " ".join(f"{cause}:{count}" for cause, count in books.execute("SELECT cause, count(*) FROM holds GROUP BY 1 ORDER BY 1"))
+        print(f"{polls} polls in {len(self.rounds)} rounds, the office stopped {self.stops} times, in {time.monotonic() - begun:.0f} seconds")
+        print(f"rounds by status {' '.join(f'{status}:{count}' for status, count in sorted(tally_of_rounds.items()))}")
+        print(f"outcomes {ends} (1 answered, 3 silent, 4 malformed, 5 lost), {left} lost by a stop")
+        print(f"{kept[0]} readings booked, {kept[1]} held ({causes})")
+        holds("so many polls in the time", polls >= POLLS, f"{polls}")
+        holds("the office was stopped, and some readings were booked", self.stops > 0 and kept[0] > 0)
+
+
+def main(program):
+    print(f"seed {SEED}", flush=True)
+    with tempfile.TemporaryDirectory(prefix="soak-") as room:
+        Soak(program, room).run()
+    print(f"{tally['passed']} passed, {tally['failed']} failed")
+    return 1 if tally["failed"] else 0
+
+
+if __name__ == "__main__":
+    if len(sys.argv) != 2:
+        sys.exit(__doc__)
+    sys.exit(main(sys.argv[1]))
