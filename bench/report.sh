@@ -1,5 +1,5 @@
 #!/bin/sh
-# Times `sunreg report` over a register's year of quarter hours, beside the program sqlite3 doing the same sum over the same file:
+# Times `sunreg report` over a register's year of quarter hours, and their rows by HTTP, beside the program sqlite3 doing the same over the same file:
 # `bench/report.sh [PROGRAM [YEARS]]`, out/sunreg by default, which `./sunreg-build` makes. It needs python3 and sqlite3.
 set -eu
 here=$(dirname "$(readlink -f "$0")")

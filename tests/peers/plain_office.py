@@ -52,8 +52,11 @@ class Office:
         self.unit, self.timeout, self.window = self.one('SELECT unit, timeout, "window" FROM devices WHERE name = ?', device)
         reads = "SELECT function, address FROM points WHERE device = ? ORDER BY function, area, address"
         self.plan = self.db.execute(reads, (device,)).fetchall()
-        registers = "SELECT name, function, address FROM registers WHERE device = ? ORDER BY place"
-        self.registers = self.db.execute(registers, (device,)).fetchall()
+        meters = """SELECT function, address, meter FROM registers JOIN installations ON register = name
+            WHERE device = ? AND ended = 0 ORDER BY registers.place"""
+        self.meters = {}
+        for function, address, meter in self.db.execute(meters, (device,)):
+            self.meters.setdefault((function, address), []).append(meter)
         self.next_poll = self.one("SELECT coalesce(max(poll), 0) + 1 FROM polls")[0]
         self.next_hold = self.one("SELECT coalesce(max(place), 0) + 1 FROM holds")[0]
         self.pending = {}
@@ -99,14 +102,14 @@ class Office:
             told.append(f"poll {poll} answered" if outcome == 1 else f"poll {poll} {outcome} {code}")
             if outcome == 1:
                 raw = int.from_bytes(pdu[2:6], "big")
-                told += [self.book(poll, name, now, raw) for name, *where in self.registers if where == [function, address]]
+                told += [self.book(poll, name, now, raw) for name in self.meters.get((function, address), ())]
         self.db.execute("COMMIT")
         print("\n".join([*told, "ok"]))
 
-    def book(self, poll, register, now, raw):
+    def book(self, poll, name, now, raw):
         columns = "meter, ceiling, last_moment, last_raw, last_sf, total"
-        meter = self.one(f"SELECT {columns} FROM installations WHERE register = ? AND ended = 0", register)
-        name, _, last_at, last, sf, total = meter
+        meter = self.one(f"SELECT {columns} FROM installations WHERE meter = ?", name)
+        _, _, last_at, last, sf, total = meter
         turn = self.one('SELECT "range" FROM ranges WHERE meter = ?', name)[0]
         cause = cause_of(meter, turn, now, raw)
         if cause:
@@ -151,4 +154,5 @@ def main():
     print("ok")
 
 
-main()
+if __name__ == "__main__":
+    main()

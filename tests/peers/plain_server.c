@@ -1,6 +1,7 @@
-/* A plain Modbus TCP server, for the benchmarks: plain_server PORT
+/* A plain Modbus TCP server, for the benchmarks: plain_server PORT [TIMES]
    It answers function 3 on one connection after the other. Each pair of registers, the first at an even address, is a counter of two
-   registers that shows 1000 and 10 for each connection. Other functions are answered by exception 1. */
+   registers that shows 1000 and 10 for each connection. Other functions are answered by exception 1.
+   Into the file TIMES goes a line for each connection: the seconds from its begin to its end. */
 #include <arpa/inet.h>
 #include <netinet/in.h>
 #include <netinet/tcp.h>
@@ -9,6 +10,7 @@
 #include <stdlib.h>
 #include <string.h>
 #include <sys/socket.h>
+#include <time.h>
 #include <unistd.h>
 
 enum { ROOM = 8192, MOST = 125 };
@@ -59,11 +61,18 @@ static void attend(int stream, uint32_t counter) {
     }
 }
 
+static double now(void) {
+    struct timespec at;
+    clock_gettime(CLOCK_MONOTONIC, &at);
+    return at.tv_sec + 1e-9 * at.tv_nsec;
+}
+
 int main(int count, char **words) {
     int listener = socket(AF_INET, SOCK_STREAM, 0), on = 1;
     struct sockaddr_in at = {.sin_family = AF_INET, .sin_addr.s_addr = htonl(INADDR_LOOPBACK)};
-    if (count != 2)
+    if (count != 2 && count != 3)
         return 2;
+    FILE *times = count == 3 ? fopen(words[2], "w") : NULL;
     at.sin_port = htons(atoi(words[1]));
     setsockopt(listener, SOL_SOCKET, SO_REUSEADDR, &on, sizeof on);
     if (bind(listener, (struct sockaddr *)&at, sizeof at) || listen(listener, 5)) {
@@ -75,7 +84,12 @@ int main(int count, char **words) {
         if (stream < 0)
             return 1;
         setsockopt(stream, IPPROTO_TCP, TCP_NODELAY, &on, sizeof on);
+        double begin = now();
         attend(stream, counter);
         close(stream);
+        if (times) {
+            fprintf(times, "%.6f\n", now() - begin);
+            fflush(times);
+        }
     }
 }

@@ -1,20 +1,23 @@
-"""The energy of a register by days over years of quarter hours, beside the program sqlite3: report.py PROGRAM [YEARS]
+"""A register's energy by days and by quarter hours over years, beside the program sqlite3: report.py PROGRAM [YEARS]
 
-bench/report.sh calls it. Both print the same; the least of five runs counts.
+bench/report.sh calls it. Both print the same; the least of five runs counts. The program reads the whole file before the first
+answer; what that takes is told by how long it is until `serve` listens.
 """
 import os
+import socket
 import subprocess
 import sys
 import time
 
-from room import HERE, ROOM
+from room import HERE, ROOM, free_port, start
 
 TURNS = 5
 ZONE = "CET-1CEST,M3.5.0,M10.5.0/3"
 BEGIN = 1735689600
 DAY = 86400
-SUM = """SELECT date(start, 'unixepoch', 'localtime') || ' ' || count(*) || ' ' || sum(mwh) FROM intervals
+SUM = """SELECT printf('%s %3d %24d', date(start, 'unixepoch', 'localtime'), count(*), sum(mwh)) FROM intervals
     JOIN installations USING (meter) WHERE register = 'main' GROUP BY date(start, 'unixepoch', 'localtime') ORDER BY 1"""
+ROWS = "SELECT start || ' ' || mwh FROM intervals WHERE meter = 'm1' ORDER BY start"
 
 
 def quarter(day):
@@ -55,19 +58,49 @@ def measured(words):
     return (ROOM / "printed").read_bytes(), took, usage.ru_utime + usage.ru_stime
 
 
+def answers(port, target):
+    """The least seconds of some answers of HTTP, and the last of them."""
+    took = []
+    for _ in range(TURNS):
+        begin = time.monotonic()
+        with socket.create_connection(("127.0.0.1", port), timeout=60) as link:
+            link.sendall(f"GET {target} HTTP/1.1\r\nHost: here\r\n\r\n".encode())
+            got = b"".join(iter(lambda: link.recv(65536), b""))
+        took.append(time.monotonic() - begin)
+    return min(took), got.partition(b"\r\n\r\n")[2]
+
+
+def plainly(db, query):
+    """The least seconds that the program sqlite3 takes by the clock, of the processor, and what it prints."""
+    runs = [measured(["sqlite3", db, query]) for _ in range(TURNS)]
+    return min(it[1] for it in runs), min(it[2] for it in runs), runs[0][0]
+
+
+def check(ours, plain):
+    rows = plain.count(b"\n")
+    if ours != plain + b"end %d\n" % rows:
+        sys.exit("report.py: they don't print the same")
+
+
 def main():
     program = os.path.abspath(sys.argv[1])
     years = int(sys.argv[2]) if len(sys.argv) > 2 else 1
     db = str(ROOM / "office.db")
     rows = office(db, 365 * years)
-    runs = [(measured([program, "report", "--db", db, "--register", "main"]), measured(["sqlite3", db, SUM])) for _ in range(TURNS)]
-    for ours, peer in runs:
-        lines = peer[0].splitlines(keepends=True)
-        if ours[0] != b"".join(lines) + b"end %d\n" % len(lines):
-            sys.exit("report.py: they don't print the same")
-    (mine, cost), (theirs, price) = (tuple(1000 * min(it[part] for it in side) for part in (1, 2)) for side in zip(*runs))
-    print(f"{rows} quarter hours: sunreg {mine:.0f} ms, sqlite3 {theirs:.0f} ms, ratio {theirs / mine:.2f};"
-          f" of the processor {cost:.0f} ms, {price:.0f} ms, ratio {price / max(cost, 0.001):.2f}")
+    sums, listed = plainly(db, SUM), plainly(db, ROWS)
+    runs = [measured([program, "report", "--db", db, "--register", "main"]) for _ in range(TURNS)]
+    check(runs[0][0], sums[2])
+    took, cost = (min(it[part] for it in runs) for part in (1, 2))
+    print(f"{rows} quarter hours by days: sunreg report {1000 * took:.0f} ms with its opening, sqlite3 {1000 * sums[0]:.0f} ms,"
+          f" ratio {sums[0] / took:.2f}; of the processor {1000 * cost:.0f} ms, {1000 * sums[1]:.0f} ms", flush=True)
+    port, begin = free_port(), time.monotonic()
+    start([program, "serve", "--db", db, "--port", str(port), "--connections", str(2 * TURNS)], port, stdout=subprocess.DEVNULL)
+    print(f"its opening, until `serve` listens: {1000 * (time.monotonic() - begin):.0f} ms")
+    for what, target, (theirs, _, plain) in (("by days", "/registers/main/days", sums), ("each", "/meters/m1/intervals", listed)):
+        took, ours = answers(port, target)
+        check(ours, plain)
+        print(f"{rows} quarter hours, {what}: sunreg serve {1000 * took:.0f} ms by HTTP, sqlite3 {1000 * theirs:.0f} ms,"
+              f" ratio {theirs / took:.2f}", flush=True)
 
 
 main()

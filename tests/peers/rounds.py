@@ -85,4 +85,5 @@ def main():
         compare(program, server, reads, turns)
 
 
-main()
+if __name__ == "__main__":
+    main()

@@ -3,17 +3,17 @@
 bench/stand_in.sh calls it. Both serve the same registers to the same client, in turns; the best of five runs counts.
 """
 import os
+import signal
 import sys
 
-from room import ROOM, free_port, run, start, stop
+from room import ROOM, free_port, run, start
 
 TURNS = 5
 
 
 def spent(child):
     """Ends a child, and tells the seconds that it spent on a processor."""
-    if child.poll() is None:
-        child.kill()
+    os.kill(child.pid, signal.SIGKILL)
     _, _, usage = os.wait4(child.pid, 0)
     child.returncode = 0
     return usage.ru_utime + usage.ru_stime
