@@ -1,9 +1,9 @@
 #!/bin/sh
 # Measures how many readings a second `sunreg round` books over files of 1, 10,000 and 350,000 quarter hours (ten meter-years), beside a
 # plain Python office (tests/peers/plain_office.py: Python's sqlite3 with a write-ahead log and synchronous FULL), each from a plain device
-# in C; with 16 polls at once, and one after the other, which is two commits a reading. The rate should not fall as the file grows. The
+# in C; 512 polls a round, 16 at once or one after the other (two commits a reading), and 32. The rate should not fall as the file grows. The
 # opening of the file is told apart, and the size of both files: `bench/store.sh [PROGRAM [ROUNDS]]`, out/sunreg by default, which
-# `./sunreg-build` makes. It needs a C compiler, python3 and sqlite3. The files stand in TMPDIR: give a folder of a real disk.
+# `./sunreg-build` makes. It needs a C compiler, python3 and sqlite3. The files stand in TMPDIR: a real disk counts its commits, /dev/shm none.
 set -eu
 here=$(dirname "$(readlink -f "$0")")
 peers=$here/../tests/peers

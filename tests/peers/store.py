@@ -1,8 +1,7 @@
 """Booked readings a second over files of few and of many quarter hours, beside a plain Python office: store.py PROGRAM SERVER [TURNS]
 
 bench/store.sh calls it. Each round of a device books one reading of each meter. The device tells how long its connection stood,
-from after the opening of the file to the last booking, so an opening is told apart. Both must have booked the same in the end, and
-what they have in the file is compared with what each had before.
+from after the opening of the file to the last booking, so an opening is told apart. Both must have booked the same in the end.
 """
 import os
 import statistics
@@ -14,7 +13,6 @@ from plain_office import shares
 from room import HERE, ROOM, free_port, sql, start
 from rounds import OFFICE, booked, measured
 
-METERS = 512
 APART = 128
 QUARTER = 900
 FIRST_RAW, STEP = 990, 2000
@@ -33,11 +31,11 @@ def history(meter, quarters, end):
     return entries, [(meter, *it) for it in energy.items()]
 
 
-def office(db, window, quarters):
+def office(db, meters, window, quarters):
     """A file of a device, and of a meter for each of its reads; where there is 1 quarter hour the first meter alone has it."""
     end = int(time.time()) - 10
     lines = [f"INSERT INTO devices VALUES (1, 'inv', 1, 30, {window});"]
-    for n in range(METERS):
+    for n in range(meters):
         meter = f"m{n}"
         entries, rows = history(meter, quarters, end) if n == 0 or quarters > 1 else ([(meter, 1, 1, end, FIRST_RAW, 0, 0, 0)], [])
         total = sum(mwh for _, _, mwh in rows)
@@ -53,10 +51,10 @@ def office(db, window, quarters):
     subprocess.run(["sqlite3", "-bail", db], input="BEGIN;" + "\n".join(lines) + "COMMIT;", text=True, check=True)
 
 
-def compare(program, server, window, quarters, turns):
+def compare(program, server, meters, window, quarters, turns):
     files, ports = [str(ROOM / f"{side}.db") for side in ("ours", "plain")], [free_port(), free_port()]
     times = [ROOM / f"{side}.times" for side in ("ours", "plain")]
-    office(files[0], window, quarters)
+    office(files[0], meters, window, quarters)
     subprocess.run(["cp", *files], check=True)
     rows = int(sql(files[0], "SELECT count(*) FROM intervals")[0])
     devices = [start([server, str(port), str(at)], port) for port, at in zip(ports, times)]
@@ -64,18 +62,19 @@ def compare(program, server, window, quarters, turns):
     for _ in range(turns):
         time.sleep(1.1)
         ours = [program, "round", "--db", files[0], "--device", "inv", "--port", str(ports[0])]
-        whole.append((measured(ours)[0], measured([*OFFICE, files[1], "inv", str(ports[1])])[0]))
+        whole.append((measured(ours), measured([*OFFICE, files[1], "inv", str(ports[1])])))
     time.sleep(0.1)
     if booked(files[0]) != booked(files[1]):
         sys.exit("store.py: they have not booked the same")
     entries = int(sql(files[0], "SELECT count(*) FROM entries WHERE raw >= 1000")[0])
-    if entries != METERS * turns:
-        sys.exit(f"store.py: {entries} readings were booked, not {METERS * turns}")
+    if entries != meters * turns:
+        sys.exit(f"store.py: {entries} readings were booked, not {meters * turns}")
     mine, theirs = (statistics.median(map(float, at.read_text().split())) for at in times)
-    opened = statistics.median(it[0] for it in whole) - mine
+    opened = statistics.median(it[0][0] for it in whole) - mine
+    cost, price = (1000 * statistics.median(it[side][1] for it in whole) for side in (0, 1))
     sizes = [os.path.getsize(it) for it in files]
-    print(f"{rows} rows, window {window}: sunreg {METERS / mine:.0f} booked readings a second, Python {METERS / theirs:.0f},"
-          f" ratio {theirs / mine:.2f}; start and opening {1000 * opened:.0f} ms; file {sizes[0]} bytes, Python {sizes[1]},"
+    print(f"{rows} rows, {meters} meters, window {window}: sunreg {meters / mine:.0f} booked readings a second, Python {meters / theirs:.0f},"
+          f" ratio {theirs / mine:.2f}; start and opening {1000 * opened:.0f} ms; of the processor in all {cost:.0f} ms, {price:.0f} ms; file {sizes[0]} bytes, Python {sizes[1]},"
           f" ratio {sizes[0] / sizes[1]:.2f}", flush=True)
     for it in devices:
         it.kill()
@@ -86,10 +85,10 @@ def compare(program, server, window, quarters, turns):
 
 def main():
     program, server = map(os.path.abspath, sys.argv[1:3])
-    turns = int(sys.argv[3]) if len(sys.argv) > 3 else 5
-    for window in (16, 1):
-        for quarters in (1, 20, 684):
-            compare(program, server, window, quarters, turns)
+    turns = int(sys.argv[3]) if len(sys.argv) > 3 else 7
+    for meters, window in ((512, 16), (512, 1), (32, 1)):
+        for rows in (1, 10_000, 350_000):
+            compare(program, server, meters, window, max(1, round(rows / meters)), turns)
 
 
 if __name__ == "__main__":
