@@ -3,8 +3,9 @@
 # `tests/files.sh [PROGRAM]`, out/sunreg by default, which `./sunreg-build` makes. It ends on 'N passed, M failed'.
 set -u
 here=$(dirname "$(readlink -f "$0")")
-program=$(readlink -f "${1:-$here/../out/sunreg}")
+program=${1:-$here/../out/sunreg}
 [ -x "$program" ] || { echo "files.sh: $program is not built: run ./sunreg-build" >&2; exit 2; }
+program=$(readlink -f "$program")
 for tool in curl sqlite3; do
     command -v $tool > /dev/null || apt-get install -y -q $tool > /dev/null || { echo "files.sh: $tool lacks" >&2; exit 2; }
 done
@@ -41,12 +42,17 @@ run() {
     status=$?
 }
 
-# ask PATH [WORDS..]: asks the serving program, and prints the reply's status and body
+# ask PATH [WORDS..]: asks the serving program, once it listens, and prints the reply's status and body, or what it says where it can't serve
 ask() {
     path=$1
     shift
-    curl -s -w '%{http_code} ' -o body --max-time 30 --retry 100 --retry-connrefused --retry-delay 1 "$@" "http://127.0.0.1:$port$path"
-    cat body
+    rm -f body
+    for turn in $(seq 100); do
+        code=$(curl -s -w '%{http_code}' -o body --max-time 30 "$@" "http://127.0.0.1:$port$path")
+        [ $? = 7 ] && [ ! -s served ] || break
+        sleep 0.5
+    done
+    echo "$code $(cat body served)"
 }
 
 # put PATH NUMBER BODY: asks a command

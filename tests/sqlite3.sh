@@ -4,8 +4,9 @@
 # of the gate. It ends on 'N passed, M failed'.
 set -uo pipefail
 here=$(dirname "$(readlink -f "$0")")
-program=$(readlink -f "${1:-$here/../out/sunreg}")
+program=${1:-$here/../out/sunreg}
 [ -x "$program" ] || { echo "sqlite3.sh: $program is not built: run ./sunreg-build" >&2; exit 2; }
+program=$(readlink -f "$program")
 for tool in curl sqlite3; do
     command -v $tool > /dev/null || { echo "sqlite3.sh: $tool is not installed (apt-get install $tool)" >&2; exit 2; }
 done
@@ -35,9 +36,13 @@ serve() {
     children="$children $child"
 }
 
-# ask PATH [WORDS..]: asks the serving program, and prints the reply's body
+# ask PATH [WORDS..]: asks the serving program, once it listens, and prints the reply's body; none where it can't serve
 ask() {
-    curl -s --max-time 120 --retry 200 --retry-connrefused --retry-delay 1 "${@:2}" "http://127.0.0.1:$port$1"
+    for turn in $(seq 200); do
+        curl -s --max-time 120 "${@:2}" "http://127.0.0.1:$port$1"
+        [ $? = 7 ] && [ ! -s served ] || return
+        sleep 0.5
+    done
 }
 
 # put PATH NUMBER BODY: asks a command
