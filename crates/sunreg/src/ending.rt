@@ -202,7 +202,7 @@ pub(crate) fn ending_of_done<'a>(
     host: &'a str,
     port: u16,
 ) -> Ending<'a>
-    ensures { ending_number result ≡ done_number done }
+    ensures { ending_number result ≡ done_number done.entry }
 {
     match done {
         Ok(Done::Reported(status)) => ending_of(status),
