@@ -128,10 +128,31 @@ run '' serve --db "$office" --port 65536 --connections 1
 is 'serve: a port out of range' 2 '' "error: invalid value '65536' for '--port <N>': not a number from 1 to 65535"
 run '' round --db "$office" --device d --port 1
 is 'round: no device listens' 3 '' 'failed'
-for words in 'run --db x --listen 1 --every 1 --devices d=h:1'; do
-    run '' $words
-    is "${words%% *}: not there yet" 3 '' 'failed'
-done
+# says WHAT TEXT: holds the second line on standard error of the last run to what is wanted
+says() {
+    if [ "$(sed -n 2p "$room/err")" = "sunreg: $2" ]; then
+        passed=$((passed + 1))
+    else
+        failed=$((failed + 1))
+        echo "$1: said '$(head -c 200 "$room/err")'"
+    fi
+}
+
+# How a run ends at once, each by what it says: so none is taken for another.
+run '' run --db "$room/none.db" --listen 1 --every 1 --devices d=127.0.0.1:1 --for 1
+is 'run: no such file' 3 '' 'failed'
+says 'run: no such file' "$room/none.db: there is no such file: sunreg create makes it"
+run '' run --db "$office" --listen 1 --every 1 --devices d=no.such.invalid:1 --for 1
+is 'run: a host that has no address' 3 '' 'failed'
+says 'run: a host that has no address' \
+    'no address is found for no.such.invalid: is it right, and can names of hosts be looked up here?'
+run '' run --db "$room" --listen 1 --every 1 --devices d=127.0.0.1:1 --for 1
+is 'run: a folder' 3 '' 'failed'
+run '' run --db "$office" --listen 65536 --every 1 --devices d=127.0.0.1:1
+is 'run: a port out of range' 2 '' "error: invalid value '65536' for '--listen <PORT>': not a number from 1 to 65535"
+port=${STATUSES_PORT:-18691}
+run '' run --db "$office" --listen "$port" --every 86400 --devices d=127.0.0.1:1 --for 1
+is 'run: for a second' 0 "$(printf 'books to 0 lost 0\nlistening %s' "$port")" ''
 
 if [ -w /dev/full ]; then
     printf '1000 tick\n' | "$program" > /dev/full 2> "$room/err"

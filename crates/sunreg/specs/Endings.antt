@@ -1,5 +1,5 @@
 -- The exit statuses of the program.
-use Rattle.std.specs.Prelude.{ℕ}
+use Rattle.std.specs.Prelude.{ℕ, Result, Ok, Err}
 use Rattle.command_io.specs.declared.status.Status.{Status}
 use Rattle.command_io.specs.declared.status.Status.TheVariants as status
 use Rattle.command_io.specs.Statuses.{status_number}
@@ -8,8 +8,13 @@ use Rattle.office_program.specs.declared.polling.Polling.{Polling}
 use Rattle.office_program.specs.declared.polling.Polling.TheVariants as polling
 use Rattle.office_program.specs.declared.serving.Serving.{Serving}
 use Rattle.office_program.specs.declared.serving.Serving.TheVariants as serving
+use Rattle.office_running.specs.declared.fault.RunFault.{RunFault}
+use Rattle.office_running.specs.declared.fault.RunFault.TheVariants as run
+use Rattle.stored_tasks.specs.declared.tasks.Done.{Done}
+use Rattle.stored_tasks.specs.declared.tasks.Done.TheVariants.{Reported, Served, Polled, Ran}
 use Rattle.sunreg.specs.declared.ending.Ending.{Ending}
 use Rattle.sunreg.specs.declared.ending.Ending.TheVariants.{Fine, Refused, Wrong, NoText, NoZone, Failed}
+use Rattle.sunreg.specs.declared.ending.Failure.{Failure}
 use Rattle.sunreg.specs.declared.ending.Failure.TheVariants.{Streams}
 
 -- 0 fine, 1 refused, 2 wrong words, 3 a fault of a file, stream or socket, or want of memory
@@ -39,3 +44,21 @@ abbrev pub polling_number : Polling → ℕ
 polling_number (polling.Polled done) = status_number (round_status done)
 polling_number (polling.Unopened why) = status_number why
 polling_number polling.Unconnected = 3
+
+-- how a run ends the command
+abbrev pub run_number : Result (Unit {0}) RunFault → ℕ
+run_number (Ok _) = 0
+run_number (Err (run.Unopened why)) = status_number why
+run_number (Err run.Port) = 3
+run_number (Err run.Sockets) = 3
+run_number (Err run.Output) = 3
+run_number (Err run.Stopped) = 3
+run_number (Err run.Memory) = 3
+
+-- how a task over an office in a file does
+abbrev pub done_number : Result Done Failure → ℕ
+done_number (Ok (Reported status)) = status_number status
+done_number (Ok (Served end)) = serving_number end
+done_number (Ok (Polled end)) = polling_number end
+done_number (Ok (Ran end)) = run_number end
+done_number (Err failure) = 3

@@ -1,6 +1,7 @@
 //! The commands, over the streams and sockets of the process.
 use crate::ending::{Ending, Failure, ending_of};
-use crate::offices::{create, report, round, serve};
+use crate::offices::{create, report, round, run, serve};
+use crate::running::settings_of;
 use bank_text::{SetupParts, set_up};
 use chain_text::chain_text;
 use command_io::{Buffered, Status};
@@ -16,30 +17,40 @@ use std::net::TcpListener;
 
 /// Carries a command out.
 pub(crate) fn carry_out<'a>(rt: &HostRuntime, line: &CommandLine<'a>) -> Ending<'a> {
-    match *line {
-        CommandLine::Replay { zone } => run_script(rt, zone),
-        CommandLine::Loop { zone } => run_loop(rt, zone),
+    match line {
+        CommandLine::Replay { zone } => run_script(rt, *zone),
+        CommandLine::Loop { zone } => run_loop(rt, *zone),
         CommandLine::Plan => print_plan(rt),
         CommandLine::Chain => print_chain(rt),
         CommandLine::StandIn {
             host,
             port,
             connections,
-        } => stand_in(rt, host, port, connections),
-        CommandLine::Create { db, zone } => create(rt, db, zone),
+        } => stand_in(rt, *host, *port, *connections),
+        CommandLine::Create { db, zone } => create(rt, *db, *zone),
         CommandLine::Serve {
             db,
             port,
             connections,
-        } => serve(rt, db, port, connections),
+        } => serve(rt, *db, *port, *connections),
         CommandLine::Round {
             db,
             device,
             host,
             port,
-        } => round(rt, db, device, host, port),
-        CommandLine::Report { db, register } => report(rt, db, register),
-        CommandLine::Run { .. } => Ending::Failed(Failure::Lacking),
+        } => round(rt, *db, *device, *host, *port),
+        CommandLine::Report { db, register } => report(rt, *db, *register),
+        CommandLine::Run {
+            db,
+            listen,
+            every,
+            devices,
+            lasts,
+            verbose,
+        } => {
+            let settings = settings_of(*listen, *every, *lasts, *verbose);
+            run(rt, *db, devices, &settings)
+        }
     }
 }
 
@@ -96,8 +107,8 @@ fn stand_in<'a>(rt: &HostRuntime, host: &'a str, port: u16, connections: u32) ->
     }
 }
 
-/// The status of a command once all that it printed was given out.
-pub(crate) fn flushed<W: Write>(status: Status, output: &mut Buffered<W>) -> Status {
+// The status of a command once all that it printed was given out.
+fn flushed<W: Write>(status: Status, output: &mut Buffered<W>) -> Status {
     match output.flush() {
         Ok(()) => status,
         Err(_) => Status::Failed,

@@ -3,17 +3,20 @@ ghost use Rattle.std.specs.Prelude.{◌≡◌};
 ghost use Rattle.std.specs.Process.{exit_status};
 ghost use Rattle.command_io.specs.Statuses.{status_number};
 ghost use Rattle.office_text.specs.Rounds.{round_status};
-ghost use Rattle.sunreg.specs.Endings.{ending_number, ending_of, polling_number, serving_number};
+ghost use Rattle.sunreg.specs.Endings.{done_number, ending_number, ending_of, polling_number};
+ghost use Rattle.sunreg.specs.Endings.{run_number, serving_number};
 
 use command_io::Status;
 use office_files::FileFault;
 use office_program::{Polling, Serving};
 use office_rounds::RoundFault;
+use office_running::RunFault;
 use office_store::OpenFault;
 use std::fmt;
 use std::fmt::{Display, Formatter};
 use std::io::Write;
 use std::process::ExitCode;
+use stored_tasks::Done;
 
 /// What failed.
 #[derive(Clone, Copy, Drop)]
@@ -39,8 +42,12 @@ pub(crate) enum Failure<'a> {
     Broken { host: &'a str, port: u16 },
     /// A round had all the takes that it may have.
     Endless { host: &'a str, port: u16 },
-    /// The program has no such command yet.
-    Lacking,
+    /// A device's host has no address.
+    Host { host: &'a str },
+    /// The system can't tell which sockets are ready.
+    Sockets,
+    /// The office has stopped while devices were polled.
+    Stopped,
 }
 
 impl<'a> Display for Failure<'a> {
@@ -78,9 +85,14 @@ impl<'a> Display for Failure<'a> {
                 f,
                 "port {port} of {host} sent on and on without answering; what was booked stays"
             ),
-            Failure::Lacking => write!(
+            Failure::Host { host } => write!(
                 f,
-                "this command is not there yet; sunreg help tells the others"
+                "no address is found for {host}: is it right, and can names of hosts be looked up here?"
+            ),
+            Failure::Sockets => write!(f, "the system can't tell which sockets are ready"),
+            Failure::Stopped => write!(
+                f,
+                "the office has stopped, since its file failed: look at the disk, and start again"
             ),
         }
     }
@@ -166,6 +178,38 @@ pub(crate) fn ending_of_polling<'a>(end: Polling, host: &'a str, port: u16) -> E
         Polling::Polled(done) => ending_of_round(done, host, port),
         Polling::Unopened(status) => ending_of(status),
         Polling::Unconnected => Ending::Failed(Failure::Unconnected { host, port }),
+    }
+}
+
+/// The ending of a run that answers at a port of a host.
+pub(crate) fn ending_of_run<'a>(end: Result<(), RunFault>, host: &'a str, port: u16) -> Ending<'a>
+    ensures { ending_number result ≡ run_number end }
+{
+    match end {
+        Ok(()) => Ending::Fine,
+        Err(RunFault::Unopened(status)) => ending_of(status),
+        Err(RunFault::Port) => Ending::Failed(Failure::Port { host, port }),
+        Err(RunFault::Sockets) => Ending::Failed(Failure::Sockets),
+        Err(RunFault::Output) => Ending::Failed(Failure::Streams),
+        Err(RunFault::Stopped) => Ending::Failed(Failure::Stopped),
+        Err(RunFault::Memory) => Ending::Failed(Failure::Memory),
+    }
+}
+
+/// The ending of a task, whose sockets were at a port of a host.
+pub(crate) fn ending_of_done<'a>(
+    done: Result<Done, Failure<'a>>,
+    host: &'a str,
+    port: u16,
+) -> Ending<'a>
+    ensures { ending_number result ≡ done_number done.entry }
+{
+    match done {
+        Ok(Done::Reported(status)) => ending_of(status),
+        Ok(Done::Served(end)) => ending_of_serving(end, host, port),
+        Ok(Done::Polled(end)) => ending_of_polling(end, host, port),
+        Ok(Done::Ran(end)) => ending_of_run(end, host, port),
+        Err(failure) => Ending::Failed(failure),
     }
 }
 

@@ -4,6 +4,7 @@
 mod commands;
 mod ending;
 mod offices;
+mod running;
 
 use crate::commands::carry_out;
 use crate::ending::{Ending, Failure, exit_code, say};

@@ -1,13 +1,17 @@
 //! The commands over an office in a file.
-use crate::commands::flushed;
-use crate::ending::{Ending, Failure, ending_of, ending_of_polling, ending_of_serving};
+use crate::ending::{Ending, Failure, ending_of_done};
+use crate::running::sites_of;
 use command_io::Buffered;
+use command_words::Device;
 use interval_core::Zone;
 use office_files::{make_file, open_file};
+use office_running::Settings;
 use socket_link::SystemClock;
 use sqlite::Unknown;
 use std::io;
-use stored_office::{create_stored, poll_stored, report_stored, serve_stored};
+use std::io::Write;
+use stored_office::create_stored;
+use stored_tasks::{Done, Task, carry_out_stored};
 
 /// The host on which HTTP is answered.
 const OWN_HOST: &str = "127.0.0.1";
@@ -26,17 +30,32 @@ pub(crate) fn create<'a>(rt: &HostRuntime, path: &'a str, zone: &'a str) -> Endi
     }
 }
 
-/// Prints the energy of a register by days.
-pub(crate) fn report<'a>(rt: &HostRuntime, path: &'a str, register: &str) -> Ending<'a> {
+// Carries a task out over the office in a file. The one function that is proved over a connection to a file with an office,
+// since each such function costs minutes.
+fn carry_out_in<'a, W: Write>(
+    rt: &HostRuntime,
+    path: &'a str,
+    task: Task<'_>,
+    output: &mut W,
+) -> Result<Done, Failure<'a>> {
     let connection = match open_file(rt, path, Unknown) {
         Ok(connection) => connection,
-        Err(fault) => return Ending::Failed(Failure::File { path, fault }),
+        Err(fault) => return Err(Failure::File { path, fault }),
     };
     let mut clock = SystemClock::new(rt);
+    match carry_out_stored(rt, rt.alloc(), connection, task, &mut clock, output) {
+        Ok(done) => Ok(done),
+        Err(fault) => Err(Failure::Unopened { path, fault }),
+    }
+}
+
+/// Prints the energy of a register by days.
+pub(crate) fn report<'a>(rt: &HostRuntime, path: &'a str, register: &str) -> Ending<'a> {
     let mut output = Buffered::new(io::writer(rt));
-    match report_stored(rt.alloc(), connection, register, &mut clock, &mut output) {
-        Ok(status) => ending_of(flushed(status, &mut output)),
-        Err(fault) => Ending::Failed(Failure::Unopened { path, fault }),
+    let done = carry_out_in(rt, path, Task::Report { register }, &mut output);
+    match output.flush() {
+        Ok(()) => ending_of_done(done, OWN_HOST, 0),
+        Err(_) => Ending::Failed(Failure::Streams),
     }
 }
 
@@ -47,25 +66,13 @@ pub(crate) fn serve<'a>(
     port: u16,
     connections: u32,
 ) -> Ending<'a> {
-    let connection = match open_file(rt, path, Unknown) {
-        Ok(connection) => connection,
-        Err(fault) => return Ending::Failed(Failure::File { path, fault }),
-    };
-    let mut clock = SystemClock::new(rt);
-    let mut output = io::writer(rt);
-    let place = (OWN_HOST, port);
-    match serve_stored(
-        rt,
-        rt.alloc(),
-        connection,
-        place,
+    let task = Task::Serve {
+        host: OWN_HOST,
+        port,
         connections,
-        &mut clock,
-        &mut output,
-    ) {
-        Ok(end) => ending_of_serving(end, OWN_HOST, port),
-        Err(fault) => Ending::Failed(Failure::Unopened { path, fault }),
-    }
+    };
+    let mut output = io::writer(rt);
+    ending_of_done(carry_out_in(rt, path, task, &mut output), OWN_HOST, port)
 }
 
 /// Polls the whole plan of a device once.
@@ -76,23 +83,27 @@ pub(crate) fn round<'a>(
     host: &'a str,
     port: u16,
 ) -> Ending<'a> {
-    let connection = match open_file(rt, path, Unknown) {
-        Ok(connection) => connection,
-        Err(fault) => return Ending::Failed(Failure::File { path, fault }),
-    };
-    let mut clock = SystemClock::new(rt);
+    let task = Task::Round { device, host, port };
     let mut output = io::writer(rt);
-    let place = (host, port);
-    match poll_stored(
-        rt,
-        rt.alloc(),
-        connection,
-        device,
-        place,
-        &mut clock,
-        &mut output,
-    ) {
-        Ok(end) => ending_of_polling(end, host, port),
-        Err(fault) => Ending::Failed(Failure::Unopened { path, fault }),
-    }
+    ending_of_done(carry_out_in(rt, path, task, &mut output), host, port)
+}
+
+/// Polls devices on a schedule and answers HTTP, as the settings say.
+pub(crate) fn run<'a>(
+    rt: &HostRuntime,
+    path: &'a str,
+    devices: &[Device<'a>],
+    settings: &Settings,
+) -> Ending<'a> {
+    let sites = match sites_of(rt, devices) {
+        Ok(sites) => sites,
+        Err(failure) => return Ending::Failed(failure),
+    };
+    let task = Task::Run {
+        settings,
+        sites: sites.as_slice(),
+    };
+    let mut output = io::writer(rt);
+    let port = settings.listen.port();
+    ending_of_done(carry_out_in(rt, path, task, &mut output), OWN_HOST, port)
 }

@@ -1,0 +1,8 @@
+//! The tasks of the program over an office in a database, as one call: over any store, clock, sockets and writer.
+#![tactic(auto)]
+
+mod running;
+mod tasks;
+
+pub use running::run_stored;
+pub use tasks::{Done, Task, carry_out_stored};
