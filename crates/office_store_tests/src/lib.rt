@@ -11,3 +11,5 @@ mod opening;
 mod requests;
 #[cfg(test)]
 mod scripts;
+#[cfg(test)]
+mod voids;

@@ -169,12 +169,22 @@ end 3
     ),
 ];
 
+/// What is printed of a script and of a meter behind what went before it, over a new database.
+pub(crate) fn behind(
+    alloc: Global,
+    before: &str,
+    script: &str,
+    meter: &[u8],
+) -> Result<Vec<u8>, Fail> {
+    let mut office = opened(alloc, books(alloc)?, 0)?;
+    let _ = print(alloc, &mut office, before, meter)?;
+    print(alloc, &mut office, script, meter)
+}
+
 #[test]
 fn scripts_are_answered_as_over_books_in_memory(rt: HostRuntime) -> Result<(), Fail> {
     for (script, printed) in &BEHIND {
-        let mut office = opened(rt.alloc(), books(rt.alloc())?, 0)?;
-        let _ = print(rt.alloc(), &mut office, READ, b"m1")?;
-        let got = print(rt.alloc(), &mut office, script, b"m1")?;
+        let got = behind(rt.alloc(), READ, script, b"m1")?;
         assert_eq!(rt; str::from_utf8(&got)?, *printed, "{script}");
     }
     Ok(())
