@@ -20,10 +20,12 @@ fn two_routes_are_no_questions_to_the_office(rt: HostRuntime) {
     let status = Some(Own::Status);
     assert_eq!(rt; own_route(b"GET /status HTTP/1.1\r\n\r\n"), status);
     assert_eq!(rt;
-        own_route(b"GET /metrics HTTP/1.0\r\n\r\n"),
+        own_route(b"GET /metrics HTTP/1.0\r\nHost: a\r\n\r\n"),
         Some(Own::Metrics)
     );
-    let others: [&[u8]; 5] = [
+    let others: [&[u8]; 7] = [
+        b"GET /status HTTP/1.1\r\n",
+        b"GET /status HTTP/1.1\r\nHost: a\r\n",
         b"GET /statuses HTTP/1.1\r\n\r\n",
         b"POST /status HTTP/1.1\r\n\r\n",
         b"GET /status",

@@ -1,11 +1,38 @@
--- The replies of the two routes that are answered by what was counted.
-use Rattle.std.specs.Prelude.{ℕ, List, [], ◌++◌, length, codes, decimal}
+-- The two routes that are answered by what was counted, and their replies.
+use Rattle.std.specs.Prelude.{◌≡◌, ℕ, if◌then◌else◌, Option, Some, None, List, [], ◌++◌, length, codes, decimal}
+use Rattle.std.specs.Str.{bytes_eq}
+use Rattle.httparse.specs.Spans.{span_bytes}
+use Rattle.http_head.specs.Heads.{Looks}
+use Rattle.http_head.specs.declared.head.Look.{Look}
+use Rattle.http_head.specs.declared.head.Look.TheVariants.{Open, TooLarge, NoHead, Whole}
 use Rattle.hub_status.specs.StatusText.{with_status}
 use Rattle.hub_status.specs.MetricsText.{with_metrics}
 use Rattle.hub_status.specs.declared.counting.Counts.{Counts}
 use Rattle.hub_status.specs.declared.device.DeviceState.{DeviceState}
 use Rattle.hub_asking.specs.declared.own.Own.{Own}
 use Rattle.hub_asking.specs.declared.own.Own.TheVariants.{Status, Metrics}
+
+-- GET of one of the two paths
+abbrev pub own_named : (method target : List ℕ) → Option Own
+own_named method target =
+    if bytes_eq method (codes "GET")
+    then (if bytes_eq target (codes "/status") then Some Status
+    else if bytes_eq target (codes "/metrics") then Some Metrics
+    else None)
+    else None
+
+-- what a head asks for: nothing before it is whole, or past its limits
+abbrev pub own_in : List ℕ → Look → Option Own
+own_in bytes Open = None
+own_in bytes TooLarge = None
+own_in bytes NoHead = None
+own_in bytes (Whole at) = own_named (span_bytes bytes at.method) (span_bytes bytes at.target)
+
+-- a look at the bytes finds a head that asks for it
+pub record IsFor (bytes : List ℕ) (own : Option Own) : Type 0 where
+  pub look : Look
+  pub looks : Looks bytes look
+  pub asks : own ≡ own_in bytes look
 
 abbrev pub with_reply : (kind body : List ℕ) → List ℕ → List ℕ
 with_reply kind body text =

@@ -2,6 +2,7 @@
 ghost use Rattle.std.specs.Prelude.{◌≡◌, OnOk};
 ghost use Rattle.hub_asking.specs.Own as texts;
 
+use http_head::{Look, look_at};
 use hub_status::{Counts, DeviceState, put, put_metrics, put_number, put_status, put_word};
 use std::alloc::{AllocError, Global};
 
@@ -12,19 +13,29 @@ pub enum Own {
     Metrics,
 }
 
-fn begins(text: &[u8], start: &[u8]) -> bool {
-    start.len() <= text.len() && &text[..start.len()] == start
+// The route of a method and a target.
+fn own_named(method: &[u8], target: &[u8]) -> Option<Own>
+    ensures { result ≡ texts.own_named method.now target.now }
+{
+    if method != b"GET".as_slice() {
+        None
+    } else if target == b"/status".as_slice() {
+        Some(Own::Status)
+    } else if target == b"/metrics".as_slice() {
+        Some(Own::Metrics)
+    } else {
+        None
+    }
 }
 
-/// Which of the two routes a request asks for, by its first words; none of them is the office's.
-pub fn own_route(request: &[u8]) -> Option<Own> {
-    if begins(request, b"GET /status HTTP/1.") {
-        return Some(Own::Status);
+/// Which of the two routes a request asks for, once its head is whole and within its limits; none of them is the office's.
+pub fn own_route(request: &[u8]) -> Option<Own>
+    ensures { texts.IsFor request.now result }
+{
+    match look_at(request) {
+        Look::Whole(head) => own_named(head.method.of(request), head.target.of(request)),
+        Look::Open | Look::TooLarge | Look::NoHead => None,
     }
-    if begins(request, b"GET /metrics HTTP/1.") {
-        return Some(Own::Metrics);
-    }
-    None
 }
 
 // Puts a reply with a body of a kind.
