@@ -1,0 +1,82 @@
+//! What is printed of books.
+use interval_core::Share;
+use office_books::{Books, RowSink};
+use office_core::Office;
+use office_events::{Name, Refusal};
+use row_text::write_interval;
+use script_text::{write_meter, write_poll, write_refusal};
+use std::alloc::Global;
+use std::io::Write;
+use std::test::Fail;
+
+/// Lines so far.
+#[derive(Drop)]
+pub(crate) struct Lines {
+    text: Vec<u8>,
+    is_whole: bool,
+}
+
+impl RowSink<Share> for Lines {
+    ghost takes = { λ _ _ _. Unit {0} };
+
+    fn put(&mut self, row: Share) {
+        self.is_whole = write_interval(row, &mut self.text).is_ok() && self.is_whole;
+    }
+}
+
+/// How many devices there are, and how many registers the first one has.
+fn print_counts<B: Books>(books: &mut B, text: &mut Vec<u8>) -> Result<(), Fail> {
+    let inv = Name::new(b"inv").ok_or("no name")?;
+    match (books.devices(), books.register_count(&inv)) {
+        (Ok(devices), Ok(registers)) => {
+            let count = devices.len();
+            writeln!(text, "devices {count} registers {registers}")?;
+            Ok(())
+        }
+        _ => Err(Fail::from("not counted")),
+    }
+}
+
+/// Where a meter stands.
+fn print_meter<B: Books>(
+    office: &mut Office<B>,
+    name: &Option<Name>,
+    text: &mut Vec<u8>,
+) -> Result<(), Fail> {
+    match office.meter(name) {
+        Ok(row) => write_meter(&row, text)?,
+        Err(why) => write_refusal(why, text)?,
+    }
+    Ok(())
+}
+
+/// The first poll, the meters m1 and m2, and the energy of m1 by quarter hours.
+fn print_office<B: Books>(office: &mut Office<B>, lines: &mut Lines) -> Result<(), Fail> {
+    match office.poll(1) {
+        Ok(row) => write_poll(&row, &mut lines.text)?,
+        Err(why) => write_refusal(why, &mut lines.text)?,
+    }
+    print_meter(office, &Name::new(b"m1"), &mut lines.text)?;
+    print_meter(office, &Name::new(b"m2"), &mut lines.text)?;
+    match office.intervals(&Name::new(b"m1"), lines) {
+        Ok(()) | Err(Refusal::NotFound) => Ok(()),
+        Err(_) => Err(Fail::from("no rows")),
+    }
+}
+
+/// An office over books, opened at 5000, and what is printed of it.
+pub(crate) fn opened<B: Books>(alloc: Global, mut books: B) -> Result<(Office<B>, Vec<u8>), Fail> {
+    let mut lines = Lines {
+        text: Vec::new(alloc),
+        is_whole: true,
+    };
+    print_counts(&mut books, &mut lines.text)?;
+    let Ok(mut office) = Office::open(alloc, books, 5000) else {
+        return Err(Fail::from("not opened"));
+    };
+    print_office(&mut office, &mut lines)?;
+    if lines.is_whole {
+        return Ok((office, lines.text));
+    }
+    Err(Fail::from("no memory"))
+}
