@@ -9,6 +9,7 @@ the file is opened with none refused, and must be whole: every poll has an outco
 what was printed as booked or answered as done is there, and the same command does then what it does in the run with none refused.
 """
 import collections
+import concurrent.futures
 import http.client
 import json
 import os
@@ -24,6 +25,7 @@ import time
 
 ALL = 1 << 60
 MOST = int(os.environ.get("REFUSED_MOST", "100"))  # of a command, alone and with all later ones; 0: each
+JOBS = int(os.environ.get("REFUSED_JOBS", "1"))  # so many processes share them, each with a file of its own
 SEED = int(os.environ.get("REFUSED_SEED", time.time_ns() % 1_000_000_007))
 HOST = "127.0.0.1"
 OPENING, SHOWN = 5000, 5200
@@ -43,7 +45,6 @@ SET_UP = (
     "SELECT caller, number, request, kind FROM replies",
 )
 
-chance = random.Random(SEED)
 Ran = collections.namedtuple("Ran", "status lines said seen calls")
 
 
@@ -256,31 +257,27 @@ def judge_report(files, ran, whole, is_alone):
     files.is_whole()
 
 
-def try_all(files, name, command, judge):
-    """Refuses each allocation of a command, and returns how many runs were right and how many were not."""
+def try_all(files, share, name, command, judge):
+    """Refuses the allocations of a command that fall to a share, and counts how the runs ended; None is a wrong run."""
     files.keep("before")
     whole = command(files)
     files.keep("after")
     if whole.status or not whole.calls:
         raise Wrong(f"{name}: with none refused it ends with status {whole.status} after {whole.calls} allocations: {whole.said[-200:]}")
-    right, failed = 0, 0
+    counted = {}
     for how, last in (("alone", 0), ("and all later ones", ALL)):
-        ends = collections.Counter()
-        numbers = tried(whole.calls)
-        for number in numbers:
+        ends = counted[name, how] = collections.Counter()
+        for number in tried(whole.calls, f"{SEED} {name} {how}")[share::JOBS]:
             files.bring("before")
             try:
                 ran = command(files, number, last or number)
                 judge(files, ran, whole, not last)
                 ends[ended_so(ran)] += 1
             except Wrong as why:
-                failed += 1
+                ends[None] += 1
                 print(f"{name}: allocation {number} {how}: {why}", flush=True)
-        right += sum(ends.values())
-        ended = ", ".join(f"{count} {end}" for end, count in sorted(ends.items()))
-        print(f"{name}: {len(numbers)} of {whole.calls} allocations refused {how}: {ended}", flush=True)
     files.bring("after")
-    return right, failed
+    return whole.calls, counted
 
 
 def ended_so(ran):
@@ -291,22 +288,39 @@ def ended_so(ran):
     return f"with status {ran.status}{without}{refused}"
 
 
-def tried(calls):
+def tried(calls, seed):
     """Numbers from 1 to a count: all, or MOST of them, by chance, and the first and the last ones."""
     if MOST == 0 or calls <= MOST:
         return range(1, calls + 1)
     ends = {1, 2, 3, calls - 1, calls}
-    return sorted(ends | set(chance.sample(range(1, calls + 1), MOST)))
+    return sorted(ends | set(random.Random(seed).sample(range(1, calls + 1), MOST)))
+
+
+def try_share(library, program, share):
+    """Tries the allocations of each command that fall to a share."""
+    with tempfile.TemporaryDirectory(prefix="refused-") as room:
+        files = Files(library, program, room)
+        found = [try_all(files, share, "create", create, judge_create), try_all(files, share, "serve", serve, judge_serve)]
+        time.sleep(1.0)  # (a reading of the second of the installation is held)
+        return found + [try_all(files, share, "round", poll, judge_round), try_all(files, share, "report", report, judge_report)]
 
 
 def try_commands(library, program):
-    """Tries each command in its turn."""
+    """Tries each command in its turn, and returns of each how many runs were right and how many were not."""
     print(f"commands over a file: seed {SEED}", flush=True)
-    with tempfile.TemporaryDirectory(prefix="refused-") as room:
-        files = Files(library, program, room)
-        counts = [try_all(files, "create", create, judge_create), try_all(files, "serve", serve, judge_serve)]
-        time.sleep(1.0)  # (a reading of the second of the installation is held)
-        return counts + [try_all(files, "round", poll, judge_round), try_all(files, "report", report, judge_report)]
+    with concurrent.futures.ProcessPoolExecutor(JOBS) as pool:
+        shares = list(pool.map(try_share, [library] * JOBS, [program] * JOBS, range(JOBS)))
+    counts = []
+    for parts in zip(*shares):
+        right, failed = 0, 0
+        for name, how in parts[0][1]:
+            ends = sum((counted[name, how] for _, counted in parts), collections.Counter())
+            count, wrong = sum(ends.values()), ends.pop(None, 0)
+            ended = ", ".join(f"{times} {end}" for end, times in sorted(ends.items()))
+            print(f"{name}: {count} of {parts[0][0]} allocations refused {how}: {ended}", flush=True)
+            right, failed = right + count - wrong, failed + wrong
+        counts.append((right, failed))
+    return counts
 
 
 def main(library, program):
