@@ -10,7 +10,9 @@ what was printed as booked or answered as done is there, and the same command do
 """
 import collections
 import concurrent.futures
+import contextlib
 import http.client
+import itertools
 import json
 import os
 import random
@@ -27,7 +29,7 @@ ALL = 1 << 60
 MOST = int(os.environ.get("REFUSED_MOST", "100"))  # of a command, alone and with all later ones; 0: each
 JOBS = int(os.environ.get("REFUSED_JOBS", "1"))  # so many processes share them, each with a file of its own
 SEED = int(os.environ.get("REFUSED_SEED", time.time_ns() % 1_000_000_007))
-HOST = "127.0.0.1"
+HOST, PORTS = "127.0.0.1", 16000
 OPENING, SHOWN = 5000, 5200
 REQUESTS = (
     ("/devices", json.dumps({"name": "inv", "unit": 1, "timeout": 5, "window": 1})),
@@ -79,12 +81,20 @@ class Device(threading.Thread):
 class Files:
     """The program, and the file that its commands work on."""
 
-    def __init__(self, library, program, room):
+    def __init__(self, library, program, room, share):
         self.library, self.program, self.room = library, program, room
+        first = PORTS + 500 * share  # (below those that the system hands out, so that no other share asks there)
+        self.ports = itertools.cycle(range(first, first + 500))
         self.file = f"{room}/now/office.db"
         self.device = Device()
         self.device.start()
         os.mkdir(f"{room}/now")
+
+    def free_port(self):
+        """A port of this share alone."""
+        for port in self.ports:
+            with contextlib.suppress(OSError), socket.create_server((HOST, port)):
+                return port
 
     def keep(self, name):
         shutil.rmtree(f"{self.room}/{name}", ignore_errors=True)
@@ -182,17 +192,12 @@ def asking(port, connections):
     return play
 
 
-def free_port():
-    with socket.create_server((HOST, 0)) as it:
-        return it.getsockname()[1]
-
-
 def create(files, first=0, last=0):
     return files.run(("create", "--zone", "UTC0"), first, last)
 
 
 def serve(files, first=0, last=0):
-    port, connections = free_port(), len(REQUESTS) + 1
+    port, connections = files.free_port(), len(REQUESTS) + 1
     return files.run(("serve", "--port", str(port), "--connections", str(connections)), first, last, asking(port, connections))
 
 
@@ -299,7 +304,7 @@ def tried(calls, seed):
 def try_share(library, program, share):
     """Tries the allocations of each command that fall to a share."""
     with tempfile.TemporaryDirectory(prefix="refused-") as room:
-        files = Files(library, program, room)
+        files = Files(library, program, room, share)
         found = [try_all(files, share, "create", create, judge_create), try_all(files, share, "serve", serve, judge_serve)]
         time.sleep(1.0)  # (a reading of the second of the installation is held)
         return found + [try_all(files, share, "round", poll, judge_round), try_all(files, share, "report", report, judge_report)]
