@@ -1,11 +1,14 @@
 #!/usr/bin/env python3
 """soak.py PROGRAM: polls a misbehaving device by many rounds over one file, and kills the office every few seconds.
 
-Each round has a stand-in of its own, whose counters went on a little, and which plays tricks on some of its answers. Between the office and it
-stands a relay, which keeps every byte that the stand-in gave. Behind each stop the office is opened again, and the books are held to that:
-an answered poll has its reply among the frames that were given, under its number; its reading is booked or held, once, and no other
+Each round has a stand-in of its own, whose counters went on a little, which lacks some registers in some rounds, and which plays tricks on some
+of its answers. Between the office and it stands a relay, which keeps every byte that it handed on of what the stand-in gave, and in some rounds
+ends both connections behind some byte. Behind each stop the office is opened again, and the books are held to that:
+an answered poll has its reply among the frames that were given, under its number, and so has one that ended with an exception, of that code;
+an answered poll's reading is booked or held, once, and no other
 reading is; each meter's energy is exactly its last reading less its first, in its total, its quarter hours and its days; and every line
-that the office printed before it was stopped is in the books.
+that the office printed before it was stopped is in the books. In a round where nothing went wrong each poll of a register that the stand-in
+lacks ends with an exception, and each other one is answered.
 """
 import collections
 import contextlib
@@ -35,6 +38,7 @@ SEED = int(os.environ.get("SOAK_SEED", time.time_ns() % 1_000_000_007))
 
 Ended = collections.namedtuple("Ended", "status printed said was_stopped")
 Frame = collections.namedtuple("Frame", "tid unit pdu")
+Round = collections.namedtuple("Round", "first given lacking went_well only_dropped")
 tally = collections.Counter()
 tally_of_rounds = collections.Counter()
 
@@ -66,21 +70,22 @@ class Relay:
         self.port = self.listener.getsockname()[1]
         self.to = 0
         self.given = bytearray()
+        self.ends_behind = None  # so many bytes of the stand-in's, in a round whose link drops
         threading.Thread(target=self.run, daemon=True).start()
 
     def run(self):
         while True:
             office, _ = self.listener.accept()
-            threading.Thread(target=self.relay, args=(office, self.to, self.given), daemon=True).start()
+            threading.Thread(target=self.relay, args=(office, self.to, self.given, self.ends_behind), daemon=True).start()
 
-    def relay(self, office, port, given):
+    def relay(self, office, port, given, ends_behind):
         try:
             device = connected(port)
         except OSError:  # (the stand-in went with a round that was stopped)
             office.close()
             return
         threading.Thread(target=hand_on, args=(office, device, bytearray()), daemon=True).start()
-        hand_on(device, office, given)
+        hand_on(device, office, given, ends_behind)
 
 
 def connected(port):
@@ -92,12 +97,17 @@ def connected(port):
     raise OSError(f"port {port} isn't answered")
 
 
-def hand_on(source, target, kept):
-    """Keeps each piece before it is handed on."""
+def hand_on(source, target, kept, ends_behind=None):
+    """Keeps each piece before it is handed on; ends both connections behind so many bytes."""
     try:
         while piece := source.recv(4096):
+            piece = piece if ends_behind is None else piece[: ends_behind - len(kept)]
             kept += piece
             target.sendall(piece)
+            if len(kept) == ends_behind:
+                for it in (source, target):
+                    it.shutdown(socket.SHUT_RDWR)
+                return
         target.shutdown(socket.SHUT_WR)
     except OSError:
         for it in (source, target):
@@ -176,17 +186,22 @@ class Soak:
         self.relay = Relay()
         self.chance = random.Random(SEED)
         self.counts = list(OPENINGS)
-        self.rounds = []  # of each: the first poll, and the frames that were given
+        self.rounds = []  # of each: the first poll, the frames that were given, the meters that were lacking, and whether all went well
+        self.lacking = set()
         self.brought = {}  # of each answered poll: what was given as its reply
         self.told = collections.defaultdict(set)  # of each meter: the readings that the office printed
         self.stops = 0
+        self.drops = 0
+        self.judged = 0  # so many rounds were held to what the stand-in lacked, of which so many went well
+        self.judged_well = 0
         self.next_stop = 0.0
         self.usual = 0.4  # so many seconds a round takes
 
     def bank(self):
         """The lines of the next stand-in: its counters went on, and some answers go wrong."""
-        lines = [f"area holding 0 {APART * METERS}"]
-        for at in range(METERS):
+        self.lacking = set(self.chance.sample(range(METERS), self.chance.choice((0, 0, 0, 1, 2, 5))))
+        lines = [f"area holding {APART * at} {APART}" for at in range(METERS) if at not in self.lacking]
+        for at in sorted(set(range(METERS)) - self.lacking):
             self.counts[at] += self.chance.randint(1, 5)
             self.counts[at] += self.counts[at] % TURN == 0  # (a counter that shows 0 counts nothing)
             shown = self.counts[at] % TURN
@@ -196,9 +211,10 @@ class Soak:
             lines.append(f"trick {frame} {kind}{f' {self.chance.randint(0, 20)}' * (kind == 'cut')}")
         return "".join(f"{line}\n" for line in lines)
 
-    def round(self):
+    def round(self, first):
         """Polls the whole plan once, with a stand-in of its own; stops the office where its time has come."""
         self.relay.to, self.relay.given = free_port(), bytearray()
+        self.relay.ends_behind = self.chance.randint(1, 13 * METERS) if self.chance.random() < 0.2 else None
         words = [self.office.program, "stand-in", "--port", str(self.relay.to), "--connections", "1"]
         device = subprocess.Popen(words, stdin=subprocess.PIPE, stdout=subprocess.DEVNULL)
         bank = self.bank()
@@ -222,7 +238,11 @@ class Soak:
             is_told = ended.printed.endswith(ends.get(ended.status, "none")) and (ended.status == 3) == ended.said.startswith("failed\n")
             tally_of_rounds[ended.status] += 1
             more = f"{ended.status} {ended.printed[-200:]} {ended.said} {bank[-200:]}"
-            holds("a round's status", is_told and (ended.status == 0 or "trick" in bank), more)
+            holds("a round's status", is_told and (ended.status == 0 or "trick" in bank or self.relay.ends_behind), more)
+        self.drops += self.relay.ends_behind == len(self.relay.given)
+        went_well = not (ended.was_stopped or "trick" in bank or self.relay.ends_behind)
+        only_dropped = bool(self.relay.ends_behind) and not (ended.was_stopped or "trick" in bank)
+        self.rounds.append(Round(first, frames_in(bytes(self.relay.given)), self.lacking, went_well, only_dropped))
         return ended.was_stopped
 
     def judge(self):
@@ -232,13 +252,20 @@ class Soak:
         books = self.office.books()
         same = books.execute("PRAGMA integrity_check").fetchall() == [("ok",)]
         holds("the file is whole", same and not books.execute("PRAGMA foreign_key_check").fetchall())
-        ends = books.execute("SELECT p.poll, p.tid, p.address, o.outcome FROM polls p LEFT JOIN outcomes o USING (poll) ORDER BY p.poll").fetchall()
-        holds("each poll has its outcome", all(outcome is not None for *_, outcome in ends))
+        ends = books.execute("SELECT p.poll, p.tid, p.address, o.outcome, o.code FROM polls p LEFT JOIN outcomes o USING (poll) ORDER BY p.poll").fetchall()
+        holds("each poll has its outcome", all(outcome is not None for *_, outcome, _ in ends))
         holds("polls are numbered from 1", [poll for poll, *_ in ends] == list(range(1, len(ends) + 1)))
         replies = collections.defaultdict(dict)
-        for poll, tid, address, outcome in ends:
+        wrong = []
+        for poll, tid, address, outcome, code in ends:
             if outcome == 1:
                 replies[address][poll] = self.values(poll, tid)
+            elif outcome == 2 and bytes((0x83, code)) not in self.given(poll, tid):
+                wrong.append((poll, code))
+        holds("each exception was given, with its code", not wrong, f"{wrong[:3]}")
+        self.judge_lacking(ends)
+        strays = books.execute("SELECT count(*) FROM holds h LEFT JOIN outcomes o USING (poll) WHERE o.outcome IS NOT 1").fetchone()[0]
+        holds("only an answered poll has a reading", strays == 0, f"{strays}")
         held = dict(books.execute("SELECT poll, raw FROM holds"))
         for meter in range(METERS):
             self.judge_meter(books, meter, replies[APART * meter], held)
@@ -251,10 +278,28 @@ class Soak:
     def values(self, poll, tid):
         """What was given as the reply to a poll."""
         if poll not in self.brought:
-            given = next((given for first, given in reversed(self.rounds) if first <= poll), [])
-            pdus = [frame.pdu for frame in given if (frame.tid, frame.unit) == (tid, 1)]
-            self.brought[poll] = {int.from_bytes(pdu[2:], "big") for pdu in pdus if pdu[:2] == b"\x03\x04"}
+            self.brought[poll] = {int.from_bytes(pdu[2:], "big") for pdu in self.given(poll, tid) if pdu[:2] == b"\x03\x04"}
         return self.brought[poll]
+
+    def given(self, poll, tid):
+        """What was given under a poll's number in its round."""
+        given = next((it.given for it in reversed(self.rounds) if it.first <= poll), [])
+        return [frame.pdu for frame in given if (frame.tid, frame.unit) == (tid, 1)]
+
+    def judge_lacking(self, ends):
+        """Holds the polls of rounds that went well to what the stand-in lacked, each round once."""
+        for at in range(self.judged, len(self.rounds)):
+            it = self.rounds[at]
+            behind = self.rounds[at + 1].first if at + 1 < len(self.rounds) else len(ends) + 1
+            if it.only_dropped:
+                outcomes = [outcome for *_, outcome, _ in ends[it.first - 1 : behind - 1]]
+                holds("a poll whose link dropped is lost, unless its reply was given", set(outcomes) <= {1, 2, 5}, f"{outcomes}")
+            if it.went_well:
+                told = [(address // APART, outcome, code) for _, _, address, outcome, code in ends[it.first - 1 : behind - 1]]
+                wanted = [(meter, 2, 2) if meter in it.lacking else (meter, 1, 0) for meter in range(METERS)]
+                holds("a round that went well ends by what the stand-in has", told == wanted, f"{told}, lacking {it.lacking}")
+                self.judged_well += 1
+        self.judged = len(self.rounds)
 
     def judge_meter(self, books, meter, replies, held):
         """Holds a meter's entries, total and quarter hours to the replies to its polls."""
@@ -288,8 +333,7 @@ class Soak:
         self.next_stop = begun + 1.0
         while polls < POLLS and time.monotonic() - begun < SECONDS:
             at = int(time.time())
-            was_stopped = self.round()
-            self.rounds.append((polls + 1, frames_in(bytes(self.relay.given))))
+            was_stopped = self.round(polls + 1)
             polls = self.judge() if was_stopped else self.office.polls()
             while int(time.time()) == at:  # (a reading of the same second is held)
                 time.sleep(0.02)
@@ -301,10 +345,12 @@ class Soak:
         causes = " ".join(f"{cause}:{count}" for cause, count in books.execute("SELECT cause, count(*) FROM holds GROUP BY 1 ORDER BY 1"))
         print(f"{polls} polls in {len(self.rounds)} rounds, the office stopped {self.stops} times, in {time.monotonic() - begun:.0f} seconds")
         print(f"rounds by status {' '.join(f'{status}:{count}' for status, count in sorted(tally_of_rounds.items()))}")
-        print(f"outcomes {ends} (1 answered, 3 silent, 4 malformed, 5 lost), {left} lost by a stop")
+        print(f"outcomes {ends} (1 answered, 2 exception, 3 silent, 4 malformed, 5 lost), {left} lost by a stop")
+        print(f"the link dropped in {self.drops} rounds, and {self.judged_well} rounds went well")
         print(f"{kept[0]} readings booked, {kept[1]} held ({causes})")
         holds("so many polls in the time", polls >= POLLS, f"{polls}")
         holds("the office was stopped, and some readings were booked", self.stops > 0 and kept[0] > 0)
+        holds("the link dropped, and some polls ended with an exception", self.drops > 0 and " 2:" in f" {ends}")
 
 
 def main(program):
