@@ -2,7 +2,8 @@
 # Refuses each allocation of the program, and of the small programs in tests/programs/, alone and with all later ones:
 # `tests/refused_allocations.sh`. The program runs tests/every_line.script, and then its commands over a file; what each run may print,
 # tests/refused_allocations.py and tests/refused_in_file.py say. Of a command over a file, which allocates thousands of times, it refuses REFUSED_MOST
-# by chance (100; 0 is each, which takes hours) by REFUSED_SEED, shared by REFUSED_JOBS processes (1), and says how many of how many. It ends on 'N passed, M failed'. It is no part of
+# by chance (100; 0 is each, which takes hours) by REFUSED_SEED, shared by REFUSED_JOBS processes (1), and says how many of how many; where REFUSED_ONLY names
+# some of these commands (create, serve, round, exchange, report), of these alone. It ends on 'N passed, M failed'. It is no part of
 # the gate. It needs a C compiler, and proves and builds the programs first. (They are named .rattle, since the gate refuses a .rt file
 # outside the crates.) `tests/refused_allocations.sh PROGRAM` takes a program that is built, and leaves the small ones out.
 set -euo pipefail

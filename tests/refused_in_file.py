@@ -1,12 +1,13 @@
 #!/usr/bin/env python3
 """refused_in_file.py LIBRARY PROGRAM: refuses the allocations of the commands over a file, under the preloaded LIBRARY.
 
-Over one file come `create`, then `serve` with the requests that set up a meter, then `round` against a device, then `report`. A run of
-each with none refused counts its allocations. Then REFUSED_MOST of them (100; 0 is each) by chance are refused, each alone, and then as many,
-each with all that come later, over a copy of the file as it was before. The run may end with status 1 (`refused 14`) or 3 (`failed` on
-standard error); a request that is refused 14, or gets no whole reply, changed nothing or is done, so that its repeat is done. Behind each run
-the file is opened with none refused, and must be whole: every poll has an outcome, each meter's energy is its last reading less its first,
-what was printed as booked or answered as done is there, and the same command does then what it does in the run with none refused.
+Over one file come `create`, then `serve` with the requests that set up a meter, then `round` against a device, then `exchange`, which is
+`serve` with the request that exchanges the meter, then `report`. A run of each with none refused counts its allocations. Then REFUSED_MOST
+of them (100; 0 is each) by chance are refused, each alone, and then as many, each with all that come later, over a copy of the file as it
+was before. The run may end with status 1 (`refused 14`) or 3 (`failed` on standard error); a request that is refused 14, or gets no whole
+reply, changed nothing or is done, so that its repeat is done. Behind each run the file is opened with none refused, and must be whole: every
+poll has an outcome, each meter's energy is its last reading less its first, what was printed as booked or answered as done is there, and
+the same command does then what it does in the run with none refused. Where REFUSED_ONLY names some of the commands, the others run as they are.
 """
 import collections
 import concurrent.futures
@@ -27,17 +28,27 @@ import time
 
 ALL = 1 << 60
 MOST = int(os.environ.get("REFUSED_MOST", "100"))  # of a command, alone and with all later ones; 0: each
+ONLY = os.environ.get("REFUSED_ONLY", "").split()  # the commands whose allocations are refused; none: all
 JOBS = int(os.environ.get("REFUSED_JOBS", "1"))  # so many processes share them, each with a file of its own
 SEED = int(os.environ.get("REFUSED_SEED", time.time_ns() % 1_000_000_007))
 HOST, PORTS = "127.0.0.1", 16000
-OPENING, SHOWN = 5000, 5200
-REQUESTS = (
-    ("/devices", json.dumps({"name": "inv", "unit": 1, "timeout": 5, "window": 1})),
+OPENING, SHOWN, CLOSING = 5000, 5200, 5300
+# The requests of a command, each with its path and body; they are numbered from the first on.
+SETTING_UP = (
+    ("/devices", json.dumps({"name": "inv", "unit": 1, "timeout": 20, "window": 1})),
     ("/devices/inv/list", "name,function,area,address,type,scale\nwh,3,0,40094,acc32,\n"),
     ("/registers", json.dumps({"name": "main", "device": "inv", "function": 3, "address": 40094, "fixed": 0})),
     ("/registers/main/install", json.dumps({"meter": "m1", "raw": OPENING, "sf": 0, "ceiling": 1_000_000_000})),
 )
-SET_UP = (
+EXCHANGING = (
+    (
+        "/registers/main/exchange",
+        json.dumps({"last": CLOSING, "rolls": 0, "meter": "m2", "raw": 70, "sf": 0, "ceiling": 1_000_000_000}),
+    ),
+)
+FIRST_SETTING_UP, FIRST_EXCHANGING = 0, 7
+# What requests set up or change, but for its moments.
+COMMANDED = (
     "SELECT * FROM devices",
     "SELECT * FROM points",
     "SELECT * FROM registers",
@@ -46,6 +57,13 @@ SET_UP = (
     "SELECT meter, place, kind, raw, rolls, sf FROM entries",
     "SELECT caller, number, request, kind FROM replies",
 )
+# Of each meter its total, the sum of its intervals, and its last reading less its first, in mWh: no counter turns over, and all scales are 0.
+ENERGY = """
+    SELECT meter, total,
+        (SELECT coalesce(sum(mwh), 0) FROM intervals WHERE intervals.meter = installations.meter),
+        1000 * (last_raw - (SELECT raw FROM entries WHERE entries.meter = installations.meter AND place = 1))
+    FROM installations
+"""
 
 Ran = collections.namedtuple("Ran", "status lines said seen calls")
 
@@ -139,12 +157,11 @@ class Files:
         needs(self.rows("PRAGMA integrity_check") == [("ok",)], "the file is not whole")
         needs(not self.rows("PRAGMA foreign_key_check"), "a row refers to none")
         needs(not self.rows("SELECT poll FROM polls WHERE poll NOT IN (SELECT poll FROM outcomes)"), "a poll has no outcome")
-        energy = self.rows("SELECT total FROM installations") + self.rows("SELECT coalesce(sum(mwh), 0) FROM intervals")
-        wanted = self.rows(f"SELECT 1000 * (last_raw - {OPENING}) FROM installations")
-        needs(all(it == wanted[0] for it in energy[: 2 * len(wanted)]), f"the energy is {energy}, and not {wanted}")
+        for meter, total, booked, shown in self.rows(ENERGY):
+            needs(total == booked == shown, f"{meter}: the total is {total}, the intervals have {booked}, and it showed {shown}")
 
-    def set_up(self, name):
-        return [self.rows(query, name) for query in SET_UP]
+    def commanded(self, name):
+        return [self.rows(query, name) for query in COMMANDED]
 
 
 def connection(running, port):
@@ -157,14 +174,14 @@ def connection(running, port):
     return None
 
 
-def ask(running, port, number):
+def ask(running, port, number, request):
     """The status and the body of the reply to a request; none where no whole one comes."""
     link = http.client.HTTPConnection(HOST, port, timeout=60)
     link.sock = connection(running, port)
     if link.sock is None:
         return None
     try:
-        path, body = REQUESTS[number]
+        path, body = request
         link.request("POST", path, body, {"Office-Caller": "desk", "Office-Request": str(number)})
         answer = link.getresponse()
         return answer.status, json.loads(answer.read())
@@ -174,15 +191,15 @@ def ask(running, port, number):
         link.close()
 
 
-def asking(port, connections):
-    """Asks each request, again where it gets no reply that it is done, and uses up the connections."""
+def asking(port, connections, requests, number):
+    """Asks requests, numbered from that number on, each again where it gets no reply that it is done, and uses up the connections."""
 
     def play(running):
         replies = []
-        for number in range(len(REQUESTS)):
-            replies.append([ask(running, port, number)])
+        for at, request in enumerate(requests, number):
+            replies.append([ask(running, port, at, request)])
             if len(replies) + sum(len(it) - 1 for it in replies) < connections and (replies[-1][0] or (0,))[0] != 200:
-                replies[-1].append(ask(running, port, number))
+                replies[-1].append(ask(running, port, at, request))
         while running.poll() is None:
             link = connection(running, port)
             if link:
@@ -196,9 +213,19 @@ def create(files, first=0, last=0):
     return files.run(("create", "--zone", "UTC0"), first, last)
 
 
-def serve(files, first=0, last=0):
-    port, connections = files.free_port(), len(REQUESTS) + 1
-    return files.run(("serve", "--port", str(port), "--connections", str(connections)), first, last, asking(port, connections))
+def serve(files, requests, number, first, last):
+    """Serves requests, which are numbered from that number on, and has room for one repeat."""
+    port, connections = files.free_port(), len(requests) + 1
+    words = ("serve", "--port", str(port), "--connections", str(connections))
+    return files.run(words, first, last, asking(port, connections, requests, number))
+
+
+def set_up(files, first=0, last=0):
+    return serve(files, SETTING_UP, FIRST_SETTING_UP, first, last)
+
+
+def exchange(files, first=0, last=0):
+    return serve(files, EXCHANGING, FIRST_EXCHANGING, first, last)
 
 
 def poll(files, first=0, last=0):
@@ -216,7 +243,16 @@ def judge_create(files, ran, whole, is_alone):
     needs(again == (3 if ran.status == 0 else 0), f"after status {ran.status} create ends with {again}")
 
 
-def judge_serve(files, ran, whole, is_alone):
+def judge_set_up(files, ran, whole, is_alone):
+    judge_serve(files, ran, whole, is_alone, set_up, FIRST_SETTING_UP)
+
+
+def judge_exchange(files, ran, whole, is_alone):
+    judge_serve(files, ran, whole, is_alone, exchange, FIRST_EXCHANGING)
+
+
+def judge_serve(files, ran, whole, is_alone, command, first):
+    """Judges a run of a command whose requests are numbered from the first on."""
     needs(ran.status != 1 or ran.lines == ["refused 14"], f"it prints {ran.lines}")
     for replies in ran.seen:
         for reply in replies:
@@ -225,13 +261,14 @@ def judge_serve(files, ran, whole, is_alone):
         is_over = ran.status != 0
         needs(not is_alone or is_over or (replies[-1] or (0,))[0] == 200, f"a repeat gets {replies}")
     kept = {number for (number,) in files.rows("SELECT number FROM replies")}
-    for number, replies in enumerate(ran.seen):
+    for number, replies in enumerate(ran.seen, first):
         statuses = {reply and reply[0] for reply in replies}
         needs(200 not in statuses or number in kept, f"request {number} was answered {replies}, and is not kept")
         needs(statuses != {503} or number not in kept, f"request {number} was answered {replies}, and is kept")
-    again = serve(files)
+    again = command(files)
     needs([it[-1] for it in again.seen] == [it[-1] for it in whole.seen], f"asked again, it answers {again.seen}")
-    needs(files.set_up("now") == files.set_up("after"), f"set up are {files.set_up('now')}, and not {files.set_up('after')}")
+    now, after = files.commanded("now"), files.commanded("after")
+    needs(now == after, f"the file holds {now}, and not {after}")
     files.is_whole()
 
 
@@ -262,6 +299,15 @@ def judge_report(files, ran, whole, is_alone):
     files.is_whole()
 
 
+COMMANDS = (
+    ("create", create, judge_create),
+    ("serve", set_up, judge_set_up),
+    ("round", poll, judge_round),
+    ("exchange", exchange, judge_exchange),
+    ("report", report, judge_report),
+)
+
+
 def try_all(files, share, name, command, judge):
     """Refuses the allocations of a command that fall to a share, and counts how the runs ended; None is a wrong run."""
     files.keep("before")
@@ -269,6 +315,11 @@ def try_all(files, share, name, command, judge):
     files.keep("after")
     if whole.status or not whole.calls:
         raise Wrong(f"{name}: with none refused it ends with status {whole.status} after {whole.calls} allocations: {whole.said[-200:]}")
+    if any(it[0] is None or it[0][0] != 200 for it in whole.seen or ()):
+        raise Wrong(f"{name}: with none refused it answers {whole.seen}")
+    files.is_whole()
+    if ONLY and name not in ONLY:
+        return None
     counted = {}
     for how, last in (("alone", 0), ("and all later ones", ALL)):
         ends = counted[name, how] = collections.Counter()
@@ -305,13 +356,18 @@ def try_share(library, program, share):
     """Tries the allocations of each command that fall to a share."""
     with tempfile.TemporaryDirectory(prefix="refused-") as room:
         files = Files(library, program, room, share)
-        found = [try_all(files, share, "create", create, judge_create), try_all(files, share, "serve", serve, judge_serve)]
-        time.sleep(1.0)  # (a reading of the second of the installation is held)
-        return found + [try_all(files, share, "round", poll, judge_round), try_all(files, share, "report", report, judge_report)]
+        found = []
+        for command in COMMANDS:
+            found.append(try_all(files, share, *command))
+            time.sleep(1.0)  # (a reading in the second of the entry before is held, and an exchange in it refused)
+        return [it for it in found if it]
 
 
 def try_commands(library, program):
     """Tries each command in its turn, and returns of each how many runs were right and how many were not."""
+    lacking = {*ONLY} - {name for name, *_ in COMMANDS}
+    if lacking:
+        raise Wrong(f"REFUSED_ONLY names {', '.join(sorted(lacking))}, and no such command is tried")
     print(f"commands over a file: seed {SEED}", flush=True)
     with concurrent.futures.ProcessPoolExecutor(JOBS) as pool:
         shares = list(pool.map(try_share, [library] * JOBS, [program] * JOBS, range(JOBS)))

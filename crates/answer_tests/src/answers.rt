@@ -1,4 +1,4 @@
-// Replies that tell what an office answers.
+//! Replies that tell what an office answers.
 use energy_core::{Cause, Last};
 use http_answer::{done_body, faults_body, kind_answered, meter_body, poll_body, status_of};
 use mb_wire::ReadSpan;

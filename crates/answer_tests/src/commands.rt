@@ -1,4 +1,4 @@
-// The commands that bodies ask for.
+//! The commands that bodies ask for.
 use http_commands::{CommandFault, command_in};
 use http_route::Route;
 use office_events::{

@@ -1,4 +1,4 @@
-// The lines of reports.
+//! The lines of reports.
 use http_answer::{put_day, put_end, put_share};
 use http_reply::Outlet;
 use interval_core::{DayTotal, Share};

@@ -9,7 +9,7 @@ use Rattle.mb_device.specs.declared.kinds.Kind.TheVariants as kind
 use Rattle.script_words.specs.Fields.{Field, Number, Of, Spell, Word, first_value, nothing_more}
 use Rattle.script_words.specs.Values.{number_of}
 use Rattle.bank_lines.specs.Forms.{IsBankLine, IsPart, bank_form, kind_word, trick_form}
-use Rattle.bank_lines.specs.Reading.{◌>>=◌, area_said, bank_said, cut_said, frame_said, kind_of, plain_of, set_said, three_said, trick_said, two_said}
+use Rattle.bank_lines.specs.BankLine.{◌>>=◌, area_said, bank_said, cut_said, frame_said, kind_of, plain_of, set_said, three_said, trick_said, two_said}
 use Rattle.bank_lines.specs.Seen.{ReadsBank}
 use Rattle.bank_lines.specs.declared.bank.BankLine.{BankLine}
 use Rattle.bank_lines.specs.declared.bank.BankLine.TheVariants as line

@@ -1,3 +1,3 @@
+pub mod BankLine
 pub mod Forms
-pub mod Reading
 pub mod Seen

@@ -2,6 +2,6 @@
 #![tactic(auto)]
 
 mod bank;
-mod reading;
+mod bank_line;
 
 pub use bank::{BankLine, GivenArea, GivenCell};

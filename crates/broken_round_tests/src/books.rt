@@ -1,6 +1,6 @@
 //! Rounds whose books refuse each of their calls in turn.
 use crate::office::{ANSWERED, RESTARTED, listed, opened, outcomes, replies, round};
-use crate::stopped::refuse_all;
+use crate::stopped_office::refuse_all;
 use mb_wire::MemoryLink;
 use office_books::Books;
 use office_events::{Refusal, StoreCause};

@@ -10,4 +10,4 @@ mod links;
 #[cfg(test)]
 mod office;
 #[cfg(test)]
-mod stopped;
+mod stopped_office;

@@ -1,7 +1,7 @@
 //! The chain of models in a device's words, read from lines and printed.
 #![tactic(auto)]
 
-mod chain_printing;
+mod chain_printout;
 mod image_lines;
 
-pub use chain_printing::chain_text;
+pub use chain_printout::chain_text;

@@ -1,7 +1,7 @@
 -- What a writer that holds bytes back holds.
 use Rattle.std.specs.Prelude.{ℕ, List, take, Option}
 use Rattle.std.specs.Io.KnownBytes.{append_known}
-use Rattle.command_io.specs.declared.buffered.Buffered.{Buffered}
+use Rattle.command_io.specs.declared.buffer.Buffered.{Buffered}
 
 -- the writer behind it
 abbrev pub output_of : {W : Type 0} → Buffered W → W

@@ -1,13 +1,13 @@
 //! What a command reads and writes, and how it ends.
 #![tactic(auto)]
 
-mod buffered;
+mod buffer;
 mod calls;
+mod input;
 mod lines;
-mod reading;
 mod status;
 
-pub use buffered::Buffered;
+pub use buffer::Buffered;
+pub use input::{MOST_BYTES, ReadFault, read_input, read_whole};
 pub use lines::{InputLine, InputLines};
-pub use reading::{MOST_BYTES, ReadFault, read_input, read_whole};
 pub use status::Status;

@@ -1,9 +1,9 @@
 //! A program's commands and options, given as tables, and what `clap` finds in the words by them.
 #![tactic(auto)]
 
-mod building;
-mod parsing;
+mod clap_command;
+mod clap_matches;
 mod tables;
 
-pub use parsing::matches_of;
+pub use clap_matches::matches_of;
 pub use tables::{CommandText, OptionText, ProgramText, Value};

@@ -1,4 +1,4 @@
-// The tables that describe a program's words.
+//! The tables that describe a program's words.
 
 /// Whether an option has a value, and under which name the help shows it.
 #[derive(Clone, Copy)]

@@ -1,4 +1,4 @@
-// Why words are no command line.
+//! Why words are no command line.
 use crate::table::NumberOption;
 use std::error::Error;
 use std::fmt;

@@ -1,4 +1,4 @@
-// The command of what was found.
+//! The command of what was found.
 ghost use Rattle.std.specs.Prelude.{◌≡◌};
 ghost use Rattle.clap.specs.Words.{subcommand_rows_of};
 ghost use Rattle.word_values.specs.Devices.{places_of};

@@ -1,4 +1,4 @@
-// The values of a command's options.
+//! The values of a command's options.
 ghost use Rattle.std.specs.Prelude.{◌≡◌, ◌≤◌, IfOk, option_map};
 ghost use Rattle.word_values.specs.Numbers.{number_up_to};
 ghost use Rattle.command_words.specs.Options.{Reads, is_set, number_at, number_if, rows_in};

@@ -1,4 +1,4 @@
-// The program's commands and options, with their help.
+//! The program's commands and options, with their help.
 use command_table::{CommandText, OptionText, ProgramText, Value};
 
 /// An option whose value is a number from 1 to the most; the help shows `value` for it.

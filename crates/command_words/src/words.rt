@@ -1,4 +1,4 @@
-// The command that the words spell.
+//! The command that the words spell.
 ghost use Rattle.std.specs.Prelude.{◌≡◌, IfErr, IfOk};
 ghost use Rattle.clap.specs.Words.{FailsBy, kind_of};
 ghost use Rattle.command_table.specs.Table.{texts};

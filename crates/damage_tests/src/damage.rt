@@ -1,6 +1,6 @@
 //! Damage, column by column.
-use crate::asking::damaged;
 use crate::columns::{COLUMNS, UNREAD};
+use crate::questions::damaged;
 use crate::tables::{loose, strict};
 use office_core::Office;
 use office_events::{Name, Refusal, StoreCause};

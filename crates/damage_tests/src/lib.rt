@@ -2,10 +2,10 @@
 #![tactic(auto)]
 
 #[cfg(test)]
-mod asking;
-#[cfg(test)]
 mod columns;
 #[cfg(test)]
 mod damage;
+#[cfg(test)]
+mod questions;
 #[cfg(test)]
 mod tables;

@@ -6,13 +6,13 @@ use Rattle.std.specs.Ordering.{int_eq}
 use Rattle.energy_core.specs.declared.entries.Last.{Last}
 use Rattle.energy_core.specs.declared.entries.Step.{Step}
 use Rattle.energy_core.specs.declared.entries.Entry.TheVariants as entry
-use Rattle.energy_core.specs.declared.judging.Terms.{Terms}
-use Rattle.energy_core.specs.declared.judging.Reading.{Reading}
-use Rattle.energy_core.specs.declared.judging.Cause.{Cause}
-use Rattle.energy_core.specs.declared.judging.Verdict.TheVariants.{Accepted}
+use Rattle.energy_core.specs.declared.verdicts.Terms.{Terms}
+use Rattle.energy_core.specs.declared.verdicts.Reading.{Reading}
+use Rattle.energy_core.specs.declared.verdicts.Cause.{Cause}
+use Rattle.energy_core.specs.declared.verdicts.Verdict.TheVariants.{Accepted}
 use Rattle.energy_core.specs.Value.{unit_of}
 use Rattle.energy_core.specs.Verdict.{IsPlausible, distance, applies, causes, judged, verdict_of}
-use Rattle.energy_core.specs.Entering.{IsBooked}
+use Rattle.energy_core.specs.Admission.{IsBooked}
 use Rattle.energy_core.specs.Laws.{AcceptedIsPlausible, AcceptedIsEntered}
 use Rattle.energy_core.proofs.Tables.{none_pass, find-none}
 use Rattle.energy_core.proofs.Turns.{turned}

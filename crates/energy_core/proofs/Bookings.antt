@@ -7,9 +7,9 @@ use Rattle.energy_core.specs.declared.entries.Last.{Last}
 use Rattle.energy_core.specs.declared.entries.Step.{Step}
 use Rattle.energy_core.specs.declared.entries.Entry.{Entry}
 use Rattle.energy_core.specs.declared.entries.Entry.TheVariants as entry
-use Rattle.energy_core.specs.declared.entering.TermFault.{TermFault}
+use Rattle.energy_core.specs.declared.admission.TermFault.{TermFault}
 use Rattle.energy_core.specs.Account.{after, last_of, energy_of, step_to, NeverFalls, HasScale, CanBeShown, Follows, AllFollow, IsAccount}
-use Rattle.energy_core.specs.Entering.{has_bad_scale, is_beyond, refuses, faults, answered, entered, IsBooked}
+use Rattle.energy_core.specs.Admission.{has_bad_scale, is_beyond, refuses, faults, answered, entered, IsBooked}
 use Rattle.energy_core.specs.Laws.{EnteredIsBooked, AccountsGoOn}
 use Rattle.energy_core.proofs.Tables.{none_pass, find-none}
 use Rattle.energy_core.proofs.Sums.{whole-cons}

@@ -3,15 +3,15 @@ use Rattle.std.proofs.Common.{◌≡◌, ℕ, ℤ, pos, negsuc, refl, [], ◌∷
 use Rattle.energy_core.specs.declared.entries.Last.{Last}
 use Rattle.energy_core.specs.declared.entries.Step.{Step as StepRecord}
 use Rattle.energy_core.specs.declared.entries.Entry.TheVariants as entry
-use Rattle.energy_core.specs.declared.entering.TermFault.TheVariants as fault
-use Rattle.energy_core.specs.declared.judging.Cause.TheVariants as cause
-use Rattle.energy_core.specs.declared.judging.Reading.{Reading}
-use Rattle.energy_core.specs.declared.judging.Terms.{Terms}
-use Rattle.energy_core.specs.declared.judging.Verdict.TheVariants.{Accepted, Held}
+use Rattle.energy_core.specs.declared.admission.TermFault.TheVariants as fault
+use Rattle.energy_core.specs.declared.verdicts.Cause.TheVariants as cause
+use Rattle.energy_core.specs.declared.verdicts.Reading.{Reading}
+use Rattle.energy_core.specs.declared.verdicts.Terms.{Terms}
+use Rattle.energy_core.specs.declared.verdicts.Verdict.TheVariants.{Accepted, Held}
 use Rattle.energy_core.specs.Value.{unit_of}
 use Rattle.energy_core.specs.Account.{whole_energy, steps_of}
 use Rattle.energy_core.specs.Verdict.{verdict_of}
-use Rattle.energy_core.specs.Entering.{entered}
+use Rattle.energy_core.specs.Admission.{entered}
 
 abbrev terms : (ceiling total : ℕ) → Terms
 terms ceiling total = record { ceiling = ceiling; total = total }

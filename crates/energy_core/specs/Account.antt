@@ -1,6 +1,7 @@
 -- The entries of an installation, the steps between them, and the energy that they stand for.
 -- A list of entries has the latest first; below it lies the opening. `range` is how many counts the counter has.
-use Rattle.std.specs.Prelude.{◌≡◌, ℕ, ℤ, pos, negsuc, ◌+◌, ◌-◌, ◌*◌, ◌/◌, ◌^◌, ◌≤◌, ◌<◌, ◌≤ℤ◌, List, [], ◌∷◌}
+use Rattle.std.specs.Prelude.{◌≡◌, ℕ, ℤ, pos, negsuc, ◌+◌, ◌-◌, ◌*◌, ◌/◌, ◌≤◌, ◌<◌, ◌≤ℤ◌, List, [], ◌∷◌}
+use Rattle.energy_core.specs.declared.limits.TheConstants.{MAX_INTERVALS, MAX_TOTAL}
 use Rattle.energy_core.specs.declared.entries.Last.{Last}
 use Rattle.energy_core.specs.declared.entries.Step.{Step}
 use Rattle.energy_core.specs.declared.entries.Entry.{Entry}
@@ -88,7 +89,7 @@ CanBeShown range (entry.Change at before new sf) = (before < range) × (new < ra
 pub record Follows (range : ℕ) (last : Last) (e : Entry) : Type 0 where
   pub rises : last.raw ≤ reached range e
   pub later : last.at < moment_of e
-  pub span : intervals_touched last.at (moment_of e) ≤ 3000
+  pub span : intervals_touched last.at (moment_of e) ≤ MAX_INTERVALS
   pub scale : HasScale e
   pub shown : CanBeShown range e
 
@@ -102,5 +103,5 @@ pub record IsAccount (range : ℕ) (opening : Last) (es : List Entry) (last : La
     0 where
   pub last_is : last ≡ last_of opening es
   pub total_is : total ≡ whole_energy range opening es
-  pub within : total ≤ 4 * 10 ^ 18
+  pub within : total ≤ MAX_TOTAL
   pub follow : AllFollow range opening es

@@ -1,16 +1,17 @@
 -- Laws of the definitions, over every list of entries and of readings.
-use Rattle.std.specs.Prelude.{◌≡◌, ℕ, ◌+◌, ◌^◌, ◌*◌, ◌<◌, ◌≤◌, ◌↔◌, List, [], ◌∷◌, Ok, All, sum_by, nat_lt, if◌then◌else◌}
+use Rattle.std.specs.Prelude.{◌≡◌, ℕ, ◌+◌, ◌*◌, ◌<◌, ◌≤◌, ◌↔◌, List, [], ◌∷◌, Ok, All, sum_by, nat_lt, if◌then◌else◌}
+use Rattle.energy_core.specs.declared.limits.TheConstants.{MAX_INTERVALS, MAX_TOTAL}
 use Rattle.energy_core.specs.declared.entries.Last.{Last}
 use Rattle.energy_core.specs.declared.entries.Step.{Step}
 use Rattle.energy_core.specs.declared.entries.Entry.{Entry}
 use Rattle.energy_core.specs.declared.entries.Entry.TheVariants as entry
-use Rattle.energy_core.specs.declared.judging.Terms.{Terms}
-use Rattle.energy_core.specs.declared.judging.Reading.{Reading}
-use Rattle.energy_core.specs.declared.judging.Verdict.TheVariants.{Accepted}
+use Rattle.energy_core.specs.declared.verdicts.Terms.{Terms}
+use Rattle.energy_core.specs.declared.verdicts.Reading.{Reading}
+use Rattle.energy_core.specs.declared.verdicts.Verdict.TheVariants.{Accepted}
 use Rattle.energy_core.specs.Account.{intervals_touched, last_of, steps_of, recorded, set_anew, whole_energy, NeverFalls, IsScale, IsAccount}
 use Rattle.energy_core.specs.Value.{unit_of, value_of}
 use Rattle.energy_core.specs.Verdict.{distance, verdict_of, IsPlausible}
-use Rattle.energy_core.specs.Entering.{entered, IsBooked}
+use Rattle.energy_core.specs.Admission.{entered, IsBooked}
 use Rattle.energy_core.specs.Readings.{entries_of_readings}
 
 -- The energies of the steps, with the first value and what the counter was set to, are the last value with what the
@@ -59,8 +60,8 @@ AccountsGoOn = (range : ℕ) (opening : Last) (es : List Entry) (last : Last) (t
 -- a step that can be shared out over the intervals that it touches
 pub record IsShareable (step : Step) : Type 0 where
   pub later : step.from < step.till
-  pub span : intervals_touched step.from step.till ≤ 3000
-  pub within : step.mwh ≤ 4 * 10 ^ 18
+  pub span : intervals_touched step.from step.till ≤ MAX_INTERVALS
+  pub within : step.mwh ≤ MAX_TOTAL
 
 -- The counter stands below its range and at a lawful scale, no entry goes back, and the total is that of the steps,
 -- each of which can be shared out.

@@ -3,10 +3,10 @@
 use Rattle.std.specs.Prelude.{◌≡◌, ◌≢◌, ℕ, ℤ, ◌-◌, ◌*◌, ◌%◌, ◌<◌, ◌≤◌, IsTrue, false, List, [], ◌∷◌, map}
 use Rattle.energy_core.specs.declared.entries.Last.{Last}
 use Rattle.energy_core.specs.declared.entries.Step.{Step}
-use Rattle.energy_core.specs.declared.judging.Terms.{Terms}
-use Rattle.energy_core.specs.declared.judging.Reading.{Reading}
-use Rattle.energy_core.specs.declared.judging.Cause.{Cause}
-use Rattle.energy_core.specs.declared.judging.Cause.TheVariants as cause
+use Rattle.energy_core.specs.declared.verdicts.Terms.{Terms}
+use Rattle.energy_core.specs.declared.verdicts.Reading.{Reading}
+use Rattle.energy_core.specs.declared.verdicts.Cause.{Cause}
+use Rattle.energy_core.specs.declared.verdicts.Cause.TheVariants as cause
 use Rattle.energy_core.specs.Value.{unit_of}
 use Rattle.energy_core.specs.Account.{whole_energy, steps_of}
 use Rattle.energy_core.specs.Verdict.{can_count, applies}

@@ -1,14 +1,15 @@
 -- The table by which a reading is accepted or held.
-use Rattle.std.specs.Prelude.{◌≡◌, ◌≢◌, ◌<◌, ◌≤◌, ℕ, ◌+◌, ◌-◌, ◌*◌, ◌^◌, ◌%◌, ◌==◌, nat_lt, nat_le, Bool, not, List, [], ◌∷◌, Option, Some, None, if◌then◌else◌}
+use Rattle.std.specs.Prelude.{◌≡◌, ◌≢◌, ◌<◌, ◌≤◌, ℕ, ◌+◌, ◌-◌, ◌*◌, ◌%◌, ◌==◌, nat_lt, nat_le, Bool, not, List, [], ◌∷◌, Option, Some, None, if◌then◌else◌}
 use Rattle.std.specs.List.{find}
 use Rattle.std.specs.Ordering.{int_eq}
+use Rattle.energy_core.specs.declared.limits.TheConstants.{MAX_INTERVALS, MAX_TOTAL}
 use Rattle.energy_core.specs.declared.entries.Last.{Last}
-use Rattle.energy_core.specs.declared.judging.Terms.{Terms}
-use Rattle.energy_core.specs.declared.judging.Reading.{Reading}
-use Rattle.energy_core.specs.declared.judging.Cause.{Cause}
-use Rattle.energy_core.specs.declared.judging.Cause.TheVariants as cause
-use Rattle.energy_core.specs.declared.judging.Verdict.{Verdict}
-use Rattle.energy_core.specs.declared.judging.Verdict.TheVariants.{Accepted, Held}
+use Rattle.energy_core.specs.declared.verdicts.Terms.{Terms}
+use Rattle.energy_core.specs.declared.verdicts.Reading.{Reading}
+use Rattle.energy_core.specs.declared.verdicts.Cause.{Cause}
+use Rattle.energy_core.specs.declared.verdicts.Cause.TheVariants as cause
+use Rattle.energy_core.specs.declared.verdicts.Verdict.{Verdict}
+use Rattle.energy_core.specs.declared.verdicts.Verdict.TheVariants.{Accepted, Held}
 use Rattle.energy_core.specs.Value.{unit_of}
 use Rattle.energy_core.specs.Account.{intervals_touched}
 
@@ -44,7 +45,7 @@ applies range terms last reading cause.NotBelowRange = nat_le range reading.raw
 applies range terms last reading cause.NotLater = nat_le reading.at last.at
 -- more than 3,000 intervals lie between
 applies range terms last reading cause.SpanTooLong =
-    nat_lt 3000 (intervals_touched last.at reading.at)
+    nat_lt MAX_INTERVALS (intervals_touched last.at reading.at)
 -- the counter could have made a full turn, so that nobody can tell how far it went
 applies range terms last reading cause.GapTooLong =
     can_count terms.ceiling (unit_of last.sf) (reading.at - last.at) range
@@ -54,7 +55,7 @@ applies range terms last reading cause.TooFast =
     (distance range last.raw reading.raw))
 -- the whole energy would pass its limit
 applies range terms last reading cause.TotalFull =
-    nat_lt (4 * 10 ^ 18) (terms.total + distance range last.raw reading.raw * unit_of last.sf)
+    nat_lt MAX_TOTAL (terms.total + distance range last.raw reading.raw * unit_of last.sf)
 
 -- The causes, in the order in which they are looked at.
 abbrev pub causes : List Cause
@@ -81,8 +82,8 @@ pub record IsPlausible (range : ℕ) (terms : Terms) (last : Last) (reading : Re
   pub scale : reading.sf ≡ last.sf
   pub below : reading.raw < range
   pub later : last.at < reading.at
-  pub span : intervals_touched last.at reading.at ≤ 3000
+  pub span : intervals_touched last.at reading.at ≤ MAX_INTERVALS
   pub gap : terms.ceiling * (reading.at - last.at) * 5 < (range - 1) * unit_of last.sf * 18
   pub speed : (distance range last.raw reading.raw - 1) * unit_of last.sf * 18
       ≤ terms.ceiling * (reading.at - last.at) * 5
-  pub within : terms.total + distance range last.raw reading.raw * unit_of last.sf ≤ 4 * 10 ^ 18
+  pub within : terms.total + distance range last.raw reading.raw * unit_of last.sf ≤ MAX_TOTAL

@@ -1,4 +1,8 @@
+//! Counters that turn over: `acc32`, and those of a range of their own.
 ghost use Rattle.std.specs.Prelude.{◌≡◌, ℕ, ◌≤◌, ◌%◌, ◌↔◌, IsSome, IfSome};
+ghost use Rattle.energy_core.specs.declared.limits.TheConstants.{MAX_RANGE, MIN_RANGE};
+
+use crate::limits::{MAX_RANGE, MIN_RANGE};
 
 /// A counter that turns over: it shows the true count without its full turns.
 pub trait Counter {
@@ -13,9 +17,9 @@ pub trait Counter {
     fn shown(&self, count: u64) -> u32
         ensures { result ≡ count % range self.now };
 
-    ghost at_least: { (c : Self) → 65536 ≤ range c };
+    ghost at_least: { (c : Self) → MIN_RANGE ≤ range c };
 
-    ghost at_most: { (c : Self) → range c ≤ 4294967296 };
+    ghost at_most: { (c : Self) → range c ≤ MAX_RANGE };
 }
 
 /// A counter of 32 bits, as SunSpec's `acc32`.
@@ -24,19 +28,20 @@ pub struct Acc32;
 
 impl Counter for Acc32 {
     ghost use Rattle.std.proofs.Common.{lit≤};
+    ghost use Rattle.energy_core.specs.declared.limits.TheConstants.{MAX_RANGE};
 
-    ghost range = { λ _. 4294967296 };
+    ghost range = { λ _. MAX_RANGE };
 
     ghost at_least = { λ _. lit≤ tt };
 
     ghost at_most = { λ _. lit≤ tt };
 
     fn range(&self) -> u64 {
-        u64::from(u32::MAX) + 1
+        MAX_RANGE
     }
 
     fn shown(&self, count: u64) -> u32 {
-        (count % 4_294_967_296) as u32
+        (count % MAX_RANGE) as u32
     }
 }
 
@@ -44,8 +49,8 @@ impl Counter for Acc32 {
 #[derive(Clone, Copy, Debug, PartialEq, Eq)]
 pub struct Ranged {
     range: u64,
-    ghost at_least: { 65536 ≤ range },
-    ghost at_most: { range ≤ 4294967296 },
+    ghost at_least: { MIN_RANGE ≤ range },
+    ghost at_most: { range ≤ MAX_RANGE },
 }
 
 impl Ranged {
@@ -53,10 +58,10 @@ impl Ranged {
 
     /// A counter of that many counts, from 65,536 to 4,294,967,296.
     pub fn new(range: u64) -> Option<Self>
-        ensures valid { IsSome result ↔ ((65536 ≤ range) × (range ≤ 4294967296)) }
+        ensures valid { IsSome result ↔ ((MIN_RANGE ≤ range) × (range ≤ MAX_RANGE)) }
         ensures value { IfSome result (λ counter. range_of counter ≡ range) }
     {
-        if (65_536..=4_294_967_296).contains(&range) {
+        if (MIN_RANGE..=MAX_RANGE).contains(&range) {
             Some(Ranged { range })
         } else {
             None

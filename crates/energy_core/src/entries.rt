@@ -1,3 +1,4 @@
+//! Entries of a counter, where it stands after them, and the step between two.
 /// Where a counter stands: the moment, in seconds since 1970-01-01 UTC, what it shows, and its scale factor.
 #[derive(Clone, Copy, Debug, PartialEq, Eq)]
 pub struct Last {

@@ -1,6 +1,6 @@
 //! What holds and faults say to a person.
-use crate::entering::TermFault;
-use crate::judging::Cause;
+use crate::admission::TermFault;
+use crate::verdicts::Cause;
 use std::error::Error;
 use std::fmt;
 use std::fmt::{Display, Formatter};

@@ -1,3 +1,4 @@
+//! Laws of steps and entries, over all values.
 ghost use Rattle.energy_core.specs.Laws.{StepsAddUp, StepsAreTheWhole, EnteredIsBooked};
 ghost use Rattle.energy_core.specs.Laws.{AcceptedIsPlausible, AcceptedIsEntered, AccountsBegin};
 ghost use Rattle.energy_core.specs.Laws.{AccountsGoOn, AccountsAreSound, ReadingsKeepAccounts};

@@ -1,12 +1,9 @@
+//! Measures of what a counter shows: its unit, and its energy.
 ghost use Rattle.std.specs.Prelude.{◌≡◌, ◌≤◌, ◌<◌, ◌↔◌, pos, negsuc, ◌≤ℤ◌, IsTrue};
 ghost use Rattle.energy_core.specs.Value.{unit_of};
 ghost use Rattle.energy_core.specs.Account.{intervals_touched};
 
-/// The most energy that an installation may have, in mWh.
-pub(crate) const TOTAL_LIMIT: u64 = 4_000_000_000_000_000_000;
-
-/// How many intervals a step may touch.
-const INTERVAL_LIMIT: u64 = 3000;
+use crate::limits::{MAX_INTERVALS, MAX_UNIT};
 
 /// How many seconds an interval has.
 const INTERVAL_SECONDS: u64 = 900;
@@ -18,7 +15,7 @@ pub(crate) fn unit(sf: i16) -> u64
     requires high { sf ≤ℤ pos 3 }
     ensures value { result ≡ unit_of sf }
     ensures some { 1 ≤ result }
-    ensures small { result ≤ 1000000 }
+    ensures small { result ≤ MAX_UNIT }
 {
     match sf {
         -3 => 1,
@@ -34,7 +31,7 @@ pub(crate) fn unit(sf: i16) -> u64
 /// Whether more intervals are touched between two moments than a step may touch.
 pub(crate) fn is_long_span(from: u64, till: u64) -> bool
     requires { from < till }
-    ensures { IsTrue result ↔ (3000 < intervals_touched from till) }
+    ensures { IsTrue result ↔ (MAX_INTERVALS < intervals_touched from till) }
 {
-    (till - 1) / INTERVAL_SECONDS - from / INTERVAL_SECONDS >= INTERVAL_LIMIT
+    (till - 1) / INTERVAL_SECONDS - from / INTERVAL_SECONDS >= MAX_INTERVALS
 }

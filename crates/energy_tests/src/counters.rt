@@ -1,4 +1,4 @@
-// Counters that turn over.
+//! Counters that turn over.
 use energy_core::{Acc32, Counter, Ranged};
 
 /// What a counter shows at a true count.

@@ -1,4 +1,4 @@
-// The civil days of interval rows, by the clocks of a zone.
+//! The civil days of interval rows, by the clocks of a zone.
 use crate::shares::{shares_of, step};
 use energy_core::Step;
 use interval_core::{DayFault, DayFold, DayTotal, Share, Zone};

@@ -1,4 +1,4 @@
-// The laws, whose clauses hold over all values.
+//! The laws, whose clauses hold over all values.
 use energy_core::{
     accepted_is_entered, accepted_is_plausible, accounts_are_sound, accounts_begin, accounts_go_on,
     entered_is_booked, readings_keep_accounts, steps_add_up, truth_is_booked,

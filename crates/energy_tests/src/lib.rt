@@ -2,15 +2,13 @@
 #![tactic(auto)]
 
 #[cfg(test)]
-mod correcting;
+mod admission;
+#[cfg(test)]
+mod corrections;
 #[cfg(test)]
 mod counters;
 #[cfg(test)]
 mod days;
-#[cfg(test)]
-mod entering;
-#[cfg(test)]
-mod judging;
 #[cfg(test)]
 mod laws;
 #[cfg(test)]
@@ -21,5 +19,7 @@ mod rows;
 mod shares;
 #[cfg(test)]
 mod terms;
+#[cfg(test)]
+mod verdicts;
 #[cfg(test)]
 mod zones;

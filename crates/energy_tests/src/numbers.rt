@@ -1,4 +1,4 @@
-// The numbers under which causes and faults are printed and kept.
+//! The numbers under which causes and faults are printed and kept.
 use energy_core::{Cause, TermFault};
 use interval_core::{DayFault, ZoneFault};
 

@@ -1,4 +1,4 @@
-// Rows that are added up by day.
+//! Rows that are added up by day.
 use crate::days::{CENTRAL_EUROPE, folded, lines_of};
 use crate::shares::share;
 use interval_core::{Share, Zone, by_day};

@@ -1,4 +1,4 @@
-// The shares of a step in the intervals that it touches.
+//! The shares of a step in the intervals that it touches.
 use energy_core::Step;
 use interval_core::{INTERVAL, Share, Shares};
 use std::alloc::{AllocError, Global};

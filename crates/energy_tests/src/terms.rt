@@ -1,4 +1,4 @@
-// What the tests of energy share.
+//! What the tests of energy share.
 use energy_core::Last;
 
 /// The most energy that an installation may have, in mWh.

@@ -1,4 +1,4 @@
-// The texts of zones, and the civil days of moments.
+//! The texts of zones, and the civil days of moments.
 use crate::days::CENTRAL_EUROPE;
 use interval_core::{Zone, ZoneFault, day_of};
 use std::test::Fail;

@@ -1,7 +1,7 @@
 //! Books that fail behind the last row.
 ghost use Rattle.std.specs.Prelude.{◌≡◌};
 
-use crate::failing::FailingBooks;
+use crate::books::FailingBooks;
 use office_books::Books;
 use office_lists::ListBooks;
 

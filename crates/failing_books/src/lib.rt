@@ -1,7 +1,7 @@
 //! Books in memory one of whose calls is refused: for tests of what stands on books.
 #![tactic(auto)]
 
-mod failing;
+mod books;
 mod late;
 
-pub use failing::FailingBooks;
+pub use books::FailingBooks;

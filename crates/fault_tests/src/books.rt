@@ -1,5 +1,5 @@
 //! Refusals of the office, and faults of books.
-use crate::telling::tells;
+use crate::texts::tells;
 use energy_core::Cause;
 use office_books::{BooksFault, StoreFault};
 use office_events::{Refusal, StoreCause};

@@ -1,5 +1,5 @@
 //! Faults of readings, entries and days.
-use crate::telling::tells;
+use crate::texts::tells;
 use energy_core::{Cause, TermFault};
 use interval_core::{DayFault, ZoneFault};
 use std::test::Fail;

@@ -1,5 +1,5 @@
 //! Faults of requests, of scripts and of the command line.
-use crate::telling::tells;
+use crate::texts::tells;
 use command_io::ReadFault;
 use http_json::BodyFault;
 use http_read::TakeFault;

@@ -4,14 +4,14 @@
 #[cfg(test)]
 mod books;
 #[cfg(test)]
-mod carrying;
-#[cfg(test)]
 mod energy;
 #[cfg(test)]
 mod inputs;
 #[cfg(test)]
 mod lists;
 #[cfg(test)]
-mod telling;
+mod row_faults;
+#[cfg(test)]
+mod texts;
 #[cfg(test)]
 mod wire;

@@ -1,5 +1,5 @@
 //! Faults of images, chains and point lists.
-use crate::telling::tells;
+use crate::texts::tells;
 use point_list::{RowFault, WriteListFault};
 use std::test::Fail;
 use sun_chain::{ChainFault, ImageFault};

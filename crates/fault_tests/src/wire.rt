@@ -1,5 +1,5 @@
 //! Faults of frames, servers and sessions.
-use crate::telling::tells;
+use crate::texts::tells;
 use mb_device::{BankFault, ServeFault};
 use mb_wire::{ReplyFault, RequestFault};
 use poll_core::{LostCause, Malformation, StartFault};

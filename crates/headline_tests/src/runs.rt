@@ -1,7 +1,7 @@
 //! Runs from nothing.
 ghost use Rattle.std.specs.Prelude.{[], IfOk};
 ghost use Rattle.office_lists.specs.Listed.{ledger_of};
-ghost use Rattle.office_core.specs.Running.{IsRecorded, accepted_by};
+ghost use Rattle.office_core.specs.EventRun.{IsRecorded, accepted_by};
 ghost use Rattle.office_core.specs.Standing.{books_in};
 
 use interval_core::Zone;

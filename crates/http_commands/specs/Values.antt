@@ -1,5 +1,6 @@
 -- What members of a JSON object give a command.
 use Rattle.std.specs.Prelude.{ℕ, ℤ, pos, negsuc, List, Option, Some, None, codes, is_none, option_and_then, option_map, if◌then◌else◌}
+use Rattle.energy_core.specs.declared.limits.TheConstants.{MAX_RANGE}
 use Rattle.serde_json.specs.Data.{Data}
 use Rattle.serde_json.specs.Find.{get}
 use Rattle.http_json.specs.Members.{text, whole}
@@ -34,7 +35,7 @@ optional_in member d = option_map magnitude (whole member d)
 
 -- how many counts a counter has where nothing else is said: those of 32 bits
 abbrev pub or_full_range : Option ℕ → ℕ
-or_full_range None = 4294967296
+or_full_range None = MAX_RANGE
 or_full_range (Some range) = range
 
 -- the scale is `fixed`, or the device tells it at the address `scale_at`

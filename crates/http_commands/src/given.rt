@@ -7,7 +7,7 @@ ghost use Rattle.http_commands.specs.Given.{Gives, IsBody, IsListBody};
 
 use crate::fault::CommandFault;
 use crate::registers::{close, exchange, install, manual, rescale, reset, void};
-use crate::setting::{add_device, add_register};
+use crate::setup::{add_device, add_register};
 use http_json::{Body, BodyFault, body_of};
 use http_route::Route;
 use office_events::{Command, Name, PlannedList, PutList};

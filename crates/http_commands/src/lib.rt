@@ -4,7 +4,7 @@
 mod fault;
 mod given;
 mod registers;
-mod setting;
+mod setup;
 mod values;
 
 pub use fault::CommandFault;

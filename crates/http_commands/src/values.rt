@@ -4,11 +4,9 @@ ghost use Rattle.office_events.specs.Names.{named};
 ghost use Rattle.http_commands.specs.Values.{or_full_range};
 ghost use Rattle.http_commands.specs.Seen.{scale_seen};
 
+use energy_core::MAX_RANGE;
 use http_json::Scale;
 use office_events::{GivenScale, Name};
-
-/// How many counts a counter of 32 bits has.
-const FULL_RANGE: u64 = 4_294_967_296;
 
 // The name that a text is, if it is one.
 pub(crate) fn name(text: &str) -> Option<Name>
@@ -23,7 +21,7 @@ pub(crate) fn or_full_range(range: Option<u64>) -> u64
 {
     match range {
         Some(range) => range,
-        None => FULL_RANGE,
+        None => MAX_RANGE,
     }
 }
 

@@ -1,4 +1,4 @@
-// Heads by `httparse`, within their limits.
+//! Heads by `httparse`, within their limits.
 ghost use Rattle.std.specs.Prelude.{◌≡◌, IfSome, IsNone};
 ghost use Rattle.http_head.specs.Heads.{HasNoHead, IsHeadAt, Looks, front_of};
 

@@ -1,4 +1,4 @@
-// Lines, and the empty line that ends a head.
+//! Lines, and the empty line that ends a head.
 ghost use Rattle.std.specs.Prelude.{◌≡◌, length};
 ghost use Rattle.http_head.specs.Lines.{has_head_end, is_empty_line, lines_of_head};
 

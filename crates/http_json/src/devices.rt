@@ -1,4 +1,4 @@
-// The bodies that set up devices and registers.
+//! The bodies that set up devices and registers.
 ghost use Rattle.serde_json.specs.View.{view};
 ghost use Rattle.http_json.specs.Members.{Reads};
 ghost use Rattle.http_json.specs.Tables.{device_members, fault_of, register_fault, scale_fault};

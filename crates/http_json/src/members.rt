@@ -1,4 +1,4 @@
-// Members by name.
+//! Members by name.
 ghost use Rattle.std.specs.Prelude.{◌≡◌, true, false, pos, option_map, is_some, IfOk, IfErr, Some};
 ghost use Rattle.std.specs.Prelude.{None};
 ghost use Rattle.serde_json.specs.View.{view};

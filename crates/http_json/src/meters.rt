@@ -1,4 +1,4 @@
-// The bodies that install meters and change what they show.
+//! The bodies that install meters and change what they show.
 ghost use Rattle.serde_json.specs.View.{view};
 ghost use Rattle.http_json.specs.Members.{Reads};
 ghost use Rattle.http_json.specs.Tables.{exchange_members, fault_of, install_members};

@@ -1,4 +1,4 @@
-// The bodies that book by hand, close and void.
+//! The bodies that book by hand, close and void.
 ghost use Rattle.serde_json.specs.View.{view};
 ghost use Rattle.http_json.specs.Members.{Reads};
 ghost use Rattle.http_json.specs.Tables.{close_members, fault_of, manual_members, void_members};

@@ -6,7 +6,7 @@ use Rattle.std.proofs.KnownBytes.{Consumes-kept, Consumes-trans}
 use Rattle.http_head.specs.Heads.{IsOpenHead, Looks, is_open}
 use Rattle.http_head.specs.declared.head.Look.{Look}
 use Rattle.http_head.specs.declared.head.Look.TheVariants.{Open, TooLarge, NoHead, Whole}
-use Rattle.http_read.specs.Reading.{ReadsHead, TakesWhatLacks}
+use Rattle.http_read.specs.HeadAndBody.{ReadsHead, TakesWhatLacks}
 use Rattle.http_read.specs.Taking.{Came, TakesOn, brought}
 use Rattle.http_read.specs.declared.inbox.TakeFault.{TakeFault}
 use Rattle.http_read.specs.declared.inbox.TakeFault.TheVariants.{Read, Short, TurnsUsed}

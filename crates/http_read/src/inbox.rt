@@ -1,4 +1,4 @@
-// What was taken from a link.
+//! What was taken from a link.
 ghost use Rattle.std.specs.Prelude.{◌≤◌, length};
 
 use mb_wire::{Link, LinkFailed, Took};

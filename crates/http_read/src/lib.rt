@@ -1,8 +1,8 @@
 //! Reads from a link until a head has come, or a bad one, and then a body.
 #![tactic(auto)]
 
+mod head_and_body;
 mod inbox;
-mod reading;
 
+pub use head_and_body::{read_body, read_head};
 pub use inbox::{Inbox, MOST_TAKES, TakeFault};
-pub use reading::{read_body, read_head};

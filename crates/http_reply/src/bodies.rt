@@ -1,4 +1,4 @@
-// The bodies of replies that tell a number.
+//! The bodies of replies that tell a number.
 ghost use Rattle.std.specs.Prelude.{◌≡◌};
 ghost use Rattle.http_reply.specs.Bodies.{fault_text, refused_text};
 

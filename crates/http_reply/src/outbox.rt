@@ -1,4 +1,4 @@
-// Bytes that are held back until there are enough of them to give.
+//! Bytes that are held back until there are enough of them to give.
 ghost use Rattle.std.specs.Prelude.{◌≡◌, ◌≤◌, ◌<◌, ◌+◌, ℕ, ◌++◌, List, [], Bool, Option, length};
 ghost use Rattle.std.specs.Prelude.{take, true, false, is_err, not, ◌&&◌, IfOk};
 ghost use Rattle.std.specs.Io.KnownBytes.{Keeps};

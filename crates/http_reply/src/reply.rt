@@ -1,4 +1,4 @@
-// The text of a reply.
+//! The text of a reply.
 ghost use Rattle.std.specs.Prelude.{◌++◌, decimal};
 ghost use Rattle.http_reply.specs.Sending.{Puts};
 ghost use Rattle.http_reply.specs.Replies.{json_reply, status_line, text_head};

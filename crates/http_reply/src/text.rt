@@ -1,4 +1,4 @@
-// Text that is built up in room of its own.
+//! Text that is built up in room of its own.
 ghost use Rattle.std.specs.Prelude.{◌≡◌, ◌≤◌, ◌+◌, ℕ, List, [], ◌++◌, length, take};
 ghost use Rattle.std.specs.Fmt.{signed_decimal};
 

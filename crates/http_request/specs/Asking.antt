@@ -7,7 +7,7 @@ use Rattle.http_request.specs.HeadTests.{Start, head_fault}
 use Rattle.http_request.specs.Tests.{PostHeaders, caller_in, post_fault, post_headers_of, request_in, size_in}
 use Rattle.http_request.specs.declared.ask.Ask.{Ask}
 use Rattle.http_request.specs.declared.ask.Ask.TheVariants.{Question, Command}
-use Rattle.http_request.specs.declared.posted.Posted.{Posted}
+use Rattle.http_request.specs.declared.post.Posted.{Posted}
 use Rattle.http_status.specs.declared.Status.{Status}
 
 -- the route of the target, and what its parameter took

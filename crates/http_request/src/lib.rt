@@ -3,8 +3,8 @@
 
 mod ask;
 mod numbers;
-mod posted;
+mod post;
 
 pub use ask::{Ask, ask_of};
 pub use numbers::{digits, is_name, number};
-pub use posted::{MOST_BODY, Posted, post_headers};
+pub use post::{MOST_BODY, Posted, post_headers};

@@ -1,4 +1,4 @@
-// The routes, and their router.
+//! The routes, and their router.
 ghost use Rattle.std.specs.Prelude.{◌≡◌, IfOk, OnOk};
 ghost use Rattle.http_route.specs.Routes.{Fits, add, routes};
 

@@ -1,4 +1,4 @@
-// Where the target of a request leads.
+//! Where the target of a request leads.
 ghost use Rattle.std.specs.Prelude.{◌≡◌, IfSome, IsUtf8, None, option_map};
 ghost use Rattle.std.specs.Str.{IsAscii};
 ghost use Rattle.matchit.specs.Params.{walk};

@@ -1,4 +1,4 @@
-// The JSON of requests and replies.
+//! The JSON of requests and replies.
 use http_json::{
     BodyFault, Scale, body_of, close_in, device_in, exchange_in, install_in, manual_in,
     register_in, rescale_in, reset_in, void_in,

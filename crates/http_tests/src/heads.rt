@@ -1,4 +1,4 @@
-// Heads: where one ends, its limits, and its headers by name.
+//! Heads: where one ends, its limits, and its headers by name.
 use http_head::{Given, Look, has_head_end, header_value, look_at};
 use std::alloc::{AllocError, Global};
 use std::test::Fail;

@@ -1,4 +1,4 @@
-// Requests that come from a link.
+//! Requests that come from a link.
 use http_head::Look;
 use http_read::{Inbox, TakeFault};
 use http_route::router;

@@ -1,4 +1,4 @@
-// Replies that go to a link.
+//! Replies that go to a link.
 use http_reply::{Outlet, put_json, put_text_head};
 use http_status::Status;
 use mb_wire::{Link, MemoryLink};

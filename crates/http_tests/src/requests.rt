@@ -1,4 +1,4 @@
-// The tests of a head, and what its body asks for.
+//! The tests of a head, and what its body asks for.
 use http_head::{Look, look_at};
 use http_request::{Ask, ask_of};
 use http_route::{Route, router};

@@ -10,7 +10,7 @@ use Rattle.http_head.specs.declared.head.Look.TheVariants as look
 use Rattle.http_request.specs.Asking.{TestsHead}
 use Rattle.http_request.specs.HeadTests.{Start, head_fault, start_at}
 use Rattle.http_request.specs.declared.ask.Ask.TheVariants.{Command as AskedCommand, Question}
-use Rattle.http_request.specs.declared.posted.Posted.{Posted}
+use Rattle.http_request.specs.declared.post.Posted.{Posted}
 use Rattle.http_route.specs.Routes.{Table}
 use Rattle.http_route.specs.Targets.{is_question, name_in, name_of, route_in}
 use Rattle.http_route.specs.declared.routes.Route.{Route}

@@ -7,7 +7,7 @@ use Rattle.http_head.specs.declared.head.Head.{Head}
 use Rattle.http_request.specs.Asking.{TestsHead}
 use Rattle.http_request.specs.HeadTests.{start_at}
 use Rattle.http_request.specs.declared.ask.Ask.TheVariants.{Command as AskedCommand}
-use Rattle.http_request.specs.declared.posted.Posted.{Posted}
+use Rattle.http_request.specs.declared.post.Posted.{Posted}
 use Rattle.http_route.specs.Routes.{Table}
 use Rattle.http_route.specs.Targets.{name_of}
 use Rattle.http_route.specs.declared.targets.Found.{Found}

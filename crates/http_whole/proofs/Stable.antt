@@ -11,7 +11,7 @@ use Rattle.httparse.proofs.GrammarLemmas.{ReadsRequest-append}
 use Rattle.http_head.specs.Heads.{IsHeadAt, IsOpenHead}
 use Rattle.http_head.specs.declared.head.Head.{Head}
 use Rattle.http_read.proofs.Coming.{Came-then}
-use Rattle.http_read.specs.Reading.{StopsAtOnce}
+use Rattle.http_read.specs.HeadAndBody.{StopsAtOnce}
 use Rattle.http_read.specs.Taking.{Came, brought, bytes_in}
 use Rattle.http_read.specs.declared.inbox.Inbox.{Inbox}
 use Rattle.mb_wire.specs.declared.link.LastTake.{LastTake}

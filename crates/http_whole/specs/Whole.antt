@@ -5,7 +5,7 @@ use Rattle.http_head.specs.Heads.{IsHead, IsHeadAt, IsOpenHead, Looks}
 use Rattle.http_head.specs.declared.head.Head.{Head}
 use Rattle.http_head.specs.declared.head.Look.{Look}
 use Rattle.http_head.specs.declared.head.Look.TheVariants.{Open, TooLarge, NoHead, Whole}
-use Rattle.http_read.specs.Reading.{EndsAt}
+use Rattle.http_read.specs.HeadAndBody.{EndsAt}
 use Rattle.http_read.specs.Taking.{Came}
 use Rattle.http_read.specs.declared.inbox.TakeFault.{TakeFault}
 use Rattle.http_request.specs.HeadTests.{Start, asks, head_fault, start_at, start_of}

@@ -7,7 +7,7 @@ ghost use Rattle.httparse.specs.Spans.{span_bytes};
 ghost use Rattle.mb_wire.specs.Links.{risen};
 ghost use Rattle.http_head.specs.Heads.{IsHeadAt, IsPlaced};
 ghost use Rattle.http_request.specs.HeadTests.{start_at};
-ghost use Rattle.http_read.specs.Reading.{StopsAtOnce};
+ghost use Rattle.http_read.specs.HeadAndBody.{StopsAtOnce};
 ghost use Rattle.http_read.specs.Taking.{CountsTakes, EndedBy, bytes_in, is_read_fault, room_of};
 ghost use Rattle.http_whole.specs.Whole.{GoesOn, Holds, HoldsRequest, IsWhole, ReadsRequest, RequestsAreOne, TestsRequest, body_of, body_size};
 

@@ -3,9 +3,9 @@ use Rattle.std.proofs.Common.{◌≡◌, ℕ, List, [], Option, Some, Result, su
 use Rattle.mb_wire.specs.declared.link.LastTake.{LastTake}
 use Rattle.office_books.specs.Ledgers.{Ledger}
 use Rattle.office_core.specs.declared.office.Office.{Office}
-use Rattle.office_http.specs.Handling.{Handles, Passage, passage}
+use Rattle.office_http.specs.Exchange.{Handles, Passage, passage}
 use Rattle.office_http.specs.declared.fault.HandleFault.{HandleFault}
-use Rattle.hub_asking.specs.Asking.{Serves}
+use Rattle.hub_asking.specs.Answer.{Serves}
 
 pub handed : {B : Type 0} (ledger : B → Ledger) (at : ℕ) (old new : Office B) (request input left given reply kept : List ℕ) (last : Option LastTake)
     (ending : Result (Unit {0}) HandleFault) → input ≡ request → given ≡ [] → kept ≡ reply

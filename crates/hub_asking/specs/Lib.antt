@@ -1,2 +1,2 @@
 pub mod Own
-pub mod Asking
+pub mod Answer

@@ -7,8 +7,8 @@ use Rattle.http_head.specs.declared.head.Look.{Look}
 use Rattle.http_head.specs.declared.head.Look.TheVariants.{Open, TooLarge, NoHead, Whole}
 use Rattle.hub_status.specs.StatusText.{with_status}
 use Rattle.hub_status.specs.MetricsText.{with_metrics}
-use Rattle.hub_status.specs.declared.counting.Counts.{Counts}
-use Rattle.hub_status.specs.declared.device.DeviceState.{DeviceState}
+use Rattle.hub_status.specs.declared.counts.Counts.{Counts}
+use Rattle.hub_status.specs.declared.status.DeviceState.{DeviceState}
 use Rattle.hub_asking.specs.declared.own.Own.{Own}
 use Rattle.hub_asking.specs.declared.own.Own.TheVariants.{Status, Metrics}
 

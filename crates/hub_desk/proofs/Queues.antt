@@ -6,7 +6,7 @@ use Rattle.std.specs.Prelude.{slice_get, Vec}
 use Rattle.std.specs.declared.alloc.Global.{Global}
 use Rattle.std.specs.Option.{option_map}
 use Rattle.office_events.specs.declared.events.Event.{Event}
-use Rattle.hub_desk.specs.Sending.{IsPut, IsSentTo, kept, sent_in, sent_to, taken_at, taken_in}
+use Rattle.hub_desk.specs.Output.{IsPut, IsSentTo, kept, sent_in, sent_to, taken_at, taken_in}
 
 -- put whole, or not at all
 pub put_or_not : (e : Event) (frames old left new : List ℕ) (done : Bool) → left ≡ kept e old

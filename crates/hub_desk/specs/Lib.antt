@@ -1,3 +1,3 @@
-pub mod Sending
+pub mod Output
 pub mod Watching
 pub mod Lines

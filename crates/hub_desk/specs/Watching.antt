@@ -7,11 +7,11 @@ use Rattle.office_events.specs.declared.answers.Note.TheVariants as note
 use Rattle.office_events.specs.declared.events.Event.{Event}
 use Rattle.office_events.specs.declared.events.Event.TheVariants as event
 use Rattle.office_events.specs.declared.refusals.Refusal.{Refusal}
-use Rattle.hub_status.specs.Counting.{noted_all, refused}
-use Rattle.hub_status.specs.declared.counting.Counts.{Counts}
-use Rattle.hub_status.specs.declared.device.DeviceState.{DeviceState}
+use Rattle.hub_status.specs.Counts.{noted_all, refused}
+use Rattle.hub_status.specs.declared.counts.Counts.{Counts}
+use Rattle.hub_status.specs.declared.status.DeviceState.{DeviceState}
 use Rattle.office_hub.specs.Showing.{Shown}
-use Rattle.hub_desk.specs.Sending.{IsSentFor, queues_of}
+use Rattle.hub_desk.specs.Output.{IsSentFor, queues_of}
 use Rattle.hub_desk.specs.declared.desk.Desk.{Desk}
 
 abbrev pub unconnected : (name : Option (List ℕ)) → DeviceState

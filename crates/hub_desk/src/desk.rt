@@ -1,6 +1,6 @@
 //! The desk.
-use crate::following::{followed, unconnected};
-use crate::sending::put_frames;
+use crate::device_state::{followed, unconnected};
+use crate::output::put_frames;
 use hub_status::{Counts, DeviceState};
 use office_events::{Answer, Event, Name, Note, Refusal};
 use office_hub::Witness;
@@ -20,8 +20,8 @@ pub struct Desk {
 
 impl Desk {
     ghost use Rattle.std.specs.Prelude.{◌≡◌, [], IfOk, map, slice_set};
-    ghost use Rattle.hub_status.specs.Counting.{nothing};
-    ghost use Rattle.hub_desk.specs.Sending.{IsSentTo, queues_of, taken_at};
+    ghost use Rattle.hub_status.specs.Counts.{nothing};
+    ghost use Rattle.hub_desk.specs.Output.{IsSentTo, queues_of, taken_at};
     ghost use Rattle.hub_desk.specs.Watching.{unconnected};
 
     /// A desk for devices of these names, of which none is connected.

@@ -3,9 +3,9 @@
 #![tactic(auto)]
 
 mod desk;
-mod following;
+mod device_state;
 mod lines;
-mod sending;
+mod output;
 
 pub use desk::Desk;
 pub use lines::{put_lines, put_sum};

@@ -1,3 +1,3 @@
-pub mod Counting
+pub mod Counts
 pub mod StatusText
 pub mod MetricsText

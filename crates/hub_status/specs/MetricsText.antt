@@ -1,7 +1,7 @@
 -- The same in Prometheus's text format. Each definition gives a text with something at its end.
 use Rattle.std.specs.Prelude.{ℕ, Bool, true, false, List, [], ◌∷◌, ◌++◌, Option, Some, None, codes, decimal, slice_index}
-use Rattle.hub_status.specs.declared.counting.Counts.{Counts}
-use Rattle.hub_status.specs.declared.device.DeviceState.{DeviceState}
+use Rattle.hub_status.specs.declared.counts.Counts.{Counts}
+use Rattle.hub_status.specs.declared.status.DeviceState.{DeviceState}
 use Rattle.hub_status.specs.StatusText.{with_name}
 
 abbrev pub with_outcomes : List ℕ → Counts → List ℕ

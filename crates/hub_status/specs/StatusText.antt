@@ -1,7 +1,7 @@
 -- The status as JSON. Each definition gives a text with something at its end.
 use Rattle.std.specs.Prelude.{ℕ, Bool, true, false, List, [], ◌∷◌, ◌++◌, Option, Some, None, codes, decimal, slice_index}
-use Rattle.hub_status.specs.declared.counting.Counts.{Counts}
-use Rattle.hub_status.specs.declared.device.DeviceState.{DeviceState}
+use Rattle.hub_status.specs.declared.counts.Counts.{Counts}
+use Rattle.hub_status.specs.declared.status.DeviceState.{DeviceState}
 
 -- a name has letters, digits, `_` and `-` alone, so it stands in JSON as it is
 abbrev pub with_name_of : List ℕ → (before : List ℕ) → Option (List ℕ) → List ℕ

@@ -2,10 +2,9 @@
 ghost use Rattle.std.specs.Prelude.{◌≡◌, OnOk};
 ghost use Rattle.hub_status.specs.MetricsText as metrics;
 
-use crate::counting::Counts;
-use crate::device::DeviceState;
+use crate::counts::Counts;
 use crate::pieces::{put, put_number};
-use crate::status::put_name;
+use crate::status::{DeviceState, put_name};
 use std::alloc::AllocError;
 
 fn put_outcomes(text: &mut Vec<u8>, counts: &Counts) -> Result<(), AllocError>

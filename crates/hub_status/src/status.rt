@@ -2,10 +2,19 @@
 ghost use Rattle.std.specs.Prelude.{◌≡◌, OnOk};
 ghost use Rattle.hub_status.specs.StatusText as json;
 
-use crate::counting::Counts;
-use crate::device::DeviceState;
+use crate::counts::Counts;
 use crate::pieces::{put, put_number, put_word};
+use office_events::Name;
 use std::alloc::AllocError;
+
+/// A device, whether it is connected, and the moment of its latest reading that was accepted, in seconds since 1970-01-01
+/// UTC.
+#[derive(Clone, Copy, Debug, PartialEq, Eq)]
+pub struct DeviceState {
+    pub name: Option<Name>,
+    pub connected: bool,
+    pub latest: Option<u64>,
+}
 
 /// Puts the bytes of a device's name.
 pub(crate) fn put_name(

@@ -1,6 +1,7 @@
 -- A fold that is given rows one by one.
 use Rattle.std.specs.Prelude.{◌≡◌, ℕ, ℤ, ◌+◌, ◌-◌, ◌≤◌, ◌<◌, ◌<ℤ◌, ◌≤ℤ◌, ◌^◌, min, Option, Some, None, MatchOption, List, [], ◌∷◌, ◌++◌, length, take, drop, All, Contains, Bool, if◌then◌else◌, ◌⊎◌}
 use Rattle.std.specs.List.{HoldsAt}
+use Rattle.interval_core.specs.declared.limits.TheConstants.{LAST_MOMENT}
 use Rattle.interval_core.specs.declared.shares.Share.{Share}
 use Rattle.interval_core.specs.declared.zone.Zone.{Zone}
 use Rattle.interval_core.specs.Account.{starts_of}
@@ -34,7 +35,7 @@ most_intervals (Some start) = start + 1
 pub record IsSoundFold (accounts : List DayAccount) (latest : Option ℕ) : Type 0 where
   pub in_order : AreInOrder accounts
   pub counts : All (λ account. account.count ≤ most_intervals latest) accounts
-  pub moments : most_intervals latest ≤ 4102444801
+  pub moments : most_intervals latest ≤ LAST_MOMENT + 1
 
 -- the place of a day among accounts: those before it are of earlier days, the others are not
 pub record IsPlace (day : ℤ) (accounts : List DayAccount) (place : ℕ) : Type 0 where

@@ -1,8 +1,10 @@
+//! Civil days by the clocks of a zone.
 ghost use Rattle.std.specs.Prelude.{◌≡◌, ◌≤◌, IsOk, IfOk};
 ghost use Rattle.jiff.specs.Words.{epoch_day};
 ghost use Rattle.interval_core.specs.Zone.{day_at};
 ghost use Rattle.interval_core.specs.Faults.{day_fault_number};
 
+use crate::limits::LAST_MOMENT;
 use crate::zone::Zone;
 use jiff::Timestamp;
 use jiff::civil::Date;
@@ -14,7 +16,7 @@ use std::fmt::{Display, Formatter};
 /// Why a moment has no civil day.
 #[derive(Clone, Copy, Debug, PartialEq, Eq)]
 pub enum DayFault {
-    /// The calendar has no such instant. It never comes at a moment up to 4,102,444,800.
+    /// The calendar has no such instant. It never comes at a moment up to `LAST_MOMENT`.
     Zone,
     /// Memory is wanting.
     Memory,
@@ -55,7 +57,7 @@ impl Error for DayFault {}
 
 /// The civil day of the moment `start`, in seconds since 1970-01-01 UTC, by the clocks of the zone.
 pub fn day_of(zone: &Zone, start: u64) -> Result<Date, DayFault>
-    requires { start ≤ 4102444800 }
+    requires { start ≤ LAST_MOMENT }
     ensures succeeds { IsOk result }
     ensures day { IfOk result (λ day. epoch_day day ≡ day_at zone.now start) }
 {

@@ -3,6 +3,7 @@
 
 mod day;
 mod laws;
+mod limits;
 mod shares;
 mod spread;
 mod totals;
@@ -13,6 +14,7 @@ pub use jiff::civil::Date as Day;
 pub use laws::{
     accounts_add_up, accounts_are_one, accounts_ignore_order, shares_add_up, zones_are_one,
 };
+pub use limits::{LAST_MOMENT, MAX_STEP_SECONDS, MAX_ZONE_TEXT};
 pub use shares::{INTERVAL, Share, Shares};
 pub use totals::{DayFold, DayTotal, by_day};
 pub use zone::{Zone, ZoneFault};

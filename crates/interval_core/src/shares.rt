@@ -1,9 +1,10 @@
+//! The shares of a step in the intervals that it touches.
 ghost use Rattle.std.specs.Prelude.{◌≡◌, ◌<◌, ◌≤◌};
 ghost use Rattle.std.specs.Iterator.{YieldsFirst, item_count};
 ghost use Rattle.interval_core.specs.Share.{interval_count, shares_of};
 
 use crate::spread::Spread;
-use energy_core::Step;
+use energy_core::{MAX_INTERVALS, MAX_TOTAL, Step};
 use std::marker::Model;
 
 /// How many seconds an interval has. Each begins at a multiple of it.
@@ -42,8 +43,8 @@ impl Shares {
     /// The shares of a step.
     pub fn of(step: &Step) -> Shares
         requires forward { step.now.from < step.now.till }
-        requires intervals { interval_count step.now ≤ 3000 }
-        requires energy { step.now.mwh ≤ 4000000000000000000 }
+        requires intervals { interval_count step.now ≤ MAX_INTERVALS }
+        requires energy { step.now.mwh ≤ MAX_TOTAL }
         ensures { result ≡ shares_of step.now }
     {
         let spread = Spread::new(*step);

@@ -1,6 +1,10 @@
+//! The energy of a step, spread evenly over its time.
 ghost use Rattle.std.specs.Prelude.{◌≡◌, ◌+◌, ◌-◌, ◌*◌, ◌<◌, ◌≤◌};
+ghost use Rattle.energy_core.specs.declared.limits.TheConstants.{MAX_TOTAL};
+ghost use Rattle.interval_core.specs.declared.limits.TheConstants.{MAX_STEP_SECONDS};
 
-use energy_core::Step;
+use crate::limits::MAX_STEP_SECONDS;
+use energy_core::{MAX_TOTAL, Step};
 
 /// A step's energy over its seconds: so many mWh in each, and so many left over.
 #[derive(Clone, Copy, Debug)]
@@ -11,8 +15,8 @@ pub struct Spread {
     left_over: u64,
     pub ghost forward: { step.from < step.till },
     pub ghost seconds_are: { seconds ≡ step.till - step.from },
-    pub ghost short: { seconds ≤ 2700000 },
-    pub ghost full: { step.mwh ≤ 4000000000000000000 },
+    pub ghost short: { seconds ≤ MAX_STEP_SECONDS },
+    pub ghost full: { step.mwh ≤ MAX_TOTAL },
     pub ghost whole: { step.mwh ≡ each * seconds + left_over },
     pub ghost rest: { left_over < seconds },
 }
@@ -22,8 +26,8 @@ impl Spread {
 
     pub fn new(step: Step) -> Spread
         requires forward { step.from < step.till }
-        requires short { step.till ≤ step.from + 2700000 }
-        requires full { step.mwh ≤ 4000000000000000000 }
+        requires short { step.till ≤ step.from + MAX_STEP_SECONDS }
+        requires full { step.mwh ≤ MAX_TOTAL }
         ensures { result.step ≡ step }
     {
         let seconds = step.till - step.from;

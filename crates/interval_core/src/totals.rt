@@ -1,3 +1,4 @@
+//! Interval rows added up by civil day.
 ghost use Rattle.std.specs.Prelude.{◌≡◌, ◌+◌, ◌-◌, ◌≤◌, ◌<◌, ◌^◌, ◌++◌, ◌∷◌, [], List, Option};
 ghost use Rattle.std.specs.Prelude.{Some, None, map, length, All, Contains, IsOk, IfOk, IfErr};
 ghost use Rattle.std.specs.Prelude.{OnOk, OnErr};
@@ -8,6 +9,7 @@ ghost use Rattle.interval_core.specs.Days.{account_of, days_of, AreAccounts, Are
 ghost use Rattle.interval_core.specs.Fold.{IsPlace, HoldsDay, IsGap, IsAdded};
 
 use crate::day::{DayFault, day_of};
+use crate::limits::LAST_MOMENT;
 use crate::shares::Share;
 use crate::zone::Zone;
 use jiff::civil::Date;
@@ -76,7 +78,7 @@ impl DayFold {
     /// Takes one more row, `mwh` in the interval from `start`, by the clocks of the zone. A start that is the latest
     /// already isn't counted again. Past 2^128 - 1 mWh the energy of a day stays there.
     pub fn push(&mut self, start: u64, mwh: u64, zone: &Zone) -> Result<(), DayFault>
-        requires moment { start ≤ 4102444800 }
+        requires moment { start ≤ LAST_MOMENT }
         requires not_back { ForSome self.old.latest (λ latest. latest ≤ start) }
         ensures taken { (rows : List Share) → HasTaken zone.now rows self.old
             → energy_of rows + mwh < 2 ^ 128
@@ -98,7 +100,7 @@ impl DayFold {
 /// The days of interval rows in order of their starts, each with its intervals, counted once, and its energy.
 pub fn by_day(alloc: Global, rows: &[Share], zone: &Zone) -> Result<Vec<DayTotal>, DayFault>
     requires never_back { IsNonDecreasingBy (λ row. row.start) rows.now }
-    requires moments { All (λ row. row.start ≤ 4102444800) rows.now }
+    requires moments { All (λ row. row.start ≤ LAST_MOMENT) rows.now }
     ensures accounts { IfOk result
         (λ totals. AreAccounts zone.now rows.now (map account_of totals.items)) }
     ensures memory { IfErr result (λ fault. fault ≡ DayFault.Memory) }

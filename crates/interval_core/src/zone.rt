@@ -1,8 +1,10 @@
+//! Time zones: their texts, and the civil day of a moment.
 ghost use Rattle.std.specs.Prelude.{◌↔◌, ◌≤◌, IsOk, IsSome, IfOk, IfErr, ◌≡◌, Ok, Err, length};
 ghost use Rattle.jiff_tz.specs.PosixReader.{read_whole};
 ghost use Rattle.interval_core.specs.Zone.{HasRule, rule_of};
 ghost use Rattle.interval_core.specs.Faults.{zone_fault_number};
 
+use crate::limits::MAX_ZONE_TEXT;
 use jiff::tz::TimeZone;
 use std::error::Error;
 use std::fmt;
@@ -50,11 +52,12 @@ pub struct Zone {
 impl Zone {
     /// The zone of a POSIX rule text, as `UTC0` or `CET-1CEST,M3.5.0,M10.5.0/3`, of at most 64 bytes.
     pub fn read(text: &str) -> Result<Zone, ZoneFault>
-        ensures succeeds { IsOk result ↔ (IsSome (read_whole text.now) × (length text.now ≤ 64)) }
+        ensures succeeds { IsOk result
+            ↔ (IsSome (read_whole text.now) × (length text.now ≤ MAX_ZONE_TEXT)) }
         ensures value { IfOk result (HasRule text.now) }
         ensures err { IfErr result (λ fault. fault ≡ ZoneFault.Text) }
     {
-        if text.len() > 64 {
+        if text.len() > MAX_ZONE_TEXT {
             return Err(ZoneFault::Text);
         }
         match TimeZone::posix(text) {

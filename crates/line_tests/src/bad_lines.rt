@@ -1,5 +1,5 @@
 //! Lines that have no form.
-use crate::reading::is_bad;
+use crate::lines::is_bad;
 
 // Spaces, moments, words.
 static LINES: [&str; 32] = [

@@ -1,5 +1,5 @@
 //! Lines that are commands.
-use crate::reading::{command, line};
+use crate::lines::{command, line};
 use office_events::{
     AddDevice, AddRegister, Close, Command, Exchange, GivenScale, Install, Manual, Name, Rescale,
     Reset, StartRound, VoidEntry,

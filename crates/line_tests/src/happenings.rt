@@ -1,5 +1,5 @@
 //! Lines of what happens at a device, and questions.
-use crate::reading::{is_bad, line};
+use crate::lines::{is_bad, line};
 use mb_wire::ReadSpan;
 use office_events::{Event, Name};
 use poll_core::Closing;

@@ -10,6 +10,6 @@ mod commands;
 #[cfg(test)]
 mod happenings;
 #[cfg(test)]
-mod reading;
+mod lines;
 #[cfg(test)]
 mod words;

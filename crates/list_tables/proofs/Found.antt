@@ -17,7 +17,7 @@ use Rattle.list_tables.specs.declared.places.Kind.{Kind}
 use Rattle.list_tables.specs.declared.places.Kind.TheVariants.{DeviceLists, Registers, DeviceRegisters, RegisterOpenings, Replies}
 use Rattle.list_tables.specs.Keys.{named, numbered}
 use Rattle.list_tables.specs.Places.{has_key, places_of, latest_place}
-use Rattle.list_tables.specs.Placed.{register_at, opening_at, list_at, repeat_at}
+use Rattle.list_tables.specs.Lookups.{register_at, opening_at, list_at, repeat_at}
 use Rattle.list_tables.proofs.Standing.{passes, all_at, latest_at, counted_at}
 
 and_true : (b : Bool) → (b && true) ≡ b

@@ -12,8 +12,8 @@ use Rattle.office_rules.specs.Lawful.{AreLawful}
 use Rattle.office_laws.proofs.Journals.{found}
 use Rattle.office_laws.proofs.Lists.{reverse_cons}
 use Rattle.interval_core.specs.declared.shares.Share.{Share}
-use Rattle.list_tables.specs.Handing.{rows_at}
-use Rattle.list_tables.specs.Placed.{opening_at}
+use Rattle.list_tables.specs.IntervalRows.{rows_at}
+use Rattle.list_tables.specs.Lookups.{opening_at}
 use Rattle.list_tables.proofs.Turned.{filter_map_reverse}
 
 -- an element of a list that is turned

@@ -8,7 +8,7 @@ use Rattle.std.proofs.lemmas.List.{reverse-append}
 use Rattle.energy_core.specs.declared.entries.Last.{Last}
 use Rattle.energy_core.specs.declared.entries.Entry.{Entry}
 use Rattle.energy_core.specs.declared.entries.Step.{Step}
-use Rattle.energy_core.specs.declared.entering.TermFault.{TermFault}
+use Rattle.energy_core.specs.declared.admission.TermFault.{TermFault}
 use Rattle.energy_core.specs.Account.{after, step_to}
 use Rattle.meter_journal.specs.declared.lines.EntryRow.{EntryRow}
 use Rattle.meter_journal.specs.Books.{HasAccount}

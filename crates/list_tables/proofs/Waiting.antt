@@ -11,7 +11,7 @@ use Rattle.meter_journal.proofs.Joining.{joined_all, all_joined, first_and_rest}
 use Rattle.meter_journal.proofs.Merging.{rising_of}
 use Rattle.office_books.specs.Rows.{TakesAll}
 use Rattle.office_books.proofs.Handing.{takes_more, takes_both}
-use Rattle.list_tables.specs.Handing.{TookBut, Passes}
+use Rattle.list_tables.specs.IntervalRows.{TookBut, Passes}
 
 -- shares behind the last of some rows
 behind_last : (done : List Share) (row : Share) (shares : List Share) → with_shares (done ++ row ∷ []) shares ≡ done ++ with_shares (row ∷ []) shares

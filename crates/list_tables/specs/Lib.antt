@@ -1,10 +1,10 @@
 pub mod Accounts
 pub mod Growing
-pub mod Handing
+pub mod IntervalRows
 pub mod Keys
+pub mod Lookups
 pub mod Meters
 pub mod Moving
-pub mod Placed
 pub mod Places
 pub mod Polls
 pub mod Whole

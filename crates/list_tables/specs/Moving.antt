@@ -2,7 +2,7 @@
 use Rattle.std.specs.Prelude.{◌≡◌, ◌+◌, ◌≤◌, ◌<◌, ℕ, false, List, [], ◌∷◌, ◌++◌, length, Ok}
 use Rattle.energy_core.specs.declared.entries.Entry.{Entry}
 use Rattle.energy_core.specs.Account.{after, step_to}
-use Rattle.energy_core.specs.Entering.{entered}
+use Rattle.energy_core.specs.Admission.{entered}
 use Rattle.meter_journal.specs.declared.lines.EntryRow.{EntryRow}
 use Rattle.meter_journal.specs.Books.{HasAccount}
 use Rattle.meter_journal.specs.Journal as journal

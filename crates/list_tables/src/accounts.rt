@@ -9,10 +9,13 @@ ghost use Rattle.office_books.specs.Rows.{TakesAll};
 ghost use Rattle.office_books.specs.Sound.{IsSound};
 ghost use Rattle.office_rules.specs.Meters as meters;
 ghost use Rattle.list_tables.specs.Accounts.{HasNumbers};
-ghost use Rattle.list_tables.specs.Handing.{TakesSome};
+ghost use Rattle.list_tables.specs.IntervalRows.{TakesSome};
 
-use crate::handing::hand_rows;
-use energy_core::{Last, Ranged, Terms, accounts_are_sound, enter, entered_is_booked};
+use crate::interval_rows::hand_rows;
+use energy_core::{
+    Last, MAX_CEILING, MAX_RANGE, MIN_RANGE, Ranged, Terms, accounts_are_sound, enter,
+    entered_is_booked,
+};
 use interval_core::Share;
 use meter_journal::{EntryRow, Installed, Tally, tally_behind};
 use office_books::RowSink;
@@ -20,8 +23,8 @@ use office_events::{Installation, Opening};
 
 /// Whether the rows that stand have an account.
 fn have_account(meter: &Installed, rows: &[EntryRow]) -> bool
-    requires range_low { 65536 ≤ meter.now.range }
-    requires range_high { meter.now.range ≤ 4294967296 }
+    requires range_low { MIN_RANGE ≤ meter.now.range }
+    requires range_high { meter.now.range ≤ MAX_RANGE }
     requires installed { books.IsWellInstalled meter.now }
     ensures so { IsTrue result
         → books.HasAccount meter.now (entries_in (lists.latest_first rows.now)) }
@@ -75,8 +78,8 @@ fn has_numbers(opening: &Opening) -> bool
     ensures so { IsTrue result → HasNumbers opening.now }
     ensures if_so { HasNumbers opening.now → IsTrue result }
 {
-    let ranged = 65_536 <= opening.range && opening.range <= 4_294_967_296;
-    let limited = 1 <= opening.ceiling && opening.ceiling <= 1_000_000_000;
+    let ranged = MIN_RANGE <= opening.range && opening.range <= MAX_RANGE;
+    let limited = 1 <= opening.ceiling && opening.ceiling <= MAX_CEILING;
     let scaled = -3 <= opening.sf && opening.sf <= 3;
     ranged && limited && scaled && u64::from(opening.raw) < opening.range
 }

@@ -2,11 +2,11 @@
 #![tactic(auto)]
 
 mod accounts;
-mod handing;
+mod interval_rows;
 mod keys;
+mod lookups;
 mod meter;
 mod meters;
-mod placed;
 mod places;
 mod polls;
 mod table;

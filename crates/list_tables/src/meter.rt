@@ -14,11 +14,11 @@ ghost use Rattle.office_laws.specs.Steps.{moved_by};
 ghost use Rattle.office_rules.specs.Intervals.{rows_of_opening};
 ghost use Rattle.office_rules.specs.Lawful.{AreLawful};
 ghost use Rattle.office_rules.specs.Meters.{place_in, rows_of};
-ghost use Rattle.list_tables.specs.Handing.{TakesSome};
+ghost use Rattle.list_tables.specs.IntervalRows.{TakesSome};
 ghost use Rattle.list_tables.specs.Moving.{MayEnter};
 
 use crate::accounts::{hand_on, standing};
-use energy_core::Last;
+use energy_core::{Last, MAX_CEILING, MAX_RANGE, MAX_TOTAL, MIN_RANGE};
 use interval_core::Share;
 use meter_journal::{
     EntryKind, EntryRow, find_row, journals_are_kept, places_were_kept, row_behind, strike,
@@ -33,11 +33,11 @@ pub(crate) fn is_sound(row: &Installation) -> bool
     ensures so { IsTrue result → IsSound row.now }
     ensures if_so { IsSound row.now → IsTrue result }
 {
-    let ranged = 65_536 <= row.opening.range && row.opening.range <= 4_294_967_296;
-    let limited = 1 <= row.opening.ceiling && row.opening.ceiling <= 1_000_000_000;
+    let ranged = MIN_RANGE <= row.opening.range && row.opening.range <= MAX_RANGE;
+    let limited = 1 <= row.opening.ceiling && row.opening.ceiling <= MAX_CEILING;
     let scaled = -3 <= row.last.sf && row.last.sf <= 3;
     let shown = u64::from(row.last.raw) < row.opening.range;
-    ranged && limited && scaled && shown && row.total <= 4_000_000_000_000_000_000
+    ranged && limited && scaled && shown && row.total <= MAX_TOTAL
 }
 
 /// Whether entries of a kind close their meter.

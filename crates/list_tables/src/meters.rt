@@ -6,7 +6,7 @@ ghost use Rattle.office_books.specs.Sound.{IsSound};
 ghost use Rattle.office_rules.specs.Intervals.{rows_of_meter};
 ghost use Rattle.office_rules.specs.Lawful.{AreLawful};
 ghost use Rattle.office_rules.specs.Meters.{meter_of, entry_at};
-ghost use Rattle.list_tables.specs.Handing.{TakesSome};
+ghost use Rattle.list_tables.specs.IntervalRows.{TakesSome};
 ghost use Rattle.list_tables.specs.Moving.{HasEntered, IsSame, HasStruck};
 
 use crate::keys::Key;

@@ -10,11 +10,11 @@ ghost use Rattle.office_rules.specs.Lawful.{AreLawful};
 ghost use Rattle.office_rules.specs.Meters.{meter_of, installation_at, entry_at};
 ghost use Rattle.office_rules.specs.Readings.{poll_row_of};
 ghost use Rattle.list_tables.specs.Growing.{latest_first};
-ghost use Rattle.list_tables.specs.Handing.{TakesSome, rows_at};
+ghost use Rattle.list_tables.specs.IntervalRows.{TakesSome, rows_at};
 
 use crate::keys::Key;
+use crate::lookups::{list_at, opening_at, register_at, registers_at, repeat_at};
 use crate::meters::Meters;
-use crate::placed::{list_at, opening_at, register_at, registers_at, repeat_at};
 use crate::places::{Kind, Places, named};
 use crate::polls::{Pending, Polls};
 use crate::table::Kept;

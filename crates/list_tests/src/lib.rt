@@ -18,8 +18,8 @@ mod names;
 #[cfg(test)]
 mod plans;
 #[cfg(test)]
-mod reading;
-#[cfg(test)]
 mod row_faults;
 #[cfg(test)]
-mod writing;
+mod spelled_lists;
+#[cfg(test)]
+mod written_lists;

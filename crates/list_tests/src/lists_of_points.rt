@@ -1,9 +1,8 @@
 //! Points that make a list, and points that make none.
 
 use crate::given::name;
-use point_list::{
-    ListedPoint, PointList, PointScale, RegisterTable, find_scale, texts_spell_one_list,
-};
+use mb_wire::ReadFunction;
+use point_list::{ListedPoint, PointList, PointScale, find_scale, texts_spell_one_list};
 use std::alloc::Global;
 use std::test::Fail;
 use sun_points::{PointType, Scale};
@@ -60,7 +59,7 @@ fn listed(
     let name = name(alloc, text)?;
     Ok(ListedPoint {
         name,
-        table: RegisterTable::Holding,
+        function: ReadFunction::HoldingRegisters,
         area: 0,
         address,
         kind,
@@ -128,7 +127,6 @@ fn finds_a_scale(rt: HostRuntime) -> Result<(), Fail> {
     assert!(rt; find_scale(&points, b"w").is_none());
     let scale = find_scale(&points, b"s").ok_or("no scale")?;
     assert_eq!(rt; scale.address, 124);
-    assert_eq!(rt; scale.table.function(), 3);
-    assert_eq!(rt; RegisterTable::Input.function(), 4);
+    assert_eq!(rt; scale.function, ReadFunction::HoldingRegisters);
     Ok(())
 }

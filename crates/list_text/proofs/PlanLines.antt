@@ -6,7 +6,7 @@ use Rattle.std.proofs.lemmas.Grind.{flat_map-append}
 use Rattle.std.proofs.lemmas.List.{map-append, get_or-map}
 use Rattle.std.proofs.lemmas.List.Elements.{All-append, All-cons, All-nil}
 use Rattle.point_list.specs.declared.point.ListedPoint.{ListedPoint}
-use Rattle.read_plan.specs.declared.planned.PlannedRead.{PlannedRead}
+use Rattle.read_plan.specs.declared.planned_reads.PlannedRead.{PlannedRead}
 use Rattle.read_plan.specs.declared.run.Run.{Run}
 use Rattle.list_text.specs.PlanText.{IsPlaced, PlacedPoint, PointsPrint, point_line, read_line, read_lines}
 

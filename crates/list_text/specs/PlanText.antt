@@ -9,7 +9,7 @@ use Rattle.point_list.specs.declared.point.ListedPoint.{ListedPoint}
 use Rattle.read_plan.specs.Items.{item_of, items_of, runs_of}
 use Rattle.read_plan.specs.PlannedReads.{IsFirstHolding, read_runs}
 use Rattle.read_plan.specs.Plans.{FollowsRule, IsLawful}
-use Rattle.read_plan.specs.declared.planned.PlannedRead.{PlannedRead}
+use Rattle.read_plan.specs.declared.planned_reads.PlannedRead.{PlannedRead}
 
 -- the number of a read and the code of its function
 abbrev pub read_head : (number function : ℕ) → List ℕ

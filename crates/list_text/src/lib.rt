@@ -1,8 +1,8 @@
 //! The plan of a point list, printed.
 #![tactic(auto)]
 
-mod list_printing;
-mod plan_printing;
+mod list_printout;
+mod plan_printout;
 
-pub use list_printing::plan_text;
-pub use plan_printing::print_plan;
+pub use list_printout::plan_text;
+pub use plan_printout::print_plan;

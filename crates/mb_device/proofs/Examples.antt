@@ -3,7 +3,7 @@ use Rattle.std.proofs.Common.{◌≡◌, List, ℕ, [], ◌∷◌, ◌++◌, Som
 use Rattle.mb_wire.specs.Frames.{frames, frames_in}
 use Rattle.mb_device.specs.Maps.{Maps, value_in}
 use Rattle.mb_device.specs.Tricks.{Course, begun, carried_out, course_next, sent_next, trick_at}
-use Rattle.mb_device.specs.Serving.{answer_to_frame, maps_after_all, own_frames, sent_to}
+use Rattle.mb_device.specs.Server.{answer_to_frame, maps_after_all, own_frames, sent_to}
 use Rattle.mb_device.specs.declared.trick.Trick.{Trick}
 use Rattle.mb_device.specs.declared.trick.Trick.TheVariants as play
 

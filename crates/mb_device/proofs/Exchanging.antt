@@ -4,8 +4,8 @@ use Rattle.mb_wire.specs.Frames.{IsOpen, rest}
 use Rattle.mb_device.specs.Exchanges.{Exchange, Exchanges, ExchangesOver, InOrder, in_all, joined}
 use Rattle.mb_device.specs.Maps.{Maps}
 use Rattle.mb_device.specs.Tricks.{Course, Playing, CutOff, carried_out, is_cut}
-use Rattle.mb_device.specs.Serving.{Around, Faulted, Holds, Over, Serves, Standing, Turns, course_behind, maps_after_all, own_frames, sent_to, standing_on}
-use Rattle.mb_device.specs.declared.serving.Turned.{Turned}
+use Rattle.mb_device.specs.Server.{Around, Faulted, Holds, Over, Serves, Standing, Turns, course_behind, maps_after_all, own_frames, sent_to, standing_on}
+use Rattle.mb_device.specs.declared.server.Turned.{Turned}
 use Rattle.mb_device.proofs.Framing.{nothing_taken, taken_more}
 use Rattle.mb_device.proofs.Putting.{carried_out-none}
 use Rattle.mb_device.proofs.Streams.{carried_then, course_then, dealt_by, maps_after_all-append, sent_then}

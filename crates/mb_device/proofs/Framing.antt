@@ -11,7 +11,7 @@ use Rattle.mb_wire.specs.declared.frames.Framing.{Framing}
 use Rattle.mb_wire.specs.declared.frames.Framing.TheVariants.{Need, Whole, Foreign, Garbled}
 use Rattle.mb_wire.proofs.Readings.{AllByRecursion-append, Reads-is, Reads-only, span_of-append}
 use Rattle.mb_device.proofs.Giving.{from, whole_again}
-use Rattle.mb_device.specs.Serving.{held_frames, is_own, own_frames}
+use Rattle.mb_device.specs.Server.{held_frames, is_own, own_frames}
 
 abbrev concat : List (List ℕ) → List ℕ
 concat frames = flat_map (λ frame. frame) frames

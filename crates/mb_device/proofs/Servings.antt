@@ -7,10 +7,10 @@ use Rattle.mb_wire.specs.Links.{risen}
 use Rattle.mb_wire.specs.declared.link.LastTake.{LastTake}
 use Rattle.mb_device.specs.Maps.{Maps}
 use Rattle.mb_device.specs.Tricks.{Course, Playing, CutOff, carried_out, is_cut}
-use Rattle.mb_device.specs.Serving.{Answered, Around, Counts, ServeTells, Served, Serves, Standing, Faulted, Holds, Over, TellsTake, TurnTells, Turns, came_to_end, course_behind, has_faulted, is_over, is_read_fault, is_serving, own_frames, served_to_end, standing_on, stretch}
-use Rattle.mb_device.specs.declared.serving.ServeFault.{ServeFault}
-use Rattle.mb_device.specs.declared.serving.ServeFault.TheVariants as fault
-use Rattle.mb_device.specs.declared.serving.Turned.{Turned}
+use Rattle.mb_device.specs.Server.{Answered, Around, Counts, ServeTells, Served, Serves, Standing, Faulted, Holds, Over, TellsTake, TurnTells, Turns, came_to_end, course_behind, has_faulted, is_over, is_read_fault, is_serving, own_frames, served_to_end, standing_on, stretch}
+use Rattle.mb_device.specs.declared.server.ServeFault.{ServeFault}
+use Rattle.mb_device.specs.declared.server.ServeFault.TheVariants as fault
+use Rattle.mb_device.specs.declared.server.Turned.{Turned}
 use Rattle.mb_device.proofs.Framing.{nothing_taken, taken_more}
 use Rattle.mb_device.proofs.Putting.{carried_out-none}
 use Rattle.mb_device.proofs.Streams.{AllAnswered-none, AllAnswered-same, Answered-then, Consumes-none, Dealt, all_then_all, answered_fault, both_ways, counts_then, course_then, dealt_with, garbled_then, standing-going}

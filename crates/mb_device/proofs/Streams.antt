@@ -13,10 +13,10 @@ use Rattle.mb_wire.specs.declared.link.Took.TheVariants as took
 use Rattle.mb_device.specs.Maps.{Maps}
 use Rattle.mb_device.specs.Device.{answer_to, maps_after}
 use Rattle.mb_device.specs.Tricks.{Course, Playing, CutOff, answer_of, carried_out, course_after, course_next, is_cut, sent, sent_next}
-use Rattle.mb_device.specs.Serving.{AllAnswered, Answered, Around, BrokenOff, Counts, GivesPart, HeldTells, IsGarbled, Holds, PieceTells, Faulted, TurnTells, Turns, answer_to_frame, answers, course_behind, held_frames, maps_after_all, own_frames, sent_to, standing_on, stretch}
-use Rattle.mb_device.specs.declared.serving.ServeFault.{ServeFault}
-use Rattle.mb_device.specs.declared.serving.ServeFault.TheVariants as fault
-use Rattle.mb_device.specs.declared.serving.Turned.{Turned}
+use Rattle.mb_device.specs.Server.{AllAnswered, Answered, Around, BrokenOff, Counts, GivesPart, HeldTells, IsGarbled, Holds, PieceTells, Faulted, TurnTells, Turns, answer_to_frame, answers, course_behind, held_frames, maps_after_all, own_frames, sent_to, standing_on, stretch}
+use Rattle.mb_device.specs.declared.server.ServeFault.{ServeFault}
+use Rattle.mb_device.specs.declared.server.ServeFault.TheVariants as fault
+use Rattle.mb_device.specs.declared.server.Turned.{Turned}
 use Rattle.mb_device.proofs.Framing.{nothing_taken}
 use Rattle.mb_device.proofs.Putting.{carried_out-next, carried_out-none, carried_out-one, course_after-append, course_after-cut, is_cut-true, sent-append, sent-cut}
 

@@ -16,9 +16,9 @@ kind_number Discrete = 2
 kind_number Holding = 3
 kind_number Input = 4
 
--- an area has an address
-abbrev pub holds : Kind → ℕ → Area → Bool
-holds kind address area =
+-- an area contains an address
+abbrev pub contains : Kind → ℕ → Area → Bool
+contains kind address area =
     kind_number area.kind == kind_number kind && nat_le area.start address
     && nat_lt address (area.start + area.count)
 
@@ -39,7 +39,7 @@ is_out_of_range area = area.count == 0 || nat_lt 65536 (area.start + area.count)
 -- what stands at an address in the beginning
 abbrev pub first_value : List Area → Kind → ℕ → Option ℕ
 first_value areas kind address =
-    if list_any (λ area. holds kind address area) areas then Some 0 else None
+    if list_any (λ area. contains kind address area) areas then Some 0 else None
 
 abbrev pub bank_fault_number : BankFault → ℕ
 bank_fault_number AreasOverlap = 1

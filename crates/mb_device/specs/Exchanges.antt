@@ -5,7 +5,7 @@ use Rattle.std.specs.Io.KnownBytes.{Appends, Consumes}
 use Rattle.mb_wire.specs.Frames.{IsOpen, rest}
 use Rattle.mb_device.specs.Maps.{Maps}
 use Rattle.mb_device.specs.Tricks.{Course, carried_out, is_cut}
-use Rattle.mb_device.specs.Serving.{Around, Holds, Standing, course_behind, maps_after_all, own_frames, sent_to, standing_on}
+use Rattle.mb_device.specs.Server.{Around, Holds, Standing, course_behind, maps_after_all, own_frames, sent_to, standing_on}
 
 -- bytes that were taken, and bytes that were given
 pub record Exchange : Type 0 where

@@ -2,5 +2,5 @@ pub mod Maps
 pub mod Areas
 pub mod Device
 pub mod Tricks
-pub mod Serving
+pub mod Server
 pub mod Exchanges

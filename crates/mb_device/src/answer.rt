@@ -1,4 +1,4 @@
-// What a device answers to a request, and what becomes of a table.
+//! What a device answers to a request, and what becomes of a table.
 ghost use Rattle.std.specs.Prelude.{◌≡◌, ◌≤◌, ◌+◌, ◌/◌, ◌∷◌, [], ℕ, List, map, length, take};
 ghost use Rattle.std.specs.Prelude.{if◌then◌else◌, is_some, true};
 ghost use Rattle.std.specs.List.{list_all};
@@ -11,8 +11,10 @@ ghost use Rattle.mb_device.specs.Device.{code_of_fault, coil_number, exception_b
 ghost use Rattle.mb_device.specs.Device.{kept_value};
 ghost use Rattle.mb_device.specs.Maps.{all_written, are_there, values_at};
 
-use crate::packing::{pack_coils, pack_words, write_coils, write_words};
-use mb_wire::{Reply, Request, RequestFault, encode_reply};
+use crate::packed_values::{pack_coils, pack_words, write_coils, write_words};
+use mb_wire::{
+    MAX_PDU, MAX_READ_COILS, MAX_READ_REGISTERS, Reply, Request, RequestFault, encode_reply,
+};
 
 // The exception code of a fault.
 pub(crate) fn code_of(fault: RequestFault) -> u8
@@ -28,7 +30,7 @@ pub(crate) fn code_of(fault: RequestFault) -> u8
 }
 
 // Writes an exception to a PDU that is no request.
-pub(crate) fn refuse(function: u8, code: u8, out: &mut [u8; 253]) -> usize
+pub(crate) fn refuse(function: u8, code: u8, out: &mut [u8; MAX_PDU]) -> usize
     ensures count { result ≡ 2 }
     ensures written { take result out.new ≡ exception_bytes function code }
 {
@@ -80,13 +82,13 @@ pub(crate) fn answer_bits(
     request: &Request<'_>,
     address: u16,
     quantity: u16,
-    out: &mut [u8; 253],
+    out: &mut [u8; MAX_PDU],
 ) -> usize
     requires lawful { IsLawful request.now }
-    requires within { IsWithin quantity 2000 }
+    requires within { IsWithin quantity MAX_READ_COILS }
     requires wanted { WantsCoils (query_of request.now) quantity }
     ensures some { 1 ≤ result }
-    ensures few { result ≤ 253 }
+    ensures few { result ≤ MAX_PDU }
     ensures written { take result out.new ≡ answer_bytes (query_of request.now)
         (if are_there table.now address quantity
         then Bits (map is_kept_on (values_at table.now address quantity)) else Exception 2) }
@@ -111,13 +113,13 @@ pub(crate) fn answer_words(
     request: &Request<'_>,
     address: u16,
     quantity: u16,
-    out: &mut [u8; 253],
+    out: &mut [u8; MAX_PDU],
 ) -> usize
     requires lawful { IsLawful request.now }
-    requires within { IsWithin quantity 125 }
+    requires within { IsWithin quantity MAX_READ_REGISTERS }
     requires wanted { WantsRegisters (query_of request.now) quantity }
     ensures some { 1 ≤ result }
-    ensures few { result ≤ 253 }
+    ensures few { result ≤ MAX_PDU }
     ensures written { take result out.new ≡ answer_bytes (query_of request.now)
         (if are_there table.now address quantity
         then Words (map kept_value (values_at table.now address quantity)) else Exception 2) }
@@ -138,12 +140,12 @@ pub(crate) fn answer_coil(
     request: &Request<'_>,
     address: u16,
     on: bool,
-    out: &mut [u8; 253],
+    out: &mut [u8; MAX_PDU],
 ) -> usize
     requires lawful { IsLawful request.now }
     requires wanted { WantsHead (query_of request.now) }
     ensures some { 1 ≤ result }
-    ensures few { result ≤ 253 }
+    ensures few { result ≤ MAX_PDU }
     ensures written { take result out.new ≡ answer_bytes (query_of request.now)
         (if are_there table.old address 1 then Echo else Exception 2) }
     ensures after { table.new ≡ (if are_there table.old address 1
@@ -164,13 +166,13 @@ pub(crate) fn answer_coils(
     address: u16,
     quantity: u16,
     bytes: &[u8],
-    out: &mut [u8; 253],
+    out: &mut [u8; MAX_PDU],
 ) -> usize
     requires lawful { IsLawful request.now }
     requires count { length bytes.now ≡ bytes_for quantity }
     requires wanted { WantsHead (query_of request.now) }
     ensures some { 1 ≤ result }
-    ensures few { result ≤ 253 }
+    ensures few { result ≤ MAX_PDU }
     ensures written { take result out.new ≡ answer_bytes (query_of request.now)
         (if are_there table.old address (length (coils_of quantity bytes.now))
         then Echo else Exception 2) }
@@ -193,13 +195,13 @@ pub(crate) fn answer_registers(
     request: &Request<'_>,
     address: u16,
     bytes: &[u8],
-    out: &mut [u8; 253],
+    out: &mut [u8; MAX_PDU],
 ) -> usize
     requires lawful { IsLawful request.now }
     requires count { length bytes.now ≤ 246 }
     requires wanted { WantsHead (query_of request.now) }
     ensures some { 1 ≤ result }
-    ensures few { result ≤ 253 }
+    ensures few { result ≤ MAX_PDU }
     ensures written { take result out.new ≡ answer_bytes (query_of request.now)
         (if are_there table.old address (length (words_of bytes.now)) then Echo else Exception 2) }
     ensures after { table.new ≡ (if are_there table.old address (length (words_of bytes.now))

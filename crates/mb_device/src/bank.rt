@@ -1,9 +1,9 @@
-// A device's values.
+//! A device's values.
 ghost use Rattle.std.specs.Prelude.{◌≡◌, ◌≤◌, ◌<◌, ◌+◌, ℕ, List, ◌↔◌, IsTrue, IfOk, Ok, Err, take};
 ghost use Rattle.std.specs.Prelude.{true, false, is_some, if◌then◌else◌, slice_index_or, length};
 ghost use Rattle.std.specs.Prelude.{None};
 ghost use Rattle.std.specs.List.{list_any};
-ghost use Rattle.mb_device.specs.Areas.{Adds, any_overlap, begun_from, first_value, holds};
+ghost use Rattle.mb_device.specs.Areas.{Adds, any_overlap, begun_from, contains, first_value};
 ghost use Rattle.mb_device.specs.Areas.{is_out_of_range, overlap};
 ghost use Rattle.mb_wire.specs.Requests.{IsLawful, query_of};
 ghost use Rattle.mb_device.specs.Device.{answer_to, maps_after, maps_for, reply_for};
@@ -14,7 +14,7 @@ use crate::answer::{
     answer_bits, answer_coil, answer_coils, answer_registers, answer_words, code_of, refuse,
 };
 use crate::kinds::{Area, BankFault, Kind};
-use mb_wire::{Request, decode_request};
+use mb_wire::{MAX_PDU, Request, decode_request};
 use std::alloc::{AllocError, Global};
 use std::marker::Model;
 
@@ -64,18 +64,18 @@ fn has_out_of_range(areas: &[Area]) -> bool
     areas.iter().any(|area| area.is_out_of_range())
 }
 
-// An area has the address.
-fn any_holds(areas: &[Area], kind: Kind, address: u64) -> bool
-    ensures { result ≡ list_any (λ area. holds kind address area) areas.now }
+// An area contains the address.
+fn any_contains(areas: &[Area], kind: Kind, address: u64) -> bool
+    ensures { result ≡ list_any (λ area. contains kind address area) areas.now }
 {
-    areas.iter().any(|area| area.holds(kind, address))
+    areas.iter().any(|area| area.contains(kind, address))
 }
 
 // What stands at an address in the beginning.
 fn begin(areas: &[Area], kind: Kind, address: u64) -> Option<u16>
     ensures { result ≡ first_value areas.now kind address }
 {
-    if any_holds(areas, kind, address) {
+    if any_contains(areas, kind, address) {
         Some(0)
     } else {
         None
@@ -233,11 +233,11 @@ impl Bank {
     /// Answers a PDU of 1 to 253 bytes at the front of `out`, and says how many bytes the answer has.
     /// The function is looked at first, then the rest of the PDU, then the addresses; what is refused
     /// changes nothing (Modbus Application Protocol V1.1b3, sections 6 and 7).
-    pub fn answer(&mut self, pdu: &[u8], out: &mut [u8; 253]) -> usize
+    pub fn answer(&mut self, pdu: &[u8], out: &mut [u8; MAX_PDU]) -> usize
         requires some { 1 ≤ length pdu.now }
-        requires few { length pdu.now ≤ 253 }
+        requires few { length pdu.now ≤ MAX_PDU }
         ensures some { 1 ≤ result }
-        ensures few { result ≤ 253 }
+        ensures few { result ≤ MAX_PDU }
         ensures answered { take result out.new ≡ answer_to self.old pdu.now }
         ensures after { self.new ≡ maps_after self.old pdu.now }
     {
@@ -248,10 +248,10 @@ impl Bank {
     }
 
     // Carries out a request, and writes its answer.
-    fn carry_out(&mut self, request: &Request<'_>, out: &mut [u8; 253]) -> usize
+    fn carry_out(&mut self, request: &Request<'_>, out: &mut [u8; MAX_PDU]) -> usize
         requires { IsLawful request.now }
         ensures some { 1 ≤ result }
-        ensures few { result ≤ 253 }
+        ensures few { result ≤ MAX_PDU }
         ensures answered { take result out.new ≡ reply_for self.old 0 (Ok (query_of request.now)) }
         ensures after { self.new ≡ maps_for self.old (Ok (query_of request.now)) }
     {

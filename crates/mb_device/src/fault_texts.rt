@@ -1,6 +1,6 @@
 //! What faults say to a person.
 use crate::kinds::BankFault;
-use crate::serving::ServeFault;
+use crate::server::ServeFault;
 use std::error::Error;
 use std::fmt;
 use std::fmt::{Display, Formatter};

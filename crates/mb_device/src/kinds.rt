@@ -1,6 +1,6 @@
-// What a device keeps.
+//! What a device keeps.
 ghost use Rattle.std.specs.Prelude.{◌≡◌, ◌+◌};
-ghost use Rattle.mb_device.specs.Areas.{bank_fault_number, holds, is_out_of_range, kind_number};
+ghost use Rattle.mb_device.specs.Areas.{bank_fault_number, contains, is_out_of_range, kind_number};
 ghost use Rattle.mb_device.specs.Areas.{overlap};
 
 /// The four kinds of values of a device (Modbus Application Protocol V1.1b3, section 4.3).
@@ -69,8 +69,8 @@ impl Area {
         u64::from(self.start) + u64::from(self.count)
     }
 
-    pub(crate) fn holds(&self, kind: Kind, address: u64) -> bool
-        ensures { result ≡ holds kind address self.now }
+    pub(crate) fn contains(&self, kind: Kind, address: u64) -> bool
+        ensures { result ≡ contains kind address self.now }
     {
         self.kind.number() == kind.number()
             && u64::from(self.start) <= address

@@ -1,4 +1,4 @@
-// Laws of what a server exchanges over many turns.
+//! Laws of what a server exchanges over many turns.
 ghost use Rattle.std.specs.Prelude.{◌≡◌, ◌-◌, ◌^◌, ℕ, List, [], Ok, false};
 ghost use Rattle.std.specs.List.{flat_map};
 ghost use Rattle.mb_wire.specs.Reader.{Fields};
@@ -7,8 +7,8 @@ ghost use Rattle.mb_device.specs.Exchanges.{joined};
 ghost use Rattle.mb_device.specs.Maps.{Maps};
 ghost use Rattle.mb_device.specs.Tricks.{Course, Playing, carried_out, course_after, frame_of};
 ghost use Rattle.mb_device.specs.Tricks.{is_cut, sent};
-ghost use Rattle.mb_device.specs.Serving.{Around, Holds, Serves, Standing, Turns};
-ghost use Rattle.mb_device.specs.declared.serving.Turned.{Turned};
+ghost use Rattle.mb_device.specs.Server.{Around, Holds, Serves, Standing, Turns};
+ghost use Rattle.mb_device.specs.declared.server.Turned.{Turned};
 ghost use Rattle.mb_device.specs.declared.trick.Trick.{Trick};
 
 /// A turn that answers Ok exchanges bytes, and so does a serving; exchanges one after another are one

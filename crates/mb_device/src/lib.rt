@@ -7,13 +7,13 @@ mod bank;
 mod fault_texts;
 mod kinds;
 mod laws;
-mod packing;
-mod sending;
-mod serving;
+mod packed_values;
+mod sender;
+mod server;
 mod trick;
 
 pub use bank::Bank;
 pub use kinds::{Area, BankFault, Kind};
 pub use laws::{no_trick_is_true, turns_compose};
-pub use serving::{ServeFault, Server, Turned};
+pub use server::{ServeFault, Server, Turned};
 pub use trick::Trick;

@@ -1,4 +1,4 @@
-// Wrong answers, on purpose.
+//! Wrong answers, on purpose.
 
 /// What becomes of the answer to one frame of a connection. The frame itself is carried out.
 #[derive(Clone, Copy, Debug, PartialEq, Eq)]

@@ -1,6 +1,7 @@
 -- Frames of Modbus over TCP (Modbus Messaging on TCP/IP V1.0b, section 3.1.3): an MBAP header and a PDU.
 -- A byte list is a list of frames and a rest.
 use Rattle.std.specs.Prelude.{◌≡◌, ℕ, zero, suc, ◌+◌, ◌*◌, ◌<◌, ◌≤◌, ◌⊎◌, Bool, ◌&&◌, ◌||◌, nat_le, nat_lt, if◌then◌else◌, List, [], ◌∷◌, ◌++◌, length, take, drop, slice_index}
+use Rattle.mb_wire.specs.declared.limits.TheConstants.{MAX_LENGTH, MIN_LENGTH}
 use Rattle.std.specs.List.{flat_map, AllByRecursion}
 
 -- how many bytes follow the sixth, as bytes 5 and 6 say
@@ -22,7 +23,7 @@ pdu_of bytes = drop 7 bytes
 
 -- a length that a header may have
 abbrev pub IsGoodSpan : ℕ → Type 0
-IsGoodSpan n = (2 ≤ n) × (n ≤ 254)
+IsGoodSpan n = (MIN_LENGTH ≤ n) × (n ≤ MAX_LENGTH)
 
 -- six bytes with a good length, and as many more as it says
 pub record IsFrame (bytes : List ℕ) : Type 0 where
@@ -40,7 +41,7 @@ IsOpen bytes =
 
 -- six bytes with a bad length, whatever follows
 abbrev pub IsBad : List ℕ → Type 0
-IsBad bytes = (6 ≤ length bytes) × ((span_of bytes < 2) ⊎ (254 < span_of bytes))
+IsBad bytes = (6 ≤ length bytes) × ((span_of bytes < MIN_LENGTH) ⊎ (MAX_LENGTH < span_of bytes))
 
 -- The bytes are these frames, one after another, and this rest. A frame ends where the frames up to it do.
 pub record Reads (bytes : List ℕ) (frames : List (List ℕ)) (rest : List ℕ) : Type 0 where
@@ -51,7 +52,7 @@ pub record Reads (bytes : List ℕ) (frames : List (List ℕ)) (rest : List ℕ)
 -- The one reading of a byte list, as functions: it is gone through at most once a byte.
 abbrev pub begins_with_frame : List ℕ → Bool
 begins_with_frame bytes =
-    nat_le 2 (span_of bytes) && nat_le (span_of bytes) 254
+    nat_le MIN_LENGTH (span_of bytes) && nat_le (span_of bytes) MAX_LENGTH
     && nat_le (6 + span_of bytes) (length bytes)
 
 unfoldable pub frames_in : ℕ → List ℕ → List (List ℕ)
@@ -74,7 +75,9 @@ rest bytes = rest_in (length bytes) bytes
 
 -- the stream is garbled: its rest has a bad length
 abbrev pub is_bad : List ℕ → Bool
-is_bad bytes = nat_le 6 (length bytes) && (nat_lt (span_of bytes) 2 || nat_lt 254 (span_of bytes))
+is_bad bytes =
+    nat_le 6 (length bytes)
+    && (nat_lt (span_of bytes) MIN_LENGTH || nat_lt MAX_LENGTH (span_of bytes))
 
 unfoldable pub is_garbled : List ℕ → Bool
 is_garbled bytes = is_bad (rest bytes)

@@ -2,6 +2,8 @@
 use Rattle.std.specs.Prelude.{ℕ, ◌+◌, ◌*◌, Bool, ◌&&◌, ◌||◌, not, nat_le, nat_lt, ◌==◌, if◌then◌else◌, List, ◌++◌, length, take, drop, slice_index, Ok, Err, Some, None}
 use Rattle.std.specs.declared.result.Result.{Result}
 use Rattle.std.specs.declared.option.Option.{Option}
+use Rattle.mb_wire.specs.declared.limits.TheConstants.{MAX_READ_COILS, MAX_READ_REGISTERS}
+use Rattle.mb_wire.specs.declared.limits.TheConstants.{MAX_WRITE_COILS, MAX_WRITE_REGISTERS}
 use Rattle.mb_wire.specs.Bytes.{number_at, words_of}
 use Rattle.mb_wire.specs.Coils.{bytes_for, cleared_after, coils_of}
 use Rattle.mb_wire.specs.Requests.{Query, ReadCoils, ReadDiscrete, ReadHolding, ReadInput, WriteCoil, WriteRegister, WriteCoils, WriteRegisters, query_of}
@@ -37,10 +39,10 @@ writes_one function = function == 5 || function == 6
 -- the greatest quantity that a function allows
 abbrev pub most_of : ℕ → ℕ
 most_of function =
-    if nat_le function 2 then 2000
-    else if nat_le function 4 then 125
-    else if function == 15 then 1968
-    else 123
+    if nat_le function 2 then MAX_READ_COILS
+    else if nat_le function 4 then MAX_READ_REGISTERS
+    else if function == 15 then MAX_WRITE_COILS
+    else MAX_WRITE_REGISTERS
 
 -- how many bytes a function carries for a quantity
 abbrev pub bytes_of : ℕ → ℕ → ℕ

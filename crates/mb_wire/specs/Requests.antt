@@ -1,5 +1,7 @@
 -- Requests, as they stand in PDUs (Modbus Application Protocol V1.1b3, sections 4.1 and 6).
 use Rattle.std.specs.Prelude.{◌≡◌, ℕ, ◌*◌, ◌<◌, ◌≤◌, Bool, if◌then◌else◌, List, [], ◌∷◌, ◌++◌, length}
+use Rattle.mb_wire.specs.declared.limits.TheConstants.{MAX_READ_COILS, MAX_READ_REGISTERS}
+use Rattle.mb_wire.specs.declared.limits.TheConstants.{MAX_WRITE_COILS, MAX_WRITE_REGISTERS}
 use Rattle.mb_wire.specs.Bytes.{word, words_of, word_bytes}
 use Rattle.mb_wire.specs.Coils.{bytes_for, coils_of, packed}
 use Rattle.mb_wire.specs.declared.requests.Request.{Request}
@@ -91,48 +93,48 @@ IsWithin quantity most = (1 ≤ quantity) × (quantity ≤ most)
 
 -- a quantity that the standard allows
 abbrev pub IsLawfulQuery : Query → Type 0
-IsLawfulQuery (ReadCoils address quantity) = IsWithin quantity 2000
-IsLawfulQuery (ReadDiscrete address quantity) = IsWithin quantity 2000
-IsLawfulQuery (ReadHolding address quantity) = IsWithin quantity 125
-IsLawfulQuery (ReadInput address quantity) = IsWithin quantity 125
+IsLawfulQuery (ReadCoils address quantity) = IsWithin quantity MAX_READ_COILS
+IsLawfulQuery (ReadDiscrete address quantity) = IsWithin quantity MAX_READ_COILS
+IsLawfulQuery (ReadHolding address quantity) = IsWithin quantity MAX_READ_REGISTERS
+IsLawfulQuery (ReadInput address quantity) = IsWithin quantity MAX_READ_REGISTERS
 IsLawfulQuery (WriteCoil address on) = Unit {0}
 IsLawfulQuery (WriteRegister address value) = Unit {0}
-IsLawfulQuery (WriteCoils address coils) = IsWithin (length coils) 1968
-IsLawfulQuery (WriteRegisters address values) = IsWithin (length values) 123
+IsLawfulQuery (WriteCoils address coils) = IsWithin (length coils) MAX_WRITE_COILS
+IsLawfulQuery (WriteRegisters address values) = IsWithin (length values) MAX_WRITE_REGISTERS
 
 -- a request with such a quantity, and as many bytes as it says
 abbrev pub IsLawful : Request → Type 0
-IsLawful (lent.ReadCoils address quantity) = IsWithin quantity 2000
-IsLawful (lent.ReadDiscrete address quantity) = IsWithin quantity 2000
-IsLawful (lent.ReadHolding address quantity) = IsWithin quantity 125
-IsLawful (lent.ReadInput address quantity) = IsWithin quantity 125
+IsLawful (lent.ReadCoils address quantity) = IsWithin quantity MAX_READ_COILS
+IsLawful (lent.ReadDiscrete address quantity) = IsWithin quantity MAX_READ_COILS
+IsLawful (lent.ReadHolding address quantity) = IsWithin quantity MAX_READ_REGISTERS
+IsLawful (lent.ReadInput address quantity) = IsWithin quantity MAX_READ_REGISTERS
 IsLawful (lent.WriteCoil address on) = Unit {0}
 IsLawful (lent.WriteRegister address value) = Unit {0}
 IsLawful (lent.WriteCoils address quantity bytes) =
-    IsWithin quantity 1968 × (length bytes.now ≡ bytes_for quantity)
+    IsWithin quantity MAX_WRITE_COILS × (length bytes.now ≡ bytes_for quantity)
 IsLawful (lent.WriteRegisters address bytes) =
-    IsWithin (length (words_of bytes.now)) 123
+    IsWithin (length (words_of bytes.now)) MAX_WRITE_REGISTERS
     × (length bytes.now ≡ 2 * length (words_of bytes.now))
 
 -- The PDU spells the query.
 abbrev pub SpellsRequest : List ℕ → Query → Type 0
 SpellsRequest pdu (ReadCoils address quantity) =
-    IsWithin quantity 2000 × (address < 65536) × (pdu ≡ head_bytes 1 address quantity)
+    IsWithin quantity MAX_READ_COILS × (address < 65536) × (pdu ≡ head_bytes 1 address quantity)
 SpellsRequest pdu (ReadDiscrete address quantity) =
-    IsWithin quantity 2000 × (address < 65536) × (pdu ≡ head_bytes 2 address quantity)
+    IsWithin quantity MAX_READ_COILS × (address < 65536) × (pdu ≡ head_bytes 2 address quantity)
 SpellsRequest pdu (ReadHolding address quantity) =
-    IsWithin quantity 125 × (address < 65536) × (pdu ≡ head_bytes 3 address quantity)
+    IsWithin quantity MAX_READ_REGISTERS × (address < 65536) × (pdu ≡ head_bytes 3 address quantity)
 SpellsRequest pdu (ReadInput address quantity) =
-    IsWithin quantity 125 × (address < 65536) × (pdu ≡ head_bytes 4 address quantity)
+    IsWithin quantity MAX_READ_REGISTERS × (address < 65536) × (pdu ≡ head_bytes 4 address quantity)
 SpellsRequest pdu (WriteCoil address on) =
     (address < 65536) × (pdu ≡ head_bytes 5 address (coil_value on))
 SpellsRequest pdu (WriteRegister address value) =
     (address < 65536) × (value < 65536) × (pdu ≡ head_bytes 6 address value)
 SpellsRequest pdu (WriteCoils address coils) =
-    IsWithin (length coils) 1968 × (address < 65536)
+    IsWithin (length coils) MAX_WRITE_COILS × (address < 65536)
     × ((bytes : List ℕ) × (pdu ≡ head_bytes 15 address (length coils) ++ length bytes ∷ bytes)
     × (length bytes ≡ bytes_for (length coils)) × (coils ≡ coils_of (length coils) bytes))
 SpellsRequest pdu (WriteRegisters address values) =
-    IsWithin (length values) 123 × (address < 65536)
+    IsWithin (length values) MAX_WRITE_REGISTERS × (address < 65536)
     × ((bytes : List ℕ) × (pdu ≡ head_bytes 16 address (length values) ++ length bytes ∷ bytes)
     × (length bytes ≡ 2 * length values) × (values ≡ words_of bytes))

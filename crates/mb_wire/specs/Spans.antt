@@ -1,5 +1,6 @@
 -- Registers of a device that are read together.
 use Rattle.std.specs.Prelude.{ℕ, ◌+◌, ◌≤◌}
+use Rattle.mb_wire.specs.declared.limits.TheConstants.{ADDRESSES, MAX_READ_REGISTERS}
 use Rattle.mb_wire.specs.declared.requests.Request.{Request}
 use Rattle.mb_wire.specs.declared.requests.Request.TheVariants.{ReadHolding, ReadInput}
 use Rattle.mb_wire.specs.declared.span.ReadFunction.{ReadFunction}
@@ -25,8 +26,8 @@ pub record IsSpan (function address count : ℕ) : Type 0 where
   pub low : 3 ≤ function
   pub high : function ≤ 4
   pub some : 1 ≤ count
-  pub few : count ≤ 125
-  pub inside : address + count ≤ 65536
+  pub few : count ≤ MAX_READ_REGISTERS
+  pub inside : address + count ≤ ADDRESSES
 
 -- the request that reads these registers
 abbrev pub read_request : ReadFunction → ℕ → ℕ → Request

@@ -1,10 +1,11 @@
-// Bytes at the front of a PDU, and numbers in them.
+//! Bytes at the front of a PDU, and numbers in them.
 ghost use Rattle.std.specs.Prelude.{◌≡◌, ℕ, ◌+◌, ◌*◌, ◌/◌, ◌%◌, ◌^◌, ◌≤◌, ◌<◌, ◌∷◌, ◌++◌, List};
 ghost use Rattle.std.specs.Prelude.{length, take};
 ghost use Rattle.mb_wire.specs.Bytes.{number_at, word_bytes, words_of};
 ghost use Rattle.mb_wire.specs.Coils.{bytes_for, coils_of, packed};
 ghost use Rattle.mb_wire.specs.Requests.{head_bytes};
 
+use crate::limits::MAX_PDU;
 use byteorder::{BigEndian, ByteOrder};
 
 // The number that stands in two bytes.
@@ -25,8 +26,8 @@ pub(crate) fn head(function: u8, address: u16, field: u16) -> [u8; 5]
 }
 
 // Writes bytes behind the first `end` of `out`, and says how many there are then.
-pub(crate) fn append(out: &mut [u8; 253], end: usize, bytes: &[u8]) -> usize
-    requires { end + length bytes.now ≤ 253 }
+pub(crate) fn append(out: &mut [u8; MAX_PDU], end: usize, bytes: &[u8]) -> usize
+    requires { end + length bytes.now ≤ MAX_PDU }
     ensures count { result ≡ end + length bytes.now }
     ensures written { take result out.new ≡ take end out.old ++ bytes.now }
 {
@@ -45,8 +46,13 @@ fn lowest_bits(byte: u8, count: u16) -> u8
 }
 
 // Writes so many coils behind the first `end` bytes of `out`, with spare bits 0.
-pub(crate) fn append_coils(out: &mut [u8; 253], end: usize, quantity: u16, bytes: &[u8]) -> usize
-    requires fits { end + length bytes.now ≤ 253 }
+pub(crate) fn append_coils(
+    out: &mut [u8; MAX_PDU],
+    end: usize,
+    quantity: u16,
+    bytes: &[u8],
+) -> usize
+    requires fits { end + length bytes.now ≤ MAX_PDU }
     requires bytes { length bytes.now ≡ bytes_for quantity }
     ensures count { result ≡ end + length bytes.now }
     ensures written { take result out.new ≡
@@ -62,8 +68,8 @@ pub(crate) fn append_coils(out: &mut [u8; 253], end: usize, quantity: u16, bytes
 }
 
 // Writes registers behind the first `end` bytes of `out`.
-pub(crate) fn append_words(out: &mut [u8; 253], end: usize, bytes: &[u8]) -> usize
-    requires fits { end + length bytes.now ≤ 253 }
+pub(crate) fn append_words(out: &mut [u8; MAX_PDU], end: usize, bytes: &[u8]) -> usize
+    requires fits { end + length bytes.now ≤ MAX_PDU }
     requires bytes { length bytes.now ≡ 2 * length (words_of bytes.now) }
     ensures count { result ≡ end + length bytes.now }
     ensures written { take result out.new ≡ take end out.old ++ word_bytes (words_of bytes.now) }

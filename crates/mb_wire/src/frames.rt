@@ -1,4 +1,4 @@
-// Frames: an MBAP header and a PDU.
+//! Frames: an MBAP header and a PDU.
 ghost use Rattle.std.specs.Prelude.{◌≡◌, ◌≢◌, ℕ, ◌+◌, ◌*◌, ◌≤◌, ◌<◌, List, [], ◌∷◌, ◌++◌, length};
 ghost use Rattle.std.specs.Prelude.{take, drop, slice_index, IfSome, IsSome, MatchOption, ◌⊎◌, ◌↔◌};
 ghost use Rattle.std.specs.Option.{option_map};
@@ -8,6 +8,7 @@ ghost use Rattle.mb_wire.specs.Reader.{Held, Tells, IsEnd, held_after, ended, fi
 ghost use Rattle.mb_wire.specs.Reader.{spelling};
 ghost use Rattle.mb_wire.specs.Bytes.{AreBytes, word};
 
+use crate::limits::{MAX_ADU, MAX_LENGTH, MAX_PDU, MBAP_HEADER, MIN_LENGTH};
 use byteorder::{BigEndian, ByteOrder};
 use std::marker::Model;
 
@@ -48,7 +49,7 @@ enum State {
 /// Takes a stream of bytes apart, in whatever pieces it comes.
 #[derive(Drop)]
 pub struct FrameReader {
-    buf: [u8; 260],
+    buf: [u8; MAX_ADU],
     len: usize,
     state: State,
 }
@@ -56,12 +57,13 @@ pub struct FrameReader {
 impl Model for FrameReader {
     ghost use Rattle.std.specs.Prelude.{take, ◌≤◌};
     ghost use Rattle.mb_wire.specs.Reader.{Held, held_in, FitsState};
+    ghost use Rattle.mb_wire.specs.declared.limits.TheConstants.{MAX_ADU};
 
     ghost Value = { Held };
 
     ghost view = { λ r. held_in r.state (take r.len r.buf) };
 
-    ghost invariant = { λ r. (r.len ≤ 260) × FitsState r.state (take r.len r.buf) };
+    ghost invariant = { λ r. (r.len ≤ MAX_ADU) × FitsState r.state (take r.len r.buf) };
 }
 
 // How far a step came: `len` bytes are held.
@@ -73,9 +75,9 @@ struct Step {
 
 // Copies bytes of the piece behind the first `len` of `buf`, up to `limit` in all, and says how
 // many.
-fn top_up(buf: &mut [u8; 260], len: usize, piece: &[u8], limit: usize) -> usize
+fn top_up(buf: &mut [u8; MAX_ADU], len: usize, piece: &[u8], limit: usize) -> usize
     requires within { len ≤ limit }
-    requires fits { limit ≤ 260 }
+    requires fits { limit ≤ MAX_ADU }
     ensures count { result ≤ length piece.now }
     ensures limited { len + result ≤ limit }
     ensures stops { (len + result ≡ limit) ⊎ (result ≡ length piece.now) }
@@ -88,7 +90,7 @@ fn top_up(buf: &mut [u8; 260], len: usize, piece: &[u8], limit: usize) -> usize
 }
 
 // How many bytes follow the sixth.
-fn span_in(buf: &[u8; 260]) -> usize
+fn span_in(buf: &[u8; MAX_ADU]) -> usize
     ensures span { result ≡ span_of buf.now }
     ensures fits { result < 65536 }
 {
@@ -97,10 +99,10 @@ fn span_in(buf: &[u8; 260]) -> usize
 
 // Copies bytes of the piece behind the first `len` of `buf`, until the header is whole, and says
 // how many.
-fn top_up_header(buf: &mut [u8; 260], len: usize, piece: &[u8]) -> usize
-    requires fits { len ≤ 260 }
+fn top_up_header(buf: &mut [u8; MAX_ADU], len: usize, piece: &[u8]) -> usize
+    requires fits { len ≤ MAX_ADU }
     ensures count { result ≤ length piece.now }
-    ensures limited { len + result ≤ 260 }
+    ensures limited { len + result ≤ MAX_ADU }
     ensures stops { (6 ≤ len + result) ⊎ (result ≡ length piece.now) }
     ensures header { 6 < len + result → result ≡ 0 }
     ensures held { take (len + result) buf.new ≡ take len buf.old ++ take result piece.now }
@@ -114,7 +116,7 @@ fn top_up_header(buf: &mut [u8; 260], len: usize, piece: &[u8]) -> usize
 }
 
 // What the first `len` bytes of `buf` are, behind a good header.
-fn what_is(buf: &[u8; 260], len: usize, span: usize) -> Framing
+fn what_is(buf: &[u8; MAX_ADU], len: usize, span: usize) -> Framing
     requires span { span ≡ span_of buf.now }
     requires good { IsGoodSpan span }
     requires header { 6 ≤ len }
@@ -133,10 +135,10 @@ fn what_is(buf: &[u8; 260], len: usize, span: usize) -> Framing
 }
 
 // One feed of a reader that holds the open `len` bytes in front of `buf`.
-fn take_in(buf: &mut [u8; 260], len: usize, piece: &[u8]) -> Step
-    requires fits { len ≤ 260 }
+fn take_in(buf: &mut [u8; MAX_ADU], len: usize, piece: &[u8]) -> Step
+    requires fits { len ≤ MAX_ADU }
     requires before { IsOpen (take len buf.old) }
-    ensures len { result.len ≤ 260 }
+    ensures len { result.len ≤ MAX_ADU }
     ensures taken { result.fed.taken ≤ length piece.now }
     ensures need { result.fed.what ≡ Framing.Need → result.fed.taken ≡ length piece.now }
     ensures held { take result.len buf.new ≡ take len buf.old ++ take result.fed.taken piece.now }
@@ -155,7 +157,7 @@ fn take_in(buf: &mut [u8; 260], len: usize, piece: &[u8]) -> Step
         };
     }
     let span = span_in(buf);
-    if span < 2 || span > 254 {
+    if span < MIN_LENGTH || span > MAX_LENGTH {
         return Step {
             len: reached,
             fed: Fed {
@@ -181,7 +183,7 @@ impl FrameReader {
         ensures reads { Reads [] [] result.rest }
     {
         FrameReader {
-            buf: [0; 260],
+            buf: [0; MAX_ADU],
             len: 0,
             state: State::Reading,
         }
@@ -257,7 +259,7 @@ impl FrameReader {
                 Some(Frame {
                     tid: BigEndian::read_u16(&buf[0..2]),
                     unit: buf[6],
-                    pdu: &buf[7..self.len],
+                    pdu: &buf[MBAP_HEADER..self.len],
                 })
             }
             _ => None,
@@ -266,20 +268,20 @@ impl FrameReader {
 }
 
 /// Writes the frame of these, and says how many bytes it has.
-pub fn write_frame(tid: u16, unit: u8, pdu: &[u8], out: &mut [u8; 260]) -> usize
+pub fn write_frame(tid: u16, unit: u8, pdu: &[u8], out: &mut [u8; MAX_ADU]) -> usize
     requires low { 1 ≤ length pdu.now }
-    requires high { length pdu.now ≤ 253 }
-    ensures count { result ≡ 7 + length pdu.now }
+    requires high { length pdu.now ≤ MAX_PDU }
+    ensures count { result ≡ MBAP_HEADER + length pdu.now }
     ensures written { take result out.new ≡ spelling tid unit pdu.now }
 {
-    let end = 7 + pdu.len();
+    let end = MBAP_HEADER + pdu.len();
     let head = header(tid, unit, pdu.len() as u16 + 1);
-    out[..7].copy_from_slice(&head);
-    out[7..end].copy_from_slice(pdu);
+    out[..MBAP_HEADER].copy_from_slice(&head);
+    out[MBAP_HEADER..end].copy_from_slice(pdu);
     end
 }
 
-fn header(tid: u16, unit: u8, span: u16) -> [u8; 7]
+fn header(tid: u16, unit: u8, span: u16) -> [u8; MBAP_HEADER]
     ensures { result ≡ word tid ++ word 0 ++ word span ++ unit ∷ [] }
 {
     let [tid_high, tid_low] = tid.to_be_bytes();
@@ -297,7 +299,7 @@ pub fn one_reading()
 /// What is written is a frame with these fields, and a frame is the one spelling of its fields.
 pub fn one_spelling()
     ensures frame { (tid unit : ℕ) (pdu : List ℕ) → tid < 65536 →
-        1 ≤ length pdu → length pdu ≤ 253 →
+        1 ≤ length pdu → length pdu ≤ MAX_PDU →
         IsFrame (spelling tid unit pdu) × IsOwn (spelling tid unit pdu)
         × (fields_of (spelling tid unit pdu) ≡ record { tid = tid; unit = unit; pdu = pdu }) }
     ensures spelled { (bytes : List ℕ) → AreBytes bytes → IsFrame bytes → IsOwn bytes →

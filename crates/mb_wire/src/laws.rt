@@ -1,4 +1,4 @@
-// Laws of the definitions, over all byte lists.
+//! Laws of the definitions, over all byte lists.
 ghost use Rattle.std.specs.Prelude.{◌≡◌, ◌↔◌, ℕ, List, Ok};
 ghost use Rattle.mb_wire.specs.Bytes.{AreBytes};
 ghost use Rattle.mb_wire.specs.Requests.{Query, IsLawfulQuery, SpellsRequest, query_bytes};

@@ -1,4 +1,4 @@
-// The bytes to and from a peer.
+//! The bytes to and from a peer.
 ghost use Rattle.std.specs.Prelude.{◌≡◌, ◌≤◌, ℕ, List, length, true, is_err, Some, None, IfOk};
 ghost use Rattle.std.specs.Io.KnownBytes.{Keeps, WriteAppends};
 ghost use Rattle.mb_wire.specs.Links.{TakeConsumes, TakesAtMost, is_end, is_failed_give, risen};

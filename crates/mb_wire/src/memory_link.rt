@@ -1,4 +1,4 @@
-// A link over slices, which fails where it is told to.
+//! A link over slices, which fails where it is told to.
 ghost use Rattle.std.specs.Prelude.{◌≡◌, ◌≤◌, ◌+◌, ◌-◌, ◌==◌, ℕ, List, [], length, min, take, true};
 ghost use Rattle.std.specs.Prelude.{is_err, Some, None, IfOk};
 ghost use Rattle.mb_wire.specs.Links.{TakeConsumes, TakesAtMost, is_call, is_end, is_failed_give};

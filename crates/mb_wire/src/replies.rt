@@ -1,4 +1,4 @@
-// Replies and their PDUs.
+//! Replies and their PDUs.
 ghost use Rattle.std.specs.Prelude.{◌≡◌, ◌≤◌, ◌+◌, ℕ, ◌↔◌, ◌++◌, List, length, take, false, Ok};
 ghost use Rattle.std.specs.Prelude.{None, IfOk};
 ghost use Rattle.mb_wire.specs.Bytes.{AreBytes};
@@ -11,6 +11,7 @@ ghost use Rattle.mb_wire.specs.Replies.{is_wrong_function, is_wrong_length, read
 ghost use Rattle.mb_wire.specs.Replies.{reply_fault, reply_of, wanted_by, word_at};
 
 use crate::bytes::{append, append_coils, append_words, head, read_number};
+use crate::limits::MAX_PDU;
 use crate::requests::{Request, Wanted};
 use byteorder::{BigEndian, ByteOrder};
 
@@ -176,10 +177,10 @@ pub fn decode_reply<'a>(request: &Request<'_>, pdu: &'a [u8]) -> Result<Reply<'a
     }
 }
 
-fn write_reply(request: &Request<'_>, reply: &Reply<'_>, out: &mut [u8; 253]) -> usize
+fn write_reply(request: &Request<'_>, reply: &Reply<'_>, out: &mut [u8; MAX_PDU]) -> usize
     requires { FitsRequest request.now reply.now }
     ensures some { 1 ≤ result }
-    ensures few { result ≤ 253 }
+    ensures few { result ≤ MAX_PDU }
     ensures written { take result out.new ≡
         answer_bytes (query_of request.now) (answer_of reply.now) }
 {
@@ -203,10 +204,10 @@ fn write_reply(request: &Request<'_>, reply: &Reply<'_>, out: &mut [u8; 253]) ->
 
 /// Writes the reply's PDU to the front of `out`, and says how many bytes it has. Spare bits are
 /// written as 0.
-pub fn encode_reply(request: &Request<'_>, reply: &Reply<'_>, out: &mut [u8; 253]) -> usize
+pub fn encode_reply(request: &Request<'_>, reply: &Reply<'_>, out: &mut [u8; MAX_PDU]) -> usize
     requires { FitsRequest request.now reply.now }
     ensures some { 1 ≤ result }
-    ensures few { result ≤ 253 }
+    ensures few { result ≤ MAX_PDU }
     ensures written { take result out.new ≡
         answer_bytes (query_of request.now) (answer_of reply.now) }
     ensures spelled { SpellsReply (query_of request.now) (take result out.new)

@@ -1,4 +1,4 @@
-// Requests and their PDUs.
+//! Requests and their PDUs.
 ghost use Rattle.std.specs.Prelude.{◌≡◌, ◌≤◌, ◌<◌, ◌+◌, ℕ, List, ◌↔◌, ◌++◌, length, take, true};
 ghost use Rattle.std.specs.Prelude.{false, Ok, None, IfOk};
 ghost use Rattle.mb_wire.specs.Bytes.{AreBytes, words_of};
@@ -14,6 +14,7 @@ ghost use Rattle.mb_wire.specs.RequestFaults.{request_fault_number};
 ghost use Rattle.mb_wire.specs.Replies.{wanted_by};
 
 use crate::bytes::{append, append_coils, append_words, head};
+use crate::limits::MAX_PDU;
 
 /// What a client asks a device for (Modbus Application Protocol V1.1b3, section 6). Addresses count
 /// from 0.
@@ -196,7 +197,7 @@ fn count_words(bytes: &[u8]) -> usize
 }
 
 // Writes how many bytes a request carries, and these, behind its head.
-fn append_carried(out: &mut [u8; 253], end: usize, request: &Request<'_>) -> usize
+fn append_carried(out: &mut [u8; MAX_PDU], end: usize, request: &Request<'_>) -> usize
     requires lawful { IsLawful request.now }
     requires head { end ≡ 5 }
     ensures count { result ≡ end + length (carried_by (query_of request.now)) }
@@ -219,10 +220,10 @@ fn append_carried(out: &mut [u8; 253], end: usize, request: &Request<'_>) -> usi
     }
 }
 
-fn write_request(request: &Request<'_>, out: &mut [u8; 253]) -> usize
+fn write_request(request: &Request<'_>, out: &mut [u8; MAX_PDU]) -> usize
     requires { IsLawful request.now }
     ensures some { 1 ≤ result }
-    ensures few { result ≤ 253 }
+    ensures few { result ≤ MAX_PDU }
     ensures written { take result out.new ≡ request_bytes request.now }
     ensures address { address_of (query_of request.now) < 65536 }
     ensures field { field_of (query_of request.now) < 65536 }
@@ -238,10 +239,10 @@ fn write_request(request: &Request<'_>, out: &mut [u8; 253]) -> usize
 
 /// Writes the request's PDU to the front of `out`, and says how many bytes it has. Spare bits are
 /// written as 0.
-pub fn encode_request(request: &Request<'_>, out: &mut [u8; 253]) -> usize
+pub fn encode_request(request: &Request<'_>, out: &mut [u8; MAX_PDU]) -> usize
     requires { IsLawful request.now }
     ensures some { 1 ≤ result }
-    ensures few { result ≤ 253 }
+    ensures few { result ≤ MAX_PDU }
     ensures written { take result out.new ≡ request_bytes request.now }
     ensures spelled { SpellsRequest (take result out.new) (query_of request.now) }
     ensures reads_back { query_in (take result out.new) ≡ Ok (query_of request.now) }

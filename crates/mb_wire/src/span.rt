@@ -1,6 +1,8 @@
-// Registers to be read together.
+//! Registers to be read together.
+ghost use Rattle.mb_wire.specs.declared.limits.TheConstants.{ADDRESSES, MAX_READ_REGISTERS};
 ghost use Rattle.std.specs.Prelude.{◌≡◌, ◌≤◌, ◌+◌, ◌↔◌, IsSome, IfSome};
 
+use crate::limits::{ADDRESSES, MAX_READ_REGISTERS};
 use crate::requests::Request;
 
 /// The functions that read registers.
@@ -33,8 +35,8 @@ pub struct ReadSpan {
     pub address: u16,
     pub count: u16,
     pub ghost some: { 1 ≤ count },
-    pub ghost few: { count ≤ 125 },
-    pub ghost inside: { address + count ≤ 65536 },
+    pub ghost few: { count ≤ MAX_READ_REGISTERS },
+    pub ghost inside: { address + count ≤ ADDRESSES },
 }
 
 impl ReadSpan {
@@ -52,7 +54,10 @@ impl ReadSpan {
             4 => ReadFunction::InputRegisters,
             _ => return None,
         };
-        if 1 <= count && count <= 125 && u32::from(address) + u32::from(count) <= 65536 {
+        if 1 <= count
+            && count <= MAX_READ_REGISTERS
+            && u32::from(address) + u32::from(count) <= ADDRESSES
+        {
             Some(ReadSpan {
                 function,
                 address,

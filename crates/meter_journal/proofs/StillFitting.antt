@@ -3,11 +3,11 @@ use Rattle.std.proofs.Common.{◌≡◌, ℕ, ◌*◌, Bool, true, false, nat_lt
 use Rattle.energy_core.specs.declared.entries.Last.{Last}
 use Rattle.energy_core.specs.declared.entries.Entry.{Entry}
 use Rattle.energy_core.specs.declared.entries.Entry.TheVariants as entry
-use Rattle.energy_core.specs.declared.judging.Terms.{Terms}
-use Rattle.energy_core.specs.declared.judging.Verdict.TheVariants as verdict
+use Rattle.energy_core.specs.declared.verdicts.Terms.{Terms}
+use Rattle.energy_core.specs.declared.verdicts.Verdict.TheVariants as verdict
 use Rattle.energy_core.specs.Value.{unit_of}
 use Rattle.energy_core.specs.Verdict.{distance, verdict_of, IsPlausible}
-use Rattle.energy_core.specs.Entering.{entered}
+use Rattle.energy_core.specs.Admission.{entered}
 use Rattle.energy_core.proofs.Bookings.{booked_where_entered, entered_where_booked}
 use Rattle.energy_core.proofs.Acceptance.{accepted_is_plausible}
 use Rattle.meter_journal.specs.declared.lines.Installed.{Installed}

@@ -3,8 +3,8 @@ use Rattle.std.specs.Prelude.{ℕ, ◌<◌, List}
 use Rattle.energy_core.specs.declared.entries.Last.{Last}
 use Rattle.energy_core.specs.declared.entries.Step.{Step}
 use Rattle.energy_core.specs.declared.entries.Entry.{Entry}
-use Rattle.energy_core.specs.declared.judging.Reading.{Reading}
-use Rattle.energy_core.specs.declared.judging.Verdict.{Verdict}
+use Rattle.energy_core.specs.declared.verdicts.Reading.{Reading}
+use Rattle.energy_core.specs.declared.verdicts.Verdict.{Verdict}
 use Rattle.energy_core.specs.Account.{last_of, whole_energy, steps_of, IsScale, IsAccount}
 use Rattle.energy_core.specs.Readings.{verdict_on}
 use Rattle.interval_core.specs.declared.shares.Share.{Share}

@@ -3,7 +3,7 @@ use Rattle.std.specs.Prelude.{◌≡◌, ℕ, ◌+◌, ◌%◌, ◌<◌, ◌≤�
 use Rattle.energy_core.specs.declared.entries.Entry.{Entry}
 use Rattle.energy_core.specs.declared.entries.Step.{Step}
 use Rattle.energy_core.specs.Account.{after, energy_of, step_to}
-use Rattle.energy_core.specs.Entering.{entered}
+use Rattle.energy_core.specs.Admission.{entered}
 use Rattle.energy_core.specs.Laws.{IsSound}
 use Rattle.interval_core.specs.declared.shares.Share.{Share}
 use Rattle.interval_core.specs.Share.{shares_of}

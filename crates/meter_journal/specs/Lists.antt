@@ -1,5 +1,6 @@
 -- A meter's rows as a list keeps them: the oldest first.
-use Rattle.std.specs.Prelude.{◌≡◌, ℕ, ◌+◌, ◌*◌, ◌^◌, ◌≤◌, ◌<◌, List, [], ◌∷◌, reverse, take, length, Option, Some, None, if◌then◌else◌}
+use Rattle.std.specs.Prelude.{◌≡◌, ℕ, ◌+◌, ◌≤◌, ◌<◌, List, [], ◌∷◌, reverse, take, length, Option, Some, None, if◌then◌else◌}
+use Rattle.energy_core.specs.declared.limits.TheConstants.{MAX_TOTAL}
 use Rattle.energy_core.specs.declared.entries.Last.{Last}
 use Rattle.energy_core.specs.declared.entries.Entry.{Entry}
 use Rattle.energy_core.specs.declared.entries.Step.{Step}
@@ -35,11 +36,11 @@ rolled_on last (row ∷ rows) = let next = rolled last row in next ∷ rolled_on
 
 -- an entry may be booked where the counter stands, with so much energy booked before
 pub record MayGoOn (meter : Installed) (last : Last) (total : ℕ) (e : Entry) : Type 0 where
-  pub booked : total ≤ 4 * 10 ^ 18
+  pub booked : total ≤ MAX_TOTAL
   pub raw : last.raw < meter.range
   pub scale : IsScale last.sf
   pub follows : Follows meter.range last e
-  pub within : total + energy_of meter.range last e ≤ 4 * 10 ^ 18
+  pub within : total + energy_of meter.range last e ≤ MAX_TOTAL
 
 -- the row at a place, those before it, and the next that stands
 abbrev pub IsFound : List EntryRow → (place : ℕ) → FoundRow → Type 0

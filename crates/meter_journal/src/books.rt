@@ -1,5 +1,5 @@
 //! A meter's books, anew from the rows that stand.
-ghost use Rattle.std.specs.Prelude.{◌≡◌, ◌+◌, ◌*◌, ◌^◌, ◌≤◌, ◌<◌, true, IfOk};
+ghost use Rattle.std.specs.Prelude.{◌≡◌, ◌+◌, ◌≤◌, ◌<◌, true, IfOk};
 ghost use Rattle.energy_core.specs.Account as account;
 ghost use Rattle.meter_journal.specs.Books as books;
 ghost use Rattle.meter_journal.specs.Journal.{entries_in};
@@ -8,7 +8,7 @@ ghost use Rattle.meter_journal.specs.Lists as lists;
 
 use crate::intervals::append_shares;
 use crate::lines::{EntryRow, Installed};
-use energy_core::{Entry, Last, Ranged, Step, Terms, enter};
+use energy_core::{Entry, Last, MAX_RANGE, MIN_RANGE, Ranged, Step, Terms, enter};
 use interval_core::{Share, shares_add_up};
 use std::alloc::{AllocError, Global};
 
@@ -21,8 +21,8 @@ pub struct Tally {
 
 /// Goes on by one entry, and answers the step to it.
 fn go_on(meter: &Installed, tally: &mut Tally, entry: &Entry) -> Step
-    requires range_low { 65536 ≤ meter.now.range }
-    requires range_high { meter.now.range ≤ 4294967296 }
+    requires range_low { MIN_RANGE ≤ meter.now.range }
+    requires range_high { meter.now.range ≤ MAX_RANGE }
     requires follows { lists.MayGoOn meter.now tally.old.last tally.old.total entry.now }
     ensures step { result ≡ account.step_to meter.now.range tally.old.last entry.now }
     ensures last { tally.new.last ≡ account.after tally.old.last entry.now }
@@ -47,8 +47,8 @@ fn go_on(meter: &Installed, tally: &mut Tally, entry: &Entry) -> Step
 
 /// Goes on by a row, and answers the step to it. One that was struck changes nothing, and has none.
 fn go_past(meter: &Installed, tally: &mut Tally, row: &EntryRow) -> Option<Step>
-    requires range_low { 65536 ≤ meter.now.range }
-    requires range_high { meter.now.range ≤ 4294967296 }
+    requires range_low { MIN_RANGE ≤ meter.now.range }
+    requires range_high { meter.now.range ≤ MAX_RANGE }
     requires follows { let entry = row.now.entry in
         row.now.stands ≡ true → lists.MayGoOn meter.now tally.old.last tally.old.total entry }
     ensures step { result ≡ lists.step_past meter.now.range tally.old.last row.now }
@@ -64,8 +64,8 @@ fn go_past(meter: &Installed, tally: &mut Tally, row: &EntryRow) -> Option<Step>
 
 /// The tally behind these rows.
 pub fn tally_behind(meter: &Installed, rows: &[EntryRow]) -> Tally
-    requires range_low { 65536 ≤ meter.now.range }
-    requires range_high { meter.now.range ≤ 4294967296 }
+    requires range_low { MIN_RANGE ≤ meter.now.range }
+    requires range_high { meter.now.range ≤ MAX_RANGE }
     requires installed { books.IsWellInstalled meter.now }
     requires account { books.HasAccount meter.now (entries_in (lists.latest_first rows.now)) }
     ensures last { let es = entries_in (lists.latest_first rows.now) in
@@ -89,8 +89,8 @@ pub fn interval_rows(
     meter: &Installed,
     rows: &[EntryRow],
 ) -> Result<Vec<Share>, AllocError>
-    requires range_low { 65536 ≤ meter.now.range }
-    requires range_high { meter.now.range ≤ 4294967296 }
+    requires range_low { MIN_RANGE ≤ meter.now.range }
+    requires range_high { meter.now.range ≤ MAX_RANGE }
     requires installed { books.IsWellInstalled meter.now }
     requires account { books.HasAccount meter.now (entries_in (lists.latest_first rows.now)) }
     ensures { let es = entries_in (lists.latest_first rows.now) in

@@ -1,12 +1,12 @@
 //! Shares of one step after the other, joined where they lie in one interval.
-ghost use Rattle.std.specs.Prelude.{◌≡◌, ◌+◌, ◌*◌, ◌^◌, ◌≤◌, ◌<◌, ◌++◌, ◌∷◌, [], IsSome, IfSome};
+ghost use Rattle.std.specs.Prelude.{◌≡◌, ◌+◌, ◌^◌, ◌≤◌, ◌<◌, ◌++◌, ◌∷◌, [], IsSome, IfSome};
 ghost use Rattle.std.specs.Prelude.{OnOk, OnErr};
 ghost use Rattle.std.specs.Option.{ForSome, option_to_list};
 ghost use Rattle.interval_core.specs.Share.{interval_count, shares_of};
 ghost use Rattle.interval_core.specs.Account.{energy_of};
 ghost use Rattle.meter_journal.specs.Intervals.{with_shares};
 
-use energy_core::Step;
+use energy_core::{MAX_INTERVALS, MAX_TOTAL, Step};
 use interval_core::{Share, Shares, shares_add_up};
 use std::alloc::AllocError;
 
@@ -58,8 +58,8 @@ fn join_last(rows: &mut Vec<Share>, share: Share) -> Result<(), AllocError>
 /// Joins the shares of a later step to these rows. Refused only for want of memory.
 pub fn append_shares(rows: &mut Vec<Share>, step: &Step) -> Result<(), AllocError>
     requires forward { step.now.from < step.now.till }
-    requires intervals { interval_count step.now ≤ 3000 }
-    requires energy { energy_of rows.old.items + step.now.mwh ≤ 4 * 10 ^ 18 }
+    requires intervals { interval_count step.now ≤ MAX_INTERVALS }
+    requires energy { energy_of rows.old.items + step.now.mwh ≤ MAX_TOTAL }
     ensures { OnOk result (rows.new.items ≡ with_shares rows.old.items (shares_of step.now)) }
 {
     shares_add_up();

@@ -5,8 +5,8 @@ use Rattle.std.specs.Str.{bytes_eq}
 use Rattle.office_events.specs.declared.facts.Reply.{Reply}
 use Rattle.office_events.specs.declared.facts.Fact.{Fact}
 use Rattle.office_rules.specs.Facts.{reply_of}
-use Rattle.office_books.specs.declared.repeats.Repeat.{Repeat}
-use Rattle.office_books.specs.declared.repeats.Repeat.TheVariants.{Same, Other}
+use Rattle.office_books.specs.declared.books.Repeat.{Repeat}
+use Rattle.office_books.specs.declared.books.Repeat.TheVariants.{Same, Other}
 
 abbrev pub as_repeat : (request : List ℕ) → Reply → Repeat
 as_repeat request reply = if bytes_eq reply.request request then Same reply.kind else Other

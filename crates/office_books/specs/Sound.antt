@@ -1,5 +1,6 @@
 -- Installations whose next reading can be judged.
-use Rattle.std.specs.Prelude.{◌≤◌, ◌<◌, ◌*◌, ◌^◌, Option, Result, IfOk, IfSome}
+use Rattle.std.specs.Prelude.{◌≤◌, ◌<◌, Option, Result, IfOk, IfSome}
+use Rattle.energy_core.specs.declared.limits.TheConstants.{MAX_CEILING, MAX_RANGE, MAX_TOTAL, MIN_RANGE}
 use Rattle.energy_core.specs.Account.{IsScale}
 use Rattle.office_events.specs.declared.questions.Installation.{Installation}
 use Rattle.office_events.specs.declared.questions.EntryPlace.{EntryPlace}
@@ -8,11 +9,11 @@ use Rattle.office_books.specs.Ledgers.{Ledger, OnlyReads}
 
 -- Its numbers are in their ranges.
 pub record IsSound (row : Installation) : Type 0 where
-  pub range : (65536 ≤ row.opening.range) × (row.opening.range ≤ 4294967296)
-  pub ceiling : (1 ≤ row.opening.ceiling) × (row.opening.ceiling ≤ 1000000000)
+  pub range : (MIN_RANGE ≤ row.opening.range) × (row.opening.range ≤ MAX_RANGE)
+  pub ceiling : (1 ≤ row.opening.ceiling) × (row.opening.ceiling ≤ MAX_CEILING)
   pub raw : row.last.raw < row.opening.range
   pub scale : IsScale row.last.sf
-  pub total : row.total ≤ 4 * 10 ^ 18
+  pub total : row.total ≤ MAX_TOTAL
 
 -- A look-up that answers such installations alone, whatever the store gives.
 pub record ReadsInstallation (old new : Ledger) (result : Result (Option Installation) BooksFault) :

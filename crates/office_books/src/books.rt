@@ -1,11 +1,29 @@
 //! Books: what holds the facts, however it is kept.
+
 use crate::faults::BooksFault;
-use crate::repeats::Repeat;
-use crate::sinks::RowSink;
 use interval_core::{Share, Zone};
 use office_events::{
-    Device, EntryPlace, Fact, Installation, Name, PlannedList, Poll, PollRow, Register,
+    CommandKind, Device, EntryPlace, Fact, Installation, Name, PlannedList, Poll, PollRow, Register,
 };
+
+/// What takes rows one by one. To take one can't fail: a sink that writes them somewhere keeps its own failure.
+pub trait RowSink<T> {
+    /// By taking a row the sink may go from here to there.
+    ghost takes: { Self → T → Self → Type 0 };
+
+    /// One row more.
+    fn put(&mut self, row: T)
+        ensures { takes self.old row self.new };
+}
+
+/// What a request is to one that was kept under its caller and number.
+#[derive(Clone, Copy, Debug, PartialEq, Eq)]
+pub enum Repeat {
+    /// The kept one has the same bytes: it was answered that this was done.
+    Same(CommandKind),
+    /// It has others.
+    Other,
+}
 
 /// Books hold lawful facts, the latest first. A look-up answers what the facts say, and changes none; `book` adds facts, all
 /// of them or none. What is said of an answer is said where `is_clean` holds after the call: where the store gave back what

@@ -3,12 +3,8 @@
 
 mod books;
 mod faults;
-mod judging;
-mod repeats;
-mod sinks;
+mod next_entry;
 
-pub use books::Books;
+pub use books::{Books, Repeat, RowSink};
 pub use faults::{BooksFault, StoreFault};
-pub use judging::{enter, judge};
-pub use repeats::Repeat;
-pub use sinks::RowSink;
+pub use next_entry::{enter, judge};

@@ -5,7 +5,7 @@ use Rattle.office_rules.specs.Lawful.{AreLawful}
 use Rattle.office_books.specs.declared.faults.BooksFault.{BooksFault}
 use Rattle.office_books.specs.Ledgers.{Ledger, Books, Moves, with_facts}
 use Rattle.office_books.proofs.Moving.{settles}
-use Rattle.office_commands.specs.Carrying.{Tries}
+use Rattle.office_commands.specs.Effects.{Tries}
 
 -- what the books were asked
 pub asked : (old new : Ledger) (facts : List Fact) (result : Result (Unit {0}) BooksFault) → Books old new facts result → Tries old new facts result

@@ -2,15 +2,13 @@
 #![tactic(auto)]
 
 mod additions;
-mod carrying;
+mod effects;
 mod meters;
 mod records;
 mod registers;
 mod replies;
-mod results;
 mod rounds;
-mod starting;
+mod starts;
 
-pub use carrying::{carry_out, puts_planned};
+pub use effects::{Done, carry_out, puts_planned};
 pub use office_starting::Outgoing;
-pub use results::Done;

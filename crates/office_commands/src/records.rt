@@ -1,4 +1,4 @@
-//! Commands that are recorded, and change no line.
+//! Commands that are recorded, and change no slot.
 ghost use Rattle.std.specs.Prelude.{◌≡◌, ◌++◌, [], false, List, Option, IfOk};
 ghost use Rattle.std.specs.Option.{option_to_list};
 ghost use Rattle.office_events.specs.declared.facts.Fact.{Fact};
@@ -9,11 +9,11 @@ ghost use Rattle.office_rules.specs.History.{kind_of};
 ghost use Rattle.office_rules.specs.Refusals.{is_start};
 ghost use Rattle.office_lines.specs.Ranges.{IsCommandInRange};
 ghost use Rattle.office_books.specs.Ledgers.{GoesOn, Moves};
-ghost use Rattle.office_commands.specs.Carrying.{Tries, facts_obeyed};
+ghost use Rattle.office_commands.specs.Effects.{Tries, facts_obeyed};
 
 use crate::additions::facts_by;
+use crate::effects::Done;
 use crate::replies::kind_of;
-use crate::results::Done;
 use office_books::{Books, BooksFault};
 use office_events::{Answer, Command, Fact};
 use office_starting::Outgoing;
@@ -43,7 +43,7 @@ pub fn book<B: Books>(
     books.book(all)
 }
 
-/// Carries out a command that starts no polls. The line of a device that it adds is the caller's to make.
+/// Carries out a command that starts no polls. The slot of a device that it adds is the caller's to make.
 pub fn record<B: Books>(
     alloc: Global,
     books: &mut B,
@@ -53,7 +53,7 @@ pub fn record<B: Books>(
 ) -> Result<Done, BooksFault>
     requires range { IsCommandInRange moment command.now }
     requires no_start { is_start command.now ≡ false }
-    ensures books { (kept : List sessions.Line) (held : List Fact)
+    ensures books { (kept : List sessions.Slot) (held : List Fact)
         → let later = facts_obeyed moment kept held command.now (option_to_list reply) in
         AreLawful later → Moves (B.ledger books.old) (B.ledger books.new) held later result }
     ensures goes { GoesOn (B.ledger books.old) (B.ledger books.new) result }

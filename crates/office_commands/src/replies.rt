@@ -3,7 +3,7 @@ ghost use Rattle.std.specs.Prelude.{◌≡◌, [], List, IfOk};
 ghost use Rattle.std.specs.Option.{option_to_list};
 ghost use Rattle.office_events.specs.declared.facts.Fact.{Fact};
 ghost use Rattle.office_rules.specs.History as history;
-ghost use Rattle.office_commands.specs.Carrying.{replies_by};
+ghost use Rattle.office_commands.specs.Effects.{replies_by};
 
 use office_events::{Asked, Command, CommandKind, Event, Fact, Reply};
 use std::alloc::AllocError;

@@ -6,11 +6,11 @@ use Rattle.office_events.specs.declared.refusals.Refusal.{Refusal}
 use Rattle.office_rules.specs.History.{History, Opened, facts_of}
 use Rattle.office_rules.specs.Refusals.{opening_refusal_of}
 use Rattle.office_lawful.specs.Laws.{IsPast}
-use Rattle.office_lines.specs.declared.lines.Line.{Line}
+use Rattle.office_lines.specs.declared.slots.Slot.{Slot}
 use Rattle.office_books.specs.declared.faults.BooksFault.{BooksFault}
 use Rattle.office_books.specs.Faults.{as_refusal, faults_after}
 use Rattle.office_books.specs.Ledgers.{Ledger, OnlyReads}
-use Rattle.office_opening.specs.Opening.{MayOpen, Opens}
+use Rattle.office_opening.specs.OpenedOffice.{MayOpen, Opens}
 use Rattle.office_core.specs.Leaving.{BooksStand}
 use Rattle.office_core.specs.Reopening.{IsNotOpened, IsReopened}
 use Rattle.office_core.proofs.Left.{read_stand, moved_on, moved_not}
@@ -33,15 +33,15 @@ refused past at old new x why reads stand is =
     record { books = read_stand old new past (Ok x) reads stand; reason = inl (sym is, reads.goes.faults) }
 
 -- it is booked, or that fails
-pub reopened : {T : Type 0} (past : History) (at : ℕ) (old between new : Ledger) (x : T) (lines : Vec Line Global) → OnlyReads old between (Ok x)
+pub reopened : {T : Type 0} (past : History) (at : ℕ) (old between new : Ledger) (x : T) (slots : Vec Slot Global) → OnlyReads old between (Ok x)
     → BooksStand old past → None ≡ opening_refusal_of (facts_of past) at → new.is_clean
-    → (MayOpen past at → Opens past at between new (Ok lines)) → IsReopened past at new lines.items
-reopened past at old between new x lines reads stand none clean opens =
+    → (MayOpen past at → Opens past at between new (Ok slots)) → IsReopened past at new slots.items
+reopened past at old between new x slots reads stand none clean opens =
     let kept = read_stand old between past (Ok x) reads stand in
     let opened = opens (record { is_past = stand.is_past; accepted = sym none }) in
     record {
-      books = moved_on between new (Opened at) past lines opened.books (opened_past past at stand.is_past (sym none)) clean kept;
-      keeps = opened.lines kept.holds clean;
+      books = moved_on between new (Opened at) past slots opened.books (opened_past past at stand.is_past (sym none)) clean kept;
+      keeps = opened.slots kept.holds clean;
     }
 
 pub not_booked : {T : Type 0} (past : History) (at : ℕ) (old between new : Ledger) (x : T) (fault : BooksFault) (why : Refusal) → OnlyReads old between (Ok x)
@@ -53,5 +53,5 @@ not_booked past at old between new x fault why reads stand none clean opens is =
     subst (IsNotOpened past at old new) (sym is)
     (record {
       books = moved_not between new (Opened at) past fault opened.books (opened_past past at stand.is_past (sym none)) clean kept;
-      reason = inr (failed_outside (Vec Line Global) _ _ fault (subst (λ n. new.fault_count ≡ faults_after {T = Vec Line Global} (Err fault) n) reads.goes.faults opened.books.goes.faults));
+      reason = inr (failed_outside (Vec Slot Global) _ _ fault (subst (λ n. new.fault_count ≡ faults_after {T = Vec Slot Global} (Err fault) n) reads.goes.faults opened.books.goes.faults));
     })

@@ -15,7 +15,7 @@ use Rattle.office_core.specs.Failing.{Counts, IsNotForWantOfDay, is_failure, sto
 use Rattle.office_core.specs.Leaving.{BooksStand}
 use Rattle.office_core.specs.Standing.{After, Stands, books_in, is_stopped}
 use Rattle.office_core.specs.Taking.{IsAnswer, IsTold, IsQuiet, SettlesNothing, Ends, failures_of}
-use Rattle.office_core.specs.Running.{Answered, in_turn, history_after, IsAnswered, AreAnswered, TellsOfLast, StopsInTurn, CountInTurn}
+use Rattle.office_core.specs.EventRun.{Answered, in_turn, history_after, IsAnswered, AreAnswered, TellsOfLast, StopsInTurn, CountInTurn}
 
 abbrev Events : Type 0
 Events = List (ℕ × Event)

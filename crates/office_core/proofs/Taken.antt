@@ -7,8 +7,8 @@ use Rattle.office_events.specs.declared.events.Event.{Event}
 use Rattle.office_events.specs.declared.events.Event.TheVariants as event
 use Rattle.office_events.specs.declared.facts.Fact.{Fact}
 use Rattle.office_events.specs.declared.refusals.Refusal.{Refusal}
-use Rattle.office_rules.specs.Sessions.{Line, command_in}
-use Rattle.office_rules.specs.History.{History, Fed, facts_of, lines_of, next_poll}
+use Rattle.office_rules.specs.Sessions.{Slot, command_in}
+use Rattle.office_rules.specs.History.{History, Fed, facts_of, slots_of, next_poll}
 use Rattle.office_rules.specs.Refusals.{IsAccepted, refusal_of, unless_kept, unless_refused, response_of, answer_of, is_start}
 use Rattle.office_lawful.specs.Laws.{IsPast, PutsPlanned}
 use Rattle.office_books.specs.declared.faults.BooksFault.{BooksFault}
@@ -17,7 +17,7 @@ use Rattle.office_books.specs.declared.faults.StoreFault.TheVariants.{Refused, D
 use Rattle.office_books.specs.Faults.{as_refusal, faults_after}
 use Rattle.office_rules.specs.Refusals.{with_answer}
 use Rattle.office_rules.specs.Notes.{notes_of, outgoing_of, notes_after, outgoing_after}
-use Rattle.office_lines.specs.Keeping.{KeepsLines}
+use Rattle.office_lines.specs.Keeping.{KeepsSlots}
 use Rattle.office_books.specs.Ledgers.{Ledger, Moves}
 use Rattle.office_core.specs.declared.office.Office.{Office}
 use Rattle.office_core.specs.Events.{is_command}
@@ -28,10 +28,10 @@ use Rattle.office_core.specs.Taking.{MayTake, Takes}
 use Rattle.office_core.proofs.Left.{moved_on, moved_not}
 
 -- an accepted event is answered as it is to be
-pub accepted_response : (past : History) (at : ℕ) (e : Event) → IsAccepted past at e → response_of past at e ≡ Ok (answer_of (lines_of past) (facts_of past) at e)
+pub accepted_response : (past : History) (at : ℕ) (e : Event) → IsAccepted past at e → response_of past at e ≡ Ok (answer_of (slots_of past) (facts_of past) at e)
 accepted_response past at e accepted =
-    ap (λ kept. unless_kept (unless_refused (answer_of (lines_of past) (facts_of past) at e) (refusal_of past at e)) kept) accepted.new
-    ∙ ap (unless_refused (answer_of (lines_of past) (facts_of past) at e)) accepted.right
+    ap (λ kept. unless_kept (unless_refused (answer_of (slots_of past) (facts_of past) at e) (refusal_of past at e)) kept) accepted.new
+    ∙ ap (unless_refused (answer_of (slots_of past) (facts_of past) at e)) accepted.right
 
 -- what follows an answer to an accepted event is never that it was asked before
 by_start : {X : Type 0} (f : Answer → X) (v : X) → ((n m k : ℕ) → f (answer.Started n m k) ≡ v) → ((k : CommandKind) → f (answer.Done k) ≡ v)
@@ -40,13 +40,13 @@ by_start f v started done true n m k kind = started n m k
 by_start f v started done false n m k kind = done kind
 
 pub by_answer : {X : Type 0} (f : Answer → X) (v : X) → ((n m k : ℕ) → f (answer.Started n m k) ≡ v) → ((k : CommandKind) → f (answer.Done k) ≡ v)
-    → f answer.Noted ≡ v → (lines : List Line) (facts : List Fact) (at : ℕ) (e : Event) → f (answer_of lines facts at e) ≡ v
-by_answer f v started done noted lines facts at (event.Connected given) = noted
-by_answer f v started done noted lines facts at (event.Bytes given piece) = noted
-by_answer f v started done noted lines facts at event.Tick = noted
-by_answer f v started done noted lines facts at (event.Gone given closing) = noted
-by_answer f v started done noted lines facts at (event.Command c) = by_start f v started done (is_start c) _ _ _ _
-by_answer f v started done noted lines facts at (event.Asked asked) = by_start f v started done (is_start asked.command) _ _ _ _
+    → f answer.Noted ≡ v → (slots : List Slot) (facts : List Fact) (at : ℕ) (e : Event) → f (answer_of slots facts at e) ≡ v
+by_answer f v started done noted slots facts at (event.Connected given) = noted
+by_answer f v started done noted slots facts at (event.Bytes given piece) = noted
+by_answer f v started done noted slots facts at event.Tick = noted
+by_answer f v started done noted slots facts at (event.Gone given closing) = noted
+by_answer f v started done noted slots facts at (event.Command c) = by_start f v started done (is_start c) _ _ _ _
+by_answer f v started done noted slots facts at (event.Asked asked) = by_start f v started done (is_start asked.command) _ _ _ _
 
 -- an accepted event may follow
 pub one_more_past : (past : History) (at : ℕ) (e : Event) → IsPast past → IsAccepted past at e → PutsPlanned (command_in e) → IsPast (Fed at e ∷ past)
@@ -66,54 +66,54 @@ stops_failed e (Store Damaged) device = ap (λ b. not b && true) device
 stops_failed e Memory device = ap (λ b. not b && true) device
 
 -- an event of a device is noted, and wants nothing sent; one that asks a command brings no notes
-pub noted : (lines : List Line) (facts : List Fact) (at : ℕ) (e : Event) → is_command e ≡ false → answer.Noted ≡ answer_of lines facts at e
-noted lines facts at (event.Connected given) device = refl
-noted lines facts at (event.Bytes given piece) device = refl
-noted lines facts at event.Tick device = refl
-noted lines facts at (event.Gone given closing) device = refl
-noted lines facts at (event.Command c) device = absurd (cc)
-noted lines facts at (event.Asked asked) device = absurd (cc)
+pub noted : (slots : List Slot) (facts : List Fact) (at : ℕ) (e : Event) → is_command e ≡ false → answer.Noted ≡ answer_of slots facts at e
+noted slots facts at (event.Connected given) device = refl
+noted slots facts at (event.Bytes given piece) device = refl
+noted slots facts at event.Tick device = refl
+noted slots facts at (event.Gone given closing) device = refl
+noted slots facts at (event.Command c) device = absurd (cc)
+noted slots facts at (event.Asked asked) device = absurd (cc)
 
-pub unsent : (number at : ℕ) (e : Event) (lines : List Line) (facts : List Fact) → is_command e ≡ false → outgoing_of number at e lines facts ≡ []
-unsent number at (event.Connected given) lines facts device = refl
-unsent number at (event.Bytes given piece) lines facts device = refl
-unsent number at event.Tick lines facts device = refl
-unsent number at (event.Gone given closing) lines facts device = refl
-unsent number at (event.Command c) lines facts device = absurd (cc)
-unsent number at (event.Asked asked) lines facts device = absurd (cc)
+pub unsent : (number at : ℕ) (e : Event) (slots : List Slot) (facts : List Fact) → is_command e ≡ false → outgoing_of number at e slots facts ≡ []
+unsent number at (event.Connected given) slots facts device = refl
+unsent number at (event.Bytes given piece) slots facts device = refl
+unsent number at event.Tick slots facts device = refl
+unsent number at (event.Gone given closing) slots facts device = refl
+unsent number at (event.Command c) slots facts device = absurd (cc)
+unsent number at (event.Asked asked) slots facts device = absurd (cc)
 
-pub unnoted : (number at : ℕ) (e : Event) (lines : List Line) (facts : List Fact) → is_command e ≡ true → notes_of number at e lines facts ≡ []
-unnoted number at (event.Connected given) lines facts asks = refl
-unnoted number at (event.Bytes given piece) lines facts asks = absurd (cc)
-unnoted number at event.Tick lines facts asks = absurd (cc)
-unnoted number at (event.Gone given closing) lines facts asks = absurd (cc)
-unnoted number at (event.Command c) lines facts asks = refl
-unnoted number at (event.Asked asked) lines facts asks = refl
+pub unnoted : (number at : ℕ) (e : Event) (slots : List Slot) (facts : List Fact) → is_command e ≡ true → notes_of number at e slots facts ≡ []
+unnoted number at (event.Connected given) slots facts asks = refl
+unnoted number at (event.Bytes given piece) slots facts asks = absurd (cc)
+unnoted number at event.Tick slots facts asks = absurd (cc)
+unnoted number at (event.Gone given closing) slots facts asks = absurd (cc)
+unnoted number at (event.Command c) slots facts asks = refl
+unnoted number at (event.Asked asked) slots facts asks = refl
 
 -- an event that was carried out or settled
 pub taken : {B T : Type 0} (ledger : B → Ledger) (past : History) (at : ℕ) (e : Event) (old new : Office B) (x : T) (given : Answer)
     → MayTake ledger past e old → IsAccepted past at e → (ledger new.books).is_clean
     → Moves (ledger old.books) (ledger new.books) (facts_of past) (facts_of (Fed at e ∷ past)) (Ok x)
-    → given ≡ answer_of (lines_of past) (facts_of past) at e → new.latest ≡ at → KeepsLines new.lines.items (lines_of (Fed at e ∷ past))
-    → notes_in new ≡ notes_of (next_poll (facts_of past)) at e (lines_of past) (facts_of past)
-    → outgoing_in new ≡ outgoing_of (next_poll (facts_of past)) at e (lines_of past) (facts_of past)
+    → given ≡ answer_of (slots_of past) (facts_of past) at e → new.latest ≡ at → KeepsSlots new.slots.items (slots_of (Fed at e ∷ past))
+    → notes_in new ≡ notes_of (next_poll (facts_of past)) at e (slots_of past) (facts_of past)
+    → outgoing_in new ≡ outgoing_of (next_poll (facts_of past)) at e (slots_of past) (facts_of past)
     → Takes ledger past at e old new (Ok given)
-taken ledger past at e old new x given may accepted clean moves is latest lines notes outgoing =
+taken ledger past at e old new x given may accepted clean moves is latest slots notes outgoing =
     let follows : with_answer past at e (Ok given) ≡ Fed at e ∷ past =
     ap (λ a. with_answer past at e (Ok a)) is
-    ∙ by_answer (λ a. with_answer past at e (Ok a)) (Fed at e ∷ past) (λ n m k. refl) (λ k. refl) refl (lines_of past) (facts_of past) at e in
-    let told : notes_after past at e (Ok given) ≡ notes_of (next_poll (facts_of past)) at e (lines_of past) (facts_of past) =
+    ∙ by_answer (λ a. with_answer past at e (Ok a)) (Fed at e ∷ past) (λ n m k. refl) (λ k. refl) refl (slots_of past) (facts_of past) at e in
+    let told : notes_after past at e (Ok given) ≡ notes_of (next_poll (facts_of past)) at e (slots_of past) (facts_of past) =
     ap (λ a. notes_after past at e (Ok a)) is
-    ∙ by_answer (λ a. notes_after past at e (Ok a)) _ (λ n m k. refl) (λ k. refl) refl (lines_of past) (facts_of past) at e in
-    let sent : outgoing_after past at e (Ok given) ≡ outgoing_of (next_poll (facts_of past)) at e (lines_of past) (facts_of past) =
+    ∙ by_answer (λ a. notes_after past at e (Ok a)) _ (λ n m k. refl) (λ k. refl) refl (slots_of past) (facts_of past) at e in
+    let sent : outgoing_after past at e (Ok given) ≡ outgoing_of (next_poll (facts_of past)) at e (slots_of past) (facts_of past) =
     ap (λ a. outgoing_after past at e (Ok a)) is
-    ∙ by_answer (λ a. outgoing_after past at e (Ok a)) _ (λ n m k. refl) (λ k. refl) refl (lines_of past) (facts_of past) at e in
+    ∙ by_answer (λ a. outgoing_after past at e (Ok a)) _ (λ n m k. refl) (λ k. refl) refl (slots_of past) (facts_of past) at e in
     record {
       answer = inl (ap (λ a. Ok a) is ∙ sym (accepted_response past at e accepted), moves.goes.faults);
       books =
           subst (BooksStand (ledger new.books)) (sym follows)
           (moved_on (ledger old.books) (ledger new.books) (Fed at e) past x moves (one_more_past past at e may.books.is_past accepted may.planned) clean may.books);
-      goes = λ on. subst (λ h. Goes h new) (sym follows) (record { latest = latest; lines = lines });
+      goes = λ on. subst (λ h. Goes h new) (sym follows) (record { latest = latest; slots = slots });
       told = record { notes = notes ∙ sym told; outgoing = outgoing ∙ sym sent };
     }
 

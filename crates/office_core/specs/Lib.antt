@@ -1,11 +1,11 @@
 pub mod Events
 pub mod Failing
 pub mod Leaving
-pub mod Deciding
+pub mod Decisions
 pub mod Standing
 pub mod Taking
 pub mod Reopening
 pub mod Asking
 pub mod DaySums
 pub mod Headline
-pub mod Running
+pub mod EventRun

@@ -3,10 +3,10 @@ use Rattle.std.specs.Prelude.{◌≡◌, ◌⊎◌, ℕ, List, ◌∷◌, Some, 
 use Rattle.std.specs.declared.alloc.Global.{Global}
 use Rattle.std.specs.declared.vec.Vec.{Vec}
 use Rattle.office_events.specs.declared.refusals.Refusal.{Refusal}
-use Rattle.office_rules.specs.History.{History, Opened, facts_of, lines_of}
+use Rattle.office_rules.specs.History.{History, Opened, facts_of, slots_of}
 use Rattle.office_rules.specs.Refusals.{opening_refusal_of}
-use Rattle.office_lines.specs.declared.lines.Line.{Line}
-use Rattle.office_lines.specs.Keeping.{KeepsLines}
+use Rattle.office_lines.specs.declared.slots.Slot.{Slot}
+use Rattle.office_lines.specs.Keeping.{KeepsSlots}
 use Rattle.office_books.specs.Ledgers.{Ledger}
 use Rattle.office_core.specs.Failing.{CountsFailures, IsNotStopped, IsOutside, IsNotForWantOfDay}
 use Rattle.office_core.specs.Leaving.{BooksStand}
@@ -18,14 +18,14 @@ pub record IsNotOpened (past : History) (at : ℕ) (old new : Ledger) (why : Ref
       ((opening_refusal_of (facts_of past) at ≡ Some why) × (new.fault_count ≡ old.fault_count))
       ⊎ IsOutside old.fault_count new.fault_count why
 
--- The books stand after the opening, and there is a line for each device.
-pub record IsReopened (past : History) (at : ℕ) (new : Ledger) (lines : List Line) : Type 0 where
+-- The books stand after the opening, and there is a slot for each device.
+pub record IsReopened (past : History) (at : ℕ) (new : Ledger) (slots : List Slot) : Type 0 where
   pub books : BooksStand new (Opened at ∷ past)
-  pub keeps : KeepsLines lines (lines_of (Opened at ∷ past))
+  pub keeps : KeepsSlots slots (slots_of (Opened at ∷ past))
 
-abbrev pub Reopens : History → (at : ℕ) → (old new : Ledger) → Result (Vec Line Global) Refusal
+abbrev pub Reopens : History → (at : ℕ) → (old new : Ledger) → Result (Vec Slot Global) Refusal
     → Type 0
-Reopens past at old new (Ok lines) = IsReopened past at new lines.items
+Reopens past at old new (Ok slots) = IsReopened past at new slots.items
 Reopens past at old new (Err why) = IsNotOpened past at old new why
 
 -- Whatever the books hold: the count of their failures goes up by those alone, a wrong answer of a store that was taken

@@ -1,8 +1,8 @@
 -- Where an office stands after what it accepted.
 use Rattle.std.specs.Prelude.{◌≡◌, ℕ, Bool, false, List, []}
 use Rattle.office_events.specs.declared.answers.Note.{Note}
-use Rattle.office_rules.specs.History.{History, lines_of, latest_of}
-use Rattle.office_lines.specs.Keeping.{KeepsLines}
+use Rattle.office_rules.specs.History.{History, slots_of, latest_of}
+use Rattle.office_lines.specs.Keeping.{KeepsSlots}
 use Rattle.office_books.specs.Ledgers.{Ledger}
 use Rattle.office_core.specs.declared.office.Office.{Office}
 use Rattle.office_core.specs.Leaving.{BooksStand}
@@ -23,7 +23,7 @@ outgoing_in office = office.outgoing
 -- While it goes on it keeps the latest moment, and a session for each connected device.
 pub record Goes {B : Type 0} (past : History) (office : Office B) : Type 0 where
   pub latest : office.latest ≡ latest_of past
-  pub lines : KeepsLines office.lines.items (lines_of past)
+  pub slots : KeepsSlots office.slots.items (slots_of past)
 
 -- The office stands after what it accepted: its books hold the facts of that. Once it has stopped only its books stand.
 pub record Stands {B : Type 0} (ledger : B → Ledger) (past : History)

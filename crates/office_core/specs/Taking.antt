@@ -4,7 +4,7 @@ use Rattle.office_events.specs.declared.answers.Answer.{Answer}
 use Rattle.office_events.specs.declared.events.Event.{Event}
 use Rattle.office_events.specs.declared.refusals.Refusal.{Refusal}
 use Rattle.office_events.specs.declared.refusals.Refusal.TheVariants as refusal
-use Rattle.office_rules.specs.History.{History, facts_of, lines_of, next_poll}
+use Rattle.office_rules.specs.History.{History, facts_of, slots_of, next_poll}
 use Rattle.office_rules.specs.Refusals.{IsAccepted, response_of, with_answer}
 use Rattle.office_rules.specs.Notes.{notes_after, outgoing_after}
 use Rattle.office_rules.specs.Sessions.{command_in}
@@ -48,7 +48,7 @@ pub record Ends {B : Type 0} (ledger : B → Ledger) (old new : Office B) (e : E
 -- The event is of a device, and settles no poll.
 pub record SettlesNothing (past : History) (at : ℕ) (e : Event) : Type 0 where
   pub device : is_command e ≡ false
-  pub nothing : SettleNothing (next_poll (facts_of past)) at e (lines_of past)
+  pub nothing : SettleNothing (next_poll (facts_of past)) at e (slots_of past)
 
 -- Neither the store nor memory fails, and no books are asked.
 pub record IsQuiet {B : Type 0} (old new : Office B) (result : Result Answer Refusal) : Type 0 where

@@ -2,7 +2,7 @@
 ghost use Rattle.std.specs.Prelude.{◌≡◌};
 ghost use Rattle.std.proofs.Props.{props};
 
-use interval_core::{DayFault, DayFold, DayTotal, Share, Zone};
+use interval_core::{DayFault, DayFold, DayTotal, LAST_MOMENT, Share, Zone};
 use office_books::RowSink;
 use office_events::{Refusal, StoreCause};
 use std::alloc::Global;
@@ -41,7 +41,7 @@ impl DaySink {
         requires works { self.old.fault ≡ None }
         ensures { AddsRow self.old row self.new }
     {
-        if row.start < self.latest.unwrap_or(0) || 4_102_444_800 < row.start {
+        if row.start < self.latest.unwrap_or(0) || LAST_MOMENT < row.start {
             self.fault = Some(DayFault::Zone);
             return;
         }

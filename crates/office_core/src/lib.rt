@@ -2,13 +2,14 @@
 #![tactic(auto)]
 
 mod day_sink;
-mod deciding;
+mod decisions;
+mod event_run;
 mod office;
-mod opening;
 mod questions;
+mod reopened_office;
 mod results;
-mod running;
 
+pub use event_run::run;
 pub use office::Office;
 pub use office_books::{Books, BooksFault, RowSink, StoreFault};
 pub use office_events::{
@@ -17,4 +18,3 @@ pub use office_events::{
     Rescale, Reset, StartPoll, StartRound, StoreCause, VoidEntry,
 };
 pub use results::Run;
-pub use running::run;

@@ -8,7 +8,7 @@ ghost use Rattle.office_rules.specs.Meters.{meter_of};
 ghost use Rattle.office_rules.specs.Readings.{poll_row_of};
 ghost use Rattle.office_rules.specs.Refusals.{refusal_of, with_answer};
 ghost use Rattle.office_rules.specs.Sessions.{command_in};
-ghost use Rattle.office_lines.specs.Places.{AsksOnLine};
+ghost use Rattle.office_lines.specs.Places.{AsksOnSlot};
 ghost use Rattle.office_lines.specs.Ranges.{AsksInRange};
 ghost use Rattle.office_core.specs.Asking.{OnlyAsks, TakesRows, intervals_of};
 ghost use Rattle.office_core.specs.Asking.{Tells, TellsDays, TellsRows};
@@ -21,15 +21,15 @@ ghost use Rattle.office_core.specs.Standing.{books_in, is_stopped, notes_in, out
 ghost use Rattle.office_core.specs.Taking.{Ends, IsAnswer, IsQuiet, IsTold, SettlesNothing};
 ghost use Rattle.office_core.specs.Taking.{MayTake, Passes, TakesAccepted, TakesAny, failures_of};
 
-use crate::deciding::{asks_planned, decide, is_command, is_failure};
-use crate::opening::reopen;
+use crate::decisions::{asks_planned, decide, is_command, is_failure};
 use crate::questions;
+use crate::reopened_office::reopen;
 use interval_core::{DayTotal, Share};
 use office_books::{Books, RowSink};
 use office_commands::carry_out;
 use office_events::{Answer, Event, Installation, Name, Note, PollRow, Refusal};
 use office_lawful::facts_are_lawful;
-use office_lines::Line;
+use office_lines::Slot;
 use office_settling::settle_event;
 use office_starting::Outgoing;
 use std::alloc::Global;
@@ -40,7 +40,7 @@ pub struct Office<B: Books> {
     alloc: Global,
     books: B,
     latest: u64,
-    lines: Vec<Line>,
+    slots: Vec<Slot>,
     stopped: bool,
     outgoing: Outgoing,
     notes: Vec<Note>,
@@ -63,11 +63,11 @@ impl<B: Books> Office<B> {
     {
         match reopen(alloc, &mut books, moment) {
             Err(why) => Err((books, why)),
-            Ok(lines) => Ok(Office {
+            Ok(slots) => Ok(Office {
                 alloc,
                 books,
                 latest: moment,
-                lines,
+                slots,
                 stopped: false,
                 outgoing: Outgoing::none(),
                 notes: Vec::new(alloc),
@@ -85,7 +85,7 @@ impl<B: Books> Office<B> {
             → IsQuiet self.old self.new result }
         ensures passes { Passes B.ledger self.old self.new result }
     {
-        match settle_event(self.alloc, &mut self.lines, &mut self.books, moment, event) {
+        match settle_event(self.alloc, &mut self.slots, &mut self.books, moment, event) {
             Ok(notes) => {
                 self.latest = moment;
                 self.notes = notes;
@@ -99,12 +99,12 @@ impl<B: Books> Office<B> {
     fn obey(&mut self, moment: u64, event: &Event) -> Result<Answer, Refusal>
         requires asks { events.is_command event.now ≡ true }
         requires range { AsksInRange moment (command_in event.now) }
-        requires there { AsksOnLine self.old.lines.items (command_in event.now) }
+        requires there { AsksOnSlot self.old.slots.items (command_in event.now) }
         requires limit { moment ≤ moment_limit }
         ensures takes { TakesAccepted B.ledger moment event.now self.old self.new result }
         ensures passes { Passes B.ledger self.old self.new result }
     {
-        match carry_out(self.alloc, &mut self.lines, &mut self.books, moment, event) {
+        match carry_out(self.alloc, &mut self.slots, &mut self.books, moment, event) {
             Ok(done) => {
                 self.latest = moment;
                 self.outgoing = done.outgoing;
@@ -121,7 +121,7 @@ impl<B: Books> Office<B> {
             → SettlesNothing past moment event.now → IsQuiet self.old self.new result }
         ensures passes { Passes B.ledger self.old self.new result }
     {
-        match decide(&mut self.books, &self.lines, self.latest, moment, event) {
+        match decide(&mut self.books, &self.slots, self.latest, moment, event) {
             Err(fault) => Err(Refusal::from(fault)),
             Ok(Some(given)) => given,
             Ok(None) => {

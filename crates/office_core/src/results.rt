@@ -1,4 +1,4 @@
-//! What a run leaves.
+//! What a run leaves. It stands apart from `run`, since one module can't have both names.
 use crate::office::Office;
 use office_books::Books;
 use office_events::{Answer, Refusal};

@@ -1,6 +1,6 @@
 //! What someone asks of the office. Numbers are as they were handed in; a name is `None` where what was
 //! handed in is no name.
-use crate::naming::Name;
+use crate::names::Name;
 use mb_wire::ReadSpan;
 use planned_list::PlannedList;
 

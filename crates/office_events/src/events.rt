@@ -1,6 +1,6 @@
 //! What comes to the office.
 use crate::commands::Command;
-use crate::naming::Name;
+use crate::names::Name;
 use poll_core::Closing;
 use std::marker::Model;
 

@@ -1,7 +1,7 @@
 //! What the books record.
 use crate::answers::CommandKind;
 use crate::events::Piece;
-use crate::naming::Name;
+use crate::names::Name;
 use crate::terms::{Timeout, Window};
 use energy_core::{Cause, Entry};
 use mb_wire::{ReadFunction, ReadSpan};

@@ -5,7 +5,8 @@ mod answers;
 mod commands;
 mod events;
 mod facts;
-mod naming;
+mod limits;
+mod names;
 mod questions;
 mod refusals;
 mod terms;
@@ -20,8 +21,12 @@ pub use facts::{
     BookedEntry, Device, DeviceList, EndedPoll, Fact, HeldReading, Opening, Poll, Register, Reply,
     ScaleSource, VoidedEntry,
 };
+pub use limits::{
+    LAST_ADDRESS, LAST_COUNTER, LAST_UNIT, MAX_DEVICES, MAX_INSTALLATIONS, MAX_NAME, MAX_POLLS,
+    MAX_REGISTERS, MAX_REQUEST, MAX_ROLLS,
+};
 pub use meter_journal::{EntryKind, EntryRow};
-pub use naming::Name;
+pub use names::Name;
 pub use planned_list::PlannedList;
 pub use questions::{EntryPlace, Installation, PollRow};
 pub use refusals::{Refusal, StoreCause};

@@ -2,7 +2,7 @@
 #![tactic(auto)]
 
 mod faults;
-mod opening;
+mod files;
 
 pub use faults::FileFault;
-pub use opening::{FileConnection, make_file, open_file};
+pub use files::{FileConnection, make_file, open_file};

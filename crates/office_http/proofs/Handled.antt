@@ -10,7 +10,7 @@ use Rattle.mb_wire.specs.declared.link.LinkFailed.{LinkFailed}
 use Rattle.http_head.specs.Heads.{IsOpenHead, Looks}
 use Rattle.http_head.specs.declared.head.Look.{Look}
 use Rattle.http_head.specs.declared.head.Look.TheVariants.{Open, TooLarge, NoHead, Whole}
-use Rattle.http_read.specs.Reading.{EndsAt, ReadsHead, StopsAtOnce}
+use Rattle.http_read.specs.HeadAndBody.{EndsAt, ReadsHead, StopsAtOnce}
 use Rattle.http_read.specs.Taking.{Came, bytes_in}
 use Rattle.http_read.specs.declared.inbox.Inbox.{Inbox}
 use Rattle.http_read.specs.declared.inbox.TakeFault.{TakeFault}
@@ -26,7 +26,7 @@ use Rattle.office_rules.specs.History.{History}
 use Rattle.office_books.specs.Ledgers.{Ledger}
 use Rattle.office_core.specs.Standing.{After}
 use Rattle.office_core.specs.declared.office.Office.{Office}
-use Rattle.office_http.specs.Handling.{Does, DoesBare, GivesReply, Handles, HandlesBare, HasHead, IsEnd, Passage, ReadsOn, ReadsOnBare, Replies, RepliesBare, StopsReading, as_fault, ended, is_link_fault, passage}
+use Rattle.office_http.specs.Exchange.{Does, DoesBare, GivesReply, Handles, HandlesBare, HasHead, IsEnd, Passage, ReadsOn, ReadsOnBare, Replies, RepliesBare, StopsReading, as_fault, ended, is_link_fault, passage}
 use Rattle.office_http.specs.declared.fault.HandleFault.{HandleFault}
 use Rattle.office_http.specs.declared.fault.HandleFault.TheVariants.{Read, Write, Short, TurnsUsed, Cut}
 use Rattle.office_http.proofs.Served.{no_memory}

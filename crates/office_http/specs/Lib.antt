@@ -1,4 +1,4 @@
 pub mod Answering
 pub mod Serving
-pub mod Handling
+pub mod Exchange
 pub mod Laws

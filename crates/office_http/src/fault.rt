@@ -22,7 +22,7 @@ pub enum HandleFault {
 }
 
 impl HandleFault {
-    ghost use Rattle.office_http.specs.Handling.{fault_number};
+    ghost use Rattle.office_http.specs.Exchange.{fault_number};
 
     /// The number that stands for it in texts.
     pub fn number(self) -> u8
@@ -40,7 +40,7 @@ impl HandleFault {
 
 impl From<TakeFault> for HandleFault {
     ghost use Rattle.std.specs.Prelude.{◌≡◌};
-    ghost use Rattle.office_http.specs.Handling.{as_fault};
+    ghost use Rattle.office_http.specs.Exchange.{as_fault};
 
     ghost from_gives = { λ fault told. told ≡ as_fault fault };
 

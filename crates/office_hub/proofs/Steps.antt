@@ -8,11 +8,11 @@ use Rattle.office_rules.specs.History.{History}
 use Rattle.office_rules.specs.Notes.{notes_after, outgoing_after}
 use Rattle.office_rules.specs.Refusals.{with_answer}
 use Rattle.office_books.specs.Ledgers.{Ledger}
-use Rattle.office_core.specs.Running.{Answered}
+use Rattle.office_core.specs.EventRun.{Answered}
 use Rattle.office_core.specs.Standing.{Stands, books_in, notes_in, outgoing_in}
 use Rattle.office_core.specs.Taking.{IsAnswer, IsTold}
 use Rattle.office_core.specs.declared.office.Office.{Office}
-use Rattle.office_rounds.specs.Telling.{history_behind}
+use Rattle.office_rounds.specs.FedEvents.{history_behind}
 use Rattle.hub_rounds.specs.Rounds.{heard}
 use Rattle.hub_rounds.specs.declared.round.Round.{Round}
 use Rattle.office_hub.specs.Showing.{Shown, shown}

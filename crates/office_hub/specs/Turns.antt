@@ -9,15 +9,15 @@ use Rattle.office_events.specs.declared.events.Event.TheVariants as event
 use Rattle.office_events.specs.declared.refusals.Refusal.{Refusal}
 use Rattle.office_rules.specs.History.{History}
 use Rattle.office_rules.specs.Notes.{notes_after, outgoing_after}
-use Rattle.office_core.specs.Running.{Answered}
-use Rattle.office_rounds.specs.Telling.{history_behind}
+use Rattle.office_core.specs.EventRun.{Answered}
+use Rattle.office_rounds.specs.FedEvents.{history_behind}
 use Rattle.hub_rounds.specs.Rounds.{answered, heard, is_wishing, joined, leaving, wish_of}
 use Rattle.hub_rounds.specs.declared.round.Round.{Round}
 use Rattle.hub_rounds.specs.declared.stage.Stage.{Stage}
 use Rattle.hub_rounds.specs.declared.stage.Stage.TheVariants.{Off, Joining, Starting, Waiting, Leaving}
 use Rattle.office_hub.specs.Showing.{Shown, shown}
-use Rattle.office_hub.specs.declared.happening.Happening.{Happening}
-use Rattle.office_hub.specs.declared.happening.Happening.TheVariants.{Stands, Came, Ended, Second}
+use Rattle.office_hub.specs.declared.happenings.Happening.{Happening}
+use Rattle.office_hub.specs.declared.happenings.Happening.TheVariants.{Stands, Came, Ended, Second}
 
 -- an event that is to be fed, for the round of a place or for none
 pub record Wished : Type 0 where

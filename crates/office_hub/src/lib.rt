@@ -2,11 +2,11 @@
 //! to be told.
 #![tactic(auto)]
 
-mod feeding;
-mod happening;
-mod turning;
+mod feed;
+mod happenings;
+mod turns;
 mod witness;
 
-pub use happening::Happening;
-pub use turning::{MOST_STEPS, turn};
+pub use happenings::Happening;
+pub use turns::{MOST_STEPS, turn};
 pub use witness::Witness;

@@ -23,7 +23,7 @@ use Rattle.office_events.specs.declared.commands.Command.TheVariants as command
 use Rattle.office_events.specs.declared.events.Asked.{Asked}
 use Rattle.office_rules.specs.Facts.{moment_in, latest_in}
 use Rattle.office_rules.specs.Meters.{open_at}
-use Rattle.office_rules.specs.Sessions.{Line, line_of, sends_at, device_by}
+use Rattle.office_rules.specs.Sessions.{Slot, slot_of, sends_at, device_by}
 use Rattle.office_rules.specs.History.{Made, made_by, made_on, corrected_at, read_at, entries_by, openings_by, opening_by, installed_by, register_by, poll_by, polls_from, spans_by, added_by, reply_by, kind_of}
 
 -- each of these facts
@@ -90,35 +90,35 @@ openings_each P T at c h now =
     each_then P (λ register. option_map (λ meter. opening_by at c register meter) c.meter)
     (λ register. each_map P (λ meter. opening_by at c register meter) (λ meter. h.opening _ now) c.meter) c.register
 
-polls_each : (P : Fact → Type 0) (T : ℕ → Type 0) (number at : ℕ) (spans : List ReadSpan) (o : Option Line) → Allows P T → T at
+polls_each : (P : Fact → Type 0) (T : ℕ → Type 0) (number at : ℕ) (spans : List ReadSpan) (o : Option Slot) → Allows P T → T at
     → Each P (polls_from number at spans o)
 polls_each P T number at spans None h now = tt
-polls_each P T number at spans (Some line) h now =
-    each_listed P (poll_by at line.device) (λ send. h.poll _ now) (sends_at number at line.device line.present spans)
+polls_each P T number at spans (Some slot) h now =
+    each_listed P (poll_by at slot.device) (λ send. h.poll _ now) (sends_at number at slot.device slot.present spans)
 
 -- What is so of each kind of fact at such moments is so of each fact that a command adds.
-pub command_each : (P : Fact → Type 0) (T : ℕ → Type 0) (number at : ℕ) (lines : List Line) (facts : List Fact) (c : Command) → Allows P T
-    → T at → ReadsAt T at c → ((d : Device) → adds_device c ≡ true → P (fact.Device d)) → Each P (added_by number at lines facts c)
-command_each P T number at lines facts (command.AddDevice c) h now reads device = each_map P fact.Device (λ d. device d refl) (device_by c)
-command_each P T number at lines facts (command.PutList c) h now reads device =
+pub command_each : (P : Fact → Type 0) (T : ℕ → Type 0) (number at : ℕ) (slots : List Slot) (facts : List Fact) (c : Command) → Allows P T
+    → T at → ReadsAt T at c → ((d : Device) → adds_device c ≡ true → P (fact.Device d)) → Each P (added_by number at slots facts c)
+command_each P T number at slots facts (command.AddDevice c) h now reads device = each_map P fact.Device (λ d. device d refl) (device_by c)
+command_each P T number at slots facts (command.PutList c) h now reads device =
     each_map P (λ d. fact.List (record { device = d; list = c.list })) (λ d. h.list _) c.device
-command_each P T number at lines facts (command.AddRegister c) h now reads device =
+command_each P T number at slots facts (command.AddRegister c) h now reads device =
     each_then P (λ name. option_map (λ d. register_by c name d) c.device)
     (λ name. each_map P (λ d. register_by c name d) (λ d. h.register _) c.device) c.name
-command_each P T number at lines facts (command.Install c) h now reads device = openings_each P T at c h now
-command_each P T number at lines facts (command.Exchange c) h now reads device =
+command_each P T number at slots facts (command.Install c) h now reads device = openings_each P T at c h now
+command_each P T number at slots facts (command.Exchange c) h now reads device =
     each_both P (entries_by at facts (command.Exchange c)) (openings_by at (installed_by c))
     (entries_each P T at facts (command.Exchange c) h (λ last. now)) (openings_each P T at (installed_by c) h now)
-command_each P T number at lines facts (command.Reset c) h now reads device = entries_each P T at facts (command.Reset c) h (λ last. now)
-command_each P T number at lines facts (command.Rescale c) h now reads device = entries_each P T at facts (command.Rescale c) h (λ last. now)
-command_each P T number at lines facts (command.Manual c) h now reads device = entries_each P T at facts (command.Manual c) h (λ last. reads)
-command_each P T number at lines facts (command.Close c) h now reads device = entries_each P T at facts (command.Close c) h (λ last. now)
-command_each P T number at lines facts (command.Void c) h now reads device =
+command_each P T number at slots facts (command.Reset c) h now reads device = entries_each P T at facts (command.Reset c) h (λ last. now)
+command_each P T number at slots facts (command.Rescale c) h now reads device = entries_each P T at facts (command.Rescale c) h (λ last. now)
+command_each P T number at slots facts (command.Manual c) h now reads device = entries_each P T at facts (command.Manual c) h (λ last. reads)
+command_each P T number at slots facts (command.Close c) h now reads device = entries_each P T at facts (command.Close c) h (λ last. now)
+command_each P T number at slots facts (command.Void c) h now reads device =
     each_map P (λ meter. fact.Void (record { meter = meter; place = c.place; at = at })) (λ m. h.void _ now) c.meter
-command_each P T number at lines facts (command.StartPoll c) h now reads device =
-    polls_each P T number at (spans_by facts (command.StartPoll c)) (line_of lines c.device) h now
-command_each P T number at lines facts (command.StartRound c) h now reads device =
-    polls_each P T number at (spans_by facts (command.StartRound c)) (line_of lines c.device) h now
+command_each P T number at slots facts (command.StartPoll c) h now reads device =
+    polls_each P T number at (spans_by facts (command.StartPoll c)) (slot_of slots c.device) h now
+command_each P T number at slots facts (command.StartRound c) h now reads device =
+    polls_each P T number at (spans_by facts (command.StartRound c)) (slot_of slots c.device) h now
 
 pub unseen_reply : (P : Fact → Type 0) (at : ℕ) (asked : Asked) → ((r : Reply) → r.at ≡ at → P (fact.Reply r)) → Each P (reply_by at asked)
 unseen_reply P at asked h =
@@ -162,8 +162,8 @@ in_time at = record {
   poll = λ p h. h;
 }
 
-pub latest_commanded : (number at : ℕ) (lines : List Line) (facts : List Fact) (c : Command) → ReadsAt (λ m. m ≤ at) at c → latest_in facts ≤ at
-    → latest_in (reverse (added_by number at lines facts c) ++ facts) ≤ at
-latest_commanded number at lines facts c reads h =
-    latest_added at (added_by number at lines facts c) facts
-    (command_each (λ f. moment_in f ≤ at) (λ m. m ≤ at) number at lines facts c (in_time at) (omega arith) reads (λ d is. omega arith)) h
+pub latest_commanded : (number at : ℕ) (slots : List Slot) (facts : List Fact) (c : Command) → ReadsAt (λ m. m ≤ at) at c → latest_in facts ≤ at
+    → latest_in (reverse (added_by number at slots facts c) ++ facts) ≤ at
+latest_commanded number at slots facts c reads h =
+    latest_added at (added_by number at slots facts c) facts
+    (command_each (λ f. moment_in f ≤ at) (λ m. m ≤ at) number at slots facts c (in_time at) (omega arith) reads (λ d is. omega arith)) h

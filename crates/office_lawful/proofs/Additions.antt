@@ -10,25 +10,25 @@ use Rattle.office_events.specs.declared.commands.AddRegister.{AddRegister}
 use Rattle.office_events.specs.declared.commands.Install.{Install}
 use Rattle.office_rules.specs.Facts.{moment_limit, latest_in, device_of, register_of, opening_of}
 use Rattle.office_rules.specs.Meters.{open_at}
-use Rattle.office_rules.specs.Sessions.{Line, line_of}
+use Rattle.office_rules.specs.Sessions.{Slot, slot_of}
 use Rattle.office_rules.specs.History.{register_by, opening_by}
 use Rattle.office_rules.specs.Refusals.{is_outside, is_off_scale, is_bad_meter}
 use Rattle.office_rules.specs.Lawful.{AreLawful}
 use Rattle.office_laws.proofs.Lookups.{none_from_is_some}
 use Rattle.office_laws.proofs.LawfulExchange.{inside, lawful_scale, below}
-use Rattle.office_lawful.proofs.DeviceLines.{HaveSameDevices, same_names}
+use Rattle.office_lawful.proofs.DeviceSlots.{HaveSameDevices, same_names}
 
-pub device_fits : (lines : List Line) (facts : List Fact) (c : AddDevice) (name : Option (List ℕ)) → HaveSameDevices lines facts
-    → AreLawful facts → is_some (line_of lines name) ≡ false
+pub device_fits : (slots : List Slot) (facts : List Fact) (c : AddDevice) (name : Option (List ℕ)) → HaveSameDevices slots facts
+    → AreLawful facts → is_some (slot_of slots name) ≡ false
     → ((is_none name || nat_lt 255 c.unit) || is_outside 1 60 c.timeout) || is_outside 1 16 c.window ≡ false
     → AreLawful (reverse (option_to_list (option_map fact.Device (option_map (λ n. record { name = n; unit = c.unit; timeout = c.timeout; window = c.window }) name))) ++ facts)
-device_fits lines facts c None devices h new fields = h
-device_fits lines facts c (Some name) devices h new fields =
+device_fits slots facts c None devices h new fields = h
+device_fits slots facts c (Some name) devices h new fields =
     let last = or_parts (nat_lt 255 c.unit || is_outside 1 60 c.timeout) (is_outside 1 16 c.window) fields in
     let third = or_parts (nat_lt 255 c.unit) (is_outside 1 60 c.timeout) last.0 in (
       (
         record {
-          new = none_from_is_some (device_of facts name) (sym (same_names lines facts devices name) ∙ new);
+          new = none_from_is_some (device_of facts name) (sym (same_names slots facts devices name) ∙ new);
           unit = ltb-false 255 c.unit third.0;
           timeout = inside 1 60 c.timeout third.1;
           window = inside 1 16 c.window last.1;
@@ -42,29 +42,29 @@ not_none : {X : Type 0} (o : Option X) → is_none o ≡ false → is_some o ≡
 not_none None h = absurd (cc)
 not_none (Some x) h = refl
 
--- a device that has a line was added
-known_device : (lines : List Line) (facts : List Fact) (device : List ℕ) → HaveSameDevices lines facts → is_none (line_of lines (Some device)) ≡ false
+-- a device that has a slot was added
+known_device : (slots : List Slot) (facts : List Fact) (device : List ℕ) → HaveSameDevices slots facts → is_none (slot_of slots (Some device)) ≡ false
     → is_some (device_of facts device) ≡ true
-known_device lines facts device devices known =
-    sym (same_names lines facts devices device) ∙ not_none (line_of lines (Some device)) known
+known_device slots facts device devices known =
+    sym (same_names slots facts devices device) ∙ not_none (slot_of slots (Some device)) known
 
-pub list_fits : (lines : List Line) (facts : List Fact) (list : Planned) (device : Option (List ℕ)) → HaveSameDevices lines facts → AreLawful facts
-    → is_none (line_of lines device) ≡ false → IsPlanned list
+pub list_fits : (slots : List Slot) (facts : List Fact) (list : Planned) (device : Option (List ℕ)) → HaveSameDevices slots facts → AreLawful facts
+    → is_none (slot_of slots device) ≡ false → IsPlanned list
     → AreLawful (reverse (option_to_list (option_map (λ d. fact.List (record { device = d; list = list })) device)) ++ facts)
-list_fits lines facts list None devices h known planned = h
-list_fits lines facts list (Some device) devices h known planned =
-    ((record { device = known_device lines facts device devices known; planned = planned }, omega arith), h)
+list_fits slots facts list None devices h known planned = h
+list_fits slots facts list (Some device) devices h known planned =
+    ((record { device = known_device slots facts device devices known; planned = planned }, omega arith), h)
 
-pub register_fits : (lines : List Line) (facts : List Fact) (c : AddRegister) (name device : Option (List ℕ)) → HaveSameDevices lines facts
-    → AreLawful facts → is_none (line_of lines device) ≡ false → is_some (option_and_then (register_of facts) name) ≡ false
+pub register_fits : (slots : List Slot) (facts : List Fact) (c : AddRegister) (name device : Option (List ℕ)) → HaveSameDevices slots facts
+    → AreLawful facts → is_none (slot_of slots device) ≡ false → is_some (option_and_then (register_of facts) name) ≡ false
     → AreLawful (reverse (option_to_list (option_and_then (λ n. option_map (λ d. register_by c n d) device) name)) ++ facts)
-register_fits lines facts c None device devices h known new = h
-register_fits lines facts c (Some name) None devices h known new = h
-register_fits lines facts c (Some name) (Some device) devices h known new = (
+register_fits slots facts c None device devices h known new = h
+register_fits slots facts c (Some name) None devices h known new = h
+register_fits slots facts c (Some name) (Some device) devices h known new = (
   (
     record {
       new = none_from_is_some (register_of facts name) new;
-      device = known_device lines facts device devices known;
+      device = known_device slots facts device devices known;
     },
     omega arith,
   ),

@@ -6,8 +6,8 @@ use Rattle.std.specs.Option.{option_and_then, option_to_list}
 use Rattle.std.proofs.lemmas.Int.{ints}
 use Rattle.energy_core.specs.declared.entries.Entry.{Entry}
 use Rattle.energy_core.specs.declared.entries.Entry.TheVariants as entry
-use Rattle.energy_core.specs.declared.entering.TermFault.TheVariants as fault
-use Rattle.energy_core.specs.Entering as entering
+use Rattle.energy_core.specs.declared.admission.TermFault.TheVariants as fault
+use Rattle.energy_core.specs.Admission as entering
 use Rattle.meter_journal.specs.declared.lines.EntryKind.TheVariants as kind
 use Rattle.office_events.specs.declared.facts.Opening.{Opening}
 use Rattle.office_events.specs.declared.facts.Fact.{Fact}

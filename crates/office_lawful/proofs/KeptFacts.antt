@@ -2,9 +2,9 @@
 use Rattle.std.proofs.Common.{◌≡◌, ℕ, Bool, true, false, cond, List, [], ◌∷◌, ◌++◌, map, reverse, refl, sym, ap, ◌∙◌, Option, Some, None, append_assoc}
 use Rattle.std.specs.List.{filter_map, cons_option, flat_map}
 use Rattle.std.proofs.lemmas.List.{reverse-append}
-use Rattle.energy_core.specs.declared.judging.Reading.{Reading}
-use Rattle.energy_core.specs.declared.judging.Verdict.{Verdict}
-use Rattle.energy_core.specs.declared.judging.Verdict.TheVariants.{Accepted, Held}
+use Rattle.energy_core.specs.declared.verdicts.Reading.{Reading}
+use Rattle.energy_core.specs.declared.verdicts.Verdict.{Verdict}
+use Rattle.energy_core.specs.declared.verdicts.Verdict.TheVariants.{Accepted, Held}
 use Rattle.poll_core.specs.Settling as session
 use Rattle.poll_core.specs.declared.outcome.LostCause.TheVariants.{Restart}
 use Rattle.office_events.specs.declared.facts.Poll.{Poll}
@@ -19,7 +19,7 @@ use Rattle.office_events.specs.declared.questions.Installation.{Installation}
 use Rattle.office_rules.specs.Facts.{pending_in, poll_of, registers_of}
 use Rattle.office_rules.specs.Meters.{open_at}
 use Rattle.office_rules.specs.Readings.{as_fact, judgement, reading_of, is_read_by, with_reading, with_register, with_registers, with_reply}
-use Rattle.office_rules.specs.Sessions.{Line}
+use Rattle.office_rules.specs.Sessions.{Slot}
 use Rattle.office_rules.specs.History.{with_words, with_outcome, with_outcomes, settled_by, with_settled, lost, with_lost}
 
 -- a look-up that finds no readings
@@ -90,15 +90,15 @@ outcomes-append at [] ys facts = refl
 outcomes-append at (x ∷ xs) ys facts = outcomes-append at xs ys (with_outcome at x facts)
 
 -- what an event settles on all sessions
-abbrev pub settled_on_all : (number at : ℕ) → Event → List Line → List (ℕ × session.Settlement)
-settled_on_all number at e lines = flat_map (settled_by number at e) lines
+abbrev pub settled_on_all : (number at : ℕ) → Event → List Slot → List (ℕ × session.Settlement)
+settled_on_all number at e slots = flat_map (settled_by number at e) slots
 
-pub settled_is : (number at : ℕ) (e : Event) (lines : List Line) (facts : List Fact)
-    → with_settled number at e lines facts ≡ with_outcomes at (settled_on_all number at e lines) facts
+pub settled_is : (number at : ℕ) (e : Event) (slots : List Slot) (facts : List Fact)
+    → with_settled number at e slots facts ≡ with_outcomes at (settled_on_all number at e slots) facts
 settled_is number at e [] facts = refl
-settled_is number at e (line ∷ lines) facts =
-    settled_is number at e lines (with_outcomes at (settled_by number at e line) facts)
-    ∙ sym (outcomes-append at (settled_by number at e line) (settled_on_all number at e lines) facts)
+settled_is number at e (slot ∷ slots) facts =
+    settled_is number at e slots (with_outcomes at (settled_by number at e slot) facts)
+    ∙ sym (outcomes-append at (settled_by number at e slot) (settled_on_all number at e slots) facts)
 
 -- an opening loses each poll that waits
 abbrev pub as_lost : Poll → ℕ × session.Settlement

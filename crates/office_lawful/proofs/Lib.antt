@@ -2,7 +2,7 @@ mod Names
 mod Times
 mod Added
 mod KeptFacts
-mod DeviceLines
+mod DeviceSlots
 mod SettledOnce
 mod Outcomes
 mod Taken

@@ -11,7 +11,7 @@ use Rattle.office_events.specs.declared.events.Asked.{Asked}
 use Rattle.office_events.specs.declared.events.Event.TheVariants as event
 use Rattle.office_events.specs.declared.refusals.Refusal.TheVariants as refusal
 use Rattle.office_rules.specs.Facts.{moment_limit, request_limit, as_reply, same, replies_in, reply_of}
-use Rattle.office_rules.specs.Sessions.{Line}
+use Rattle.office_rules.specs.Sessions.{Slot}
 use Rattle.office_rules.specs.History.{added_by, reply_by, kind_of}
 use Rattle.office_rules.specs.Refusals.{by_reply, kept_of, is_bad_request}
 use Rattle.office_rules.specs.Lawful.{AreLawful}
@@ -28,11 +28,11 @@ no_reply = record {
 }
 
 -- a command keeps no answer by itself
-no_reply_added : (number at : ℕ) (lines : List Line) (facts : List Fact) (c : Command)
-    → replies_in (reverse (added_by number at lines facts c) ++ facts) ≡ replies_in facts
-no_reply_added number at lines facts c =
-    unseen_added as_reply (added_by number at lines facts c) facts
-    (command_each (λ f. as_reply f ≡ None) (λ m. Unit {0}) number at lines facts c no_reply tt (any_time at c) (λ d is. refl))
+no_reply_added : (number at : ℕ) (slots : List Slot) (facts : List Fact) (c : Command)
+    → replies_in (reverse (added_by number at slots facts c) ++ facts) ≡ replies_in facts
+no_reply_added number at slots facts c =
+    unseen_added as_reply (added_by number at slots facts c) facts
+    (command_each (λ f. as_reply f ≡ None) (λ m. Unit {0}) number at slots facts c no_reply tt (any_time at c) (λ d is. refl))
 
 map_none : {X Y : Type 0} (f : X → Y) (o : Option X) → option_map f o ≡ None → o ≡ None
 map_none f None h = refl
@@ -55,12 +55,12 @@ by_caller facts held at asked (Some caller) h timely kept new good = (
 )
 
 -- Where the command may follow, so may the answer that is kept.
-pub asked_fits : (number at : ℕ) (lines : List Line) (facts : List Fact) (asked : Asked) → at ≤ moment_limit
+pub asked_fits : (number at : ℕ) (slots : List Slot) (facts : List Fact) (asked : Asked) → at ≤ moment_limit
     → kept_of facts (event.Asked asked) ≡ None → is_bad_request asked refusal.Limit ≡ false
-    → AreLawful (reverse (added_by number at lines facts asked.command) ++ facts)
-    → AreLawful (reverse (added_by number at lines facts asked.command ++ reply_by at asked) ++ facts)
-asked_fits number at lines facts asked timely new good h =
-    let added : List Fact = added_by number at lines facts asked.command in
+    → AreLawful (reverse (added_by number at slots facts asked.command) ++ facts)
+    → AreLawful (reverse (added_by number at slots facts asked.command ++ reply_by at asked) ++ facts)
+asked_fits number at slots facts asked timely new good h =
+    let added : List Fact = added_by number at slots facts asked.command in
     subst AreLawful (sym (replied_is added (reply_by at asked) facts))
-    (by_caller facts (reverse added ++ facts) at asked asked.caller h timely (no_reply_added number at lines facts asked.command)
+    (by_caller facts (reverse added ++ facts) at asked asked.caller h timely (no_reply_added number at slots facts asked.command)
     (map_none (by_reply asked) (option_and_then (λ (c : List ℕ). reply_of facts c asked.number) asked.caller) new) good)

@@ -2,7 +2,7 @@
 use Rattle.std.proofs.Common.{◌≡◌, ℕ, ◌≤◌, nat_lt, Bool, true, false, ◌||◌, List, [], ◌∷◌, refl, None}
 use Rattle.std.specs.List.{find}
 use Rattle.std.proofs.lemmas.Bool.{or_parts, ltb-false}
-use Rattle.energy_core.specs.declared.entering.TermFault.TheVariants as fault
+use Rattle.energy_core.specs.declared.admission.TermFault.TheVariants as fault
 use Rattle.office_events.specs.declared.commands.Command.{Command}
 use Rattle.office_events.specs.declared.events.Asked.{Asked}
 use Rattle.office_events.specs.declared.events.Event.{Event}
@@ -10,7 +10,7 @@ use Rattle.office_events.specs.declared.events.Event.TheVariants as event
 use Rattle.office_events.specs.declared.refusals.Refusal.{Refusal}
 use Rattle.office_events.specs.declared.refusals.Refusal.TheVariants as refusal
 use Rattle.office_rules.specs.Facts.{moment_limit}
-use Rattle.office_rules.specs.History.{History, facts_of, lines_of, latest_of}
+use Rattle.office_rules.specs.History.{History, facts_of, slots_of, latest_of}
 use Rattle.office_rules.specs.Refusals.{refuses, reasons, refusal_of, is_mistimed, asks_wrongly, asks_unknown, asks_taken, asks_bad_scale, asks_faulty, asks_bad_field, is_crowded, asks_beyond, asks_past_numbers, is_bad_request}
 use Rattle.office_laws.proofs.LawfulChanges.{not_refused}
 use Rattle.office_laws.proofs.Lookups.{none_parts}
@@ -29,8 +29,8 @@ is_timely past at e h =
 
 -- none of these reasons speaks against the command
 pub record IsTaken (past : History) (at : ℕ) (c : Command) : Type 0 where
-  pub known : asks_unknown (lines_of past) (facts_of past) c ≡ false
-  pub new : asks_taken (lines_of past) (facts_of past) c ≡ false
+  pub known : asks_unknown (slots_of past) (facts_of past) c ≡ false
+  pub new : asks_taken (slots_of past) (facts_of past) c ≡ false
   pub scale : asks_bad_scale c ≡ false
   pub negative : asks_faulty (facts_of past) at fault.NegativeStep c ≡ false
   pub later : asks_faulty (facts_of past) at fault.NotLater c ≡ false
@@ -38,16 +38,16 @@ pub record IsTaken (past : History) (at : ℕ) (c : Command) : Type 0 where
   pub full : asks_faulty (facts_of past) at fault.TotalFull c ≡ false
   pub fields : asks_bad_field at c ≡ false
   pub below : asks_faulty (facts_of past) at fault.NotBelowRange c ≡ false
-  pub few : asks_past_numbers (lines_of past) (facts_of past) at c ≡ false
+  pub few : asks_past_numbers (slots_of past) (facts_of past) at c ≡ false
 
 pub is_taken : (past : History) (at : ℕ) (c : Command) → refusal_of past at (event.Command c) ≡ None → IsTaken past at c
 is_taken past at c h =
     let all = not_refused past at (event.Command c) h in
     let four = all.1.1.1.1 in
     let limit = four.1.1.1.1.1.1 in
-    let wrong = or_parts (nat_lt moment_limit at) (asks_beyond (lines_of past) (facts_of past) at c) limit.0 in
-    let beyond = or_parts (asks_bad_field at c || is_crowded (lines_of past) (facts_of past) c) (asks_faulty (facts_of past) at fault.NotBelowRange c) wrong.1 in
-    let fields = or_parts (asks_bad_field at c) (is_crowded (lines_of past) (facts_of past) c) beyond.0 in
+    let wrong = or_parts (nat_lt moment_limit at) (asks_beyond (slots_of past) (facts_of past) at c) limit.0 in
+    let beyond = or_parts (asks_bad_field at c || is_crowded (slots_of past) (facts_of past) c) (asks_faulty (facts_of past) at fault.NotBelowRange c) wrong.1 in
+    let fields = or_parts (asks_bad_field at c) (is_crowded (slots_of past) (facts_of past) c) beyond.0 in
     record {
       known = all.0;
       new = all.1.0;
@@ -77,7 +77,7 @@ pub command_of_asked : (past : History) (at : ℕ) (asked : Asked) → refusal_o
     → refusal_of past at (event.Command asked.command) ≡ None
 command_of_asked past at asked h =
     less_refused (refuses past at (event.Asked asked)) (refuses past at (event.Command asked.command))
-    (λ why refused. both_false (is_mistimed (latest_of past) at why) (asks_wrongly (lines_of past) (facts_of past) at asked.command why) (is_bad_request asked why) refused)
+    (λ why refused. both_false (is_mistimed (latest_of past) at why) (asks_wrongly (slots_of past) (facts_of past) at asked.command why) (is_bad_request asked why) refused)
     reasons h
 
 -- its request is one
@@ -85,4 +85,4 @@ pub good_request : (past : History) (at : ℕ) (asked : Asked) → refusal_of pa
 good_request past at asked h =
     let all = not_refused past at (event.Asked asked) h in
     let limit = or_parts (nat_lt moment_limit at) _ all.1.1.1.1.1.1.1.1.1.1.0 in
-    (or_parts (asks_wrongly (lines_of past) (facts_of past) at asked.command refusal.Limit) (is_bad_request asked refusal.Limit) limit.1).1
+    (or_parts (asks_wrongly (slots_of past) (facts_of past) at asked.command refusal.Limit) (is_bad_request asked refusal.Limit) limit.1).1

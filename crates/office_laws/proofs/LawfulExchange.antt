@@ -5,8 +5,8 @@ use Rattle.std.proofs.lemmas.Bool.{or_parts, ltb-false}
 use Rattle.std.proofs.lemmas.Bool.Decides.{nat_tests}
 use Rattle.std.proofs.lemmas.Int.{ints}
 use Rattle.energy_core.specs.declared.entries.Entry.TheVariants as entry
-use Rattle.energy_core.specs.declared.entering.TermFault.{TermFault}
-use Rattle.energy_core.specs.declared.entering.TermFault.TheVariants as fault
+use Rattle.energy_core.specs.declared.admission.TermFault.{TermFault}
+use Rattle.energy_core.specs.declared.admission.TermFault.TheVariants as fault
 use Rattle.energy_core.proofs.Tables.{none_pass}
 use Rattle.office_events.specs.declared.facts.Opening.{Opening}
 use Rattle.office_events.specs.declared.facts.Fact.{Fact}
@@ -17,10 +17,10 @@ use Rattle.office_events.specs.declared.commands.Command.TheVariants as command
 use Rattle.office_events.specs.declared.events.Event.TheVariants as event
 use Rattle.office_rules.specs.Facts.{moment_limit, latest_in, same, opening_of, installed_at, register_of}
 use Rattle.office_rules.specs.Meters.{is_ended, installation_of, if_open}
-use Rattle.office_rules.specs.History.{History, Fed, facts_of, lines_of, latest_of, made_on}
+use Rattle.office_rules.specs.History.{History, Fed, facts_of, slots_of, latest_of, made_on}
 use Rattle.office_rules.specs.Refusals.{refuses, reasons, refusal_of, makes_fault, is_outside, is_off_scale, is_closed, is_bad_meter, asks_beyond, asks_bad_field, asks_faulty, is_crowded}
 use Rattle.office_events.specs.declared.commands.Command.{Command}
-use Rattle.office_rules.specs.Sessions.{Line}
+use Rattle.office_rules.specs.Sessions.{Slot}
 use Rattle.office_rules.specs.Lawful.{AreLawful}
 use Rattle.office_laws.proofs.Lookups.{same_text, none_from_is_some}
 use Rattle.office_laws.proofs.LawfulChanges.{exchange_fits}
@@ -122,12 +122,12 @@ exchange_by past at last rolls raw ceiling range sf (Some r) None h latest taken
     let c : Exchange = record { register = Some r; last = last; rolls = rolls; meter = None; raw = raw; sf = sf; ceiling = ceiling; range = range } in
     let all = none_pass (refuses past at (event.Command (command.Exchange c))) reasons taken in
     let limit = all.1.1.1.1.1.1.1.1.1.1.0 in
-    let lines : List Line = lines_of past in
+    let slots : List Slot = slots_of past in
     let facts : List Fact = facts_of past in
     let asked : Command = command.Exchange c in
-    let wrong = or_parts (nat_lt moment_limit at) (asks_beyond lines facts at asked) limit in
-    let beyond = or_parts (asks_bad_field at asked || is_crowded lines facts asked) (asks_faulty facts at fault.NotBelowRange asked) wrong.1 in
-    let fields = or_parts (asks_bad_field at asked) (is_crowded lines facts asked) beyond.0 in
+    let wrong = or_parts (nat_lt moment_limit at) (asks_beyond slots facts at asked) limit in
+    let beyond = or_parts (asks_bad_field at asked || is_crowded slots facts asked) (asks_faulty facts at fault.NotBelowRange asked) wrong.1 in
+    let fields = or_parts (asks_bad_field at asked) (is_crowded slots facts asked) beyond.0 in
     absurd (let e : true ≡ false = (or_parts (nat_lt 255 rolls) true fields.0).1 in cc)
 exchange_by past at last rolls raw ceiling range sf (Some r) (Some m) h latest taken =
     let c : Exchange = record { register = Some r; last = last; rolls = rolls; meter = Some m; raw = raw; sf = sf; ceiling = ceiling; range = range } in
@@ -135,11 +135,11 @@ exchange_by past at last rolls raw ceiling range sf (Some r) (Some m) h latest t
     let all = none_pass (refuses past at (event.Command (command.Exchange c))) reasons taken in
     let four = all.1.1.1.1 in
     let limit = four.1.1.1.1.1.1.0 in
-    let lines : List Line = lines_of past in
+    let slots : List Slot = slots_of past in
     let asked : Command = command.Exchange c in
-    let wrong = or_parts (nat_lt moment_limit at) (asks_beyond lines facts at asked) limit in
-    let beyond = or_parts (asks_bad_field at asked || is_crowded lines facts asked) (asks_faulty facts at fault.NotBelowRange asked) wrong.1 in
-    let first = or_parts (asks_bad_field at asked) (is_crowded lines facts asked) beyond.0 in
+    let wrong = or_parts (nat_lt moment_limit at) (asks_beyond slots facts at asked) limit in
+    let beyond = or_parts (asks_bad_field at asked || is_crowded slots facts asked) (asks_faulty facts at fault.NotBelowRange asked) wrong.1 in
+    let first = or_parts (asks_bad_field at asked) (is_crowded slots facts asked) beyond.0 in
     let fields = or_parts (nat_lt 255 rolls) (is_bad_meter (Some m) range raw ceiling) first.0 in
     let last_field = or_parts (is_outside 65536 4294967296 range || nat_le range raw) (is_outside 1 1000000000 ceiling) fields.1 in
     let third = or_parts (is_outside 65536 4294967296 range) (nat_le range raw) last_field.0 in

@@ -1,5 +1,6 @@
 -- What lawful facts say of the numbers of installations.
-use Rattle.std.specs.Prelude.{◌≡◌, ℕ, ◌≤◌, ◌<◌, ◌*◌, ◌^◌, List, Some}
+use Rattle.std.specs.Prelude.{◌≡◌, ℕ, ◌≤◌, ◌<◌, List, Some}
+use Rattle.energy_core.specs.declared.limits.TheConstants.{MAX_CEILING, MAX_RANGE, MAX_TOTAL, MIN_RANGE}
 use Rattle.energy_core.specs.Account.{IsScale}
 use Rattle.office_events.specs.declared.facts.Opening.{Opening}
 use Rattle.office_events.specs.declared.facts.Fact.{Fact}
@@ -11,11 +12,11 @@ use Rattle.office_laws.specs.Laws.{IsRecorded}
 
 -- The numbers of an installation are in their ranges, so that its next entry can be judged.
 pub record IsInRange (row : Installation) : Type 0 where
-  pub range : (65536 ≤ row.opening.range) × (row.opening.range ≤ 4294967296)
-  pub ceiling : (1 ≤ row.opening.ceiling) × (row.opening.ceiling ≤ 1000000000)
+  pub range : (MIN_RANGE ≤ row.opening.range) × (row.opening.range ≤ MAX_RANGE)
+  pub ceiling : (1 ≤ row.opening.ceiling) × (row.opening.ceiling ≤ MAX_CEILING)
   pub raw : row.last.raw < row.opening.range
   pub scale : IsScale row.last.sf
-  pub total : row.total ≤ 4 * 10 ^ 18
+  pub total : row.total ≤ MAX_TOTAL
 
 -- So are those of each installation that is recorded or looked up, and where one stood before an entry.
 pub record AreInRange (facts : List Fact) : Type 0 where

@@ -12,8 +12,8 @@ use Rattle.office_events.specs.declared.events.Event.{Event}
 use Rattle.office_events.specs.declared.events.Event.TheVariants as event
 use Rattle.office_rules.specs.Facts.{is_named}
 use Rattle.office_rules.specs.Sessions as sessions
-use Rattle.office_rules.specs.Sessions.{Send, connects, command_in, started_on, start_by, sends_on, starts_by, reaches, with_happenings, line_reached, line_after, line_restarted, lines_added, new_line, device_by}
-use Rattle.office_rules.specs.History.{History, Opened, Fed, facts_of, lines_of, latest_of, next_poll, spans_in}
+use Rattle.office_rules.specs.Sessions.{Send, connects, command_in, started_on, start_by, sends_on, starts_by, reaches, with_happenings, slot_reached, slot_after, slot_restarted, slots_added, new_slot, device_by}
+use Rattle.office_rules.specs.History.{History, Opened, Fed, facts_of, slots_of, latest_of, next_poll, spans_in}
 use Rattle.office_rules.specs.Refusals.{AreAccepted, refusal_of, refuses, reasons}
 use Rattle.office_lines.specs.Moments.{none_later}
 
@@ -23,17 +23,17 @@ not_back past at e h =
     let all = none_pass (refuses past at e) reasons h in
     ltb-false at (latest_of past) (or_parts (nat_lt at (latest_of past)) _ all.1.1.0).0
 
-abbrev pub AllBefore : ℕ → List sessions.Line → Type 0
+abbrev pub AllBefore : ℕ → List sessions.Slot → Type 0
 AllBefore at [] = Unit {0}
-AllBefore at (line ∷ lines) = none_later at line.present × AllBefore at lines
+AllBefore at (slot ∷ slots) = none_later at slot.present × AllBefore at slots
 
 one_later : (at later : ℕ) → at ≤ later → (present : Option (List session.Event)) → none_later at present → none_later later present
 one_later at later h None before = tt
 one_later at later h (Some events) before = omega (arith, h, before)
 
-before_later : (at later : ℕ) → at ≤ later → (lines : List sessions.Line) → AllBefore at lines → AllBefore later lines
+before_later : (at later : ℕ) → at ≤ later → (slots : List sessions.Slot) → AllBefore at slots → AllBefore later slots
 before_later at later h [] all = tt
-before_later at later h (line ∷ lines) all = (one_later at later h line.present all.0, before_later at later h lines all.1)
+before_later at later h (slot ∷ slots) all = (one_later at later h slot.present all.0, before_later at later h slots all.1)
 
 -- an event of the office is on a session at its own moment
 abbrev AtMoment : ℕ → List session.Event → Type 0
@@ -66,42 +66,42 @@ reaches_at number at spans (event.Gone given closing) device before = one_at at 
 reaches_at number at spans (event.Command c) device before = command_at number at spans c device before
 reaches_at number at spans (event.Asked asked) device before = command_at number at spans asked.command device before
 
-happened_before : (at : ℕ) (line : sessions.Line) (before happenings : List session.Event) → AtMoment at happenings → none_later at (Some before)
-    → none_later at (with_happenings line before happenings).present
-happened_before at line before [] all h = h
-happened_before at line before (session.Start m n u s ∷ later) all h =
-    happened_before at line (before ++ session.Start m n u s ∷ []) later all.1 (omega (arith, last_moment-push before (session.Start m n u s), all.0))
-happened_before at line before (session.Piece m bytes ∷ later) all h =
-    happened_before at line (before ++ session.Piece m bytes ∷ []) later all.1 (omega (arith, last_moment-push before (session.Piece m bytes), all.0))
-happened_before at line before (session.Tick m ∷ later) all h =
-    happened_before at line (before ++ session.Tick m ∷ []) later all.1 (omega (arith, last_moment-push before (session.Tick m), all.0))
-happened_before at line before (session.Close m closing ∷ later) all h = tt
+happened_before : (at : ℕ) (slot : sessions.Slot) (before happenings : List session.Event) → AtMoment at happenings → none_later at (Some before)
+    → none_later at (with_happenings slot before happenings).present
+happened_before at slot before [] all h = h
+happened_before at slot before (session.Start m n u s ∷ later) all h =
+    happened_before at slot (before ++ session.Start m n u s ∷ []) later all.1 (omega (arith, last_moment-push before (session.Start m n u s), all.0))
+happened_before at slot before (session.Piece m bytes ∷ later) all h =
+    happened_before at slot (before ++ session.Piece m bytes ∷ []) later all.1 (omega (arith, last_moment-push before (session.Piece m bytes), all.0))
+happened_before at slot before (session.Tick m ∷ later) all h =
+    happened_before at slot (before ++ session.Tick m ∷ []) later all.1 (omega (arith, last_moment-push before (session.Tick m), all.0))
+happened_before at slot before (session.Close m closing ∷ later) all h = tt
 
-reached_before : (number at : ℕ) (spans : List ReadSpan) (e : Event) (line : sessions.Line) (present : Option (List session.Event))
-    → line.present ≡ present → none_later at line.present → none_later at (line_reached number at spans e line present).present
-reached_before number at spans e line None is h = h
-reached_before number at spans e line (Some before) is h =
-    happened_before at line before (reaches number at spans e line.device before) (reaches_at number at spans e line.device before)
+reached_before : (number at : ℕ) (spans : List ReadSpan) (e : Event) (slot : sessions.Slot) (present : Option (List session.Event))
+    → slot.present ≡ present → none_later at slot.present → none_later at (slot_reached number at spans e slot present).present
+reached_before number at spans e slot None is h = h
+reached_before number at spans e slot (Some before) is h =
+    happened_before at slot before (reaches number at spans e slot.device before) (reaches_at number at spans e slot.device before)
     (subst (none_later at) is h)
 
-line_before : (number at : ℕ) (spans : List ReadSpan) (e : Event) (line : sessions.Line) → none_later at line.present
-    → none_later at (line_after number at spans e line).present
-line_before number at spans e line h =
-    cond_both (connects e line.device) _ _ (λ (l : sessions.Line). none_later at l.present)
+slot_before : (number at : ℕ) (spans : List ReadSpan) (e : Event) (slot : sessions.Slot) → none_later at slot.present
+    → none_later at (slot_after number at spans e slot).present
+slot_before number at spans e slot h =
+    cond_both (connects e slot.device) _ _ (λ (l : sessions.Slot). none_later at l.present)
     (λ c. omega arith)
-    (λ c. reached_before number at spans e line line.present refl h)
+    (λ c. reached_before number at spans e slot slot.present refl h)
 
-lines_before : (number at : ℕ) (spans : List ReadSpan) (e : Event) (lines more : List sessions.Line) → AllBefore at lines → AllBefore at more
-    → AllBefore at (map (line_after number at spans e) lines ++ more)
-lines_before number at spans e [] more all new = new
-lines_before number at spans e (line ∷ lines) more all new =
-    (line_before number at spans e line all.0, lines_before number at spans e lines more all.1 new)
+slots_before : (number at : ℕ) (spans : List ReadSpan) (e : Event) (slots more : List sessions.Slot) → AllBefore at slots → AllBefore at more
+    → AllBefore at (map (slot_after number at spans e) slots ++ more)
+slots_before number at spans e [] more all new = new
+slots_before number at spans e (slot ∷ slots) more all new =
+    (slot_before number at spans e slot all.0, slots_before number at spans e slots more all.1 new)
 
-new_before : (at : ℕ) (device : Option Device) → AllBefore at (new_line device)
+new_before : (at : ℕ) (device : Option Device) → AllBefore at (new_slot device)
 new_before at None = tt
 new_before at (Some device) = (tt, tt)
 
-added_before : (at : ℕ) (c : Option Command) → AllBefore at (lines_added c)
+added_before : (at : ℕ) (c : Option Command) → AllBefore at (slots_added c)
 added_before at None = tt
 added_before at (Some (command.AddDevice c)) = new_before at (device_by c)
 added_before at (Some (command.PutList c)) = tt
@@ -116,19 +116,19 @@ added_before at (Some (command.Void c)) = tt
 added_before at (Some (command.StartPoll c)) = tt
 added_before at (Some (command.StartRound c)) = tt
 
-restarted_before : (at : ℕ) (lines : List sessions.Line) → AllBefore at (map line_restarted lines)
+restarted_before : (at : ℕ) (slots : List sessions.Slot) → AllBefore at (map slot_restarted slots)
 restarted_before at [] = tt
-restarted_before at (line ∷ lines) = (tt, restarted_before at lines)
+restarted_before at (slot ∷ slots) = (tt, restarted_before at slots)
 
-all_before : (past : History) → AreAccepted past → AllBefore (latest_of past) (lines_of past)
+all_before : (past : History) → AreAccepted past → AllBefore (latest_of past) (slots_of past)
 all_before [] accepted = tt
-all_before (Opened at ∷ past) accepted = restarted_before at (lines_of past)
+all_before (Opened at ∷ past) accepted = restarted_before at (slots_of past)
 all_before (Fed at e ∷ past) accepted =
-    lines_before (next_poll (facts_of past)) at (spans_in (facts_of past) (command_in e)) e (lines_of past) (lines_added (command_in e))
-    (before_later (latest_of past) at (not_back past at e accepted.0.right) (lines_of past) (all_before past accepted.1))
+    slots_before (next_poll (facts_of past)) at (spans_in (facts_of past) (command_in e)) e (slots_of past) (slots_added (command_in e))
+    (before_later (latest_of past) at (not_back past at e accepted.0.right) (slots_of past) (all_before past accepted.1))
     (added_before at (command_in e))
 
 -- nothing on a session is later than an event that is accepted
-pub before_event : (past : History) (at : ℕ) (e : Event) → AreAccepted past → refusal_of past at e ≡ None → AllBefore at (lines_of past)
+pub before_event : (past : History) (at : ℕ) (e : Event) → AreAccepted past → refusal_of past at e ≡ None → AllBefore at (slots_of past)
 before_event past at e accepted none =
-    before_later (latest_of past) at (not_back past at e none) (lines_of past) (all_before past accepted)
+    before_later (latest_of past) at (not_back past at e none) (slots_of past) (all_before past accepted)

@@ -1,10 +1,10 @@
--- The sessions that the office keeps, one line for each device, in the order in which they were added.
+-- The sessions that the office keeps, one slot for each device, in the order in which they were added.
 use Rattle.std.specs.Prelude.{◌≡◌, List, [], ◌∷◌, Option, Some, None}
 use Rattle.poll_core.specs.Settling as session
 use Rattle.poll_core.specs.Standing as standing
 use Rattle.office_events.specs.declared.facts.Device.{Device}
 use Rattle.office_rules.specs.Sessions as sessions
-use Rattle.office_lines.specs.declared.lines.Line.{Line}
+use Rattle.office_lines.specs.declared.slots.Slot.{Slot}
 
 -- a kept session stands after all that happened on the device's present session, on the device's terms
 pub record KeepsSession (device : Device) (kept : standing.State)
@@ -20,17 +20,17 @@ KeepsPresent device (Some kept) (Some events) = KeepsSession device kept events
 KeepsPresent device None (Some events) = ⊥
 KeepsPresent device (Some kept) None = ⊥
 
-pub record KeepsLine (kept : Line) (line : sessions.Line) : Type 0 where
-  pub device : kept.device ≡ line.device
-  pub session : KeepsPresent line.device kept.session line.present
+pub record KeepsSlot (kept : Slot) (slot : sessions.Slot) : Type 0 where
+  pub device : kept.device ≡ slot.device
+  pub session : KeepsPresent slot.device kept.session slot.present
 
-abbrev pub KeepsLines : List Line → List sessions.Line → Type 0
-KeepsLines [] [] = Unit {0}
-KeepsLines (kept ∷ rest) (line ∷ lines) = KeepsLine kept line × KeepsLines rest lines
-KeepsLines [] (line ∷ lines) = ⊥
-KeepsLines (kept ∷ rest) [] = ⊥
+abbrev pub KeepsSlots : List Slot → List sessions.Slot → Type 0
+KeepsSlots [] [] = Unit {0}
+KeepsSlots (kept ∷ rest) (slot ∷ slots) = KeepsSlot kept slot × KeepsSlots rest slots
+KeepsSlots [] (slot ∷ slots) = ⊥
+KeepsSlots (kept ∷ rest) [] = ⊥
 
--- What is answered of kept lines is what the definition says of those that they keep.
-abbrev pub IsOfKept : {T : Type 0} → List Line → T → (List sessions.Line → T) → Type 0
+-- What is answered of kept slots is what the definition says of those that they keep.
+abbrev pub IsOfKept : {T : Type 0} → List Slot → T → (List sessions.Slot → T) → Type 0
 IsOfKept kept result says =
-    (lines : List sessions.Line) → KeepsLines kept lines → result ≡ says lines
+    (slots : List sessions.Slot) → KeepsSlots kept slots → result ≡ says slots

@@ -1,5 +1,6 @@
 -- The ranges in which the numbers of an event are that is not refused.
 use Rattle.std.specs.Prelude.{◌≡◌, ℕ, ◌≤◌, true, false, Option, Some, None, is_some}
+use Rattle.energy_core.specs.declared.limits.TheConstants.{MAX_SHOWN}
 use Rattle.office_events.specs.declared.commands.Command.{Command}
 use Rattle.office_events.specs.declared.commands.Command.TheVariants as command
 use Rattle.office_events.specs.declared.events.Event.{Event}
@@ -10,11 +11,11 @@ use Rattle.office_rules.specs.Refusals.{asks_bad_scale, asks_bad_field}
 
 -- what a command tells of a counter is what a counter of 32 bits can show
 abbrev pub FitsCounter : Command → Type 0
-FitsCounter (command.Exchange c) = c.last ≤ 4294967295
-FitsCounter (command.Reset c) = (c.before ≤ 4294967295) × (c.after ≤ 4294967295)
-FitsCounter (command.Rescale c) = (c.before ≤ 4294967295) × (c.after ≤ 4294967295)
-FitsCounter (command.Manual c) = c.raw ≤ 4294967295
-FitsCounter (command.Close c) = c.raw ≤ 4294967295
+FitsCounter (command.Exchange c) = c.last ≤ MAX_SHOWN
+FitsCounter (command.Reset c) = (c.before ≤ MAX_SHOWN) × (c.after ≤ MAX_SHOWN)
+FitsCounter (command.Rescale c) = (c.before ≤ MAX_SHOWN) × (c.after ≤ MAX_SHOWN)
+FitsCounter (command.Manual c) = c.raw ≤ MAX_SHOWN
+FitsCounter (command.Close c) = c.raw ≤ MAX_SHOWN
 FitsCounter _ = Unit {0}
 
 -- its scales, its other numbers, and what it tells of a counter

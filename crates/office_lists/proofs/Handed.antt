@@ -2,7 +2,7 @@
 use Rattle.std.proofs.Common.{List, length, sym, subst, Ok, arith}
 use Rattle.std.proofs.lemmas.List.{take_all}
 use Rattle.interval_core.specs.declared.shares.Share.{Share}
-use Rattle.list_tables.specs.Handing.{TakesSome}
+use Rattle.list_tables.specs.IntervalRows.{TakesSome}
 use Rattle.office_books.specs.Ledgers.{Ledger}
 use Rattle.office_books.specs.Rows.{TakesAll, HandsOn}
 use Rattle.office_events.specs.declared.facts.Fact.{Fact}

@@ -1,6 +1,6 @@
 //! The opening of an office over the books that it left.
 #![tactic(auto)]
 
-mod opening;
+mod opened_office;
 
-pub use opening::{book_opening, opening_refusal};
+pub use opened_office::{book_opening, opening_refusal};

@@ -4,9 +4,9 @@ use Rattle.std.specs.List.{filter, filter_map, flat_map, cons_option}
 use Rattle.std.specs.List.Sorted.{IsPermutation}
 use Rattle.std.proofs.lemmas.List.{map-append}
 use Rattle.std.proofs.lemmas.List.Sorted.{IsPermutation-refl, IsPermutation-trans, IsPermutation-append_right, IsPermutation-middle}
-use Rattle.energy_core.specs.declared.judging.Reading.{Reading}
-use Rattle.energy_core.specs.declared.judging.Verdict.{Verdict}
-use Rattle.energy_core.specs.declared.judging.Verdict.TheVariants.{Accepted, Held}
+use Rattle.energy_core.specs.declared.verdicts.Reading.{Reading}
+use Rattle.energy_core.specs.declared.verdicts.Verdict.{Verdict}
+use Rattle.energy_core.specs.declared.verdicts.Verdict.TheVariants.{Accepted, Held}
 use Rattle.poll_core.specs.Settling as session
 use Rattle.poll_core.specs.declared.outcome.Outcome.{Outcome}
 use Rattle.office_events.specs.declared.facts.Poll.{Poll}
@@ -21,7 +21,7 @@ use Rattle.office_events.specs.declared.events.Event.{Event}
 use Rattle.office_rules.specs.Facts.{as_poll, as_ended, polls_in, ended_in, ends_of, poll_of, registers_of}
 use Rattle.office_rules.specs.Readings.{as_fact, judgement, with_reading, with_register, with_registers, with_reply, is_read_by, reading_of}
 use Rattle.office_rules.specs.Meters.{open_at}
-use Rattle.office_rules.specs.Sessions.{Line}
+use Rattle.office_rules.specs.Sessions.{Slot}
 use Rattle.office_rules.specs.History.{outcome_of, with_words, with_outcome, with_outcomes, settled_by, with_settled}
 use Rattle.office_polls.proofs.Permutations.{same_is, exchanged}
 use Rattle.office_polls.proofs.EndedPolls.{pick}
@@ -87,12 +87,12 @@ unseen-with_outcomes look h none at (s ∷ later) facts =
     ∙ words_unseen look h at s.0 s.1 (fact.Outcome (end_fact at s) ∷ facts)
     ∙ ap (λ o. cons_option o (filter_map look facts)) (none (end_fact at s))
 
-pub unseen-with_settled : {X : Type 0} (look : Fact → Option X) → IsBlind look → ((ended : EndedPoll) → look (fact.Outcome ended) ≡ None) → (number at : ℕ) (e : Event) (lines : List Line) (facts : List Fact)
-    → filter_map look (with_settled number at e lines facts) ≡ filter_map look facts
+pub unseen-with_settled : {X : Type 0} (look : Fact → Option X) → IsBlind look → ((ended : EndedPoll) → look (fact.Outcome ended) ≡ None) → (number at : ℕ) (e : Event) (slots : List Slot) (facts : List Fact)
+    → filter_map look (with_settled number at e slots facts) ≡ filter_map look facts
 unseen-with_settled look h none number at e [] facts = refl
-unseen-with_settled look h none number at e (line ∷ lines) facts =
-    unseen-with_settled look h none number at e lines (with_outcomes at (settled_by number at e line) facts)
-    ∙ unseen-with_outcomes look h none at (settled_by number at e line) facts
+unseen-with_settled look h none number at e (slot ∷ slots) facts =
+    unseen-with_settled look h none number at e slots (with_outcomes at (settled_by number at e slot) facts)
+    ∙ unseen-with_outcomes look h none at (settled_by number at e slot) facts
 
 pub ended-with_outcome : (at : ℕ) (settled : ℕ × session.Settlement) (facts : List Fact) → ended_in (with_outcome at settled facts) ≡ end_fact at settled ∷ ended_in facts
 ended-with_outcome at settled facts = words_unseen as_ended ended_blind at settled.0 settled.1 (fact.Outcome (end_fact at settled) ∷ facts)
@@ -112,18 +112,18 @@ recorded-with_outcomes at (s ∷ later) facts =
     (IsPermutation-middle (map as_end later) (as_end s) (recorded facts)))
 
 -- what an event settles on all sessions, device by device
-abbrev pub settled_on_all : (number at : ℕ) → Event → List Line → List (ℕ × session.Settlement)
-settled_on_all number at e lines = flat_map (settled_by number at e) lines
+abbrev pub settled_on_all : (number at : ℕ) → Event → List Slot → List (ℕ × session.Settlement)
+settled_on_all number at e slots = flat_map (settled_by number at e) slots
 
-pub polls-with_settled : (number at : ℕ) (e : Event) (lines : List Line) (facts : List Fact) → polls_in (with_settled number at e lines facts) ≡ polls_in facts
-polls-with_settled number at e lines facts = unseen-with_settled as_poll polls_blind (λ ended. refl) number at e lines facts
+pub polls-with_settled : (number at : ℕ) (e : Event) (slots : List Slot) (facts : List Fact) → polls_in (with_settled number at e slots facts) ≡ polls_in facts
+polls-with_settled number at e slots facts = unseen-with_settled as_poll polls_blind (λ ended. refl) number at e slots facts
 
-pub recorded-with_settled : (number at : ℕ) (e : Event) (lines : List Line) (facts : List Fact) → IsPermutation (recorded (with_settled number at e lines facts)) (map as_end (settled_on_all number at e lines) ++ recorded facts)
+pub recorded-with_settled : (number at : ℕ) (e : Event) (slots : List Slot) (facts : List Fact) → IsPermutation (recorded (with_settled number at e slots facts)) (map as_end (settled_on_all number at e slots) ++ recorded facts)
 recorded-with_settled number at e [] facts = IsPermutation-refl (recorded facts)
-recorded-with_settled number at e (line ∷ lines) facts =
-    let here = settled_by number at e line in
-    let later = settled_on_all number at e lines in
-    IsPermutation-trans _ _ _ (recorded-with_settled number at e lines (with_outcomes at here facts))
+recorded-with_settled number at e (slot ∷ slots) facts =
+    let here = settled_by number at e slot in
+    let later = settled_on_all number at e slots in
+    IsPermutation-trans _ _ _ (recorded-with_settled number at e slots (with_outcomes at here facts))
     (IsPermutation-trans _ _ _ (IsPermutation-append_right (map as_end later) (recorded (with_outcomes at here facts)) (map as_end here ++ recorded facts) (recorded-with_outcomes at here facts))
     (IsPermutation-trans _ _ _ (exchanged (map as_end later) (map as_end here) (recorded facts))
     (same_is _ _ (sym (append_assoc (map as_end here) (map as_end later) (recorded facts)) ∙ ap (λ ends. ends ++ recorded facts) (sym (map-append as_end here later))))))

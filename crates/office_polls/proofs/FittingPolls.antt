@@ -3,9 +3,9 @@ use Rattle.std.proofs.Common.{◌≡◌, ℕ, suc, ◌+◌, ◌≤◌, ◌==◌,
 use Rattle.std.specs.List.{find}
 use Rattle.std.specs.Option.{is_some}
 use Rattle.std.proofs.lemmas.Bool.{or_parts, ltb-false, eqb-true}
-use Rattle.energy_core.specs.declared.judging.Reading.{Reading}
-use Rattle.energy_core.specs.declared.judging.Verdict.{Verdict}
-use Rattle.energy_core.specs.declared.judging.Verdict.TheVariants.{Accepted, Held}
+use Rattle.energy_core.specs.declared.verdicts.Reading.{Reading}
+use Rattle.energy_core.specs.declared.verdicts.Verdict.{Verdict}
+use Rattle.energy_core.specs.declared.verdicts.Verdict.TheVariants.{Accepted, Held}
 use Rattle.mb_wire.specs.declared.span.ReadSpan.{ReadSpan}
 use Rattle.poll_core.specs.Settling as session
 use Rattle.office_events.specs.declared.facts.Device.{Device}
@@ -23,14 +23,14 @@ use Rattle.office_events.specs.declared.refusals.StoreCause.TheVariants as store
 use Rattle.office_rules.specs.Facts.{poll_limit, polls_in, registers_of, device_of, poll_of}
 use Rattle.office_rules.specs.Meters.{open_at}
 use Rattle.office_rules.specs.Readings.{as_fact, judgement, with_reading, with_register, with_registers, with_reply, is_read_by, reading_of}
-use Rattle.office_rules.specs.Sessions.{Line, Send, line_of, is_startable, start_by, sends_on, sends_at}
-use Rattle.office_rules.specs.History.{History, Opened, Fed, next_poll, facts_of, lines_of, spans_by, poll_by, polls_from, sends_from, added_by, reply_by, with_words}
+use Rattle.office_rules.specs.Sessions.{Slot, Send, slot_of, is_startable, start_by, sends_on, sends_at}
+use Rattle.office_rules.specs.History.{History, Opened, Fed, next_poll, facts_of, slots_of, spans_by, poll_by, polls_from, sends_from, added_by, reply_by, with_words}
 use Rattle.office_rules.specs.Refusals.{AreAccepted, refuses, is_bad_request, sent_count, asks_past_numbers}
 use Rattle.office_rules.specs.Headline.{PollsEndOnce}
-use Rattle.office_polls.specs.Fitting.{PollsFit}
+use Rattle.office_polls.specs.PollOrder.{PollsFit}
 use Rattle.office_polls.proofs.SettledOnce.{SettlesPending}
 use Rattle.office_polls.proofs.OpenPolls.{IsKeptByOutcomes, settled_keeps, lost_keeps}
-use Rattle.office_polls.proofs.DeviceLines.{HaveSameDevices, same_devices, found_is_known}
+use Rattle.office_polls.proofs.DeviceSlots.{HaveSameDevices, same_devices, found_is_known}
 use Rattle.office_polls.proofs.QuietFacts.{IsQuiet, AreQuiet, books_quiet, added_each, quiet_reply, later_first, later_part_first}
 use Rattle.office_polls.proofs.QuietEvents.{IsPassed, passed}
 
@@ -152,27 +152,27 @@ present_fits : (at : ℕ) (device : Device) (present : Option (List session.Even
 present_fits at device None spans facts h known few = h
 present_fits at device (Some before) spans facts h known few = round_fits (next_poll facts) at device before spans facts h refl known few
 
-sent_fit : (at : ℕ) (spans : List ReadSpan) (lines : List Line) (facts : List Fact) (given : Option (List ℕ)) (o : Option Line) → HaveSameDevices lines facts
-    → PollsFit facts → line_of lines given ≡ o → length (polls_in facts) + length (sends_from (next_poll facts) at spans o) ≤ poll_limit
+sent_fit : (at : ℕ) (spans : List ReadSpan) (slots : List Slot) (facts : List Fact) (given : Option (List ℕ)) (o : Option Slot) → HaveSameDevices slots facts
+    → PollsFit facts → slot_of slots given ≡ o → length (polls_in facts) + length (sends_from (next_poll facts) at spans o) ≤ poll_limit
     → PollsFit (reverse (polls_from (next_poll facts) at spans o) ++ facts)
-sent_fit at spans lines facts given None same h found few = h
-sent_fit at spans lines facts given (Some line) same h found few =
-    present_fits at line.device line.present spans facts h (found_is_known lines facts given line same found) few
+sent_fit at spans slots facts given None same h found few = h
+sent_fit at spans slots facts given (Some slot) same h found few =
+    present_fits at slot.device slot.present spans facts h (found_is_known slots facts given slot same found) few
 
 -- A command, and a command that is asked.
-command_fits : (at : ℕ) (lines : List Line) (facts : List Fact) (c : Command) → HaveSameDevices lines facts → asks_past_numbers lines facts at c ≡ false
-    → PollsFit facts → PollsFit (reverse (added_by (next_poll facts) at lines facts c) ++ facts)
-command_fits at lines facts (command.StartPoll c) same few h =
+command_fits : (at : ℕ) (slots : List Slot) (facts : List Fact) (c : Command) → HaveSameDevices slots facts → asks_past_numbers slots facts at c ≡ false
+    → PollsFit facts → PollsFit (reverse (added_by (next_poll facts) at slots facts c) ++ facts)
+command_fits at slots facts (command.StartPoll c) same few h =
     let c' : Command = command.StartPoll c in
-    sent_fit at (spans_by facts c') lines facts c.device (line_of lines c.device) same h refl
-    (ltb-false poll_limit (length (polls_in facts) + sent_count lines facts at c') few)
-command_fits at lines facts (command.StartRound c) same few h =
+    sent_fit at (spans_by facts c') slots facts c.device (slot_of slots c.device) same h refl
+    (ltb-false poll_limit (length (polls_in facts) + sent_count slots facts at c') few)
+command_fits at slots facts (command.StartRound c) same few h =
     let c' : Command = command.StartRound c in
-    sent_fit at (spans_by facts c') lines facts c.device (line_of lines c.device) same h refl
-    (ltb-false poll_limit (length (polls_in facts) + sent_count lines facts at c') few)
-command_fits at lines facts c same few h =
+    sent_fit at (spans_by facts c') slots facts c.device (slot_of slots c.device) same h refl
+    (ltb-false poll_limit (length (polls_in facts) + sent_count slots facts at c') few)
+command_fits at slots facts c same few h =
     all_quiet_fit _ facts
-    (added_each IsQuiet books_quiet (next_poll facts) at lines facts c (λ d e. record { poll = refl; ended = refl; hold = refl }) (λ e. absurd (cc))) h
+    (added_each IsQuiet books_quiet (next_poll facts) at slots facts c (λ d e. record { poll = refl; ended = refl; hold = refl }) (λ e. absurd (cc))) h
 
 event_fits : SettlesPending → (past : History) → PollsEndOnce past → (at : ℕ) (e : Event) → IsPassed (refuses past at e)
     → PollsFit (facts_of past) → PollsFit (facts_of (Fed at e ∷ past))
@@ -182,14 +182,14 @@ event_fits law past ends at (event.Bytes given piece) p h =
 event_fits law past ends at event.Tick p h = settled_keeps law PollsFit outcome_fits past ends (next_poll (facts_of past)) at event.Tick h
 event_fits law past ends at (event.Gone given closing) p h =
     settled_keeps law PollsFit outcome_fits past ends (next_poll (facts_of past)) at (event.Gone given closing) h
-event_fits law past ends at (event.Command c) p h = command_fits at (lines_of past) (facts_of past) c (same_devices past) p.few h
+event_fits law past ends at (event.Command c) p h = command_fits at (slots_of past) (facts_of past) c (same_devices past) p.few h
 event_fits law past ends at (event.Asked asked) p h =
     let facts = facts_of past in
-    let added = added_by (next_poll facts) at (lines_of past) facts asked.command in
-    let few = (or_parts (asks_past_numbers (lines_of past) facts at asked.command) (is_bad_request asked (refusal.Store store.Refused)) p.few).0 in
+    let added = added_by (next_poll facts) at (slots_of past) facts asked.command in
+    let few = (or_parts (asks_past_numbers (slots_of past) facts at asked.command) (is_bad_request asked (refusal.Store store.Refused)) p.few).0 in
     subst PollsFit (sym (later_part_first added (reply_by at asked) facts))
     (all_quiet_fit (reply_by at asked) (reverse added ++ facts) (quiet_reply at asked)
-    (command_fits at (lines_of past) facts asked.command (same_devices past) few h))
+    (command_fits at (slots_of past) facts asked.command (same_devices past) few h))
 
 -- Whatever the office accepted, its polls and their outcomes may follow, where sessions settle what waits and each poll ends
 -- once.

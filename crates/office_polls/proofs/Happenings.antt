@@ -10,7 +10,7 @@ use Rattle.office_events.specs.declared.commands.Command.{Command}
 use Rattle.office_events.specs.declared.events.Event.{Event}
 use Rattle.office_events.specs.declared.events.Event.TheVariants as event
 use Rattle.office_rules.specs.Facts.{is_named}
-use Rattle.office_rules.specs.Sessions.{Line, Send, started_on, start_by, sends_on, starts_by, reaches, is_close, with_happenings}
+use Rattle.office_rules.specs.Sessions.{Slot, Send, started_on, start_by, sends_on, starts_by, reaches, is_close, with_happenings}
 use Rattle.office_rules.specs.History.{settled_in}
 use Rattle.office_polls.proofs.SessionLaws.{number_by, outcomes_at-start}
 
@@ -94,10 +94,10 @@ pub round_numbers : (b : Bool) (at : ℕ) (device : Device) (sends : List Send)
 round_numbers true at device sends = starts_number at device sends
 round_numbers false at device sends = refl
 
--- The device of a line stays.
-pub device_happened : (line : Line) (before happenings : List session.Event) → (with_happenings line before happenings).device ≡ line.device
-device_happened line before [] = refl
-device_happened line before (Start m n u s ∷ later) = device_happened line (before ++ Start m n u s ∷ []) later
-device_happened line before (Piece m b ∷ later) = device_happened line (before ++ Piece m b ∷ []) later
-device_happened line before (Tick m ∷ later) = device_happened line (before ++ Tick m ∷ []) later
-device_happened line before (Close m c ∷ later) = refl
+-- The device of a slot stays.
+pub device_happened : (slot : Slot) (before happenings : List session.Event) → (with_happenings slot before happenings).device ≡ slot.device
+device_happened slot before [] = refl
+device_happened slot before (Start m n u s ∷ later) = device_happened slot (before ++ Start m n u s ∷ []) later
+device_happened slot before (Piece m b ∷ later) = device_happened slot (before ++ Piece m b ∷ []) later
+device_happened slot before (Tick m ∷ later) = device_happened slot (before ++ Tick m ∷ []) later
+device_happened slot before (Close m c ∷ later) = refl

@@ -4,9 +4,9 @@ pub mod EndedPolls
 pub mod EndedFacts
 pub mod LostPolls
 pub mod Happenings
-pub mod EndedLines
-pub mod OverLines
-pub mod ApartLines
+pub mod EndedSlots
+pub mod OverSlots
+pub mod ApartSlots
 pub mod QuietFacts
 pub mod Rounds
 pub mod QuietEvents
@@ -14,6 +14,6 @@ pub mod EndOnce
 pub mod PollsOnce
 pub mod Times
 pub mod SettledOnce
-pub mod DeviceLines
+pub mod DeviceSlots
 pub mod OpenPolls
 pub mod FittingPolls

@@ -12,8 +12,8 @@ use Rattle.office_events.specs.declared.facts.EndedPoll.{EndedPoll}
 use Rattle.office_events.specs.declared.facts.Fact.{Fact}
 use Rattle.office_events.specs.declared.events.Event.{Event}
 use Rattle.office_rules.specs.Facts.{polls_in, poll_of, ends_of, pending_in}
-use Rattle.office_rules.specs.Sessions.{Line}
-use Rattle.office_rules.specs.History.{History, facts_of, lines_of, settled_by, with_outcome, with_outcomes, with_settled, lost, with_lost}
+use Rattle.office_rules.specs.Sessions.{Slot}
+use Rattle.office_rules.specs.History.{History, facts_of, slots_of, settled_by, with_outcome, with_outcomes, with_settled, lost, with_lost}
 use Rattle.office_rules.specs.Headline.{AreNumbered, PollsEndOnce, pending_on}
 use Rattle.office_polls.proofs.EndedFacts.{end_fact, settled_on_all, polls-with_outcome, ended-with_outcome}
 use Rattle.office_polls.proofs.Times.{times, times-nil, times-cons, times-permutation, times_parted, one_if, one_if-same, one_if_cases, passes_if_among, found_if_among}
@@ -114,25 +114,25 @@ outcomes-append : (at : ℕ) (xs ys : List (ℕ × session.Settlement)) (facts :
 outcomes-append at [] ys facts = refl
 outcomes-append at (x ∷ xs) ys facts = outcomes-append at xs ys (with_outcome at x facts)
 
-settled_is : (number at : ℕ) (e : Event) (lines : List Line) (facts : List Fact)
-    → with_settled number at e lines facts ≡ with_outcomes at (settled_on_all number at e lines) facts
+settled_is : (number at : ℕ) (e : Event) (slots : List Slot) (facts : List Fact)
+    → with_settled number at e slots facts ≡ with_outcomes at (settled_on_all number at e slots) facts
 settled_is number at e [] facts = refl
-settled_is number at e (line ∷ lines) facts =
-    settled_is number at e lines (with_outcomes at (settled_by number at e line) facts)
-    ∙ sym (outcomes-append at (settled_by number at e line) (settled_on_all number at e lines) facts)
+settled_is number at e (slot ∷ slots) facts =
+    settled_is number at e slots (with_outcomes at (settled_by number at e slot) facts)
+    ∙ sym (outcomes-append at (settled_by number at e slot) (settled_on_all number at e slots) facts)
 
 pub settled_keeps : SettlesPending → (P : List Fact → Type 0) → IsKeptByOutcomes P → (past : History) → PollsEndOnce past → (number at : ℕ) (e : Event)
-    → P (facts_of past) → P (with_settled number at e (lines_of past) (facts_of past))
+    → P (facts_of past) → P (with_settled number at e (slots_of past) (facts_of past))
 settled_keeps law P keeps past ends number at e h =
     let facts = facts_of past in
-    let all = settled_on_all number at e (lines_of past) in
+    let all = settled_on_all number at e (slots_of past) in
     let at_most : (n : ℕ) → times n (settled_numbers all) ≤ times n (poll_numbers (pending_in facts)) =
     λ n. omega (
       arith,
-      settled_at_most law n number at e (lines_of past),
-      times-permutation n (poll_numbers (pending_in facts)) (flat_map pending_on (lines_of past)) ends.pending,
+      settled_at_most law n number at e (slots_of past),
+      times-permutation n (poll_numbers (pending_in facts)) (flat_map pending_on (slots_of past)) ends.pending,
     ) in
-    subst P (sym (settled_is number at e (lines_of past) facts))
+    subst P (sym (settled_is number at e (slots_of past) facts))
     (outcomes_keep P keeps at all facts h (open_once facts (settled_numbers all) ends.numbered at_most))
 
 -- An opening loses each poll that waits.

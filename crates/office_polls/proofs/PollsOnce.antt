@@ -9,7 +9,7 @@ use Rattle.poll_core.specs.declared.outcome.Outcome.{Outcome}
 use Rattle.office_events.specs.declared.facts.Poll.{Poll}
 use Rattle.office_events.specs.declared.facts.EndedPoll.{EndedPoll}
 use Rattle.office_rules.specs.Facts.{polls_in, ends_of, pending_in}
-use Rattle.office_rules.specs.History.{History, facts_of, lines_of}
+use Rattle.office_rules.specs.History.{History, facts_of, slots_of}
 use Rattle.office_rules.specs.Headline.{PollsEndOnce, outcome_in, pending_on}
 use Rattle.office_polls.specs.Endings.{EndsOnce, EachEndsOnce}
 
@@ -39,7 +39,7 @@ map_none f (x ∷ xs) e = let none : suc (length (map f xs)) ≡ 0 = ap length e
 
 -- a poll without outcome waits on the session of a device
 waiting : (history : History) → PollsEndOnce history → (poll : Poll) → Contains (polls_in (facts_of history)) poll
-    → ends_of (facts_of history) poll.number ≡ [] → Contains (flat_map pending_on (lines_of history)) poll.number
+    → ends_of (facts_of history) poll.number ≡ [] → Contains (flat_map pending_on (slots_of history)) poll.number
 waiting history h poll is none =
     let facts = facts_of history in
     let turned = Contains-permutation (polls_in facts) (reverse (polls_in facts)) poll (IsPermutation-reverse (polls_in facts)) is in
@@ -47,7 +47,7 @@ waiting history h poll is none =
     Contains-permutation _ _ poll.number h.pending (contains_mapped (λ (p : Poll). p.number) (pending_in facts) poll pending)
 
 ended_or_waiting : (history : History) → PollsEndOnce history → (poll : Poll) → Contains (polls_in (facts_of history)) poll
-    → (o : Option Outcome) → outcome_in (lines_of history) poll.number ≡ o → EndsOnce history poll
+    → (o : Option Outcome) → outcome_in (slots_of history) poll.number ≡ o → EndsOnce history poll
 ended_or_waiting history h poll is (Some outcome) given = inl (outcome, record { recorded = h.ended poll.number ∙ ap option_to_list given; given = given })
 ended_or_waiting history h poll is None given =
     let none = map_none (λ (ended : EndedPoll). ended.outcome) (ends_of (facts_of history) poll.number) (h.ended poll.number ∙ ap option_to_list given) in

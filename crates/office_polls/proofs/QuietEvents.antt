@@ -11,13 +11,13 @@ use Rattle.office_events.specs.declared.refusals.Refusal.{Refusal}
 use Rattle.office_events.specs.declared.refusals.Refusal.TheVariants as refusal
 use Rattle.office_events.specs.declared.refusals.StoreCause.TheVariants as store
 use Rattle.office_rules.specs.Facts.{is_named}
-use Rattle.office_rules.specs.Sessions.{Line}
+use Rattle.office_rules.specs.Sessions.{Slot}
 use Rattle.office_rules.specs.History.{settled_on, settled_by}
 use Rattle.office_rules.specs.Refusals.{reasons}
 use Rattle.office_polls.proofs.EndedFacts.{settled_on_all}
 use Rattle.office_polls.proofs.Happenings.{numbers_by}
-use Rattle.office_polls.proofs.EndedLines.{new_on, new_by}
-use Rattle.office_polls.proofs.ApartLines.{not_found_if, of_none}
+use Rattle.office_polls.proofs.EndedSlots.{new_on, new_by}
+use Rattle.office_polls.proofs.ApartSlots.{not_found_if, of_none}
 
 -- a piece and an end start no poll
 piece_starts : (b : Bool) (m : ℕ) (bytes : List ℕ) → numbers_by (if b then Piece m bytes ∷ [] else []) ≡ []
@@ -28,48 +28,48 @@ close_starts : (b : Bool) (m : ℕ) (closing : Closing) → numbers_by (if b the
 close_starts true m closing = refl
 close_starts false m closing = refl
 
-abbrev pub NoneNew : (number at : ℕ) → Event → List Line → Type 0
-NoneNew number at e lines = flat_map (new_by number at [] e) lines ≡ []
+abbrev pub NoneNew : (number at : ℕ) → Event → List Slot → Type 0
+NoneNew number at e slots = flat_map (new_by number at [] e) slots ≡ []
 
 connects_on : (number at : ℕ) (given : Option (List ℕ)) (device : Device) (present : Option (List session.Event)) → new_on number at [] (event.Connected given) device present ≡ []
 connects_on number at given device None = refl
 connects_on number at given device (Some before) = refl
 
-pub connects_start : (number at : ℕ) (given : Option (List ℕ)) (lines : List Line) → NoneNew number at (event.Connected given) lines
-connects_start number at given lines =
-    of_none (new_by number at [] (event.Connected given)) (λ line. connects_on number at given line.device line.present) lines
+pub connects_start : (number at : ℕ) (given : Option (List ℕ)) (slots : List Slot) → NoneNew number at (event.Connected given) slots
+connects_start number at given slots =
+    of_none (new_by number at [] (event.Connected given)) (λ slot. connects_on number at given slot.device slot.present) slots
 
 bytes_on : (number at : ℕ) (given : Option (List ℕ)) (piece : List ℕ) (device : Device) (present : Option (List session.Event)) → new_on number at [] (event.Bytes given piece) device present ≡ []
 bytes_on number at given piece device None = refl
 bytes_on number at given piece device (Some before) = piece_starts (is_named given device.name) at piece
 
-pub bytes_start : (number at : ℕ) (given : Option (List ℕ)) (piece : List ℕ) (lines : List Line) → NoneNew number at (event.Bytes given piece) lines
-bytes_start number at given piece lines =
-    of_none (new_by number at [] (event.Bytes given piece)) (λ line. bytes_on number at given piece line.device line.present) lines
+pub bytes_start : (number at : ℕ) (given : Option (List ℕ)) (piece : List ℕ) (slots : List Slot) → NoneNew number at (event.Bytes given piece) slots
+bytes_start number at given piece slots =
+    of_none (new_by number at [] (event.Bytes given piece)) (λ slot. bytes_on number at given piece slot.device slot.present) slots
 
 ticks_on : (number at : ℕ) (device : Device) (present : Option (List session.Event)) → new_on number at [] event.Tick device present ≡ []
 ticks_on number at device None = refl
 ticks_on number at device (Some before) = refl
 
-pub ticks_start : (number at : ℕ) (lines : List Line) → NoneNew number at event.Tick lines
-ticks_start number at lines = of_none (new_by number at [] event.Tick) (λ line. ticks_on number at line.device line.present) lines
+pub ticks_start : (number at : ℕ) (slots : List Slot) → NoneNew number at event.Tick slots
+ticks_start number at slots = of_none (new_by number at [] event.Tick) (λ slot. ticks_on number at slot.device slot.present) slots
 
 ends_on : (number at : ℕ) (given : Option (List ℕ)) (closing : Closing) (device : Device) (present : Option (List session.Event)) → new_on number at [] (event.Gone given closing) device present ≡ []
 ends_on number at given closing device None = refl
 ends_on number at given closing device (Some before) = close_starts (is_named given device.name) at closing
 
-pub ends_start : (number at : ℕ) (given : Option (List ℕ)) (closing : Closing) (lines : List Line) → NoneNew number at (event.Gone given closing) lines
-ends_start number at given closing lines =
-    of_none (new_by number at [] (event.Gone given closing)) (λ line. ends_on number at given closing line.device line.present) lines
+pub ends_start : (number at : ℕ) (given : Option (List ℕ)) (closing : Closing) (slots : List Slot) → NoneNew number at (event.Gone given closing) slots
+ends_start number at given closing slots =
+    of_none (new_by number at [] (event.Gone given closing)) (λ slot. ends_on number at given closing slot.device slot.present) slots
 
 -- a connection settles nothing
 unsettled : (number at : ℕ) (given : Option (List ℕ)) (device : Device) (present : Option (List session.Event)) → settled_on number at (event.Connected given) device present ≡ []
 unsettled number at given device None = refl
 unsettled number at given device (Some before) = refl
 
-pub connects_settle : (number at : ℕ) (given : Option (List ℕ)) (lines : List Line) → settled_on_all number at (event.Connected given) lines ≡ []
-connects_settle number at given lines =
-    of_none (settled_by number at (event.Connected given)) (λ line. unsettled number at given line.device line.present) lines
+pub connects_settle : (number at : ℕ) (given : Option (List ℕ)) (slots : List Slot) → settled_on_all number at (event.Connected given) slots ≡ []
+connects_settle number at given slots =
+    of_none (settled_by number at (event.Connected given)) (λ slot. unsettled number at given slot.device slot.present) slots
 
 -- What is known of an accepted event.
 pub record IsPassed (refuses : Refusal → Bool) : Type 0 where

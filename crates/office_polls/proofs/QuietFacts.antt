@@ -19,7 +19,7 @@ use Rattle.office_events.specs.declared.commands.Install.{Install}
 use Rattle.office_events.specs.declared.events.Asked.{Asked}
 use Rattle.office_rules.specs.Facts.{as_poll, as_ended, as_hold}
 use Rattle.office_rules.specs.Meters.{open_at}
-use Rattle.office_rules.specs.Sessions.{Line, Send, line_of, sends_at, device_by}
+use Rattle.office_rules.specs.Sessions.{Slot, Send, slot_of, sends_at, device_by}
 use Rattle.office_rules.specs.History.{Made, made_by, made_on, corrected_at, entries_by, openings_by, opening_by, register_by, installed_by, poll_by, polls_from, spans_by, added_by, reply_by, kind_of}
 use Rattle.office_rules.specs.Refusals.{is_start}
 
@@ -83,40 +83,40 @@ entries_each P h at facts c =
     (λ row. each_map P (λ (made : Made). fact.Entry (record { meter = row.opening.meter; kind = made.kind; entry = made.entry })) (λ made. h.entry _) (made_by at row.last c))
     (option_and_then (open_at facts) (corrected_at c))
 
-polls_each : (P : Fact → Type 0) → (number at : ℕ) (spans : List ReadSpan) (o : Option Line) → ((device : Device) (send : Send) → P (poll_by at device send))
+polls_each : (P : Fact → Type 0) → (number at : ℕ) (spans : List ReadSpan) (o : Option Slot) → ((device : Device) (send : Send) → P (poll_by at device send))
     → Each P (polls_from number at spans o)
 polls_each P number at spans None h = tt
-polls_each P number at spans (Some line) h =
-    each_mapped P (poll_by at line.device) (h line.device) (sends_at number at line.device line.present spans)
+polls_each P number at spans (Some slot) h =
+    each_mapped P (poll_by at slot.device) (h slot.device) (sends_at number at slot.device slot.present spans)
 
 -- the device that a command adds
 abbrev pub new_device : Command → Option Device
 new_device (command.AddDevice c) = device_by c
 new_device _ = None
 
-pub added_each : (P : Fact → Type 0) → HoldsOfBooks P → (number at : ℕ) (lines : List Line) (facts : List Fact) (c : Command)
+pub added_each : (P : Fact → Type 0) → HoldsOfBooks P → (number at : ℕ) (slots : List Slot) (facts : List Fact) (c : Command)
     → ((device : Device) → new_device c ≡ Some device → P (fact.Device device))
     → (is_start c ≡ true → (device : Device) (send : Send) → P (poll_by at device send))
-    → Each P (added_by number at lines facts c)
-added_each P h number at lines facts (command.AddDevice c) device send = each_of P fact.Device (device_by c) device
-added_each P h number at lines facts (command.PutList c) device send =
+    → Each P (added_by number at slots facts c)
+added_each P h number at slots facts (command.AddDevice c) device send = each_of P fact.Device (device_by c) device
+added_each P h number at slots facts (command.PutList c) device send =
     each_map P (λ name. fact.List (record { device = name; list = c.list })) (λ name. h.list _) c.device
-added_each P h number at lines facts (command.AddRegister c) device send =
+added_each P h number at slots facts (command.AddRegister c) device send =
     each_then P (λ name. option_map (λ owner. register_by c name owner) c.device)
     (λ name. each_map P (λ owner. register_by c name owner) (λ owner. h.register _) c.device) c.name
-added_each P h number at lines facts (command.Install c) device send = openings_each P h at c
-added_each P h number at lines facts (command.Exchange c) device send =
+added_each P h number at slots facts (command.Install c) device send = openings_each P h at c
+added_each P h number at slots facts (command.Exchange c) device send =
     each_both P _ _ (entries_each P h at facts (command.Exchange c)) (openings_each P h at (installed_by c))
-added_each P h number at lines facts (command.Reset c) device send = entries_each P h at facts (command.Reset c)
-added_each P h number at lines facts (command.Rescale c) device send = entries_each P h at facts (command.Rescale c)
-added_each P h number at lines facts (command.Manual c) device send = entries_each P h at facts (command.Manual c)
-added_each P h number at lines facts (command.Close c) device send = entries_each P h at facts (command.Close c)
-added_each P h number at lines facts (command.Void c) device send =
+added_each P h number at slots facts (command.Reset c) device send = entries_each P h at facts (command.Reset c)
+added_each P h number at slots facts (command.Rescale c) device send = entries_each P h at facts (command.Rescale c)
+added_each P h number at slots facts (command.Manual c) device send = entries_each P h at facts (command.Manual c)
+added_each P h number at slots facts (command.Close c) device send = entries_each P h at facts (command.Close c)
+added_each P h number at slots facts (command.Void c) device send =
     each_map P (λ meter. fact.Void (record { meter = meter; place = c.place; at = at })) (λ meter. h.void _) c.meter
-added_each P h number at lines facts (command.StartPoll c) device send =
-    polls_each P number at (spans_by facts (command.StartPoll c)) (line_of lines c.device) (send refl)
-added_each P h number at lines facts (command.StartRound c) device send =
-    polls_each P number at (spans_by facts (command.StartRound c)) (line_of lines c.device) (send refl)
+added_each P h number at slots facts (command.StartPoll c) device send =
+    polls_each P number at (spans_by facts (command.StartPoll c)) (slot_of slots c.device) (send refl)
+added_each P h number at slots facts (command.StartRound c) device send =
+    polls_each P number at (spans_by facts (command.StartRound c)) (slot_of slots c.device) (send refl)
 
 -- the answer that is kept
 pub reply_each : (P : Fact → Type 0) → ((reply : Reply) → P (fact.Reply reply)) → (at : ℕ) (asked : Asked) → Each P (reply_by at asked)

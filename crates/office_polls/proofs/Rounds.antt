@@ -11,14 +11,14 @@ use Rattle.office_events.specs.declared.commands.Command.{Command}
 use Rattle.office_events.specs.declared.commands.Command.TheVariants as command
 use Rattle.office_events.specs.declared.events.Event.TheVariants as event
 use Rattle.office_rules.specs.Facts.{is_named, polls_in, ended_in}
-use Rattle.office_rules.specs.Sessions.{Line, Send, line_of, started_on, start_by, is_startable, sends_on, sends_at}
+use Rattle.office_rules.specs.Sessions.{Slot, Send, slot_of, started_on, start_by, is_startable, sends_on, sends_at}
 use Rattle.office_rules.specs.History.{next_poll, poll_by, polls_from, sends_from, sends_by, spans_by, added_by, settled_on, settled_by}
 use Rattle.office_rules.specs.Headline.{AreNumbered}
 use Rattle.office_polls.proofs.Permutations.{same_is}
 use Rattle.office_polls.proofs.EndedFacts.{settled_on_all}
 use Rattle.office_polls.proofs.Happenings.{sent_numbers, round_numbers, command_settles}
-use Rattle.office_polls.proofs.EndedLines.{new_on, new_by}
-use Rattle.office_polls.proofs.ApartLines.{AreApart, of_none, told_by, if_named, one_tells}
+use Rattle.office_polls.proofs.EndedSlots.{new_on, new_by}
+use Rattle.office_polls.proofs.ApartSlots.{AreApart, of_none, told_by, if_named, one_tells}
 use Rattle.office_polls.proofs.QuietFacts.{AreQuiet, IsQuiet, later_first, quiet_polls, quiet_ends, books_quiet, added_each}
 
 abbrev pub numbers : List Fact → List ℕ
@@ -91,40 +91,40 @@ adds_present at device (Some before) spans facts h =
       ended = sent_ends at device sends facts;
     }
 
-adds_round : (at : ℕ) (spans : List ReadSpan) (o : Option Line) (facts : List Fact) → AreNumbered (polls_in facts)
+adds_round : (at : ℕ) (spans : List ReadSpan) (o : Option Slot) (facts : List Fact) → AreNumbered (polls_in facts)
     → AddsPolls facts (polls_from (next_poll facts) at spans o) (sends_from (next_poll facts) at spans o)
 adds_round at spans None facts h = adds_quiet facts [] [] h tt refl
-adds_round at spans (Some line) facts h = adds_present at line.device line.present spans facts h
+adds_round at spans (Some slot) facts h = adds_present at slot.device slot.present spans facts h
 
 -- where no reads are wanted, none are sent
 none_at : (number at : ℕ) (device : Device) (present : Option (List session.Event)) → sends_at number at device present [] ≡ []
 none_at number at device None = refl
 none_at number at device (Some before) = refl
 
-none_from : (number at : ℕ) (o : Option Line) → sends_from number at [] o ≡ []
+none_from : (number at : ℕ) (o : Option Slot) → sends_from number at [] o ≡ []
 none_from number at None = refl
-none_from number at (Some line) = none_at number at line.device line.present
+none_from number at (Some slot) = none_at number at slot.device slot.present
 
-pub command_adds : (at : ℕ) (lines : List Line) (facts : List Fact) (c : Command) → AreNumbered (polls_in facts)
-    → AddsPolls facts (added_by (next_poll facts) at lines facts c) (sends_by (next_poll facts) at lines facts c)
-command_adds at lines facts (command.StartPoll c) h = adds_round at (spans_by facts (command.StartPoll c)) (line_of lines c.device) facts h
-command_adds at lines facts (command.StartRound c) h = adds_round at (spans_by facts (command.StartRound c)) (line_of lines c.device) facts h
-command_adds at lines facts c h =
+pub command_adds : (at : ℕ) (slots : List Slot) (facts : List Fact) (c : Command) → AreNumbered (polls_in facts)
+    → AddsPolls facts (added_by (next_poll facts) at slots facts c) (sends_by (next_poll facts) at slots facts c)
+command_adds at slots facts (command.StartPoll c) h = adds_round at (spans_by facts (command.StartPoll c)) (slot_of slots c.device) facts h
+command_adds at slots facts (command.StartRound c) h = adds_round at (spans_by facts (command.StartRound c)) (slot_of slots c.device) facts h
+command_adds at slots facts c h =
     adds_quiet facts _ _ h
-    (added_each IsQuiet books_quiet (next_poll facts) at lines facts c (λ d e. record { poll = refl; ended = refl; hold = refl }) (λ e. absurd (cc)))
-    (none_from (next_poll facts) at (line_of lines None))
+    (added_each IsQuiet books_quiet (next_poll facts) at slots facts c (λ d e. record { poll = refl; ended = refl; hold = refl }) (λ e. absurd (cc)))
+    (none_from (next_poll facts) at (slot_of slots None))
 
 -- On the sessions a command settles nothing, and the polls that it starts are those that it sends.
 settles_none : (number at : ℕ) (c : Command) (device : Device) (present : Option (List session.Event)) → settled_on number at (event.Command c) device present ≡ []
 settles_none number at c device None = refl
 settles_none number at c device (Some before) = command_settles number at [] c device before
 
-pub commands_settle : (number at : ℕ) (c : Command) (lines : List Line) → settled_on_all number at (event.Command c) lines ≡ []
-commands_settle number at c lines =
-    of_none (settled_by number at (event.Command c)) (λ line. settles_none number at c line.device line.present) lines
+pub commands_settle : (number at : ℕ) (c : Command) (slots : List Slot) → settled_on_all number at (event.Command c) slots ≡ []
+commands_settle number at c slots =
+    of_none (settled_by number at (event.Command c)) (λ slot. settles_none number at c slot.device slot.present) slots
 
-abbrev sent_on : (number at : ℕ) → List ReadSpan → Line → List ℕ
-sent_on number at spans line = sent_numbers (sends_at number at line.device line.present spans)
+abbrev sent_on : (number at : ℕ) → List ReadSpan → Slot → List ℕ
+sent_on number at spans slot = sent_numbers (sends_at number at slot.device slot.present spans)
 
 none_either : (b : Bool) (none : List ℕ) → none ≡ (if b then none else none)
 none_either true none = refl
@@ -137,20 +137,20 @@ new_here number at spans c device None = none_either (is_named (started_on c) de
 new_here number at spans c device (Some before) =
     round_numbers (is_named (started_on c) device.name) at device (sends_on number at device before spans)
 
-new_each : (number at : ℕ) (spans : List ReadSpan) (c : Command) (lines : List Line)
-    → flat_map (new_by number at spans (event.Command c)) lines ≡ flat_map (if_named (started_on c) (sent_on number at spans)) lines
+new_each : (number at : ℕ) (spans : List ReadSpan) (c : Command) (slots : List Slot)
+    → flat_map (new_by number at spans (event.Command c)) slots ≡ flat_map (if_named (started_on c) (sent_on number at spans)) slots
 new_each number at spans c [] = refl
-new_each number at spans c (line ∷ lines) =
-    ap (λ ns. ns ++ flat_map (new_by number at spans (event.Command c)) lines) (new_here number at spans c line.device line.present)
-    ∙ ap (λ ns. if_named (started_on c) (sent_on number at spans) line ++ ns) (new_each number at spans c lines)
+new_each number at spans c (slot ∷ slots) =
+    ap (λ ns. ns ++ flat_map (new_by number at spans (event.Command c)) slots) (new_here number at spans c slot.device slot.present)
+    ∙ ap (λ ns. if_named (started_on c) (sent_on number at spans) slot ++ ns) (new_each number at spans c slots)
 
-told_sends : (number at : ℕ) (spans : List ReadSpan) (o : Option Line) → told_by (sent_on number at spans) o ≡ sent_numbers (sends_from number at spans o)
+told_sends : (number at : ℕ) (spans : List ReadSpan) (o : Option Slot) → told_by (sent_on number at spans) o ≡ sent_numbers (sends_from number at spans o)
 told_sends number at spans None = refl
-told_sends number at spans (Some line) = refl
+told_sends number at spans (Some slot) = refl
 
-pub new_sent : (number at : ℕ) (spans : List ReadSpan) (c : Command) (lines : List Line) → AreApart lines
-    → flat_map (new_by number at spans (event.Command c)) lines ≡ sent_numbers (sends_from number at spans (line_of lines (started_on c)))
-new_sent number at spans c lines h =
-    new_each number at spans c lines
-    ∙ one_tells (started_on c) (sent_on number at spans) lines h
-    ∙ told_sends number at spans (line_of lines (started_on c))
+pub new_sent : (number at : ℕ) (spans : List ReadSpan) (c : Command) (slots : List Slot) → AreApart slots
+    → flat_map (new_by number at spans (event.Command c)) slots ≡ sent_numbers (sends_from number at spans (slot_of slots (started_on c)))
+new_sent number at spans c slots h =
+    new_each number at spans c slots
+    ∙ one_tells (started_on c) (sent_on number at spans) slots h
+    ∙ told_sends number at spans (slot_of slots (started_on c))

@@ -12,7 +12,7 @@ use Rattle.office_events.specs.declared.facts.Device.{Device}
 use Rattle.office_events.specs.declared.events.Event.{Event as OfficeEvent}
 use Rattle.office_events.specs.declared.events.Event.TheVariants as event
 use Rattle.office_rules.specs.Facts.{is_named}
-use Rattle.office_rules.specs.Sessions.{Line, EndedSession}
+use Rattle.office_rules.specs.Sessions.{Slot, EndedSession}
 use Rattle.office_rules.specs.History.{settled_in, settled_on, settled_by}
 use Rattle.office_rules.specs.Headline.{pending_on}
 use Rattle.office_polls.proofs.Happenings.{command_settles}
@@ -75,24 +75,24 @@ on_session law n number at (event.Gone given closing) device before = single_at_
 on_session law n number at (event.Command c) device before = none_at_most n _ _ (command_settles number at [] c device before)
 on_session law n number at (event.Asked asked) device before = none_at_most n _ _ (command_settles number at [] asked.command device before)
 
-on_line : SettlesPending → (n number at : ℕ) (e : OfficeEvent) (device : Device) (ended : List EndedSession) (present : Option (List Event))
+on_slot : SettlesPending → (n number at : ℕ) (e : OfficeEvent) (device : Device) (ended : List EndedSession) (present : Option (List Event))
     → times n (settled_numbers (settled_on number at e device present)) ≤ times n (pending_on (record { device = device; ended = ended; present = present }))
-on_line law n number at e device ended None = omega (arith, times-nil n)
-on_line law n number at e device ended (Some before) = on_session law n number at e device before
+on_slot law n number at e device ended None = omega (arith, times-nil n)
+on_slot law n number at e device ended (Some before) = on_session law n number at e device before
 
 -- over all sessions
-pub settled_at_most : SettlesPending → (n number at : ℕ) (e : OfficeEvent) (lines : List Line)
-    → times n (settled_numbers (flat_map (settled_by number at e) lines)) ≤ times n (flat_map pending_on lines)
+pub settled_at_most : SettlesPending → (n number at : ℕ) (e : OfficeEvent) (slots : List Slot)
+    → times n (settled_numbers (flat_map (settled_by number at e) slots)) ≤ times n (flat_map pending_on slots)
 settled_at_most law n number at e [] = omega (arith, times-nil n)
-settled_at_most law n number at e (line ∷ lines) =
-    let here = settled_by number at e line in
-    let later = flat_map (settled_by number at e) lines in
+settled_at_most law n number at e (slot ∷ slots) =
+    let here = settled_by number at e slot in
+    let later = flat_map (settled_by number at e) slots in
     let split : times n (settled_numbers (here ++ later)) ≡ times n (settled_numbers here) + times n (settled_numbers later) =
     ap (times n) (map-append (λ (s : ℕ × Settlement). s.0) here later) ∙ times-append n (settled_numbers here) (settled_numbers later) in
     omega (
       arith,
       split,
-      times-append n (pending_on line) (flat_map pending_on lines),
-      on_line law n number at e line.device line.ended line.present,
-      settled_at_most law n number at e lines,
+      times-append n (pending_on slot) (flat_map pending_on slots),
+      on_slot law n number at e slot.device slot.ended slot.present,
+      settled_at_most law n number at e slots,
     )

@@ -4,19 +4,19 @@ use Rattle.std.specs.List.{flat_map}
 use Rattle.poll_core.specs.declared.outcome.Outcome.{Outcome}
 use Rattle.office_events.specs.declared.facts.Poll.{Poll}
 use Rattle.office_rules.specs.Facts.{polls_in, ends_of}
-use Rattle.office_rules.specs.History.{History, facts_of, lines_of}
+use Rattle.office_rules.specs.History.{History, facts_of, slots_of}
 use Rattle.office_rules.specs.Headline.{outcome_in, pending_on}
 
 -- one outcome of the poll is recorded, and it is the one that the events of its session give
 pub record HasEnded (history : History) (number : ℕ) (outcome : Outcome) : Type 0 where
   pub recorded : map (λ ended. ended.outcome) (ends_of (facts_of history) number) ≡ outcome ∷ []
-  pub given : outcome_in (lines_of history) number ≡ Some outcome
+  pub given : outcome_in (slots_of history) number ≡ Some outcome
 
 -- none is recorded, and they give none: the poll waits in the present session of a device
 pub record IsPending (history : History) (number : ℕ) : Type 0 where
   pub recorded : ends_of (facts_of history) number ≡ []
-  pub given : outcome_in (lines_of history) number ≡ None
-  pub waits : Contains (flat_map pending_on (lines_of history)) number
+  pub given : outcome_in (slots_of history) number ≡ None
+  pub waits : Contains (flat_map pending_on (slots_of history)) number
 
 abbrev pub EndsOnce : History → Poll → Type 0
 EndsOnce history poll =

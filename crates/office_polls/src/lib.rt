@@ -2,7 +2,7 @@
 #![tactic(auto)]
 
 mod endings;
-mod fitting;
+mod poll_order;
 
 pub use endings::polls_end_once;
-pub use fitting::polls_fit;
+pub use poll_order::polls_fit;

@@ -7,17 +7,17 @@ use Rattle.office_books.specs.Ledgers.{Ledger}
 use Rattle.office_core.specs.Standing.{After, Stands, books_in}
 use Rattle.office_core.specs.Taking.{failures_of}
 use Rattle.office_core.specs.declared.office.Office.{Office}
-use Rattle.office_text.specs.Opening.{Opens}
+use Rattle.office_text.specs.OpenedOffice.{Opens}
 use Rattle.office_text.specs.Reports.{Asks, ReportPrints}
-use Rattle.office_text.specs.Telling.{Tells}
+use Rattle.office_text.specs.EndTexts.{Tells}
 use Rattle.office_program.specs.Opened.{WithOffice}
-use Rattle.office_program.specs.Reporting.{Reports, TellsReport}
-use Rattle.office_program.specs.Serving.{Serves, ServesPort, TellsServing}
-use Rattle.office_program.specs.declared.serving.Serving.{Serving}
-use Rattle.office_program.specs.declared.serving.Serving.TheVariants.{Served, Unopened, NoPort, Broken}
-use Rattle.office_program.specs.Polling.{PollsPort, TellsPolling}
-use Rattle.office_program.specs.declared.polling.Polling.{Polling}
-use Rattle.office_program.specs.declared.polling.Polling.TheVariants as polling
+use Rattle.office_program.specs.Report.{Reports, TellsReport}
+use Rattle.office_program.specs.HttpPort.{Serves, ServesPort, TellsServing}
+use Rattle.office_program.specs.declared.http_port.Serving.{Serving}
+use Rattle.office_program.specs.declared.http_port.Serving.TheVariants.{Served, Unopened, NoPort, Broken}
+use Rattle.office_program.specs.PortRound.{PollsPort, TellsPolling}
+use Rattle.office_program.specs.declared.port_round.Polling.{Polling}
+use Rattle.office_program.specs.declared.port_round.Polling.TheVariants as polling
 
 -- books that are handed back are as clean as those of the office that was left
 kept : {B : Type 0} (ledger : B → Ledger) (left : Office B) (back : B) → back ≡ books_in left → (ledger back).is_clean

@@ -1,4 +1,4 @@
 pub mod Opened
-pub mod Reporting
-pub mod Serving
-pub mod Polling
+pub mod Report
+pub mod HttpPort
+pub mod PortRound

@@ -1,12 +1,12 @@
 //! What the program's commands over an office do: over any books, clock, sockets and writer.
 #![tactic(auto)]
 
-mod ended;
-mod polling;
-mod reporting;
-mod serving;
+mod command_end;
+mod http_port;
+mod port_round;
+mod report;
 
-pub use ended::Ended;
-pub use polling::{PATIENCE, Polling, poll_books};
-pub use reporting::report_books;
-pub use serving::{Serving, serve_books};
+pub use command_end::Ended;
+pub use http_port::{Serving, serve_books};
+pub use port_round::{PATIENCE, Polling, poll_books};
+pub use report::report_books;

@@ -10,10 +10,10 @@ use Rattle.office_events.specs.declared.facts.Fact.{Fact}
 use Rattle.office_events.specs.declared.refusals.Refusal.{Refusal}
 use Rattle.office_events.specs.declared.refusals.Refusal.TheVariants as refusal
 use Rattle.office_rules.specs.Facts.{moment_limit, request_limit}
-use Rattle.office_rules.specs.History.{History, facts_of, lines_of, latest_of}
+use Rattle.office_rules.specs.History.{History, facts_of, slots_of, latest_of}
 use Rattle.office_rules.specs.Refusals.{asks_wrongly, reasons, refuses, refusal_of}
-use Rattle.office_lines.specs.declared.lines.Line.{Line}
-use Rattle.office_lines.specs.Keeping.{KeepsLines}
+use Rattle.office_lines.specs.declared.slots.Slot.{Slot}
+use Rattle.office_lines.specs.Keeping.{KeepsSlots}
 use Rattle.office_books.specs.declared.faults.BooksFault.{BooksFault}
 use Rattle.office_refusing.specs.declared.arrivals.Arrival.{Arrival}
 use Rattle.office_lines.specs.Ranges.{IsInRange}
@@ -21,14 +21,14 @@ use Rattle.office_refusing.specs.Reasons.{arrival_of, request_arrival, speaks_ag
 use Rattle.office_refusing.proofs.AtMeters.{same_find, or_false}
 
 -- why a command is refused whatever the devices is why it is among these
-pub among : (kept : List Line) (arrival : Arrival) (c asked : Command) (facts : List Fact) (r : Result (Option Refusal) BooksFault) → asked ≡ c
+pub among : (kept : List Slot) (arrival : Arrival) (c asked : Command) (facts : List Fact) (r : Result (Option Refusal) BooksFault) → asked ≡ c
     → IfOk r (IsWhy arrival c facts) → IfOk r (IsWhyAmong kept arrival asked facts)
-among kept arrival c asked facts (Ok r) is h = λ lines keeps. h lines ∙ ap (refusal_under lines facts arrival) (sym is)
+among kept arrival c asked facts (Ok r) is h = λ slots keeps. h slots ∙ ap (refusal_under slots facts arrival) (sym is)
 among kept arrival c asked facts (Err fault) is h = tt
 
-pub under : (past : History) (kept : List Line) (arrival : Arrival) (c : Command) (r : Result (Option Refusal) BooksFault) → KeepsLines kept (lines_of past)
-    → IfOk r (IsWhyAmong kept arrival c (facts_of past)) → IfOk r (λ why. why ≡ refusal_under (lines_of past) (facts_of past) arrival c)
-under past kept arrival c (Ok r) keeps h = h (lines_of past) keeps
+pub under : (past : History) (kept : List Slot) (arrival : Arrival) (c : Command) (r : Result (Option Refusal) BooksFault) → KeepsSlots kept (slots_of past)
+    → IfOk r (IsWhyAmong kept arrival c (facts_of past)) → IfOk r (λ why. why ≡ refusal_under (slots_of past) (facts_of past) arrival c)
+under past kept arrival c (Ok r) keeps h = h (slots_of past) keeps
 under past kept arrival c (Err fault) keeps h = tt
 
 turned : (b x : Bool) → b || x ≡ x || b
@@ -42,23 +42,23 @@ beyond true b c x = refl
 beyond false b c x = turned (b || c) x
 
 asked_for : (past : History) (at : ℕ) (asked : Asked) (why : Refusal)
-    → speaks_against (lines_of past) (facts_of past) (request_arrival (latest_of past) at asked) asked.command why ≡ refuses past at (event.Asked asked) why
+    → speaks_against (slots_of past) (facts_of past) (request_arrival (latest_of past) at asked) asked.command why ≡ refuses past at (event.Asked asked) why
 asked_for past at asked refusal.ClockBack = refl
 asked_for past at asked refusal.Limit =
-    beyond (nat_lt moment_limit at) (is_none asked.caller) (nat_lt request_limit asked.number) (asks_wrongly (lines_of past) (facts_of past) at asked.command refusal.Limit)
-asked_for past at asked why = sym (or_false (asks_wrongly (lines_of past) (facts_of past) at asked.command why))
+    beyond (nat_lt moment_limit at) (is_none asked.caller) (nat_lt request_limit asked.number) (asks_wrongly (slots_of past) (facts_of past) at asked.command refusal.Limit)
+asked_for past at asked why = sym (or_false (asks_wrongly (slots_of past) (facts_of past) at asked.command why))
 
 asked_as : (past : History) (at : ℕ) (asked : Asked)
-    → refusal_under (lines_of past) (facts_of past) (request_arrival (latest_of past) at asked) asked.command ≡ refusal_of past at (event.Asked asked)
+    → refusal_under (slots_of past) (facts_of past) (request_arrival (latest_of past) at asked) asked.command ≡ refusal_of past at (event.Asked asked)
 asked_as past at asked = same_find _ _ reasons (asked_for past at asked)
 
 -- a request is refused as its command is that comes so
-pub request_refused : (past : History) (kept : List Line) (latest at : ℕ) (asked : Asked) (arrival : Arrival) (e : Event) (r : Result (Option Refusal) BooksFault)
+pub request_refused : (past : History) (kept : List Slot) (latest at : ℕ) (asked : Asked) (arrival : Arrival) (e : Event) (r : Result (Option Refusal) BooksFault)
     → e ≡ event.Asked asked → latest ≡ latest_of past → arrival ≡ request_arrival latest at asked
-    → IfOk r (λ why. why ≡ refusal_under (lines_of past) (facts_of past) arrival asked.command) → IfOk r (λ why. why ≡ refusal_of past at e)
+    → IfOk r (λ why. why ≡ refusal_under (slots_of past) (facts_of past) arrival asked.command) → IfOk r (λ why. why ≡ refusal_of past at e)
 request_refused past kept latest at asked arrival e (Ok why) is now so h =
     h
-    ∙ ap (λ (a : Arrival). refusal_under (lines_of past) (facts_of past) a asked.command) (so ∙ ap (λ n. request_arrival n at asked) now)
+    ∙ ap (λ (a : Arrival). refusal_under (slots_of past) (facts_of past) a asked.command) (so ∙ ap (λ n. request_arrival n at asked) now)
     ∙ asked_as past at asked ∙ ap (refusal_of past at) (sym is)
 request_refused past kept latest at asked arrival e (Err fault) is now so h = tt
 

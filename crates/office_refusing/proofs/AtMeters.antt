@@ -4,8 +4,8 @@ use Rattle.std.specs.List.{find}
 use Rattle.std.specs.Option.{is_none, option_and_then}
 use Rattle.energy_core.specs.declared.entries.Entry.{Entry}
 use Rattle.energy_core.specs.declared.entries.Entry.TheVariants as entry
-use Rattle.energy_core.specs.declared.entering.TermFault.{TermFault}
-use Rattle.energy_core.specs.declared.entering.TermFault.TheVariants as fault
+use Rattle.energy_core.specs.declared.admission.TermFault.{TermFault}
+use Rattle.energy_core.specs.declared.admission.TermFault.TheVariants as fault
 use Rattle.office_events.specs.declared.commands.Command.{Command}
 use Rattle.office_events.specs.declared.commands.Command.TheVariants as command
 use Rattle.office_events.specs.declared.commands.Exchange.{Exchange}
@@ -17,7 +17,7 @@ use Rattle.office_events.specs.declared.refusals.Refusal.TheVariants as refusal
 use Rattle.office_events.specs.declared.refusals.StoreCause.TheVariants as store
 use Rattle.office_rules.specs.Facts.{opening_of, openings_in}
 use Rattle.office_rules.specs.Meters.{installation_at, if_open, open_at}
-use Rattle.office_rules.specs.Sessions.{Line}
+use Rattle.office_rules.specs.Sessions.{Slot}
 use Rattle.office_rules.specs.History.{corrected_at}
 use Rattle.office_rules.specs.Refusals.{asks_unknown, asks_taken, asks_bad_scale, asks_bad_field, asks_busy, asks_faulty, asks_unvoidable, has_no_meter, installation_limit, is_closed, is_crowded, is_start, makes_fault, reasons, voided_place, is_held_for, verdict_at}
 use Rattle.office_refusing.specs.declared.arrivals.Arrival.{Arrival}
@@ -55,52 +55,52 @@ faulty_at facts at c row e why is same =
     sym (ap (makes_fault at why c) (open_found facts (corrected_at c) ∙ ap (option_and_then if_open) (sym is)) ∙ faulty_if at c row e why row.ended same)
 
 -- A command corrects the meter at its register by this entry, and nothing else is looked at but a scale and other numbers.
-pub record Corrects (lines : List Line) (facts : List Fact) (at : ℕ) (c : Command) (row : Installation) (e : Entry)
+pub record Corrects (slots : List Slot) (facts : List Fact) (at : ℕ) (c : Command) (row : Installation) (e : Entry)
     (off_scale off_limits : Bool) : Type 0 where
-  pub unknown : asks_unknown lines facts c ≡ has_no_meter facts (corrected_at c)
-  pub taken : asks_taken lines facts c ≡ false
+  pub unknown : asks_unknown slots facts c ≡ has_no_meter facts (corrected_at c)
+  pub taken : asks_taken slots facts c ≡ false
   pub scale : asks_bad_scale c ≡ off_scale
-  pub limits : asks_bad_field at c || is_crowded lines facts c ≡ off_limits
-  pub busy : asks_busy lines c ≡ false
+  pub limits : asks_bad_field at c || is_crowded slots facts c ≡ off_limits
+  pub busy : asks_busy slots c ≡ false
   pub voidable : asks_unvoidable facts c ≡ false
   pub place : voided_place facts c ≡ None
   pub start : is_start c ≡ false
   pub faults : (why : TermFault) → makes_fault at why c (Some row) ≡ has_fault row e why
 
-corrects_for : (lines : List Line) (facts : List Fact) (arrival : Arrival) (c : Command) (row : Installation) (e : Entry) (off_scale off_limits : Bool)
-    → Some row ≡ option_and_then (installation_at facts) (corrected_at c) → Corrects lines facts arrival.moment c row e off_scale off_limits
-    → (why : Refusal) → speaks_of_entry arrival off_scale off_limits row e why ≡ speaks_against lines facts arrival c why
-corrects_for lines facts arrival c row e off_scale off_limits is h refusal.NotFound = ap is_none is ∙ sym h.unknown
-corrects_for lines facts arrival c row e off_scale off_limits is h refusal.Exists = sym h.taken
-corrects_for lines facts arrival c row e off_scale off_limits is h refusal.ClockBack = sym (or_false arrival.is_back)
-corrects_for lines facts arrival c row e off_scale off_limits is h refusal.BadScale = sym h.scale
-corrects_for lines facts arrival c row e off_scale off_limits is h refusal.NegativeStep =
+corrects_for : (slots : List Slot) (facts : List Fact) (arrival : Arrival) (c : Command) (row : Installation) (e : Entry) (off_scale off_limits : Bool)
+    → Some row ≡ option_and_then (installation_at facts) (corrected_at c) → Corrects slots facts arrival.moment c row e off_scale off_limits
+    → (why : Refusal) → speaks_of_entry arrival off_scale off_limits row e why ≡ speaks_against slots facts arrival c why
+corrects_for slots facts arrival c row e off_scale off_limits is h refusal.NotFound = ap is_none is ∙ sym h.unknown
+corrects_for slots facts arrival c row e off_scale off_limits is h refusal.Exists = sym h.taken
+corrects_for slots facts arrival c row e off_scale off_limits is h refusal.ClockBack = sym (or_false arrival.is_back)
+corrects_for slots facts arrival c row e off_scale off_limits is h refusal.BadScale = sym h.scale
+corrects_for slots facts arrival c row e off_scale off_limits is h refusal.NegativeStep =
     faulty_at facts arrival.moment c row e fault.NegativeStep is (h.faults fault.NegativeStep)
-corrects_for lines facts arrival c row e off_scale off_limits is h refusal.NotLater =
+corrects_for slots facts arrival c row e off_scale off_limits is h refusal.NotLater =
     faulty_at facts arrival.moment c row e fault.NotLater is (h.faults fault.NotLater)
-corrects_for lines facts arrival c row e off_scale off_limits is h refusal.SpanTooLong =
+corrects_for slots facts arrival c row e off_scale off_limits is h refusal.SpanTooLong =
     faulty_at facts arrival.moment c row e fault.SpanTooLong is (h.faults fault.SpanTooLong)
-corrects_for lines facts arrival c row e off_scale off_limits is h refusal.TotalFull =
+corrects_for slots facts arrival c row e off_scale off_limits is h refusal.TotalFull =
     faulty_at facts arrival.moment c row e fault.TotalFull is (h.faults fault.TotalFull)
-corrects_for lines facts arrival c row e off_scale off_limits is h refusal.Ended = ap is_closed is
-corrects_for lines facts arrival c row e off_scale off_limits is h refusal.Busy = sym h.busy
-corrects_for lines facts arrival c row e off_scale off_limits is h refusal.Limit =
+corrects_for slots facts arrival c row e off_scale off_limits is h refusal.Ended = ap is_closed is
+corrects_for slots facts arrival c row e off_scale off_limits is h refusal.Busy = sym h.busy
+corrects_for slots facts arrival c row e off_scale off_limits is h refusal.Limit =
     ap (λ b. (arrival.is_beyond || b) || is_faulty (if_open row) e fault.NotBelowRange) (sym h.limits)
-    ∙ or_assoc arrival.is_beyond (asks_bad_field arrival.moment c || is_crowded lines facts c) (is_faulty (if_open row) e fault.NotBelowRange)
-    ∙ ap (λ b. arrival.is_beyond || (asks_bad_field arrival.moment c || is_crowded lines facts c || b))
+    ∙ or_assoc arrival.is_beyond (asks_bad_field arrival.moment c || is_crowded slots facts c) (is_faulty (if_open row) e fault.NotBelowRange)
+    ∙ ap (λ b. arrival.is_beyond || (asks_bad_field arrival.moment c || is_crowded slots facts c || b))
     (faulty_at facts arrival.moment c row e fault.NotBelowRange is (h.faults fault.NotBelowRange))
-corrects_for lines facts arrival c row e off_scale off_limits is h refusal.NotVoidable = sym h.voidable
-corrects_for lines facts arrival c row e off_scale off_limits is h (refusal.NotPlausible why) =
+corrects_for slots facts arrival c row e off_scale off_limits is h refusal.NotVoidable = sym h.voidable
+corrects_for slots facts arrival c row e off_scale off_limits is h (refusal.NotPlausible why) =
     ap (λ (o : Option EntryPlace). is_held_for why (verdict_at o)) (sym h.place)
-corrects_for lines facts arrival c row e off_scale off_limits is h (refusal.Store store.Refused) = sym (rw h.start refl)
-corrects_for lines facts arrival c row e off_scale off_limits is h _ = refl
+corrects_for slots facts arrival c row e off_scale off_limits is h (refusal.Store store.Refused) = sym (rw h.start refl)
+corrects_for slots facts arrival c row e off_scale off_limits is h _ = refl
 
 -- So it is refused as its entry is.
-pub refused_as : (lines : List Line) (facts : List Fact) (arrival : Arrival) (c : Command) (row : Installation) (e : Entry) (off_scale off_limits : Bool)
-    → Some row ≡ option_and_then (installation_at facts) (corrected_at c) → Corrects lines facts arrival.moment c row e off_scale off_limits
-    → entry_refusal arrival off_scale off_limits row e ≡ refusal_under lines facts arrival c
-refused_as lines facts arrival c row e off_scale off_limits is h =
-    same_find _ _ reasons (corrects_for lines facts arrival c row e off_scale off_limits is h)
+pub refused_as : (slots : List Slot) (facts : List Fact) (arrival : Arrival) (c : Command) (row : Installation) (e : Entry) (off_scale off_limits : Bool)
+    → Some row ≡ option_and_then (installation_at facts) (corrected_at c) → Corrects slots facts arrival.moment c row e off_scale off_limits
+    → entry_refusal arrival off_scale off_limits row e ≡ refusal_under slots facts arrival c
+refused_as slots facts arrival c row e off_scale off_limits is h =
+    same_find _ _ reasons (corrects_for slots facts arrival c row e off_scale off_limits is h)
 
 -- refused as before, or else for want of room
 abbrev pub or_limit : (crowded : Bool) → Option Refusal → Option Refusal
@@ -140,16 +140,16 @@ room_last arrival off_scale limits true row e =
     (after row.ended refusal.Ended _ _ (limited arrival.is_beyond limits (is_faulty (if_open row) e fault.NotBelowRange))))))))
 
 -- an exchange is refused as its closing is, or else for want of room
-pub exchanged : (lines : List Line) (facts : List Fact) (arrival : Arrival) (c : Exchange) (row : Installation) (off_scale limits crowded : Bool) (r : Option Refusal)
+pub exchanged : (slots : List Slot) (facts : List Fact) (arrival : Arrival) (c : Exchange) (row : Installation) (off_scale limits crowded : Bool) (r : Option Refusal)
     → Some row ≡ option_and_then (installation_at facts) c.register → false ≡ is_some (option_and_then (opening_of facts) c.meter)
     → off_scale ≡ asks_bad_scale (command.Exchange c) → limits ≡ asks_bad_field arrival.moment (command.Exchange c)
     → crowded ≡ nat_le installation_limit (length (openings_in facts))
     → r ≡ entry_refusal arrival off_scale limits row (entry.Step arrival.moment c.last c.rolls)
-    → or_limit crowded r ≡ refusal_under lines facts arrival (command.Exchange c)
-exchanged lines facts arrival c row off_scale limits crowded r is new scale field full found =
+    → or_limit crowded r ≡ refusal_under slots facts arrival (command.Exchange c)
+exchanged slots facts arrival c row off_scale limits crowded r is new scale field full found =
     ap (or_limit crowded) found
     ∙ room_last arrival off_scale limits crowded row (entry.Step arrival.moment c.last c.rolls)
-    ∙ refused_as lines facts arrival (command.Exchange c) row (entry.Step arrival.moment c.last c.rolls) off_scale (limits || crowded) is (record {
+    ∙ refused_as slots facts arrival (command.Exchange c) row (entry.Step arrival.moment c.last c.rolls) off_scale (limits || crowded) is (record {
       unknown = refl;
       taken = sym new;
       scale = sym scale;

@@ -12,11 +12,11 @@ use Rattle.poll_core.specs.Standing.{last_moment}
 use Rattle.poll_core.specs.Starting.{start_fault, AreStarts, IsReady}
 use Rattle.office_events.specs.declared.facts.Device.{Device}
 use Rattle.office_rules.specs.Sessions as sessions
-use Rattle.office_rules.specs.Sessions.{Send, is_startable, start_by, sends_on, line_of}
+use Rattle.office_rules.specs.Sessions.{Send, is_startable, start_by, sends_on, slot_of}
 use Rattle.office_rules.specs.History.{sends_from}
 use Rattle.office_rules.specs.Refusals.{is_ready}
-use Rattle.office_lines.specs.declared.lines.Line.{Line}
-use Rattle.office_lines.specs.Keeping.{KeepsPresent, KeepsSession, KeepsLines}
+use Rattle.office_lines.specs.declared.slots.Slot.{Slot}
+use Rattle.office_lines.specs.Keeping.{KeepsPresent, KeepsSession, KeepsSlots}
 use Rattle.office_lines.proofs.Keeping.{keeps_at}
 use Rattle.office_refusing.specs.Rounds.{HasRoomFor, HasRoomOn}
 
@@ -94,15 +94,15 @@ room_kept device kept (Some events) id count keeps ready =
     (subst (λ w. IsReady device.timeout w events id count) this.window
     (subst (λ t. IsReady t kept.window events id count) this.timeout (ready events this.stands)))
 
--- the room of a device is that of its line's session
-pub room_found : (given : Option (List ℕ)) (kept : List Line) (lines : List sessions.Line) (i : ℕ) (d : Line) (count : ℕ)
+-- the room of a device is that of its slot's session
+pub room_found : (given : Option (List ℕ)) (kept : List Slot) (slots : List sessions.Slot) (i : ℕ) (d : Slot) (count : ℕ)
     → ((device : Device) (present : Option (List session.Event)) → KeepsPresent device (get_or kept i d).session present → HasRoomOn device present count)
-    → i < length kept → line_of lines given ≡ slice_get lines i → KeepsLines kept lines → HasRoomFor lines given count
-room_found given kept lines i d count on inside found keeps =
-    let (line, got, keeps_line) = keeps_at kept lines i d keeps inside in
-    let room = on line.device line.present keeps_line.session in
+    → i < length kept → slot_of slots given ≡ slice_get slots i → KeepsSlots kept slots → HasRoomFor slots given count
+room_found given kept slots i d count on inside found keeps =
+    let (slot, got, keeps_slot) = keeps_at kept slots i d keeps inside in
+    let room = on slot.device slot.present keeps_slot.session in
     record {
-      known = ap (λ (o : Option sessions.Line). is_none o) (found ∙ got);
+      known = ap (λ (o : Option sessions.Slot). is_none o) (found ∙ got);
       starts = ap is_ready (found ∙ got) ∙ room.starts;
-      sends = λ number at spans. ap (λ (o : Option sessions.Line). length (sends_from number at spans o)) (found ∙ got) ∙ room.sends number at spans;
+      sends = λ number at spans. ap (λ (o : Option sessions.Slot). length (sends_from number at spans o)) (found ∙ got) ∙ room.sends number at spans;
     }

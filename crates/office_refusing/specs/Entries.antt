@@ -1,11 +1,12 @@
 -- Why an entry that is handed in is not made at a meter.
 use Rattle.std.specs.Prelude.{◌≡◌, Bool, false, ◌||◌, Option, Some, None}
 use Rattle.std.specs.List.{find}
+use Rattle.energy_core.specs.declared.limits.TheConstants.{MAX_RANGE}
 use Rattle.energy_core.specs.declared.entries.Entry.{Entry}
-use Rattle.energy_core.specs.declared.entering.TermFault.{TermFault}
-use Rattle.energy_core.specs.declared.entering.TermFault.TheVariants as fault
+use Rattle.energy_core.specs.declared.admission.TermFault.{TermFault}
+use Rattle.energy_core.specs.declared.admission.TermFault.TheVariants as fault
 use Rattle.energy_core.specs.Account.{CanBeShown}
-use Rattle.energy_core.specs.Entering as entering
+use Rattle.energy_core.specs.Admission as entering
 use Rattle.office_events.specs.declared.questions.Installation.{Installation}
 use Rattle.office_events.specs.declared.refusals.Refusal.{Refusal}
 use Rattle.office_events.specs.declared.refusals.Refusal.TheVariants as refusal
@@ -53,7 +54,7 @@ pub record IsEntryInRange (arrival : Arrival) (off_scale off_limits : Bool)
   pub within : arrival.is_beyond ≡ false
   pub scale : off_scale ≡ false
   pub field : off_limits ≡ false
-  pub shown : CanBeShown 4294967296 e
+  pub shown : CanBeShown MAX_RANGE e
 
 abbrev pub BefitsEntry : Arrival → (off_scale off_limits : Bool) → Entry → Option Refusal → Type 0
 BefitsEntry arrival off_scale off_limits e None = IsEntryInRange arrival off_scale off_limits e

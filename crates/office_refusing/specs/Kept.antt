@@ -5,8 +5,8 @@ use Rattle.office_events.specs.declared.events.Event.{Event}
 use Rattle.office_events.specs.declared.events.Event.TheVariants as event
 use Rattle.office_events.specs.declared.refusals.Refusal.{Refusal}
 use Rattle.office_events.specs.declared.refusals.Refusal.TheVariants.{Reused}
-use Rattle.office_books.specs.declared.repeats.Repeat.{Repeat}
-use Rattle.office_books.specs.declared.repeats.Repeat.TheVariants.{Same, Other}
+use Rattle.office_books.specs.declared.books.Repeat.{Repeat}
+use Rattle.office_books.specs.declared.books.Repeat.TheVariants.{Same, Other}
 
 abbrev pub kept_as : Repeat → Result CommandKind Refusal
 kept_as (Same kind) = Ok kind

@@ -9,8 +9,8 @@ use Rattle.office_events.specs.declared.refusals.Refusal.TheVariants as refusal
 use Rattle.office_rules.specs.Facts.{moment_limit, request_limit}
 use Rattle.office_rules.specs.Sessions as sessions
 use Rattle.office_rules.specs.Refusals.{asks_wrongly, reasons}
-use Rattle.office_lines.specs.declared.lines.Line.{Line}
-use Rattle.office_lines.specs.Keeping.{KeepsLines}
+use Rattle.office_lines.specs.declared.slots.Slot.{Slot}
+use Rattle.office_lines.specs.Keeping.{KeepsSlots}
 use Rattle.office_refusing.specs.declared.arrivals.Arrival.{Arrival}
 use Rattle.office_refusing.specs.Asking.{IsOfEvent}
 use Rattle.office_lines.specs.Ranges.{IsCommandInRange}
@@ -33,21 +33,21 @@ comes_wrongly arrival refusal.ClockBack = arrival.is_back
 comes_wrongly arrival refusal.Limit = arrival.is_beyond
 comes_wrongly arrival _ = false
 
-abbrev pub speaks_against : List sessions.Line → List Fact → Arrival → Command → Refusal → Bool
-speaks_against lines facts arrival c why =
-    comes_wrongly arrival why || asks_wrongly lines facts arrival.moment c why
+abbrev pub speaks_against : List sessions.Slot → List Fact → Arrival → Command → Refusal → Bool
+speaks_against slots facts arrival c why =
+    comes_wrongly arrival why || asks_wrongly slots facts arrival.moment c why
 
 -- Why a command is refused, if it is: for the first reason that speaks against it.
-abbrev pub refusal_under : List sessions.Line → List Fact → Arrival → Command → Option Refusal
-refusal_under lines facts arrival c = find (speaks_against lines facts arrival c) reasons
+abbrev pub refusal_under : List sessions.Slot → List Fact → Arrival → Command → Option Refusal
+refusal_under slots facts arrival c = find (speaks_against slots facts arrival c) reasons
 
 -- What is answered is why the command is refused, whatever the devices, or these being the kept ones.
 abbrev pub IsWhy : Arrival → Command → List Fact → Option Refusal → Type 0
-IsWhy arrival c facts r = (lines : List sessions.Line) → r ≡ refusal_under lines facts arrival c
+IsWhy arrival c facts r = (slots : List sessions.Slot) → r ≡ refusal_under slots facts arrival c
 
-abbrev pub IsWhyAmong : List Line → Arrival → Command → List Fact → Option Refusal → Type 0
+abbrev pub IsWhyAmong : List Slot → Arrival → Command → List Fact → Option Refusal → Type 0
 IsWhyAmong kept arrival c facts r =
-    (lines : List sessions.Line) → KeepsLines kept lines → r ≡ refusal_under lines facts arrival c
+    (slots : List sessions.Slot) → KeepsSlots kept slots → r ≡ refusal_under slots facts arrival c
 
 -- It comes neither too early nor out of range, and its numbers are in their ranges.
 pub record ComesInRange (arrival : Arrival) (c : Command) : Type 0 where

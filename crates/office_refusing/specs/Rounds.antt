@@ -3,17 +3,17 @@ use Rattle.std.specs.Prelude.{◌≡◌, ℕ, min, true, false, List, length, Op
 use Rattle.mb_wire.specs.declared.span.ReadSpan.{ReadSpan}
 use Rattle.poll_core.specs.Settling as session
 use Rattle.office_events.specs.declared.facts.Device.{Device}
-use Rattle.office_rules.specs.Sessions.{Line, line_of, is_startable, sends_at}
+use Rattle.office_rules.specs.Sessions.{Slot, slot_of, is_startable, sends_at}
 use Rattle.office_rules.specs.History.{sends_from}
 use Rattle.office_rules.specs.Refusals.{can_start}
 
 -- A device has room for so many polls: of some reads it starts the first of them, up to so many,
 -- whatever the polls' numbers.
-pub record HasRoomFor (lines : List Line) (device : Option (List ℕ)) (room : ℕ) : Type 0 where
-  pub known : is_none (line_of lines device) ≡ false
-  pub starts : can_start lines device ≡ nat_lt 0 room
+pub record HasRoomFor (slots : List Slot) (device : Option (List ℕ)) (room : ℕ) : Type 0 where
+  pub known : is_none (slot_of slots device) ≡ false
+  pub starts : can_start slots device ≡ nat_lt 0 room
   pub sends : (number at : ℕ) (spans : List ReadSpan)
-      → length (sends_from number at spans (line_of lines device)) ≡ min room (length spans)
+      → length (sends_from number at spans (slot_of slots device)) ≡ min room (length spans)
 
 -- the same of a device and its session
 pub record HasRoomOn (device : Device) (present : Option (List session.Event))
@@ -23,6 +23,6 @@ pub record HasRoomOn (device : Device) (present : Option (List session.Event))
       → length (sends_at number at device present spans) ≡ min room (length spans)
 
 -- So many polls can be started on the device of a name, or there is no such device.
-abbrev pub HasRoom : List Line → (device : Option (List ℕ)) → Option ℕ → Type 0
-HasRoom lines device None = is_none (line_of lines device) ≡ true
-HasRoom lines device (Some room) = HasRoomFor lines device room
+abbrev pub HasRoom : List Slot → (device : Option (List ℕ)) → Option ℕ → Type 0
+HasRoom slots device None = is_none (slot_of slots device) ≡ true
+HasRoom slots device (Some room) = HasRoomFor slots device room

@@ -2,7 +2,8 @@
 ghost use Rattle.std.specs.Prelude.{◌≡◌};
 ghost use Rattle.office_refusing.specs.Reasons as reasons;
 
-use office_events::Asked;
+use office_events::{Asked, MAX_REQUEST};
+use poll_core::LAST_MOMENT;
 
 /// The moment of a command, in seconds since 1970-01-01 UTC; whether that is before the latest accepted event; and whether
 /// it is past the limit, or the request of the command has a caller or a number that is none.
@@ -21,7 +22,7 @@ impl Arrival {
         Arrival {
             moment,
             is_back: moment < latest,
-            is_beyond: 4_102_444_800 < moment,
+            is_beyond: LAST_MOMENT < moment,
         }
     }
 
@@ -33,9 +34,7 @@ impl Arrival {
         Arrival {
             moment,
             is_back: arrival.is_back,
-            is_beyond: arrival.is_beyond
-                || asked.caller.is_none()
-                || 9_223_372_036_854_775_807 < asked.number,
+            is_beyond: arrival.is_beyond || asked.caller.is_none() || MAX_REQUEST < asked.number,
         }
     }
 }

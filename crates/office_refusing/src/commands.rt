@@ -1,6 +1,6 @@
 //! Why a command is refused.
 ghost use Rattle.std.specs.Prelude.{◌≡◌, None, IfOk, IsOk};
-ghost use Rattle.office_lines.specs.Places.{StartsOnLine};
+ghost use Rattle.office_lines.specs.Places.{StartsOnSlot};
 ghost use Rattle.office_books.specs.Ledgers.{Finds, OnlyReads};
 ghost use Rattle.office_refusing.specs.Asking.{IsOfDevices};
 ghost use Rattle.office_refusing.specs.Reasons.{IsWhyAmong, Befits};
@@ -15,26 +15,26 @@ use crate::starts::{start_poll, start_round};
 use crate::voids::void_entry;
 use office_books::{Books, BooksFault};
 use office_events::{Command, Refusal};
-use office_lines::Line;
+use office_lines::Slot;
 
 /// Why a command is refused that comes so.
 pub fn refusal_of_command<B: Books>(
     books: &mut B,
-    lines: &[Line],
+    slots: &[Slot],
     arrival: &Arrival,
     asked: &Command,
 ) -> Result<Option<Refusal>, BooksFault>
     ensures found { Finds (B.ledger books.old) (B.ledger books.new) result
-        (IsWhyAmong lines.now arrival.now asked.now) }
+        (IsWhyAmong slots.now arrival.now asked.now) }
     ensures reads { OnlyReads (B.ledger books.old) (B.ledger books.new) result }
     ensures befits { IfOk result (Befits arrival.now asked.now) }
-    ensures there { IfOk result (λ why. why ≡ None → StartsOnLine lines.now asked.now) }
+    ensures there { IfOk result (λ why. why ≡ None → StartsOnSlot slots.now asked.now) }
     ensures quiet { IsOfDevices asked.now → (books.new ≡ books.old) × IsOk result }
 {
     match asked {
-        Command::AddDevice(c) => Ok(add_device(lines, arrival, c)),
-        Command::PutList(c) => Ok(put_list(lines, arrival, c)),
-        Command::AddRegister(c) => add_register(books, lines, arrival, c),
+        Command::AddDevice(c) => Ok(add_device(slots, arrival, c)),
+        Command::PutList(c) => Ok(put_list(slots, arrival, c)),
+        Command::AddRegister(c) => add_register(books, slots, arrival, c),
         Command::Install(c) => install(books, arrival, c),
         Command::Exchange(c) => exchange(books, arrival, c),
         Command::Reset(c) => reset(books, arrival, c),
@@ -42,7 +42,7 @@ pub fn refusal_of_command<B: Books>(
         Command::Manual(c) => manual(books, arrival, c),
         Command::Close(c) => close(books, arrival, c),
         Command::Void(c) => void_entry(books, arrival, c),
-        Command::StartPoll(c) => start_poll(books, lines, arrival, c),
-        Command::StartRound(c) => start_round(books, lines, arrival, c),
+        Command::StartPoll(c) => start_poll(books, slots, arrival, c),
+        Command::StartRound(c) => start_round(books, slots, arrival, c),
     }
 }

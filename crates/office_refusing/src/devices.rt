@@ -8,41 +8,41 @@ ghost use Rattle.office_refusing.specs.Reasons.{IsWhyAmong, Befits};
 
 use crate::arrivals::Arrival;
 use crate::limits::is_bad_device;
-use office_events::{AddDevice, PutList, Refusal};
-use office_lines::{Line, has_device};
+use office_events::{AddDevice, MAX_DEVICES, PutList, Refusal};
+use office_lines::{Slot, has_device};
 
 /// Whether there are as many devices as there may be.
-fn are_all(lines: &[Line]) -> bool
-    ensures { IsOfKept lines.now result (λ stood. nat_le device_limit (length stood)) }
+fn are_all(slots: &[Slot]) -> bool
+    ensures { IsOfKept slots.now result (λ stood. nat_le device_limit (length stood)) }
 {
-    64 <= lines.len()
+    MAX_DEVICES <= slots.len()
 }
 
 /// Why a device is not added.
-pub fn add_device(lines: &[Line], arrival: &Arrival, device: &AddDevice) -> Option<Refusal>
+pub fn add_device(slots: &[Slot], arrival: &Arrival, device: &AddDevice) -> Option<Refusal>
     ensures found { (held : List Fact)
-        → IsWhyAmong lines.now arrival.now (command.AddDevice device.now) held result }
+        → IsWhyAmong slots.now arrival.now (command.AddDevice device.now) held result }
     ensures befits { Befits arrival.now (command.AddDevice device.now) result }
 {
-    if has_device(lines, &device.name) {
+    if has_device(slots, &device.name) {
         return Some(Refusal::Exists);
     }
     if arrival.is_back {
         return Some(Refusal::ClockBack);
     }
-    if arrival.is_beyond || is_bad_device(arrival.moment, device) || are_all(lines) {
+    if arrival.is_beyond || is_bad_device(arrival.moment, device) || are_all(slots) {
         return Some(Refusal::Limit);
     }
     None
 }
 
 /// Why a list is not put.
-pub fn put_list(lines: &[Line], arrival: &Arrival, put: &PutList) -> Option<Refusal>
+pub fn put_list(slots: &[Slot], arrival: &Arrival, put: &PutList) -> Option<Refusal>
     ensures found { (held : List Fact)
-        → IsWhyAmong lines.now arrival.now (command.PutList put.now) held result }
+        → IsWhyAmong slots.now arrival.now (command.PutList put.now) held result }
     ensures befits { Befits arrival.now (command.PutList put.now) result }
 {
-    if !has_device(lines, &put.device) {
+    if !has_device(slots, &put.device) {
         return Some(Refusal::NotFound);
     }
     if arrival.is_back {

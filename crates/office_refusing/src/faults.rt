@@ -2,21 +2,15 @@
 ghost use Rattle.std.specs.Prelude.{◌≡◌, ◌≤◌, ◌*◌, ◌^◌, pos, negsuc, ◌≤ℤ◌};
 ghost use Rattle.energy_core.specs.Value.{unit_of};
 ghost use Rattle.energy_core.specs.Account.{moment_of, reached, intervals_touched, energy_of};
-ghost use Rattle.energy_core.specs.Entering as entering;
-ghost use Rattle.energy_core.specs.declared.entering.TermFault.TheVariants as fault;
+ghost use Rattle.energy_core.specs.Admission as entering;
+ghost use Rattle.energy_core.specs.declared.admission.TermFault.TheVariants as fault;
 ghost use Rattle.office_books.specs.Sound.{IsSound};
 ghost use Rattle.office_refusing.specs.Given.{entry_of};
 ghost use Rattle.office_refusing.specs.Entries.{has_fault};
 
 use crate::given::GivenEntry;
-use energy_core::Last;
+use energy_core::{Last, MAX_INTERVALS, MAX_RANGE, MAX_TOTAL, MAX_UNIT};
 use office_events::Installation;
-
-/// The most energy that an installation may have, in mWh.
-const TOTAL_LIMIT: u128 = 4_000_000_000_000_000_000;
-
-/// How many intervals of 900 seconds a step may touch.
-const INTERVAL_LIMIT: u64 = 3000;
 
 /// How many mWh one count is.
 #[tactic(auto, unfolding(energy_core::specs::Value::unit_of))]
@@ -24,7 +18,7 @@ fn unit(sf: i16) -> u128
     requires low { negsuc 2 ≤ℤ sf }
     requires high { sf ≤ℤ pos 3 }
     ensures value { result ≡ unit_of sf }
-    ensures small { result ≤ 1000000 }
+    ensures small { result ≤ MAX_UNIT }
 {
     match sf {
         -3 => 1,
@@ -48,7 +42,7 @@ fn moment(given: &GivenEntry) -> u64
 
 /// What the counter would have reached, had it neither turned over nor been set.
 fn reach(range: u64, given: &GivenEntry) -> u128
-    requires { range ≤ 4294967296 }
+    requires { range ≤ MAX_RANGE }
     ensures value { result ≡ reached range (entry_of given.now) }
     ensures small { result ≤ 158456325028528675187087900672 }
 {
@@ -80,16 +74,16 @@ pub fn is_long(row: &Installation, given: &GivenEntry) -> bool
     ensures { result ≡ has_fault row.now (entry_of given.now) fault.SpanTooLong }
 {
     let last = moment(given).saturating_sub(1) / 900;
-    INTERVAL_LIMIT < last.saturating_sub(row.last.at / 900) + 1
+    MAX_INTERVALS < last.saturating_sub(row.last.at / 900) + 1
 }
 
 /// The energy from where the counter stands to an entry, in mWh.
 fn energy(range: u64, last: &Last, given: &GivenEntry) -> u128
-    requires range { range ≤ 4294967296 }
+    requires range { range ≤ MAX_RANGE }
     requires scale_low { negsuc 2 ≤ℤ last.now.sf }
     requires scale_high { last.now.sf ≤ℤ pos 3 }
     ensures value { result ≡ energy_of range last.now (entry_of given.now) }
-    ensures small { result ≤ 158456325028528675187087900672 * 1000000 }
+    ensures small { result ≤ 158456325028528675187087900672 * MAX_UNIT }
 {
     let unit = unit(last.sf);
     (reach(range, given) * unit).saturating_sub(u128::from(last.raw) * unit)
@@ -100,7 +94,7 @@ pub fn is_full(row: &Installation, given: &GivenEntry) -> bool
     requires { IsSound row.now }
     ensures { result ≡ has_fault row.now (entry_of given.now) fault.TotalFull }
 {
-    TOTAL_LIMIT < u128::from(row.total) + energy(row.opening.range, &row.last, given)
+    u128::from(MAX_TOTAL) < u128::from(row.total) + energy(row.opening.range, &row.last, given)
 }
 
 /// Whether an entry tells a number that the counter can't show.

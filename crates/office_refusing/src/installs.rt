@@ -11,7 +11,7 @@ use crate::limits::{is_bad_meter, is_off_scale};
 use crate::meters::has_open_meter;
 use crate::names::{has_meter, has_register};
 use office_books::{Books, BooksFault};
-use office_events::{Install, Refusal};
+use office_events::{Install, MAX_INSTALLATIONS, Refusal};
 
 /// Whether as many meters were installed as may be.
 pub fn are_all<B: Books>(books: &mut B) -> Result<bool, BooksFault>
@@ -19,7 +19,7 @@ pub fn are_all<B: Books>(books: &mut B) -> Result<bool, BooksFault>
         (λ held b. b ≡ nat_le installation_limit (length (openings_in held))) }
     ensures reads { OnlyReads (B.ledger books.old) (B.ledger books.new) result }
 {
-    Ok(4096 <= books.installation_count()?)
+    Ok(MAX_INSTALLATIONS <= books.installation_count()?)
 }
 
 /// Why a meter is not installed.

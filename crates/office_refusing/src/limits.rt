@@ -3,7 +3,13 @@ ghost use Rattle.std.specs.Prelude.{◌≡◌, nat_lt, false};
 ghost use Rattle.office_events.specs.declared.commands.Command.TheVariants as command;
 ghost use Rattle.office_rules.specs.Refusals as refusals;
 
-use office_events::{AddDevice, AddRegister, Close, Exchange, GivenScale, Manual, Name, Rescale};
+use energy_core::{MAX_CEILING, MAX_RANGE, MIN_RANGE};
+use mb_wire::MAX_READ_REGISTERS;
+use office_events::{
+    AddDevice, AddRegister, Close, Exchange, GivenScale, LAST_ADDRESS, LAST_COUNTER, LAST_UNIT,
+    MAX_ROLLS, Manual, Name, Rescale,
+};
+use poll_core::{MAX_TIMEOUT, MAX_WINDOW};
 
 /// Whether a scale is none.
 pub fn is_off_scale(sf: i64) -> bool
@@ -48,9 +54,9 @@ pub fn is_bad_device(moment: u64, device: &AddDevice) -> bool
     ensures { result ≡ refusals.asks_bad_field moment (command.AddDevice device.now) }
 {
     device.name.is_none()
-        || 255 < device.unit
-        || is_outside(1, 60, device.timeout)
-        || is_outside(1, 16, device.window)
+        || LAST_UNIT < device.unit
+        || is_outside(1, MAX_TIMEOUT, device.timeout)
+        || is_outside(1, MAX_WINDOW as u64, device.window)
 }
 
 /// Whether the address of a scale is none.
@@ -59,19 +65,20 @@ fn is_bad_address(scale: GivenScale) -> bool
 {
     match scale {
         GivenScale::Fixed(_) => false,
-        GivenScale::Register(address) => 65535 < address,
+        GivenScale::Register(address) => LAST_ADDRESS < address,
     }
 }
 
 /// Whether one read can't reach from the counter to its scale.
 fn is_wide(address: u64, scale: GivenScale) -> bool
-    requires address { nat_lt 65534 address ≡ false }
+    requires address { nat_lt LAST_COUNTER address ≡ false }
     requires scale { refusals.is_bad_address scale ≡ false }
-    ensures { result ≡ nat_lt 125 (refusals.registers_spanned address scale) }
+    ensures { result ≡ nat_lt MAX_READ_REGISTERS (refusals.registers_spanned address scale) }
 {
     match scale {
         GivenScale::Fixed(_) => false,
-        GivenScale::Register(at) => 125 < (address + 2).max(at + 1) - address.min(at),
+        GivenScale::Register(at) => u64::from(MAX_READ_REGISTERS)
+            < (address + 2).max(at + 1) - address.min(at),
     }
 }
 
@@ -81,7 +88,7 @@ pub fn is_bad_register(moment: u64, register: &AddRegister) -> bool
 {
     register.name.is_none()
         || is_outside(3, 4, register.function)
-        || 65534 < register.address
+        || LAST_COUNTER < register.address
         || is_bad_address(register.scale)
         || is_wide(register.address, register.scale)
 }
@@ -91,9 +98,9 @@ pub fn is_bad_meter(meter: &Option<Name>, range: u64, raw: u64, ceiling: u64) ->
     ensures { result ≡ refusals.is_bad_meter meter.now range raw ceiling }
 {
     meter.is_none()
-        || is_outside(65_536, 4_294_967_296, range)
+        || is_outside(MIN_RANGE, MAX_RANGE, range)
         || range <= raw
-        || is_outside(1, 1_000_000_000, ceiling)
+        || is_outside(1, MAX_CEILING, ceiling)
 }
 
 /// Whether someone tells that a number was read later than it came.
@@ -110,21 +117,21 @@ fn is_later(moment: u64, told: Option<u64>) -> bool
 pub fn is_bad_manual(moment: u64, manual: &Manual) -> bool
     ensures { result ≡ refusals.asks_bad_field moment (command.Manual manual.now) }
 {
-    255 < manual.rolls || is_later(moment, manual.at)
+    MAX_ROLLS < manual.rolls || is_later(moment, manual.at)
 }
 
 /// Whether a number of a closing is outside its range.
 pub fn is_bad_close(moment: u64, close: &Close) -> bool
     ensures { result ≡ refusals.asks_bad_field moment (command.Close close.now) }
 {
-    255 < close.rolls
+    MAX_ROLLS < close.rolls
 }
 
 /// Whether a name or a number of an exchange is outside its range.
 pub fn is_bad_exchange(moment: u64, exchange: &Exchange) -> bool
     ensures { result ≡ refusals.asks_bad_field moment (command.Exchange exchange.now) }
 {
-    255 < exchange.rolls
+    MAX_ROLLS < exchange.rolls
         || is_bad_meter(
             &exchange.meter,
             exchange.range,

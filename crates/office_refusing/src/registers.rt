@@ -9,8 +9,8 @@ use crate::arrivals::Arrival;
 use crate::limits::{is_bad_register, is_bad_scale};
 use crate::names::has_register;
 use office_books::{Books, BooksFault};
-use office_events::{AddRegister, Name, Refusal};
-use office_lines::{Line, has_device};
+use office_events::{AddRegister, MAX_REGISTERS, Name, Refusal};
+use office_lines::{Slot, has_device};
 
 /// Whether a device has as many registers as it may have.
 fn is_full<B: Books>(books: &mut B, given: &Option<Name>) -> Result<bool, BooksFault>
@@ -20,23 +20,23 @@ fn is_full<B: Books>(books: &mut B, given: &Option<Name>) -> Result<bool, BooksF
 {
     match given {
         None => Ok(false),
-        Some(device) => Ok(32 <= books.register_count(device)?),
+        Some(device) => Ok(MAX_REGISTERS <= books.register_count(device)?),
     }
 }
 
 /// Why a register is not added.
 pub fn add_register<B: Books>(
     books: &mut B,
-    lines: &[Line],
+    slots: &[Slot],
     arrival: &Arrival,
     register: &AddRegister,
 ) -> Result<Option<Refusal>, BooksFault>
     ensures found { Finds (B.ledger books.old) (B.ledger books.new) result
-        (IsWhyAmong lines.now arrival.now (command.AddRegister register.now)) }
+        (IsWhyAmong slots.now arrival.now (command.AddRegister register.now)) }
     ensures reads { OnlyReads (B.ledger books.old) (B.ledger books.new) result }
     ensures befits { IfOk result (Befits arrival.now (command.AddRegister register.now)) }
 {
-    if !has_device(lines, &register.device) {
+    if !has_device(slots, &register.device) {
         return Ok(Some(Refusal::NotFound));
     }
     if has_register(books, &register.name)? {

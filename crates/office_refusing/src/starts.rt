@@ -7,16 +7,16 @@ ghost use Rattle.office_events.specs.declared.facts.Device.{Device};
 ghost use Rattle.office_rules.specs.Facts.{list_of, polls_in, poll_limit};
 ghost use Rattle.office_rules.specs.Sessions as sessions;
 ghost use Rattle.office_rules.specs.History.{round_spans};
-ghost use Rattle.office_lines.specs.Keeping.{KeepsLines, KeepsPresent};
-ghost use Rattle.office_lines.specs.Places.{StartsOnLine, has_line};
+ghost use Rattle.office_lines.specs.Keeping.{KeepsSlots, KeepsPresent};
+ghost use Rattle.office_lines.specs.Places.{StartsOnSlot, has_slot};
 ghost use Rattle.office_books.specs.Ledgers.{Finds, OnlyReads};
 ghost use Rattle.office_refusing.specs.Reasons.{IsWhyAmong, Befits};
 ghost use Rattle.office_refusing.specs.Rounds.{HasRoom, HasRoomOn};
 
 use crate::arrivals::Arrival;
 use office_books::{Books, BooksFault};
-use office_events::{Name, PlannedList, Refusal, StartPoll, StartRound, StoreCause};
-use office_lines::{Line, place_of};
+use office_events::{MAX_POLLS, Name, PlannedList, Refusal, StartPoll, StartRound, StoreCause};
+use office_lines::{Slot, place_of};
 use poll_core::Session;
 
 /// How many polls can be started in a row on a session; none where a device has no session.
@@ -31,14 +31,14 @@ fn session_room(kept: &Option<Session>) -> u64
 }
 
 /// How many polls can be started in a row on the session of the device of a name; `None` where there is no such device.
-fn room(lines: &[Line], given: &Option<Name>) -> Option<u64>
-    ensures there { is_some result ≡ has_line lines.now given.now }
-    ensures room { (kept : List sessions.Line) → KeepsLines lines.now kept
+fn room(slots: &[Slot], given: &Option<Name>) -> Option<u64>
+    ensures there { is_some result ≡ has_slot slots.now given.now }
+    ensures room { (kept : List sessions.Slot) → KeepsSlots slots.now kept
         → HasRoom kept given.now result }
 {
-    match place_of(lines, given) {
+    match place_of(slots, given) {
         None => None,
-        Some(place) => Some(session_room(&lines[place].session)),
+        Some(place) => Some(session_room(&slots[place].session)),
     }
 }
 
@@ -68,24 +68,24 @@ fn is_past_numbers<B: Books>(books: &mut B, more: u64) -> Result<bool, BooksFaul
     ensures reads { OnlyReads (B.ledger books.old) (B.ledger books.new) result }
 {
     let count = books.poll_count()?;
-    Ok(4_611_686_018_427_387_904 < u128::from(count) + u128::from(more))
+    Ok(u128::from(MAX_POLLS) < u128::from(count) + u128::from(more))
 }
 
 /// Why a poll is not started.
 pub fn start_poll<B: Books>(
     books: &mut B,
-    lines: &[Line],
+    slots: &[Slot],
     arrival: &Arrival,
     start: &StartPoll,
 ) -> Result<Option<Refusal>, BooksFault>
     ensures found { Finds (B.ledger books.old) (B.ledger books.new) result
-        (IsWhyAmong lines.now arrival.now (command.StartPoll start.now)) }
+        (IsWhyAmong slots.now arrival.now (command.StartPoll start.now)) }
     ensures reads { OnlyReads (B.ledger books.old) (B.ledger books.new) result }
     ensures befits { IfOk result (Befits arrival.now (command.StartPoll start.now)) }
     ensures there { IfOk result (λ why. why ≡ None
-        → StartsOnLine lines.now (command.StartPoll start.now)) }
+        → StartsOnSlot slots.now (command.StartPoll start.now)) }
 {
-    let Some(room) = room(lines, &start.device) else {
+    let Some(room) = room(slots, &start.device) else {
         return Ok(Some(Refusal::NotFound));
     };
     if arrival.is_back {
@@ -106,18 +106,18 @@ pub fn start_poll<B: Books>(
 /// Why a round is not started.
 pub fn start_round<B: Books>(
     books: &mut B,
-    lines: &[Line],
+    slots: &[Slot],
     arrival: &Arrival,
     start: &StartRound,
 ) -> Result<Option<Refusal>, BooksFault>
     ensures found { Finds (B.ledger books.old) (B.ledger books.new) result
-        (IsWhyAmong lines.now arrival.now (command.StartRound start.now)) }
+        (IsWhyAmong slots.now arrival.now (command.StartRound start.now)) }
     ensures reads { OnlyReads (B.ledger books.old) (B.ledger books.new) result }
     ensures befits { IfOk result (Befits arrival.now (command.StartRound start.now)) }
     ensures there { IfOk result (λ why. why ≡ None
-        → StartsOnLine lines.now (command.StartRound start.now)) }
+        → StartsOnSlot slots.now (command.StartRound start.now)) }
 {
-    let Some(room) = room(lines, &start.device) else {
+    let Some(room) = room(slots, &start.device) else {
         return Ok(Some(Refusal::NotFound));
     };
     let Some(list) = list_at(books, &start.device)? else {

@@ -11,99 +11,99 @@ use Rattle.office_events.specs.declared.refusals.Refusal.{Refusal}
 use Rattle.office_events.specs.declared.refusals.Refusal.TheVariants as refusal
 use Rattle.office_rules.specs.Facts.{is_named, moment_limit}
 use Rattle.office_rules.specs.Headline.{waiting}
-use Rattle.office_rules.specs.History.{History, Fed, facts_of, latest_of, lines_of, next_poll}
+use Rattle.office_rules.specs.History.{History, Fed, facts_of, latest_of, slots_of, next_poll}
 use Rattle.office_rules.specs.Refusals.{comes_wrongly, is_mistimed, reasons, refusal_of, refuses, unless_refused, with_answer}
-use Rattle.office_rules.specs.Sessions.{Line, line_of, line_after, line_reached, with_happenings}
+use Rattle.office_rules.specs.Sessions.{Slot, slot_of, slot_after, slot_reached, with_happenings}
 use Rattle.office_core.specs.Failing.{FailsOutside}
 use Rattle.office_core.specs.Taking.{IsAnswer}
 use Rattle.office_rounds.specs.Rounds.{NoneWaits}
 
--- the line of the device, if it is this one, has no session
-abbrev IsLeft : Option (List ℕ) → Line → Type 0
-IsLeft given line = is_named given line.device.name ≡ true → line.present ≡ None
+-- the slot of the device, if it is this one, has no session
+abbrev IsLeft : Option (List ℕ) → Slot → Type 0
+IsLeft given slot = is_named given slot.device.name ≡ true → slot.present ≡ None
 
-closed_line : (number at : ℕ) (spans : List ReadSpan) (given : Option (List ℕ)) (c : Closing) (line : Line) (before : List session.Event) (named : Bool)
-    → is_named given line.device.name ≡ named
-    → IsLeft given (with_happenings line before (cond named (session.Close at c ∷ []) []))
-closed_line number at spans given c line before true is h = refl
-closed_line number at spans given c line before false is h = absurd (cc)
+closed_slot : (number at : ℕ) (spans : List ReadSpan) (given : Option (List ℕ)) (c : Closing) (slot : Slot) (before : List session.Event) (named : Bool)
+    → is_named given slot.device.name ≡ named
+    → IsLeft given (with_happenings slot before (cond named (session.Close at c ∷ []) []))
+closed_slot number at spans given c slot before true is h = refl
+closed_slot number at spans given c slot before false is h = absurd (cc)
 
-left_line : (number at : ℕ) (spans : List ReadSpan) (given : Option (List ℕ)) (c : Closing) (line : Line) (present : Option (List session.Event))
-    → line.present ≡ present → IsLeft given (line_reached number at spans (event.Gone given c) line present)
-left_line number at spans given c line None is = λ h. is
-left_line number at spans given c line (Some before) is =
-    closed_line number at spans given c line before (is_named given line.device.name) refl
+left_slot : (number at : ℕ) (spans : List ReadSpan) (given : Option (List ℕ)) (c : Closing) (slot : Slot) (present : Option (List session.Event))
+    → slot.present ≡ present → IsLeft given (slot_reached number at spans (event.Gone given c) slot present)
+left_slot number at spans given c slot None is = λ h. is
+left_slot number at spans given c slot (Some before) is =
+    closed_slot number at spans given c slot before (is_named given slot.device.name) refl
 
-first_or_later : (named : Bool) (first line : Line) (later : Option Line) → cond named (Some first) later ≡ Some line
-    → ((named ≡ true) × (first ≡ line)) ⊎ (later ≡ Some line)
-first_or_later true first line later h = let same : first ≡ line = cc in inl (refl, same)
-first_or_later false first line later h = inr h
+first_or_later : (named : Bool) (first slot : Slot) (later : Option Slot) → cond named (Some first) later ≡ Some slot
+    → ((named ≡ true) × (first ≡ slot)) ⊎ (later ≡ Some slot)
+first_or_later true first slot later h = let same : first ≡ slot = cc in inl (refl, same)
+first_or_later false first slot later h = inr h
 
--- no line of the device has a session
-abbrev AreLeft : Option (List ℕ) → List Line → Type 0
-AreLeft given lines = (line : Line) → line_of lines given ≡ Some line → line.present ≡ None
+-- no slot of the device has a session
+abbrev AreLeft : Option (List ℕ) → List Slot → Type 0
+AreLeft given slots = (slot : Slot) → slot_of slots given ≡ Some slot → slot.present ≡ None
 
-left_lines : (number at : ℕ) (spans : List ReadSpan) (given : Option (List ℕ)) (c : Closing) (lines : List Line)
-    → AreLeft given (map (line_after number at spans (event.Gone given c)) lines ++ [])
-left_lines number at spans given c [] line h = absurd (cc)
-left_lines number at spans given c (one ∷ lines) line h =
-    let after = line_after number at spans (event.Gone given c) one in
-    elim (first_or_later (is_named given after.device.name) after line _ h) [
+left_slots : (number at : ℕ) (spans : List ReadSpan) (given : Option (List ℕ)) (c : Closing) (slots : List Slot)
+    → AreLeft given (map (slot_after number at spans (event.Gone given c)) slots ++ [])
+left_slots number at spans given c [] slot h = absurd (cc)
+left_slots number at spans given c (one ∷ slots) slot h =
+    let after = slot_after number at spans (event.Gone given c) one in
+    elim (first_or_later (is_named given after.device.name) after slot _ h) [
       | inl found ↦
-          let P : Line → Type 0 = λ l. l.present ≡ None in
-          subst P found.1 (left_line number at spans given c one one.present refl found.0)
-      | inr later ↦ left_lines number at spans given c lines line later
+          let P : Slot → Type 0 = λ l. l.present ≡ None in
+          subst P found.1 (left_slot number at spans given c one one.present refl found.0)
+      | inr later ↦ left_slots number at spans given c slots slot later
     ]
 
-none_waits : (given : Option (List ℕ)) (history : History) → AreLeft given (lines_of history) → NoneWaits given history
-none_waits given history left line found = ap (waiting line.device) (left line found)
+none_waits : (given : Option (List ℕ)) (history : History) → AreLeft given (slots_of history) → NoneWaits given history
+none_waits given history left slot found = ap (waiting slot.device) (left slot found)
 
 never : {X : Type 0} (p : X → Bool) (xs : List X) → ((x : X) → p x ≡ false) → find p xs ≡ None
 never p [] h = refl
 never p (x ∷ xs) h = rw (h x) (never p xs h)
 
 -- nothing speaks against it that a device which is connected is gone, in time
-abbrev GoneRefused : (lines : List Line) → (latest at : ℕ) → Option (List ℕ) → Closing → Refusal → Bool
-GoneRefused lines latest at given c why = is_mistimed latest at why || comes_wrongly lines (event.Gone given c) why
+abbrev GoneRefused : (slots : List Slot) → (latest at : ℕ) → Option (List ℕ) → Closing → Refusal → Bool
+GoneRefused slots latest at given c why = is_mistimed latest at why || comes_wrongly slots (event.Gone given c) why
 
-right : (lines : List Line) (latest at : ℕ) (given : Option (List ℕ)) (c : Closing) (line : Line) (before : List session.Event)
-    → nat_lt at latest ≡ false → nat_lt moment_limit at ≡ false → line_of lines given ≡ Some line → line.present ≡ Some before
-    → (why : Refusal) → GoneRefused lines latest at given c why ≡ false
-right lines latest at given c line before on_time within found present refusal.NotFound = rw found refl
-right lines latest at given c line before on_time within found present refusal.Exists = refl
-right lines latest at given c line before on_time within found present refusal.ClockBack = rw on_time refl
-right lines latest at given c line before on_time within found present refusal.BadScale = refl
-right lines latest at given c line before on_time within found present refusal.NegativeStep = refl
-right lines latest at given c line before on_time within found present refusal.NotLater = refl
-right lines latest at given c line before on_time within found present refusal.SpanTooLong = refl
-right lines latest at given c line before on_time within found present refusal.TotalFull = refl
-right lines latest at given c line before on_time within found present refusal.Ended = refl
-right lines latest at given c line before on_time within found present refusal.Busy = rw (found, present) refl
-right lines latest at given c line before on_time within found present refusal.Reused = refl
-right lines latest at given c line before on_time within found present refusal.Limit = rw within refl
-right lines latest at given c line before on_time within found present (refusal.Store cause) = refl
-right lines latest at given c line before on_time within found present refusal.Memory = refl
-right lines latest at given c line before on_time within found present refusal.Stopped = refl
-right lines latest at given c line before on_time within found present refusal.NotVoidable = refl
-right lines latest at given c line before on_time within found present (refusal.NotPlausible cause) = refl
+right : (slots : List Slot) (latest at : ℕ) (given : Option (List ℕ)) (c : Closing) (slot : Slot) (before : List session.Event)
+    → nat_lt at latest ≡ false → nat_lt moment_limit at ≡ false → slot_of slots given ≡ Some slot → slot.present ≡ Some before
+    → (why : Refusal) → GoneRefused slots latest at given c why ≡ false
+right slots latest at given c slot before on_time within found present refusal.NotFound = rw found refl
+right slots latest at given c slot before on_time within found present refusal.Exists = refl
+right slots latest at given c slot before on_time within found present refusal.ClockBack = rw on_time refl
+right slots latest at given c slot before on_time within found present refusal.BadScale = refl
+right slots latest at given c slot before on_time within found present refusal.NegativeStep = refl
+right slots latest at given c slot before on_time within found present refusal.NotLater = refl
+right slots latest at given c slot before on_time within found present refusal.SpanTooLong = refl
+right slots latest at given c slot before on_time within found present refusal.TotalFull = refl
+right slots latest at given c slot before on_time within found present refusal.Ended = refl
+right slots latest at given c slot before on_time within found present refusal.Busy = rw (found, present) refl
+right slots latest at given c slot before on_time within found present refusal.Reused = refl
+right slots latest at given c slot before on_time within found present refusal.Limit = rw within refl
+right slots latest at given c slot before on_time within found present (refusal.Store cause) = refl
+right slots latest at given c slot before on_time within found present refusal.Memory = refl
+right slots latest at given c slot before on_time within found present refusal.Stopped = refl
+right slots latest at given c slot before on_time within found present refusal.NotVoidable = refl
+right slots latest at given c slot before on_time within found present (refusal.NotPlausible cause) = refl
 
-absent_by : (history : History) (at : ℕ) (given : Option (List ℕ)) (c : Closing) (why : Refusal) (line : Line)
-    (present : Option (List session.Event)) → line.present ≡ present → nat_lt at (latest_of history) ≡ false → nat_lt moment_limit at ≡ false
-    → line_of (lines_of history) given ≡ Some line → refusal_of history at (event.Gone given c) ≡ Some why → line.present ≡ None
-absent_by history at given c why line None is on_time within found refused = is
-absent_by history at given c why line (Some before) is on_time within found refused =
+absent_by : (history : History) (at : ℕ) (given : Option (List ℕ)) (c : Closing) (why : Refusal) (slot : Slot)
+    (present : Option (List session.Event)) → slot.present ≡ present → nat_lt at (latest_of history) ≡ false → nat_lt moment_limit at ≡ false
+    → slot_of (slots_of history) given ≡ Some slot → refusal_of history at (event.Gone given c) ≡ Some why → slot.present ≡ None
+absent_by history at given c why slot None is on_time within found refused = is
+absent_by history at given c why slot (Some before) is on_time within found refused =
     let none : refusal_of history at (event.Gone given c) ≡ None =
     never (refuses history at (event.Gone given c)) reasons
-    (right (lines_of history) (latest_of history) at given c line before on_time within found is) in
+    (right (slots_of history) (latest_of history) at given c slot before on_time within found is) in
     absurd (cc)
 
 gone_or_absent : (history : History) (at : ℕ) (given : Option (List ℕ)) (c : Closing) (refused : Option Refusal) (reply : Result Answer Refusal)
     → refusal_of history at (event.Gone given c) ≡ refused → nat_lt at (latest_of history) ≡ false → nat_lt moment_limit at ≡ false
     → reply ≡ unless_refused answer.Noted refused → NoneWaits given (with_answer history at (event.Gone given c) reply)
 gone_or_absent history at given c None reply is on_time within told =
-    rw told (none_waits given (Fed at (event.Gone given c) ∷ history) (left_lines (next_poll (facts_of history)) at [] given c (lines_of history)))
+    rw told (none_waits given (Fed at (event.Gone given c) ∷ history) (left_slots (next_poll (facts_of history)) at [] given c (slots_of history)))
 gone_or_absent history at given c (Some why) reply is on_time within told =
-    rw told (none_waits given history (λ line found. absent_by history at given c why line line.present refl on_time within found is))
+    rw told (none_waits given history (λ slot found. absent_by history at given c why slot slot.present refl on_time within found is))
 
 -- Once it was fed in time that a device is gone, none of its polls waits, unless the books or memory failed.
 pub gone : (history : History) (at : ℕ) (given : Option (List ℕ)) (c : Closing) (before after : ℕ) (reply : Result Answer Refusal)
@@ -118,4 +118,4 @@ pub gone_accepted : (history : History) (at : ℕ) (given : Option (List ℕ)) (
     → with_answer history at (event.Gone given c) (Ok told) ≡ Fed at (event.Gone given c) ∷ history
     → NoneWaits given (with_answer history at (event.Gone given c) (Ok told))
 gone_accepted history at given c before after told is =
-    rw is (none_waits given (Fed at (event.Gone given c) ∷ history) (left_lines (next_poll (facts_of history)) at [] given c (lines_of history)))
+    rw is (none_waits given (Fed at (event.Gone given c) ∷ history) (left_slots (next_poll (facts_of history)) at [] given c (slots_of history)))

@@ -17,13 +17,13 @@ use Rattle.office_rules.specs.Facts.{moment_limit}
 use Rattle.office_rules.specs.Refusals.{with_answer}
 use Rattle.office_books.specs.Ledgers.{Ledger}
 use Rattle.office_core.specs.Failing.{FailsOutside, stops}
-use Rattle.office_core.specs.Running.{Answered}
+use Rattle.office_core.specs.EventRun.{Answered}
 use Rattle.office_core.specs.Standing.{is_stopped}
 use Rattle.office_core.specs.declared.office.Office.{Office}
 use Rattle.office_rounds.specs.Faults.{IsPrinted}
 use Rattle.office_rounds.specs.Rounds.{Desk, IsSettled, IsToldOf, NoneWaits, gone_at}
 use Rattle.office_rounds.specs.Stepping.{Broken, Closes, EndsPrinted, EndsUnprinted, Feeds, FeedStops, IsTaken, RefusedStops, Stops, fault_behind, is_output}
-use Rattle.office_rounds.specs.Telling.{history_behind, text_behind, told_text}
+use Rattle.office_rounds.specs.FedEvents.{history_behind, text_behind, told_text}
 use Rattle.office_rounds.specs.declared.fault.RoundFault.{RoundFault}
 use Rattle.office_rounds.specs.declared.fault.RoundFault.TheVariants.{Refused, Link, Output, TurnsUsed}
 use Rattle.office_rounds.specs.declared.progress.Progress.{Progress}

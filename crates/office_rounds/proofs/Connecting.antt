@@ -11,7 +11,7 @@ use Rattle.office_books.specs.Ledgers.{Ledger}
 use Rattle.office_core.specs.declared.office.Office.{Office}
 use Rattle.office_rounds.specs.Rounds.{Desk, IsFed}
 use Rattle.office_rounds.specs.Stepping.{Connects, Counts, Feeds, IsNew, IsTaken, IsUnprinted, connection, latest_behind}
-use Rattle.office_rounds.specs.Telling.{told_text}
+use Rattle.office_rounds.specs.FedEvents.{told_text}
 use Rattle.office_rounds.specs.declared.fault.RoundFault.{RoundFault}
 use Rattle.office_rounds.specs.declared.fault.RoundFault.TheVariants.{Refused, Link, Output, TurnsUsed}
 use Rattle.office_rounds.specs.declared.progress.Progress.{Progress}

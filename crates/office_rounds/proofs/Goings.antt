@@ -14,13 +14,13 @@ use Rattle.office_rules.specs.History.{History, Fed, latest_of}
 use Rattle.office_rules.specs.Notes.{notes_after}
 use Rattle.office_rules.specs.Refusals.{with_answer}
 use Rattle.office_books.specs.Ledgers.{Ledger}
-use Rattle.office_core.specs.Running.{Answered}
+use Rattle.office_core.specs.EventRun.{Answered}
 use Rattle.office_core.specs.Standing.{notes_in}
 use Rattle.office_core.specs.declared.office.Office.{Office}
 use Rattle.office_rounds.specs.Course.{Does, endings_of, first_by, first_poll, is_ending, next_in, planned_by, polls_ended, reads_started, started_by}
 use Rattle.office_rounds.specs.Rounds.{Desk}
 use Rattle.office_rounds.specs.Stepping.{Broken, Counts, FeedStops, Feeds, GoesOn, Going, IsTaken, IsUnprinted, Prints, Told, counted, latest_behind}
-use Rattle.office_rounds.specs.Telling.{history_behind, text_behind, told_text}
+use Rattle.office_rounds.specs.FedEvents.{history_behind, text_behind, told_text}
 use Rattle.office_rounds.specs.declared.fault.RoundFault.{RoundFault}
 use Rattle.office_rounds.specs.declared.fault.RoundFault.TheVariants.{Refused, Link, Output, TurnsUsed}
 use Rattle.office_rounds.specs.declared.progress.Progress.{Progress}

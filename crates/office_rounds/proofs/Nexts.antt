@@ -8,10 +8,10 @@ use Rattle.office_events.specs.declared.events.Event.TheVariants as event
 use Rattle.office_events.specs.declared.refusals.Refusal.{Refusal}
 use Rattle.office_rules.specs.History.{History}
 use Rattle.office_rules.specs.Notes.{notes_after, outgoing_after}
-use Rattle.office_core.specs.Running.{Answered}
+use Rattle.office_core.specs.EventRun.{Answered}
 use Rattle.office_rounds.specs.Course.{IsTaken, Next, Over, Take, endings_of, first_poll, is_ending, next_after, next_behind, next_in, next_left, polls_ended, reads_planned, reads_started, start_from}
 use Rattle.office_rounds.specs.Taking.{is_end, next_by}
-use Rattle.office_rounds.specs.Telling.{history_behind}
+use Rattle.office_rounds.specs.FedEvents.{history_behind}
 
 no_notes : (h : History) (at : ℕ) (device : Option (List ℕ)) (read : ℕ) (result : Result Answer Refusal)
     → notes_after h at (start_from device read) result ≡ []

@@ -8,13 +8,13 @@ use Rattle.office_events.specs.declared.refusals.Refusal.{Refusal}
 use Rattle.office_rules.specs.History.{History}
 use Rattle.office_rules.specs.Refusals.{with_answer}
 use Rattle.office_books.specs.Ledgers.{Ledger}
-use Rattle.office_core.specs.Running.{Answered}
+use Rattle.office_core.specs.EventRun.{Answered}
 use Rattle.office_core.specs.Taking.{IsAnswer}
 use Rattle.office_core.specs.declared.office.Office.{Office}
 use Rattle.office_rounds.specs.Course.{AreNext, Connect, Does, Leave, Next, Over, StartFrom, Take, endings_of, next_after, next_behind, next_in, next_left, polls_ended, reads_planned, reads_started}
 use Rattle.office_rounds.specs.Rounds.{Desk, IsBrokenOff, IsRound, NoneWaits, Wire, passage}
 use Rattle.office_rounds.specs.Stepping.{Broken, Closes, Going, IsWired}
-use Rattle.office_rounds.specs.Telling.{AreAnswered, history_behind}
+use Rattle.office_rounds.specs.FedEvents.{AreAnswered, history_behind}
 use Rattle.office_rounds.specs.declared.fault.RoundFault.{RoundFault}
 use Rattle.office_rounds.specs.declared.progress.Progress.{Progress}
 use Rattle.office_rounds.proofs.Absent.{gone_accepted}

@@ -12,7 +12,7 @@ use Rattle.office_events.specs.declared.refusals.Refusal.{Refusal}
 use Rattle.office_rules.specs.History.{History}
 use Rattle.office_rules.specs.Notes.{outgoing_after}
 use Rattle.office_books.specs.Ledgers.{Ledger}
-use Rattle.office_core.specs.Running.{Answered}
+use Rattle.office_core.specs.EventRun.{Answered}
 use Rattle.office_core.specs.Standing.{books_in, outgoing_in}
 use Rattle.office_core.specs.declared.office.Office.{Office}
 use Rattle.office_rounds.specs.Course.{Does, IsTaken, Leave, Next, StartFrom, Take, next_in, next_left, start_from}
@@ -22,7 +22,7 @@ use Rattle.office_rounds.specs.Stepping.{Broken, Going, IsUnsent, IsWired, Scene
 use Rattle.mb_wire.specs.declared.link.LastTake.{LastTake}
 use Rattle.office_rounds.specs.Passing.{AreAtMost, AreTakes}
 use Rattle.office_rounds.specs.Taking.{Brings, TurnTakes, next_by, over_or_take}
-use Rattle.office_rounds.specs.Telling.{frames_behind, history_behind, piece_in, pieces_behind, text_behind}
+use Rattle.office_rounds.specs.FedEvents.{frames_behind, history_behind, piece_in, pieces_behind, text_behind}
 use Rattle.office_rounds.specs.declared.fault.RoundFault.{RoundFault}
 use Rattle.office_rounds.specs.declared.fault.RoundFault.TheVariants.{Refused, Link, Output, TurnsUsed}
 use Rattle.office_rounds.specs.declared.progress.Progress.{Progress}

@@ -8,7 +8,7 @@ use Rattle.office_events.specs.declared.refusals.Refusal.{Refusal}
 use Rattle.office_rules.specs.History.{History}
 use Rattle.office_rules.specs.Notes.{outgoing_after}
 use Rattle.office_books.specs.Ledgers.{Ledger}
-use Rattle.office_core.specs.Running.{Answered}
+use Rattle.office_core.specs.EventRun.{Answered}
 use Rattle.office_core.specs.declared.office.Office.{Office}
 use Rattle.office_rounds.specs.Faults.{OfOffice, is_link_fault}
 use Rattle.office_rounds.specs.Passing.{CountsFailures}

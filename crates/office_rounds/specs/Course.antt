@@ -12,8 +12,8 @@ use Rattle.office_events.specs.declared.events.Event.TheVariants as event
 use Rattle.office_events.specs.declared.refusals.Refusal.{Refusal}
 use Rattle.office_rules.specs.History.{History}
 use Rattle.office_rules.specs.Notes.{notes_after}
-use Rattle.office_core.specs.Running.{Answered}
-use Rattle.office_rounds.specs.Telling.{history_behind}
+use Rattle.office_core.specs.EventRun.{Answered}
+use Rattle.office_rounds.specs.FedEvents.{history_behind}
 
 -- What a start tells: the number of its first poll, how many reads it started, and how many the plan has.
 abbrev pub first_by : Option ℕ → Answer → Option ℕ

@@ -1,5 +1,5 @@
 pub mod Faults
-pub mod Telling
+pub mod FedEvents
 pub mod Course
 pub mod Rounds
 pub mod Passing

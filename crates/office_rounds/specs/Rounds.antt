@@ -8,15 +8,15 @@ use Rattle.office_events.specs.declared.refusals.Refusal.{Refusal}
 use Rattle.office_events.specs.declared.refusals.Refusal.TheVariants as refusal
 use Rattle.office_rules.specs.Facts.{moment_limit}
 use Rattle.office_rules.specs.Headline.{pending_on}
-use Rattle.office_rules.specs.History.{History, latest_of, lines_of}
-use Rattle.office_rules.specs.Sessions.{Line, line_of}
+use Rattle.office_rules.specs.History.{History, latest_of, slots_of}
+use Rattle.office_rules.specs.Sessions.{Slot, slot_of}
 use Rattle.office_books.specs.Ledgers.{Ledger}
-use Rattle.office_core.specs.Running.{Answered}
+use Rattle.office_core.specs.EventRun.{Answered}
 use Rattle.office_core.specs.Standing.{Stands, is_stopped}
 use Rattle.office_core.specs.declared.office.Office.{Office}
 use Rattle.office_rounds.specs.Course.{AreNext, Does, Over, next_in}
 use Rattle.office_rounds.specs.Faults.{AreGiven, IsPrinted}
-use Rattle.office_rounds.specs.Telling.{AreAnswered, AreTimed, frames_behind, history_behind, pieces_behind, text_behind}
+use Rattle.office_rounds.specs.FedEvents.{AreAnswered, AreTimed, frames_behind, history_behind, pieces_behind, text_behind}
 use Rattle.office_rounds.specs.declared.fault.RoundFault.{RoundFault}
 use Rattle.office_rounds.specs.declared.fault.RoundFault.TheVariants.{Refused, Link, Output, TurnsUsed}
 
@@ -56,8 +56,8 @@ pub record IsFed {B : Type 0} (ledger : B → Ledger) (past : History) (begun no
 
 -- none of the device's polls waits
 abbrev pub NoneWaits : (device : Option (List ℕ)) → History → Type 0
-NoneWaits device history = (line : Line) → line_of (lines_of history) device ≡ Some line
-    → pending_on line ≡ []
+NoneWaits device history = (slot : Slot) → slot_of (slots_of history) device ≡ Some slot
+    → pending_on slot ≡ []
 
 -- So it is, unless the office has stopped, since the books or memory failed.
 abbrev pub IsSettled : {B : Type 0} → (device : Option (List ℕ)) → History → Office B → Type 0

@@ -13,7 +13,7 @@ use Rattle.office_rules.specs.History.{History, latest_of}
 use Rattle.office_rules.specs.Notes.{outgoing_after}
 use Rattle.office_rules.specs.Refusals.{with_answer}
 use Rattle.office_books.specs.Ledgers.{Ledger}
-use Rattle.office_core.specs.Running.{Answered}
+use Rattle.office_core.specs.EventRun.{Answered}
 use Rattle.office_core.specs.Standing.{Stands, books_in, is_stopped, outgoing_in}
 use Rattle.office_core.specs.Taking.{IsAnswer, IsTold}
 use Rattle.office_core.specs.declared.office.Office.{Office}
@@ -21,7 +21,7 @@ use Rattle.sun_points.specs.Writing.{GotPart}
 use Rattle.office_rounds.specs.Course.{AreNext, Next, endings_of, first_poll, next_in, polls_ended, reads_planned, reads_started}
 use Rattle.office_rounds.specs.Faults.{AreGiven, IsPrinted}
 use Rattle.office_rounds.specs.Rounds.{BreaksOff, Desk, IsFed, IsGoneAt, IsSettled, IsToldOf, Wire}
-use Rattle.office_rounds.specs.Telling.{AreTimed, frames_behind, history_behind, pieces_behind, text_behind, told_text}
+use Rattle.office_rounds.specs.FedEvents.{AreTimed, frames_behind, history_behind, pieces_behind, text_behind, told_text}
 use Rattle.office_rounds.specs.declared.fault.RoundFault.{RoundFault}
 use Rattle.office_rounds.specs.declared.fault.RoundFault.TheVariants.{Refused, Link, Output, TurnsUsed}
 use Rattle.office_rounds.specs.declared.progress.Progress.{Progress}

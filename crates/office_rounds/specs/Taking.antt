@@ -10,7 +10,7 @@ use Rattle.office_events.specs.declared.events.Event.{Event}
 use Rattle.office_events.specs.declared.events.Event.TheVariants as event
 use Rattle.office_events.specs.declared.refusals.Refusal.TheVariants as refusal
 use Rattle.office_rounds.specs.Course.{Next, Over, Take}
-use Rattle.office_rounds.specs.Telling.{piece_in}
+use Rattle.office_rounds.specs.FedEvents.{piece_in}
 use Rattle.office_rounds.specs.declared.fault.RoundFault.{RoundFault}
 use Rattle.office_rounds.specs.declared.fault.RoundFault.TheVariants.{Refused, Link, Output, TurnsUsed}
 

@@ -1,13 +1,13 @@
 //! Rounds: the whole plan of a device, polled once over a link.
 #![tactic(auto)]
 
-mod closing;
 mod fault;
-mod giving;
+mod fed_events;
+mod gives;
 mod progress;
 mod round;
+mod round_end;
 mod steps;
-mod telling;
 
 pub use fault::RoundFault;
 pub use round::{MOST_TAKES, round_over};

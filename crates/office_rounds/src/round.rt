@@ -2,7 +2,7 @@
 ghost use Rattle.std.specs.Prelude.{◌≡◌, ℕ, List, Option, Ok, Err};
 ghost use Rattle.mb_wire.specs.Links.{risen};
 ghost use Rattle.office_rules.specs.History.{History};
-ghost use Rattle.office_core.specs.Running.{Answered};
+ghost use Rattle.office_core.specs.EventRun.{Answered};
 ghost use Rattle.office_core.specs.Standing.{After, books_in};
 ghost use Rattle.office_core.specs.Taking.{failures_of};
 ghost use Rattle.office_rounds.specs.Course.{Over, StartFrom, Take, next_in};
@@ -11,11 +11,11 @@ ghost use Rattle.office_rounds.specs.Passing.{AreAtMost, AreTakes, CountsFailure
 ghost use Rattle.office_rounds.specs.Rounds.{Desk, IsToldOf, Rounds, Wire, desk, passage, wire};
 ghost use Rattle.office_rounds.specs.Stepping.{Connects, Going, IsNew, IsWired, StepsFrom, scene};
 
-use crate::closing::close;
 use crate::fault::RoundFault;
+use crate::fed_events::{feed, latest_behind};
 use crate::progress::Progress;
+use crate::round_end::close;
 use crate::steps::{start, turn};
-use crate::telling::{feed, latest_behind};
 use mb_wire::Link;
 use office_books::Books;
 use office_core::Office;

@@ -3,7 +3,7 @@ ghost use Rattle.std.specs.Prelude.{◌≡◌, ◌++◌, ℕ, List, Option, IfOk
 ghost use Rattle.std.specs.Io.KnownBytes.{Appends, Consumes, Keeps};
 ghost use Rattle.mb_wire.specs.Links.{risen};
 ghost use Rattle.office_rules.specs.History.{History};
-ghost use Rattle.office_core.specs.Running.{Answered};
+ghost use Rattle.office_core.specs.EventRun.{Answered};
 ghost use Rattle.office_core.specs.Standing.{books_in};
 ghost use Rattle.office_core.specs.Taking.{failures_of};
 ghost use Rattle.office_rounds.specs.Course.{IsTaken, Leave, StartFrom, Take, next_in, next_left, polls_ended, reads_planned, reads_started};
@@ -11,14 +11,14 @@ ghost use Rattle.office_rounds.specs.Faults.{AreGiven, OfOffice, OnlyLink, Takes
 ghost use Rattle.office_rounds.specs.Passing.{Lasts};
 ghost use Rattle.office_rounds.specs.Rounds.{Desk, Wire, desk, wire};
 ghost use Rattle.office_rounds.specs.Stepping.{Going, Steps, StepsFrom, scene};
-ghost use Rattle.office_rounds.specs.Telling.{frames_behind, piece_in, pieces_behind};
+ghost use Rattle.office_rounds.specs.FedEvents.{frames_behind, piece_in, pieces_behind};
 ghost use Rattle.office_rounds.specs.Taking as taking;
 ghost use Rattle.office_rounds.specs.Taking.{Brings, TurnTakes, brought, next_by, over_or_take};
 
 use crate::fault::RoundFault;
-use crate::giving::give_all;
+use crate::fed_events::tell;
+use crate::gives::give_all;
 use crate::progress::Progress;
-use crate::telling::tell;
 use mb_wire::{Link, LinkFailed, Took};
 use office_books::Books;
 use office_core::Office;

@@ -1,7 +1,7 @@
 -- Entries by hand, resets, rescales, closings and exchanges.
 use Rattle.std.proofs.Common.{◌≡◌, pos, true, false, [], ◌∷◌, Some, None, Ok, Err, refl}
 use Rattle.energy_core.specs.Value.{unit_of}
-use Rattle.energy_core.specs.declared.judging.Cause.TheVariants as cause
+use Rattle.energy_core.specs.declared.verdicts.Cause.TheVariants as cause
 use Rattle.mb_wire.specs.Frames.{frames, frames_in, rest, rest_in, is_garbled}
 use Rattle.poll_core.specs.Settling.{stream, next_id, frames_at, ending_at, settled_by, pending, outcomes_at}
 use Rattle.poll_core.specs.Standing.{is_over, is_closed}

@@ -7,7 +7,6 @@ use Rattle.poll_core.specs.Settling.{stream, next_id, frames_at, ending_at, sett
 use Rattle.poll_core.specs.Standing.{is_over, is_closed}
 use Rattle.poll_core.specs.declared.outcome.Outcome.TheVariants as outcome
 use Rattle.poll_core.specs.declared.outcome.LostCause.TheVariants as lost
-use Rattle.point_list.specs.declared.point.RegisterTable.TheVariants as table
 use Rattle.point_list.specs.declared.point.PointScale.TheVariants as scale
 use Rattle.sun_points.specs.declared.point_type.PointType.TheVariants as point
 use Rattle.planned_list.specs.Lists.{Planned}
@@ -65,9 +64,9 @@ opened_too_early = refl
 -- a list of two reads
 abbrev list : Planned
 list = record {
-  points = record { name = 97 ∷ []; table = table.Holding; area = 0; address = 0; kind = point.Acc32; scale = scale.Unscaled }
-      ∷ record { name = 98 ∷ []; table = table.Holding; area = 0; address = 124; kind = point.Uint16; scale = scale.Unscaled }
-      ∷ record { name = 99 ∷ []; table = table.Holding; area = 0; address = 125; kind = point.Uint16; scale = scale.Unscaled } ∷ [];
+  points = record { name = 97 ∷ []; function = HoldingRegisters; area = 0; address = 0; kind = point.Acc32; scale = scale.Unscaled }
+      ∷ record { name = 98 ∷ []; function = HoldingRegisters; area = 0; address = 124; kind = point.Uint16; scale = scale.Unscaled }
+      ∷ record { name = 99 ∷ []; function = HoldingRegisters; area = 0; address = 125; kind = point.Uint16; scale = scale.Unscaled } ∷ [];
   reads = record { area = 0; span = record { function = HoldingRegisters; address = 0; count = 125; some = lit≤ tt; few = lit≤ tt; inside = lit≤ tt } }
       ∷ record { area = 0; span = record { function = HoldingRegisters; address = 125; count = 1; some = lit≤ tt; few = lit≤ tt; inside = lit≤ tt } } ∷ [];
 }

@@ -3,7 +3,9 @@ use Rattle.std.specs.Prelude.{ℕ, ◌==◌, max, Bool, false, ◌&&◌, List, [
 use Rattle.std.specs.Option.{option_and_then}
 use Rattle.std.specs.List.{find, filter, filter_map}
 use Rattle.std.specs.Str.{bytes_eq}
+use Rattle.poll_core.specs.declared.limits.TheConstants.{LAST_MOMENT}
 use Rattle.energy_core.specs.Account.{moment_of}
+use Rattle.office_events.specs.declared.limits.TheConstants.{MAX_POLLS, MAX_REQUEST}
 use Rattle.office_events.specs.declared.facts.Device.{Device}
 use Rattle.office_events.specs.declared.facts.Register.{Register}
 use Rattle.office_events.specs.declared.facts.Opening.{Opening}
@@ -21,14 +23,14 @@ use Rattle.office_events.specs.declared.facts.Fact.TheVariants as fact
 
 -- Moments go to 2099-12-31 24:00 UTC.
 abbrev pub moment_limit : ℕ
-moment_limit = 4102444800
+moment_limit = LAST_MOMENT
 
 -- the greatest numbers of a poll and of a request: 2^62 and 2^63 - 1
 abbrev pub poll_limit : ℕ
-poll_limit = 4611686018427387904
+poll_limit = MAX_POLLS
 
 abbrev pub request_limit : ℕ
-request_limit = 9223372036854775807
+request_limit = MAX_REQUEST
 
 -- A name is its text. Two names are the same if their bytes are.
 abbrev pub same : List ℕ → List ℕ → Bool

@@ -10,8 +10,8 @@ use Rattle.poll_core.specs.declared.outcome.LostCause.TheVariants.{Restart}
 use Rattle.office_events.specs.declared.facts.Device.{Device}
 use Rattle.office_events.specs.declared.facts.Poll.{Poll}
 use Rattle.office_rules.specs.Facts.{polls_in, ends_of, pending_in}
-use Rattle.office_rules.specs.Sessions.{Line, EndedSession}
-use Rattle.office_rules.specs.History.{History, facts_of, lines_of, outcome_of}
+use Rattle.office_rules.specs.Sessions.{Slot, EndedSession}
+use Rattle.office_rules.specs.History.{History, facts_of, slots_of, outcome_of}
 
 -- How a poll of a session ended: as the events of the session settle it; where they do not and the office was opened anew,
 -- it is lost.
@@ -35,25 +35,25 @@ polls_on_ended device sessions =
     flat_map (λ ended. polls_on device ended.restarted ended.events) sessions
 
 -- the polls of a device, and of all devices
-abbrev pub polls_of_line : Line → List (ℕ × Option Outcome)
-polls_of_line line =
-    polls_on_present line.device line.present ++ polls_on_ended line.device line.ended
+abbrev pub polls_of_slot : Slot → List (ℕ × Option Outcome)
+polls_of_slot slot =
+    polls_on_present slot.device slot.present ++ polls_on_ended slot.device slot.ended
 
-abbrev pub polls_of_lines : List Line → List (ℕ × Option Outcome)
-polls_of_lines lines = flat_map polls_of_line lines
+abbrev pub polls_of_slots : List Slot → List (ℕ × Option Outcome)
+polls_of_slots slots = flat_map polls_of_slot slots
 
 -- The outcome of a poll, by the session on which it was started.
-abbrev pub outcome_in : List Line → ℕ → Option Outcome
-outcome_in lines number =
-    option_and_then (λ poll. poll.1) (find (λ poll. poll.0 == number) (polls_of_lines lines))
+abbrev pub outcome_in : List Slot → ℕ → Option Outcome
+outcome_in slots number =
+    option_and_then (λ poll. poll.1) (find (λ poll. poll.0 == number) (polls_of_slots slots))
 
 -- the polls that wait in the present session of a device
 abbrev pub waiting : Device → Option (List session.Event) → List ℕ
 waiting device None = []
 waiting device (Some events) = map (λ poll. poll.number) (session.pending device.timeout events)
 
-abbrev pub pending_on : Line → List ℕ
-pending_on line = waiting line.device line.present
+abbrev pub pending_on : Slot → List ℕ
+pending_on slot = waiting slot.device slot.present
 
 -- the polls have the numbers from 1 on, the latest first
 abbrev pub AreNumbered : List Poll → Type 0
@@ -65,8 +65,8 @@ AreNumbered (poll ∷ polls) = (poll.number ≡ length polls + 1) × AreNumbered
 pub record PollsEndOnce (history : History) : Type 0 where
   pub numbered : AreNumbered (polls_in (facts_of history))
   pub started : IsPermutation (map (λ poll. poll.number) (polls_in (facts_of history)))
-      (map (λ poll. poll.0) (polls_of_lines (lines_of history)))
+      (map (λ poll. poll.0) (polls_of_slots (slots_of history)))
   pub ended : (number : ℕ) → map (λ end. end.outcome) (ends_of (facts_of history) number)
-      ≡ option_to_list (outcome_in (lines_of history) number)
+      ≡ option_to_list (outcome_in (slots_of history) number)
   pub pending : IsPermutation (map (λ poll. poll.number) (pending_in (facts_of history)))
-      (flat_map pending_on (lines_of history))
+      (flat_map pending_on (slots_of history))

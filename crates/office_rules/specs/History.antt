@@ -36,7 +36,7 @@ use Rattle.office_events.specs.declared.events.Event.{Event}
 use Rattle.office_events.specs.declared.events.Event.TheVariants as event
 use Rattle.office_rules.specs.Facts.{polls_in, poll_of, pending_in, list_of}
 use Rattle.office_rules.specs.Readings.{with_reply}
-use Rattle.office_rules.specs.Sessions.{Line, Send, line_of, command_in, started_on, sends_at, reaches, device_by, lines_after, line_restarted}
+use Rattle.office_rules.specs.Sessions.{Slot, Send, slot_of, command_in, started_on, sends_at, reaches, device_by, slots_after, slot_restarted}
 
 -- What was accepted: an opening of the office, or an event.
 pub data Accepted : Type 0 where
@@ -96,14 +96,14 @@ settled_on number at e device None = []
 settled_on number at e device (Some before) =
     settled_in device before (reaches number at [] e device before)
 
-abbrev pub settled_by : (number at : ℕ) → Event → Line → List (ℕ × session.Settlement)
-settled_by number at e line = settled_on number at e line.device line.present
+abbrev pub settled_by : (number at : ℕ) → Event → Slot → List (ℕ × session.Settlement)
+settled_by number at e slot = settled_on number at e slot.device slot.present
 
 -- The facts after an event settled what it settles: device by device, in the order in which they were added.
-abbrev pub with_settled : (number at : ℕ) → Event → List Line → List Fact → List Fact
+abbrev pub with_settled : (number at : ℕ) → Event → List Slot → List Fact → List Fact
 with_settled number at e [] facts = facts
-with_settled number at e (line ∷ lines) facts =
-    with_settled number at e lines (with_outcomes at (settled_by number at e line) facts)
+with_settled number at e (slot ∷ slots) facts =
+    with_settled number at e slots (with_outcomes at (settled_by number at e slot) facts)
 
 -- what a command says, as the fact says it
 abbrev pub function_by : ℕ → ReadFunction
@@ -237,14 +237,14 @@ abbrev pub spans_in : List Fact → Option Command → List ReadSpan
 spans_in facts None = []
 spans_in facts (Some c) = spans_by facts c
 
--- the reads that it sends on the session of the line
-abbrev pub sends_from : (number at : ℕ) → List ReadSpan → Option Line → List Send
+-- the reads that it sends on the session of the slot
+abbrev pub sends_from : (number at : ℕ) → List ReadSpan → Option Slot → List Send
 sends_from number at spans None = []
-sends_from number at spans (Some line) = sends_at number at line.device line.present spans
+sends_from number at spans (Some slot) = sends_at number at slot.device slot.present spans
 
-abbrev pub sends_by : (number at : ℕ) → List Line → List Fact → Command → List Send
-sends_by number at lines facts c =
-    sends_from number at (spans_by facts c) (line_of lines (started_on c))
+abbrev pub sends_by : (number at : ℕ) → List Slot → List Fact → Command → List Send
+sends_by number at slots facts c =
+    sends_from number at (spans_by facts c) (slot_of slots (started_on c))
 
 -- their polls
 abbrev pub poll_by : (at : ℕ) → Device → Send → Fact
@@ -258,36 +258,36 @@ poll_by at device send =
       span = send.span;
     })
 
-abbrev pub polls_from : (number at : ℕ) → List ReadSpan → Option Line → List Fact
+abbrev pub polls_from : (number at : ℕ) → List ReadSpan → Option Slot → List Fact
 polls_from number at spans None = []
-polls_from number at spans (Some line) =
-    map (poll_by at line.device) (sends_at number at line.device line.present spans)
+polls_from number at spans (Some slot) =
+    map (poll_by at slot.device) (sends_at number at slot.device slot.present spans)
 
 -- The facts that a command adds, in order. What was handed in for a name is one, where the command is accepted.
-abbrev pub added_by : (number at : ℕ) → List Line → List Fact → Command → List Fact
-added_by number at lines facts (command.AddDevice c) =
+abbrev pub added_by : (number at : ℕ) → List Slot → List Fact → Command → List Fact
+added_by number at slots facts (command.AddDevice c) =
     option_to_list (option_map fact.Device (device_by c))
-added_by number at lines facts (command.PutList c) =
+added_by number at slots facts (command.PutList c) =
     option_to_list
     (option_map (λ device. fact.List (record { device = device; list = c.list })) c.device)
-added_by number at lines facts (command.AddRegister c) =
+added_by number at slots facts (command.AddRegister c) =
     option_to_list
     (option_and_then (λ name. option_map (λ device. register_by c name device) c.device) c.name)
-added_by number at lines facts (command.Install c) = openings_by at c
-added_by number at lines facts (command.Exchange c) =
+added_by number at slots facts (command.Install c) = openings_by at c
+added_by number at slots facts (command.Exchange c) =
     entries_by at facts (command.Exchange c) ++ openings_by at (installed_by c)
-added_by number at lines facts (command.Reset c) = entries_by at facts (command.Reset c)
-added_by number at lines facts (command.Rescale c) = entries_by at facts (command.Rescale c)
-added_by number at lines facts (command.Manual c) = entries_by at facts (command.Manual c)
-added_by number at lines facts (command.Close c) = entries_by at facts (command.Close c)
-added_by number at lines facts (command.Void c) =
+added_by number at slots facts (command.Reset c) = entries_by at facts (command.Reset c)
+added_by number at slots facts (command.Rescale c) = entries_by at facts (command.Rescale c)
+added_by number at slots facts (command.Manual c) = entries_by at facts (command.Manual c)
+added_by number at slots facts (command.Close c) = entries_by at facts (command.Close c)
+added_by number at slots facts (command.Void c) =
     option_to_list
     (option_map (λ meter. fact.Void (record { meter = meter; place = c.place; at = at })) c.meter)
-added_by number at lines facts (command.StartPoll c) =
-    polls_from number at (c.span ∷ []) (line_of lines c.device)
-added_by number at lines facts (command.StartRound c) =
+added_by number at slots facts (command.StartPoll c) =
+    polls_from number at (c.span ∷ []) (slot_of slots c.device)
+added_by number at slots facts (command.StartRound c) =
     polls_from number at (round_spans c.from (option_and_then (list_of facts) c.device))
-    (line_of lines c.device)
+    (slot_of slots c.device)
 
 -- the kind under which the answer to a command is kept
 abbrev pub kind_of : Command → CommandKind
@@ -317,17 +317,17 @@ reply_by at asked = option_to_list (option_map
     asked.caller)
 
 -- The facts after an event, the devices standing as they did before it.
-abbrev pub facts_after : (number at : ℕ) → Event → List Line → List Fact → List Fact
-facts_after number at (event.Connected given) lines facts = facts
-facts_after number at (event.Bytes given piece) lines facts =
-    with_settled number at (event.Bytes given piece) lines facts
-facts_after number at event.Tick lines facts = with_settled number at event.Tick lines facts
-facts_after number at (event.Gone given closing) lines facts =
-    with_settled number at (event.Gone given closing) lines facts
-facts_after number at (event.Command c) lines facts =
-    reverse (added_by number at lines facts c) ++ facts
-facts_after number at (event.Asked asked) lines facts =
-    reverse (added_by number at lines facts asked.command ++ reply_by at asked) ++ facts
+abbrev pub facts_after : (number at : ℕ) → Event → List Slot → List Fact → List Fact
+facts_after number at (event.Connected given) slots facts = facts
+facts_after number at (event.Bytes given piece) slots facts =
+    with_settled number at (event.Bytes given piece) slots facts
+facts_after number at event.Tick slots facts = with_settled number at event.Tick slots facts
+facts_after number at (event.Gone given closing) slots facts =
+    with_settled number at (event.Gone given closing) slots facts
+facts_after number at (event.Command c) slots facts =
+    reverse (added_by number at slots facts c) ++ facts
+facts_after number at (event.Asked asked) slots facts =
+    reverse (added_by number at slots facts asked.command ++ reply_by at asked) ++ facts
 
 -- The facts after an opening: each poll that has no outcome is lost.
 abbrev pub lost : ℕ → Poll → Fact
@@ -342,12 +342,12 @@ abbrev mutual
   facts_of [] = []
   facts_of (Opened at ∷ past) = with_lost at (facts_of past)
   facts_of (Fed at e ∷ past) =
-      facts_after (next_poll (facts_of past)) at e (lines_of past) (facts_of past)
+      facts_after (next_poll (facts_of past)) at e (slots_of past) (facts_of past)
 
   -- The devices, and what happened on their sessions.
-  pub lines_of : History → List Line
-  lines_of [] = []
-  lines_of (Opened at ∷ past) = map line_restarted (lines_of past)
-  lines_of (Fed at e ∷ past) =
-      lines_after (next_poll (facts_of past)) at (spans_in (facts_of past) (command_in e)) e
-      (lines_of past)
+  pub slots_of : History → List Slot
+  slots_of [] = []
+  slots_of (Opened at ∷ past) = map slot_restarted (slots_of past)
+  slots_of (Fed at e ∷ past) =
+      slots_after (next_poll (facts_of past)) at (spans_in (facts_of past) (command_in e)) e
+      (slots_of past)

@@ -1,9 +1,12 @@
 -- What holds of the facts of the office, whatever it accepted: each fact may follow those before it.
 use Rattle.std.specs.Prelude.{◌≡◌, ℕ, ◌≤◌, ◌<◌, true, List, [], ◌∷◌, Some, None, is_some}
+use Rattle.poll_core.specs.declared.limits.TheConstants.{MAX_TIMEOUT, MAX_WINDOW}
+use Rattle.energy_core.specs.declared.limits.TheConstants.{MAX_CEILING, MAX_RANGE, MIN_RANGE}
 use Rattle.energy_core.specs.Account.{IsScale}
 use Rattle.meter_journal.specs.Journal as journal
 use Rattle.meter_journal.specs.Fitting as journals
 use Rattle.planned_list.specs.Lists.{IsPlanned}
+use Rattle.office_events.specs.declared.limits.TheConstants.{LAST_UNIT}
 use Rattle.office_events.specs.declared.facts.Device.{Device}
 use Rattle.office_events.specs.declared.facts.DeviceList.{DeviceList}
 use Rattle.office_events.specs.declared.facts.Register.{Register}
@@ -21,9 +24,9 @@ use Rattle.office_rules.specs.History.{next_poll}
 -- no device has its name, and its numbers are in their ranges
 pub record DeviceFits (facts : List Fact) (device : Device) : Type 0 where
   pub new : device_of facts device.name ≡ None
-  pub unit : device.unit ≤ 255
-  pub timeout : (1 ≤ device.timeout) × (device.timeout ≤ 60)
-  pub window : (1 ≤ device.window) × (device.window ≤ 16)
+  pub unit : device.unit ≤ LAST_UNIT
+  pub timeout : (1 ≤ device.timeout) × (device.timeout ≤ MAX_TIMEOUT)
+  pub window : (1 ≤ device.window) × (device.window ≤ MAX_WINDOW)
 
 -- its device was added, and its reads are those of its plan
 pub record ListFits (facts : List Fact) (put : DeviceList) : Type 0 where
@@ -42,10 +45,10 @@ pub record OpeningFits (facts : List Fact) (opening : Opening) : Type 0 where
   pub free : open_at facts opening.register ≡ None
   pub register : is_some (register_of facts opening.register) ≡ true
   pub latest : latest_in facts ≤ opening.at
-  pub range : (65536 ≤ opening.range) × (opening.range ≤ 4294967296)
+  pub range : (MIN_RANGE ≤ opening.range) × (opening.range ≤ MAX_RANGE)
   pub raw : opening.raw < opening.range
   pub scale : IsScale opening.sf
-  pub ceiling : (1 ≤ opening.ceiling) × (opening.ceiling ≤ 1000000000)
+  pub ceiling : (1 ≤ opening.ceiling) × (opening.ceiling ≤ MAX_CEILING)
 
 -- The meter is installed, and the line may follow in its journal.
 pub record LineFits (facts : List Fact) (meter : List ℕ) (line : journal.Line) : Type 0 where

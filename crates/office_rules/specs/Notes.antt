@@ -2,9 +2,9 @@
 -- wants sent.
 use Rattle.std.specs.Prelude.{ℕ, List, [], ◌∷◌, ◌++◌, Option, Some, None, Result, Ok, Err, if◌then◌else◌}
 use Rattle.std.specs.Option.{option_map, option_to_list}
-use Rattle.energy_core.specs.declared.judging.Reading.{Reading}
-use Rattle.energy_core.specs.declared.judging.Verdict.{Verdict}
-use Rattle.energy_core.specs.declared.judging.Verdict.TheVariants.{Accepted, Held}
+use Rattle.energy_core.specs.declared.verdicts.Reading.{Reading}
+use Rattle.energy_core.specs.declared.verdicts.Verdict.{Verdict}
+use Rattle.energy_core.specs.declared.verdicts.Verdict.TheVariants.{Accepted, Held}
 use Rattle.mb_wire.specs.Requests.{request_bytes}
 use Rattle.mb_wire.specs.Reader.{spelling}
 use Rattle.mb_wire.specs.Spans.{span_view, request_of}
@@ -28,8 +28,8 @@ use Rattle.office_events.specs.declared.events.Event.TheVariants as event
 use Rattle.office_rules.specs.Facts.{poll_of, registers_of}
 use Rattle.office_rules.specs.Meters.{open_at}
 use Rattle.office_rules.specs.Readings.{is_read_by, reading_of, judgement, with_register}
-use Rattle.office_rules.specs.Sessions.{Line, Send, line_of, command_in, started_on, sends_at}
-use Rattle.office_rules.specs.History.{History, next_poll, facts_of, lines_of, outcome_of, settled_by, with_outcome, with_outcomes, spans_by}
+use Rattle.office_rules.specs.Sessions.{Slot, Send, slot_of, command_in, started_on, sends_at}
+use Rattle.office_rules.specs.History.{History, next_poll, facts_of, slots_of, outcome_of, settled_by, with_outcome, with_outcomes, spans_by}
 
 -- a reading, accepted or held
 abbrev pub as_note : (meter : List ℕ) → Reading → Verdict → Note
@@ -76,49 +76,49 @@ outcomes_notes at [] facts = []
 outcomes_notes at (settled ∷ later) facts =
     outcome_notes at settled facts ++ outcomes_notes at later (with_outcome at settled facts)
 
-abbrev pub settled_notes : (number at : ℕ) → Event → List Line → List Fact → List Note
+abbrev pub settled_notes : (number at : ℕ) → Event → List Slot → List Fact → List Note
 settled_notes number at e [] facts = []
-settled_notes number at e (line ∷ lines) facts =
-    outcomes_notes at (settled_by number at e line) facts
-    ++ settled_notes number at e lines (with_outcomes at (settled_by number at e line) facts)
+settled_notes number at e (slot ∷ slots) facts =
+    outcomes_notes at (settled_by number at e slot) facts
+    ++ settled_notes number at e slots (with_outcomes at (settled_by number at e slot) facts)
 
 -- The notes of an event.
-abbrev pub notes_of : (number at : ℕ) → Event → List Line → List Fact → List Note
-notes_of number at (event.Bytes given piece) lines facts =
-    settled_notes number at (event.Bytes given piece) lines facts
-notes_of number at event.Tick lines facts = settled_notes number at event.Tick lines facts
-notes_of number at (event.Gone given closing) lines facts =
-    settled_notes number at (event.Gone given closing) lines facts
-notes_of number at _ lines facts = []
+abbrev pub notes_of : (number at : ℕ) → Event → List Slot → List Fact → List Note
+notes_of number at (event.Bytes given piece) slots facts =
+    settled_notes number at (event.Bytes given piece) slots facts
+notes_of number at event.Tick slots facts = settled_notes number at event.Tick slots facts
+notes_of number at (event.Gone given closing) slots facts =
+    settled_notes number at (event.Gone given closing) slots facts
+notes_of number at _ slots facts = []
 
 -- the frame of a read that is sent on the session of a device
 abbrev pub frame_of : Device → Send → List ℕ
 frame_of device send =
     spelling send.id device.unit (request_bytes (request_of (span_view send.span)))
 
-abbrev pub frames_from : (number at : ℕ) → List ReadSpan → Option Line → List ℕ
+abbrev pub frames_from : (number at : ℕ) → List ReadSpan → Option Slot → List ℕ
 frames_from number at spans None = []
-frames_from number at spans (Some line) =
-    flat_map (frame_of line.device) (sends_at number at line.device line.present spans)
+frames_from number at spans (Some slot) =
+    flat_map (frame_of slot.device) (sends_at number at slot.device slot.present spans)
 
 -- The bytes that an event wants sent: the frames of the polls that it starts.
-abbrev pub frames_by : (number at : ℕ) → List Line → List Fact → Option Command → List ℕ
-frames_by number at lines facts None = []
-frames_by number at lines facts (Some c) =
-    frames_from number at (spans_by facts c) (line_of lines (started_on c))
+abbrev pub frames_by : (number at : ℕ) → List Slot → List Fact → Option Command → List ℕ
+frames_by number at slots facts None = []
+frames_by number at slots facts (Some c) =
+    frames_from number at (spans_by facts c) (slot_of slots (started_on c))
 
-abbrev pub outgoing_of : (number at : ℕ) → Event → List Line → List Fact → List ℕ
-outgoing_of number at e lines facts = frames_by number at lines facts (command_in e)
+abbrev pub outgoing_of : (number at : ℕ) → Event → List Slot → List Fact → List ℕ
+outgoing_of number at e slots facts = frames_by number at slots facts (command_in e)
 
 -- What is told once an event was answered: nothing where it was refused, or was asked before.
 abbrev pub notes_after : History → (at : ℕ) → Event → Result Answer Refusal → List Note
 notes_after past at e (Ok (answer.Again k)) = []
 notes_after past at e (Ok given) =
-    notes_of (next_poll (facts_of past)) at e (lines_of past) (facts_of past)
+    notes_of (next_poll (facts_of past)) at e (slots_of past) (facts_of past)
 notes_after past at e (Err why) = []
 
 abbrev pub outgoing_after : History → (at : ℕ) → Event → Result Answer Refusal → List ℕ
 outgoing_after past at e (Ok (answer.Again k)) = []
 outgoing_after past at e (Ok given) =
-    outgoing_of (next_poll (facts_of past)) at e (lines_of past) (facts_of past)
+    outgoing_of (next_poll (facts_of past)) at e (slots_of past) (facts_of past)
 outgoing_after past at e (Err why) = []

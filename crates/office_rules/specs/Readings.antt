@@ -1,14 +1,14 @@
 -- What an answered poll means for the meters of its device.
-use Rattle.std.specs.Prelude.{ℕ, ℤ, pos, ◌+◌, ◌-◌, ◌*◌, ◌==◌, nat_le, Bool, true, ◌&&◌, List, [], ◌∷◌, Option, Some, None, slice_index, if◌then◌else◌}
-use Rattle.std.specs.Int.{w16, cast_signed}
+use Rattle.std.specs.Prelude.{ℕ, ℤ, ◌+◌, ◌-◌, ◌==◌, nat_le, Bool, true, ◌&&◌, List, [], ◌∷◌, Option, Some, None, slice_index, if◌then◌else◌}
 use Rattle.std.specs.Option.{option_map}
 use Rattle.energy_core.specs.declared.entries.Entry.TheVariants.{Step}
-use Rattle.energy_core.specs.declared.judging.Reading.{Reading}
-use Rattle.energy_core.specs.declared.judging.Verdict.{Verdict}
-use Rattle.energy_core.specs.declared.judging.Verdict.TheVariants.{Accepted, Held}
+use Rattle.energy_core.specs.declared.verdicts.Reading.{Reading}
+use Rattle.energy_core.specs.declared.verdicts.Verdict.{Verdict}
+use Rattle.energy_core.specs.declared.verdicts.Verdict.TheVariants.{Accepted, Held}
 use Rattle.energy_core.specs.Verdict.{verdict_of}
 use Rattle.mb_wire.specs.Spans.{code_of}
 use Rattle.mb_wire.specs.declared.span.ReadSpan.{ReadSpan}
+use Rattle.sun_points.specs.Counters.{acc32_value, scale_value}
 use Rattle.office_events.specs.declared.facts.Register.{Register}
 use Rattle.office_events.specs.declared.facts.Poll.{Poll}
 use Rattle.office_events.specs.declared.facts.ScaleSource.{ScaleSource}
@@ -47,19 +47,15 @@ is_read_by span register =
 abbrev pub word_at : ReadSpan → (words : List ℕ) → (address : ℕ) → ℕ
 word_at span words address = slice_index words (address - span.address)
 
--- the scale that a word tells, as a signed number; the word for no scale counts as 0
-abbrev pub scale_in : ℕ → ℤ
-scale_in word = if word == 32768 then pos 0 else cast_signed w16 word
-
 abbrev pub scale_of : ReadSpan → List ℕ → ScaleSource → ℤ
 scale_of span words (source.Fixed sf) = sf
-scale_of span words (source.Register address) = scale_in (word_at span words address)
+scale_of span words (source.Register address) = scale_value (word_at span words address)
 
--- what the reply tells of a register: two words, the high one first
+-- what the reply tells of a register: its counter, two words of which the high one comes first, and its scale
 abbrev pub reading_of : ℕ → ReadSpan → List ℕ → Register → Reading
 reading_of at span words register = record {
   at = at;
-  raw = word_at span words register.address * 65536 + word_at span words (register.address + 1);
+  raw = acc32_value (word_at span words register.address) (word_at span words (register.address + 1));
   sf = scale_of span words register.scale;
 }
 

@@ -3,18 +3,23 @@ use Rattle.std.specs.Prelude.{◌≡◌, ℕ, ℤ, pos, negsuc, ◌+◌, ◌-◌
 use Rattle.std.specs.Option.{option_map, option_and_then}
 use Rattle.std.specs.List.{find}
 use Rattle.std.specs.Str.{bytes_eq}
+use Rattle.mb_wire.specs.declared.limits.TheConstants.{MAX_READ_REGISTERS}
+use Rattle.poll_core.specs.declared.limits.TheConstants.{MAX_TIMEOUT, MAX_WINDOW}
+use Rattle.energy_core.specs.declared.limits.TheConstants.{MAX_CEILING, MAX_RANGE, MIN_RANGE}
 use Rattle.energy_core.specs.declared.entries.Entry.{Entry}
 use Rattle.energy_core.specs.declared.entries.Entry.TheVariants as entry
-use Rattle.energy_core.specs.declared.entering.TermFault.{TermFault}
-use Rattle.energy_core.specs.declared.entering.TermFault.TheVariants as fault
-use Rattle.energy_core.specs.declared.judging.Cause.{Cause}
-use Rattle.energy_core.specs.declared.judging.Cause.TheVariants as cause
-use Rattle.energy_core.specs.declared.judging.Verdict.{Verdict}
-use Rattle.energy_core.specs.declared.judging.Verdict.TheVariants as verdict
-use Rattle.energy_core.specs.Entering as entering
+use Rattle.energy_core.specs.declared.admission.TermFault.{TermFault}
+use Rattle.energy_core.specs.declared.admission.TermFault.TheVariants as fault
+use Rattle.energy_core.specs.declared.verdicts.Cause.{Cause}
+use Rattle.energy_core.specs.declared.verdicts.Cause.TheVariants as cause
+use Rattle.energy_core.specs.declared.verdicts.Verdict.{Verdict}
+use Rattle.energy_core.specs.declared.verdicts.Verdict.TheVariants as verdict
+use Rattle.energy_core.specs.Admission as entering
 use Rattle.energy_core.specs.Verdict.{cause_number}
 use Rattle.meter_journal.specs.declared.lines.EntryRow.{EntryRow}
 use Rattle.meter_journal.specs.Fitting.{reading_at, is_voidable}
+use Rattle.office_events.specs.declared.limits.TheConstants.{LAST_ADDRESS, LAST_COUNTER, LAST_UNIT}
+use Rattle.office_events.specs.declared.limits.TheConstants.{MAX_DEVICES, MAX_INSTALLATIONS, MAX_REGISTERS, MAX_ROLLS}
 use Rattle.office_events.specs.declared.commands.GivenScale.{GivenScale}
 use Rattle.office_events.specs.declared.commands.GivenScale.TheVariants as given
 use Rattle.office_events.specs.declared.commands.Command.{Command}
@@ -36,18 +41,18 @@ use Rattle.office_events.specs.declared.answers.CommandKind.{CommandKind}
 use Rattle.office_rules.specs.Facts.{moment_limit, poll_limit, request_limit, latest_in, polls_in, registers_of, openings_in, register_of, opening_of, list_of, reply_of}
 use Rattle.office_rules.specs.Meters.{installation_at, open_at, rows_of, entry_at}
 use Rattle.office_rules.specs.Readings.{judgement}
-use Rattle.office_rules.specs.Sessions.{Line, line_of, present_of, is_startable}
-use Rattle.office_rules.specs.History.{History, Opened, Fed, facts_of, lines_of, latest_of, next_poll, Made, made_by, corrected_at, spans_by, round_spans, sends_by, kind_of}
+use Rattle.office_rules.specs.Sessions.{Slot, slot_of, present_of, is_startable}
+use Rattle.office_rules.specs.History.{History, Opened, Fed, facts_of, slots_of, latest_of, next_poll, Made, made_by, corrected_at, spans_by, round_spans, sends_by, kind_of}
 
 -- How many devices, registers of a device, and installations there may be.
 abbrev pub device_limit : ℕ
-device_limit = 64
+device_limit = MAX_DEVICES
 
 abbrev pub register_limit : ℕ
-register_limit = 32
+register_limit = MAX_REGISTERS
 
 abbrev pub installation_limit : ℕ
-installation_limit = 4096
+installation_limit = MAX_INSTALLATIONS
 
 -- no meter was ever installed at the register
 abbrev pub has_no_meter : List Fact → Option (List ℕ) → Bool
@@ -60,33 +65,33 @@ has_place facts place (Some opening) =
     nat_le 1 place && nat_le place (length (rows_of facts opening) + 1)
 
 -- NotFound: no device, list, register, meter or entry has the name or the place that a command speaks of.
-abbrev pub asks_unknown : List Line → List Fact → Command → Bool
-asks_unknown lines facts (command.AddDevice c) = false
-asks_unknown lines facts (command.PutList c) = is_none (line_of lines c.device)
-asks_unknown lines facts (command.AddRegister c) = is_none (line_of lines c.device)
-asks_unknown lines facts (command.Install c) =
+abbrev pub asks_unknown : List Slot → List Fact → Command → Bool
+asks_unknown slots facts (command.AddDevice c) = false
+asks_unknown slots facts (command.PutList c) = is_none (slot_of slots c.device)
+asks_unknown slots facts (command.AddRegister c) = is_none (slot_of slots c.device)
+asks_unknown slots facts (command.Install c) =
     is_none (option_and_then (register_of facts) c.register)
-asks_unknown lines facts (command.Exchange c) = has_no_meter facts c.register
-asks_unknown lines facts (command.Reset c) = has_no_meter facts c.register
-asks_unknown lines facts (command.Rescale c) = has_no_meter facts c.register
-asks_unknown lines facts (command.Manual c) = has_no_meter facts c.register
-asks_unknown lines facts (command.Close c) = has_no_meter facts c.register
-asks_unknown lines facts (command.Void c) =
+asks_unknown slots facts (command.Exchange c) = has_no_meter facts c.register
+asks_unknown slots facts (command.Reset c) = has_no_meter facts c.register
+asks_unknown slots facts (command.Rescale c) = has_no_meter facts c.register
+asks_unknown slots facts (command.Manual c) = has_no_meter facts c.register
+asks_unknown slots facts (command.Close c) = has_no_meter facts c.register
+asks_unknown slots facts (command.Void c) =
     not (has_place facts c.place (option_and_then (opening_of facts) c.meter))
-asks_unknown lines facts (command.StartPoll c) = is_none (line_of lines c.device)
-asks_unknown lines facts (command.StartRound c) =
-    is_none (line_of lines c.device) || is_none (option_and_then (list_of facts) c.device)
+asks_unknown slots facts (command.StartPoll c) = is_none (slot_of slots c.device)
+asks_unknown slots facts (command.StartRound c) =
+    is_none (slot_of slots c.device) || is_none (option_and_then (list_of facts) c.device)
 
 -- Exists: a device, a register or a meter has the new name, or a meter is open at the register.
-abbrev pub asks_taken : List Line → List Fact → Command → Bool
-asks_taken lines facts (command.AddDevice c) = is_some (line_of lines c.name)
-asks_taken lines facts (command.AddRegister c) =
+abbrev pub asks_taken : List Slot → List Fact → Command → Bool
+asks_taken slots facts (command.AddDevice c) = is_some (slot_of slots c.name)
+asks_taken slots facts (command.AddRegister c) =
     is_some (option_and_then (register_of facts) c.name)
-asks_taken lines facts (command.Install c) =
+asks_taken slots facts (command.Install c) =
     is_some (option_and_then (opening_of facts) c.meter)
     || is_some (option_and_then (open_at facts) c.register)
-asks_taken lines facts (command.Exchange c) = is_some (option_and_then (opening_of facts) c.meter)
-asks_taken lines facts _ = false
+asks_taken slots facts (command.Exchange c) = is_some (option_and_then (opening_of facts) c.meter)
+asks_taken slots facts _ = false
 
 -- BadScale: a scale is not from -3 to 3.
 abbrev pub is_off_scale : ℤ → Bool
@@ -126,17 +131,17 @@ asks_ended facts c = is_closed (option_and_then (installation_at facts) (correct
 
 -- Busy: the device is connected already, or not connected, or its session can start no poll now: its window is full, the
 -- next transaction id waits for a reply, or its stream is garbled.
-abbrev pub is_ready : Option Line → Bool
+abbrev pub is_ready : Option Slot → Bool
 is_ready None = false
-is_ready (Some line) = is_startable line.device line.present
+is_ready (Some slot) = is_startable slot.device slot.present
 
-abbrev pub can_start : List Line → Option (List ℕ) → Bool
-can_start lines device = is_ready (line_of lines device)
+abbrev pub can_start : List Slot → Option (List ℕ) → Bool
+can_start slots device = is_ready (slot_of slots device)
 
-abbrev pub asks_busy : List Line → Command → Bool
-asks_busy lines (command.StartPoll c) = not (can_start lines c.device)
-asks_busy lines (command.StartRound c) = not (can_start lines c.device)
-asks_busy lines _ = false
+abbrev pub asks_busy : List Slot → Command → Bool
+asks_busy slots (command.StartPoll c) = not (can_start slots c.device)
+asks_busy slots (command.StartRound c) = not (can_start slots c.device)
+asks_busy slots _ = false
 
 -- Limit: a name is none, or a number is outside its range.
 abbrev pub is_outside : (low high n : ℕ) → Bool
@@ -149,13 +154,13 @@ registers_spanned address (given.Register scale) = max (address + 2) (scale + 1)
 
 abbrev pub is_bad_address : GivenScale → Bool
 is_bad_address (given.Fixed sf) = false
-is_bad_address (given.Register address) = nat_lt 65535 address
+is_bad_address (given.Register address) = nat_lt LAST_ADDRESS address
 
 -- a meter that can't be installed: its name is none, its range is none, it can't show the number, or its ceiling is none
 abbrev pub is_bad_meter : (meter : Option (List ℕ)) → (range raw ceiling : ℕ) → Bool
 is_bad_meter meter range raw ceiling =
-    is_none meter || is_outside 65536 4294967296 range || nat_le range raw
-    || is_outside 1 1000000000 ceiling
+    is_none meter || is_outside MIN_RANGE MAX_RANGE range || nat_le range raw
+    || is_outside 1 MAX_CEILING ceiling
 
 abbrev pub is_later : (at : ℕ) → Option ℕ → Bool
 is_later at None = false
@@ -163,15 +168,16 @@ is_later at (Some given) = nat_lt at given
 
 abbrev pub asks_bad_field : (at : ℕ) → Command → Bool
 asks_bad_field at (command.AddDevice c) =
-    is_none c.name || nat_lt 255 c.unit || is_outside 1 60 c.timeout || is_outside 1 16 c.window
+    is_none c.name || nat_lt LAST_UNIT c.unit || is_outside 1 MAX_TIMEOUT c.timeout
+    || is_outside 1 MAX_WINDOW c.window
 asks_bad_field at (command.AddRegister c) =
-    is_none c.name || is_outside 3 4 c.function || nat_lt 65534 c.address || is_bad_address c.scale
-    || nat_lt 125 (registers_spanned c.address c.scale)
+    is_none c.name || is_outside 3 4 c.function || nat_lt LAST_COUNTER c.address
+    || is_bad_address c.scale || nat_lt MAX_READ_REGISTERS (registers_spanned c.address c.scale)
 asks_bad_field at (command.Install c) = is_bad_meter c.meter c.range c.raw c.ceiling
 asks_bad_field at (command.Exchange c) =
-    nat_lt 255 c.rolls || is_bad_meter c.meter c.range c.raw c.ceiling
-asks_bad_field at (command.Manual c) = nat_lt 255 c.rolls || is_later at c.at
-asks_bad_field at (command.Close c) = nat_lt 255 c.rolls
+    nat_lt MAX_ROLLS c.rolls || is_bad_meter c.meter c.range c.raw c.ceiling
+asks_bad_field at (command.Manual c) = nat_lt MAX_ROLLS c.rolls || is_later at c.at
+asks_bad_field at (command.Close c) = nat_lt MAX_ROLLS c.rolls
 asks_bad_field at _ = false
 
 -- Limit, too: there is no room for one more, or the plan has no such read.
@@ -180,18 +186,18 @@ is_full_of_registers facts None = false
 is_full_of_registers facts (Some device) =
     nat_le register_limit (length (registers_of facts device))
 
-abbrev pub is_crowded : List Line → List Fact → Command → Bool
-is_crowded lines facts (command.AddDevice c) = nat_le device_limit (length lines)
-is_crowded lines facts (command.AddRegister c) = is_full_of_registers facts c.device
-is_crowded lines facts (command.Install c) = nat_le installation_limit (length (openings_in facts))
-is_crowded lines facts (command.Exchange c) = nat_le installation_limit (length (openings_in facts))
-is_crowded lines facts (command.StartRound c) = length (spans_by facts (command.StartRound c)) == 0
-is_crowded lines facts _ = false
+abbrev pub is_crowded : List Slot → List Fact → Command → Bool
+is_crowded slots facts (command.AddDevice c) = nat_le device_limit (length slots)
+is_crowded slots facts (command.AddRegister c) = is_full_of_registers facts c.device
+is_crowded slots facts (command.Install c) = nat_le installation_limit (length (openings_in facts))
+is_crowded slots facts (command.Exchange c) = nat_le installation_limit (length (openings_in facts))
+is_crowded slots facts (command.StartRound c) = length (spans_by facts (command.StartRound c)) == 0
+is_crowded slots facts _ = false
 
 -- Limit: for each reason, with what the open meter can't show.
-abbrev pub asks_beyond : List Line → List Fact → (at : ℕ) → Command → Bool
-asks_beyond lines facts at c =
-    asks_bad_field at c || is_crowded lines facts c || asks_faulty facts at fault.NotBelowRange c
+abbrev pub asks_beyond : List Slot → List Fact → (at : ℕ) → Command → Bool
+asks_beyond slots facts at c =
+    asks_bad_field at c || is_crowded slots facts c || asks_faulty facts at fault.NotBelowRange c
 
 -- Store: the number of the last poll that a command starts would be past the greatest.
 abbrev pub is_start : Command → Bool
@@ -199,12 +205,12 @@ is_start (command.StartPoll c) = true
 is_start (command.StartRound c) = true
 is_start _ = false
 
-abbrev pub sent_count : List Line → List Fact → (at : ℕ) → Command → ℕ
-sent_count lines facts at c = length (sends_by (next_poll facts) at lines facts c)
+abbrev pub sent_count : List Slot → List Fact → (at : ℕ) → Command → ℕ
+sent_count slots facts at c = length (sends_by (next_poll facts) at slots facts c)
 
-abbrev pub asks_past_numbers : List Line → List Fact → (at : ℕ) → Command → Bool
-asks_past_numbers lines facts at c =
-    is_start c && nat_lt poll_limit (length (polls_in facts) + sent_count lines facts at c)
+abbrev pub asks_past_numbers : List Slot → List Fact → (at : ℕ) → Command → Bool
+asks_past_numbers slots facts at c =
+    is_start c && nat_lt poll_limit (length (polls_in facts) + sent_count slots facts at c)
 
 -- NotVoidable: the entry is no reading that stands, or the next that stands is none.
 abbrev pub is_not_voidable : Option EntryPlace → Bool
@@ -240,43 +246,43 @@ is_held_for why (Some (verdict.Accepted rolls step)) = false
 is_held_for why (Some (verdict.Held held)) = same_cause why held
 
 -- Whether an event is refused for a reason that lies in its command, after these facts.
-abbrev pub asks_wrongly : List Line → List Fact → (at : ℕ) → Command → Refusal → Bool
-asks_wrongly lines facts at c refusal.NotFound = asks_unknown lines facts c
-asks_wrongly lines facts at c refusal.Exists = asks_taken lines facts c
-asks_wrongly lines facts at c refusal.BadScale = asks_bad_scale c
-asks_wrongly lines facts at c refusal.NegativeStep = asks_faulty facts at fault.NegativeStep c
-asks_wrongly lines facts at c refusal.NotLater = asks_faulty facts at fault.NotLater c
-asks_wrongly lines facts at c refusal.SpanTooLong = asks_faulty facts at fault.SpanTooLong c
-asks_wrongly lines facts at c refusal.TotalFull = asks_faulty facts at fault.TotalFull c
-asks_wrongly lines facts at c refusal.Ended = asks_ended facts c
-asks_wrongly lines facts at c refusal.Busy = asks_busy lines c
-asks_wrongly lines facts at c refusal.Limit = asks_beyond lines facts at c
-asks_wrongly lines facts at c (refusal.Store store.Refused) = asks_past_numbers lines facts at c
-asks_wrongly lines facts at c refusal.NotVoidable = asks_unvoidable facts c
-asks_wrongly lines facts at c (refusal.NotPlausible why) =
+abbrev pub asks_wrongly : List Slot → List Fact → (at : ℕ) → Command → Refusal → Bool
+asks_wrongly slots facts at c refusal.NotFound = asks_unknown slots facts c
+asks_wrongly slots facts at c refusal.Exists = asks_taken slots facts c
+asks_wrongly slots facts at c refusal.BadScale = asks_bad_scale c
+asks_wrongly slots facts at c refusal.NegativeStep = asks_faulty facts at fault.NegativeStep c
+asks_wrongly slots facts at c refusal.NotLater = asks_faulty facts at fault.NotLater c
+asks_wrongly slots facts at c refusal.SpanTooLong = asks_faulty facts at fault.SpanTooLong c
+asks_wrongly slots facts at c refusal.TotalFull = asks_faulty facts at fault.TotalFull c
+asks_wrongly slots facts at c refusal.Ended = asks_ended facts c
+asks_wrongly slots facts at c refusal.Busy = asks_busy slots c
+asks_wrongly slots facts at c refusal.Limit = asks_beyond slots facts at c
+asks_wrongly slots facts at c (refusal.Store store.Refused) = asks_past_numbers slots facts at c
+asks_wrongly slots facts at c refusal.NotVoidable = asks_unvoidable facts c
+asks_wrongly slots facts at c (refusal.NotPlausible why) =
     is_held_for why (verdict_at (voided_place facts c))
-asks_wrongly lines facts at c _ = false
+asks_wrongly slots facts at c _ = false
 
 -- The same of an event of a device: it is unknown, or it is connected already, or not.
-abbrev pub comes_wrongly : List Line → Event → Refusal → Bool
-comes_wrongly lines (event.Connected d) refusal.NotFound = is_none (line_of lines d)
-comes_wrongly lines (event.Connected d) refusal.Busy = is_some (present_of lines d)
-comes_wrongly lines (event.Bytes d piece) refusal.NotFound = is_none (line_of lines d)
-comes_wrongly lines (event.Bytes d piece) refusal.Busy = is_none (present_of lines d)
-comes_wrongly lines (event.Gone d closing) refusal.NotFound = is_none (line_of lines d)
-comes_wrongly lines (event.Gone d closing) refusal.Busy = is_none (present_of lines d)
-comes_wrongly lines _ _ = false
+abbrev pub comes_wrongly : List Slot → Event → Refusal → Bool
+comes_wrongly slots (event.Connected d) refusal.NotFound = is_none (slot_of slots d)
+comes_wrongly slots (event.Connected d) refusal.Busy = is_some (present_of slots d)
+comes_wrongly slots (event.Bytes d piece) refusal.NotFound = is_none (slot_of slots d)
+comes_wrongly slots (event.Bytes d piece) refusal.Busy = is_none (present_of slots d)
+comes_wrongly slots (event.Gone d closing) refusal.NotFound = is_none (slot_of slots d)
+comes_wrongly slots (event.Gone d closing) refusal.Busy = is_none (present_of slots d)
+comes_wrongly slots _ _ = false
 
 -- the caller's name is none, or the number of his request is too great
 abbrev pub is_bad_request : Asked → Refusal → Bool
 is_bad_request asked refusal.Limit = is_none asked.caller || nat_lt request_limit asked.number
 is_bad_request asked _ = false
 
-abbrev pub is_wrong : List Line → List Fact → (at : ℕ) → Event → Refusal → Bool
-is_wrong lines facts at (event.Command c) why = asks_wrongly lines facts at c why
-is_wrong lines facts at (event.Asked asked) why =
-    asks_wrongly lines facts at asked.command why || is_bad_request asked why
-is_wrong lines facts at e why = comes_wrongly lines e why
+abbrev pub is_wrong : List Slot → List Fact → (at : ℕ) → Event → Refusal → Bool
+is_wrong slots facts at (event.Command c) why = asks_wrongly slots facts at c why
+is_wrong slots facts at (event.Asked asked) why =
+    asks_wrongly slots facts at asked.command why || is_bad_request asked why
+is_wrong slots facts at e why = comes_wrongly slots e why
 
 -- it comes before the latest accepted one, or past the limit
 abbrev pub is_mistimed : (latest at : ℕ) → Refusal → Bool
@@ -287,7 +293,7 @@ is_mistimed latest at _ = false
 -- Whether an event is refused for a reason, after these accepted ones.
 abbrev pub refuses : History → (at : ℕ) → Event → Refusal → Bool
 refuses past at e why =
-    is_mistimed (latest_of past) at why || is_wrong (lines_of past) (facts_of past) at e why
+    is_mistimed (latest_of past) at why || is_wrong (slots_of past) (facts_of past) at e why
 
 -- The reasons, in the order in which they are looked at: those that lie in what is asked, and then that the store can number no
 -- more polls.
@@ -343,16 +349,16 @@ reads_in_all facts (command.StartRound c) =
     length (round_spans 0 (option_and_then (list_of facts) c.device))
 reads_in_all facts _ = 1
 
-abbrev pub answer_to : List Line → List Fact → (at : ℕ) → Command → Answer
-answer_to lines facts at c =
+abbrev pub answer_to : List Slot → List Fact → (at : ℕ) → Command → Answer
+answer_to slots facts at c =
     if is_start c
-    then answer.Started (next_poll facts) (sent_count lines facts at c) (reads_in_all facts c)
+    then answer.Started (next_poll facts) (sent_count slots facts at c) (reads_in_all facts c)
     else answer.Done (kind_of c)
 
-abbrev pub answer_of : List Line → List Fact → (at : ℕ) → Event → Answer
-answer_of lines facts at (event.Command c) = answer_to lines facts at c
-answer_of lines facts at (event.Asked asked) = answer_to lines facts at asked.command
-answer_of lines facts at _ = answer.Noted
+abbrev pub answer_of : List Slot → List Fact → (at : ℕ) → Event → Answer
+answer_of slots facts at (event.Command c) = answer_to slots facts at c
+answer_of slots facts at (event.Asked asked) = answer_to slots facts at asked.command
+answer_of slots facts at _ = answer.Noted
 
 -- What an event is answered after these accepted ones, where neither the books nor memory fail.
 abbrev pub by_kept : Result CommandKind Refusal → Result Answer Refusal
@@ -370,7 +376,7 @@ unless_kept given (Some kept) = by_kept kept
 
 abbrev pub response_of : History → (at : ℕ) → Event → Result Answer Refusal
 response_of past at e =
-    unless_kept (unless_refused (answer_of (lines_of past) (facts_of past) at e)
+    unless_kept (unless_refused (answer_of (slots_of past) (facts_of past) at e)
     (refusal_of past at e)) (kept_of (facts_of past) e)
 
 -- What was accepted once an event was answered: a refused one, and one that was asked before, change nothing.

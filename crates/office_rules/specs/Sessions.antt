@@ -22,17 +22,17 @@ pub record EndedSession : Type 0 where
 
 -- A device that was added: its sessions that have ended, the latest first, and the one that it has while it is
 -- connected, its events in order.
-pub record Line : Type 0 where
+pub record Slot : Type 0 where
   pub device : Device
   pub ended : List EndedSession
   pub present : Option (List session.Event)
 
--- the line of the device that has this name
-abbrev pub line_of : List Line → Option (List ℕ) → Option Line
-line_of lines given = find (λ line. is_named given line.device.name) lines
+-- the slot of the device that has this name
+abbrev pub slot_of : List Slot → Option (List ℕ) → Option Slot
+slot_of slots given = find (λ slot. is_named given slot.device.name) slots
 
-abbrev pub present_of : List Line → Option (List ℕ) → Option (List session.Event)
-present_of lines given = option_and_then (λ line. line.present) (line_of lines given)
+abbrev pub present_of : List Slot → Option (List ℕ) → Option (List session.Event)
+present_of slots given = option_and_then (λ slot. slot.present) (slot_of slots given)
 
 -- the command that an event asks
 abbrev pub command_in : Event → Option Command
@@ -109,31 +109,31 @@ abbrev pub is_close : session.Event → Bool
 is_close (session.Close moment closing) = true
 is_close _ = false
 
--- The line after these events on its session.
-abbrev pub with_happenings : Line → List session.Event → List session.Event → Line
-with_happenings line before [] =
-    record { device = line.device; ended = line.ended; present = Some before }
-with_happenings line before (happening ∷ later) =
+-- The slot after these events on its session.
+abbrev pub with_happenings : Slot → List session.Event → List session.Event → Slot
+with_happenings slot before [] =
+    record { device = slot.device; ended = slot.ended; present = Some before }
+with_happenings slot before (happening ∷ later) =
     if is_close happening
     then record {
-      device = line.device;
-      ended = (record { events = before ++ happening ∷ []; restarted = false }) ∷ line.ended;
+      device = slot.device;
+      ended = (record { events = before ++ happening ∷ []; restarted = false }) ∷ slot.ended;
       present = None;
     }
-    else with_happenings line (before ++ happening ∷ []) later
+    else with_happenings slot (before ++ happening ∷ []) later
 
-abbrev pub line_reached : (number at : ℕ) → List ReadSpan → Event → Line
-    → Option (List session.Event) → Line
-line_reached number at spans e line None = line
-line_reached number at spans e line (Some before) =
-    with_happenings line before (reaches number at spans e line.device before)
+abbrev pub slot_reached : (number at : ℕ) → List ReadSpan → Event → Slot
+    → Option (List session.Event) → Slot
+slot_reached number at spans e slot None = slot
+slot_reached number at spans e slot (Some before) =
+    with_happenings slot before (reaches number at spans e slot.device before)
 
--- The line after an event of the office.
-abbrev pub line_after : (number at : ℕ) → List ReadSpan → Event → Line → Line
-line_after number at spans e line =
-    if connects e line.device
-    then record { device = line.device; ended = line.ended; present = Some [] }
-    else line_reached number at spans e line line.present
+-- The slot after an event of the office.
+abbrev pub slot_after : (number at : ℕ) → List ReadSpan → Event → Slot → Slot
+slot_after number at spans e slot =
+    if connects e slot.device
+    then record { device = slot.device; ended = slot.ended; present = Some [] }
+    else slot_reached number at spans e slot slot.present
 
 -- the device that a command adds, if its name is one
 abbrev pub device_by : AddDevice → Option Device
@@ -142,28 +142,28 @@ device_by c =
     record { name = name; unit = c.unit; timeout = c.timeout; window = c.window })
     c.name
 
--- the line of a new device
-abbrev pub new_line : Option Device → List Line
-new_line None = []
-new_line (Some device) = (record { device = device; ended = []; present = None }) ∷ []
+-- the slot of a new device
+abbrev pub new_slot : Option Device → List Slot
+new_slot None = []
+new_slot (Some device) = (record { device = device; ended = []; present = None }) ∷ []
 
-abbrev pub lines_added : Option Command → List Line
-lines_added (Some (command.AddDevice c)) = new_line (device_by c)
-lines_added _ = []
+abbrev pub slots_added : Option Command → List Slot
+slots_added (Some (command.AddDevice c)) = new_slot (device_by c)
+slots_added _ = []
 
--- The lines after an event.
-abbrev pub lines_after : (number at : ℕ) → List ReadSpan → Event → List Line → List Line
-lines_after number at spans e lines =
-    map (line_after number at spans e) lines ++ lines_added (command_in e)
+-- The slots after an event.
+abbrev pub slots_after : (number at : ℕ) → List ReadSpan → Event → List Slot → List Slot
+slots_after number at spans e slots =
+    map (slot_after number at spans e) slots ++ slots_added (command_in e)
 
--- The lines after the office was opened anew: no device is connected.
+-- The slots after the office was opened anew: no device is connected.
 abbrev pub ended_by_restart : Option (List session.Event) → List EndedSession
 ended_by_restart None = []
 ended_by_restart (Some events) = (record { events = events; restarted = true }) ∷ []
 
-abbrev pub line_restarted : Line → Line
-line_restarted line = record {
-  device = line.device;
-  ended = ended_by_restart line.present ++ line.ended;
+abbrev pub slot_restarted : Slot → Slot
+slot_restarted slot = record {
+  device = slot.device;
+  ended = ended_by_restart slot.present ++ slot.ended;
   present = None;
 }

@@ -4,23 +4,23 @@ use Rattle.office_rules.specs.History.{History, Opened}
 use Rattle.office_rules.specs.Refusals.{with_answer}
 use Rattle.office_books.specs.Ledgers.{KeepsFacts, Ledger}
 use Rattle.office_core.specs.Leaving.{BooksStand}
-use Rattle.office_core.specs.Running.{Answered}
+use Rattle.office_core.specs.EventRun.{Answered}
 use Rattle.office_core.specs.Standing.{After, Stands, books_in}
 use Rattle.office_core.specs.declared.office.Office.{Office}
 use Rattle.office_http.specs.Serving as http
 use Rattle.office_http.specs.Serving.{with_asked}
 use Rattle.office_rounds.specs.Passing as rounds
-use Rattle.office_rounds.specs.Telling as telling
-use Rattle.office_serving.specs.Serving as serving
-use Rattle.office_serving.specs.Serving.{Request, ServesUpTo}
+use Rattle.office_rounds.specs.FedEvents as telling
+use Rattle.office_serving.specs.Connections as serving
+use Rattle.office_serving.specs.Connections.{Request, ServesUpTo}
 use Rattle.office_serving.proofs.Served.{handled}
 use Rattle.hub_rounds.specs.declared.round.Round.{Round}
-use Rattle.hub_asking.specs.Asking as asking
-use Rattle.hub_asking.specs.declared.asking.Asked.{Asked}
-use Rattle.hub_asking.specs.declared.asking.Asked.TheVariants.{Open, Replied, Failed}
+use Rattle.hub_asking.specs.Answer as asking
+use Rattle.hub_asking.specs.declared.answer.Asked.{Asked}
+use Rattle.hub_asking.specs.declared.answer.Asked.TheVariants.{Open, Replied, Failed}
 use Rattle.office_hub.specs.Going.{Start, TakesTurn, scene}
 use Rattle.office_hub.specs.Showing.{Shown}
-use Rattle.office_text.specs.Opening.{Opens}
+use Rattle.office_text.specs.OpenedOffice.{Opens}
 use Rattle.office_text.specs.Passing.{Lasts}
 use Rattle.office_running.specs.Runs.{BooksRun, Goes, Step, Fed, Asks, history_behind, with_step}
 

@@ -5,12 +5,12 @@ use Rattle.office_rules.specs.History.{History, Opened, facts_of}
 use Rattle.office_rules.specs.Refusals.{with_answer}
 use Rattle.office_books.specs.Ledgers.{Ledger}
 use Rattle.office_core.specs.Leaving.{BooksStand}
-use Rattle.office_core.specs.Running.{Answered}
+use Rattle.office_core.specs.EventRun.{Answered}
 use Rattle.office_core.specs.Standing.{After, Stands, books_in}
 use Rattle.office_core.specs.declared.office.Office.{Office}
 use Rattle.office_http.specs.Serving.{with_asked}
-use Rattle.office_serving.specs.Serving.{Request}
-use Rattle.office_running.specs.declared.opening.Left.{Left}
+use Rattle.office_serving.specs.Connections.{Request}
+use Rattle.office_running.specs.declared.leftovers.Left.{Left}
 
 -- what came to the office: an event of the devices, with its answer, or a request of a peer
 pub data Step : Type 0 where

@@ -28,7 +28,7 @@ pub(crate) enum Seen {
 
 /// A device: the connection to it, what is still to be sent, and when it is looked at.
 #[derive(Drop)]
-pub(crate) struct Line {
+pub(crate) struct Slot {
     pub(crate) site: Site,
     pub(crate) timing: Timing,
     /// Whether something may have come that was not looked at.
@@ -66,10 +66,10 @@ fn bounded(moment: u64) -> u64
     moment.min(1 << 62)
 }
 
-impl Line {
+impl Slot {
     /// A device that rests until the first multiple of `every` after now.
-    pub(crate) fn new(alloc: Global, site: Site, every: u64, now: u64) -> Line {
-        Line {
+    pub(crate) fn new(alloc: Global, site: Site, every: u64, now: u64) -> Slot {
+        Slot {
             site,
             timing: Timing::new(spacing(every), bounded(now)),
             ready: false,

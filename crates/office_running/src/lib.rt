@@ -1,15 +1,15 @@
 //! One thread that polls devices on a schedule and answers HTTP on a port, over one open office.
 #![tactic(auto)]
 
+mod device_polls;
 mod devices;
+mod event_loop;
 mod fault;
+mod http_port;
+mod leftovers;
 mod office;
-mod opening;
 mod outbox;
 mod peers;
-mod polling;
-mod running;
-mod serving;
 mod settings;
 mod voice;
 

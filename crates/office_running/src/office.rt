@@ -5,9 +5,9 @@ ghost use Rattle.office_rules.specs.History.{History};
 ghost use Rattle.office_text.specs.Passing.{Lasts};
 ghost use Rattle.office_running.specs.Runs.{BooksRun};
 
+use crate::event_loop::run_open;
 use crate::fault::RunFault;
-use crate::opening::left_in;
-use crate::running::run_open;
+use crate::leftovers::left_in;
 use crate::settings::{Settings, Site};
 use office_books::Books;
 use office_text::open_office;

@@ -6,11 +6,11 @@ use Rattle.office_rules.specs.History.{History}
 use Rattle.office_books.specs.Ledgers.{Ledger}
 use Rattle.office_core.specs.Standing.{After, Stands, books_in}
 use Rattle.office_core.specs.declared.office.Office.{Office}
-use Rattle.office_http.specs.Handling.{Does, Handles, Passage, Replies}
+use Rattle.office_http.specs.Exchange.{Does, Handles, Passage, Replies}
 use Rattle.office_http.specs.Serving.{IsAnswered, IsServed, Lasts, with_asked}
 use Rattle.office_http.specs.declared.fault.HandleFault.{HandleFault}
 use Rattle.office_http.specs.declared.fault.HandleFault.TheVariants.{Read, Write, Short, TurnsUsed, Cut}
-use Rattle.office_serving.specs.Serving.{Request, ServesUpTo, history_behind}
+use Rattle.office_serving.specs.Connections.{Request, ServesUpTo, history_behind}
 
 pub unasked : {B : Type 0} (n : ℕ) (ledger : B → Ledger) (past : History) (office : Office B) → Stands ledger past office
     → ServesUpTo n ledger past office

@@ -1,6 +1,6 @@
 //! HTTP on a listener: connections, one after the other.
 #![tactic(auto)]
 
-mod serving;
+mod connections;
 
-pub use serving::{MOST_SECONDS, serve_on};
+pub use connections::{MOST_SECONDS, serve_on};

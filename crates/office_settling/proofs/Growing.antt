@@ -20,9 +20,9 @@ use Rattle.office_events.specs.declared.answers.Note.{Note}
 use Rattle.office_events.specs.declared.answers.Note.TheVariants as note
 use Rattle.office_events.specs.declared.questions.PollRow.{PollRow}
 use Rattle.office_events.specs.declared.questions.Installation.{Installation}
-use Rattle.energy_core.specs.declared.judging.Reading.{Reading}
-use Rattle.energy_core.specs.declared.judging.Verdict.{Verdict}
-use Rattle.energy_core.specs.declared.judging.Verdict.TheVariants.{Accepted, Held}
+use Rattle.energy_core.specs.declared.verdicts.Reading.{Reading}
+use Rattle.energy_core.specs.declared.verdicts.Verdict.{Verdict}
+use Rattle.energy_core.specs.declared.verdicts.Verdict.TheVariants.{Accepted, Held}
 use Rattle.office_rules.specs.Facts.{same, as_poll, as_register, poll_of, registers_of}
 use Rattle.office_rules.specs.Readings.{poll_row, poll_row_of, is_read_by, reading_of, judgement, as_fact, reading_fact, with_reading, with_register, with_registers, with_reply}
 use Rattle.office_rules.specs.Meters.{open_at}

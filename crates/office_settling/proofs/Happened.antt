@@ -8,27 +8,27 @@ use Rattle.office_events.specs.declared.answers.Note.{Note}
 use Rattle.office_events.specs.declared.events.Event.{Event}
 use Rattle.office_events.specs.declared.events.Event.TheVariants as event
 use Rattle.office_rules.specs.Sessions as sessions
-use Rattle.office_rules.specs.Sessions.{command_in, line_after}
-use Rattle.office_rules.specs.History.{History, Fed, facts_of, lines_of, next_poll, settled_on, with_outcomes, with_settled, facts_after}
+use Rattle.office_rules.specs.Sessions.{command_in, slot_after}
+use Rattle.office_rules.specs.History.{History, Fed, facts_of, slots_of, next_poll, settled_on, with_outcomes, with_settled, facts_after}
 use Rattle.office_rules.specs.Lawful.{AreLawful}
 use Rattle.office_rules.specs.Refusals.{kept_of}
 use Rattle.office_lawful.specs.Laws.{FactsAreLawful, PutsPlanned}
 use Rattle.office_settling.specs.declared.drafts.Draft.{Draft}
 use Rattle.office_settling.specs.Drafts.{so_far, AreTold, Grows}
 use Rattle.office_rules.specs.Notes.{outcomes_notes, settled_notes, notes_of}
-use Rattle.office_lines.specs.declared.lines.Line.{Line}
+use Rattle.office_lines.specs.declared.slots.Slot.{Slot}
 use Rattle.office_settling.specs.Settling.{IsSettling}
 use Rattle.office_settling.specs.Events.{IsNext}
 
 -- an event of a device sends nothing, and adds no device
-pub lines_happened : (past : History) (at : ℕ) (e : Event) → IsSettling e
-    → map (line_after (next_poll (facts_of past)) at [] e) (lines_of past) ≡ lines_of (Fed at e ∷ past)
-lines_happened past at (event.Connected given) s = sym (append-nil _)
-lines_happened past at (event.Bytes given piece) s = sym (append-nil _)
-lines_happened past at event.Tick s = sym (append-nil _)
-lines_happened past at (event.Gone given closing) s = sym (append-nil _)
-lines_happened past at (event.Command c) s = absurd s
-lines_happened past at (event.Asked asked) s = absurd s
+pub slots_happened : (past : History) (at : ℕ) (e : Event) → IsSettling e
+    → map (slot_after (next_poll (facts_of past)) at [] e) (slots_of past) ≡ slots_of (Fed at e ∷ past)
+slots_happened past at (event.Connected given) s = sym (append-nil _)
+slots_happened past at (event.Bytes given piece) s = sym (append-nil _)
+slots_happened past at event.Tick s = sym (append-nil _)
+slots_happened past at (event.Gone given closing) s = sym (append-nil _)
+slots_happened past at (event.Command c) s = absurd s
+slots_happened past at (event.Asked asked) s = absurd s
 
 -- a connection settles nothing
 unreached : (number at : ℕ) (given : Option (List ℕ)) (device : Device) (present : Option (List session.Event))
@@ -36,37 +36,37 @@ unreached : (number at : ℕ) (given : Option (List ℕ)) (device : Device) (pre
 unreached number at given device None = refl
 unreached number at given device (Some before) = refl
 
-connected_facts : (number at : ℕ) (given : Option (List ℕ)) (lines : List sessions.Line) (facts : List Fact)
-    → with_settled number at (event.Connected given) lines facts ≡ facts
+connected_facts : (number at : ℕ) (given : Option (List ℕ)) (slots : List sessions.Slot) (facts : List Fact)
+    → with_settled number at (event.Connected given) slots facts ≡ facts
 connected_facts number at given [] facts = refl
-connected_facts number at given (line ∷ lines) facts =
-    ap (λ settled. with_settled number at (event.Connected given) lines (with_outcomes at settled facts)) (unreached number at given line.device line.present)
-    ∙ connected_facts number at given lines facts
+connected_facts number at given (slot ∷ slots) facts =
+    ap (λ settled. with_settled number at (event.Connected given) slots (with_outcomes at settled facts)) (unreached number at given slot.device slot.present)
+    ∙ connected_facts number at given slots facts
 
-connected_notes : (number at : ℕ) (given : Option (List ℕ)) (lines : List sessions.Line) (facts : List Fact)
-    → settled_notes number at (event.Connected given) lines facts ≡ []
+connected_notes : (number at : ℕ) (given : Option (List ℕ)) (slots : List sessions.Slot) (facts : List Fact)
+    → settled_notes number at (event.Connected given) slots facts ≡ []
 connected_notes number at given [] facts = refl
-connected_notes number at given (line ∷ lines) facts =
-    ap (λ settled. outcomes_notes at settled facts ++ settled_notes number at (event.Connected given) lines (with_outcomes at settled facts)) (unreached number at given line.device line.present)
-    ∙ connected_notes number at given lines facts
+connected_notes number at given (slot ∷ slots) facts =
+    ap (λ settled. outcomes_notes at settled facts ++ settled_notes number at (event.Connected given) slots (with_outcomes at settled facts)) (unreached number at given slot.device slot.present)
+    ∙ connected_notes number at given slots facts
 
-pub facts_happened : (number at : ℕ) (e : Event) → IsSettling e → (lines : List sessions.Line) (facts : List Fact)
-    → with_settled number at e lines facts ≡ facts_after number at e lines facts
-facts_happened number at (event.Connected given) s lines facts = connected_facts number at given lines facts
-facts_happened number at (event.Bytes given piece) s lines facts = refl
-facts_happened number at event.Tick s lines facts = refl
-facts_happened number at (event.Gone given closing) s lines facts = refl
-facts_happened number at (event.Command c) s lines facts = absurd s
-facts_happened number at (event.Asked asked) s lines facts = absurd s
+pub facts_happened : (number at : ℕ) (e : Event) → IsSettling e → (slots : List sessions.Slot) (facts : List Fact)
+    → with_settled number at e slots facts ≡ facts_after number at e slots facts
+facts_happened number at (event.Connected given) s slots facts = connected_facts number at given slots facts
+facts_happened number at (event.Bytes given piece) s slots facts = refl
+facts_happened number at event.Tick s slots facts = refl
+facts_happened number at (event.Gone given closing) s slots facts = refl
+facts_happened number at (event.Command c) s slots facts = absurd s
+facts_happened number at (event.Asked asked) s slots facts = absurd s
 
-pub notes_happened : (number at : ℕ) (e : Event) → IsSettling e → (lines : List sessions.Line) (facts : List Fact)
-    → settled_notes number at e lines facts ≡ notes_of number at e lines facts
-notes_happened number at (event.Connected given) s lines facts = connected_notes number at given lines facts
-notes_happened number at (event.Bytes given piece) s lines facts = refl
-notes_happened number at event.Tick s lines facts = refl
-notes_happened number at (event.Gone given closing) s lines facts = refl
-notes_happened number at (event.Command c) s lines facts = absurd s
-notes_happened number at (event.Asked asked) s lines facts = absurd s
+pub notes_happened : (number at : ℕ) (e : Event) → IsSettling e → (slots : List sessions.Slot) (facts : List Fact)
+    → settled_notes number at e slots facts ≡ notes_of number at e slots facts
+notes_happened number at (event.Connected given) s slots facts = connected_notes number at given slots facts
+notes_happened number at (event.Bytes given piece) s slots facts = refl
+notes_happened number at event.Tick s slots facts = refl
+notes_happened number at (event.Gone given closing) s slots facts = refl
+notes_happened number at (event.Command c) s slots facts = absurd s
+notes_happened number at (event.Asked asked) s slots facts = absurd s
 
 -- an event of a device is no request that was asked before
 is_new : (facts : List Fact) (e : Event) → IsSettling e → kept_of facts e ≡ None
@@ -86,36 +86,36 @@ puts_nothing (event.Command c) s = absurd s
 puts_nothing (event.Asked asked) s = absurd s
 
 -- so the past goes on by it, and leaves lawful facts
-lawful_next : FactsAreLawful → (past : History) (lines : List Line) (at : ℕ) (e : Event) → IsSettling e → IsNext past lines at e
+lawful_next : FactsAreLawful → (past : History) (slots : List Slot) (at : ℕ) (e : Event) → IsSettling e → IsNext past slots at e
     → AreLawful (facts_of (Fed at e ∷ past))
-lawful_next law past lines at e s next =
+lawful_next law past slots at e s next =
     law (Fed at e ∷ past) (record { new = is_new (facts_of past) e s; right = next.accepted }, next.is_past.accepted)
     (puts_nothing e s, next.is_past.planned)
 
 -- A draft of an event: behind it stand the facts of the event.
 pub record DraftStands (past : History) (at : ℕ) (e : Event) (draft : Draft) : Type 0 where
   pub facts : so_far draft (facts_of past) ≡ facts_of (Fed at e ∷ past)
-  pub notes : draft.notes.items ≡ notes_of (next_poll (facts_of past)) at e (lines_of past) (facts_of past)
+  pub notes : draft.notes.items ≡ notes_of (next_poll (facts_of past)) at e (slots_of past) (facts_of past)
   pub lawful : AreLawful (so_far draft (facts_of past))
 
-pub draft_stands : FactsAreLawful → (past : History) (kept : List Line) (at : ℕ) (e : Event) → IsSettling e → IsNext past kept at e
+pub draft_stands : FactsAreLawful → (past : History) (kept : List Slot) (at : ℕ) (e : Event) → IsSettling e → IsNext past kept at e
     → (holds : List Fact → Type 0) (clean : Type 0) (first draft : Draft) → first.facts.items ≡ [] → first.notes.items ≡ []
-    → Grows holds clean first draft (with_settled (next_poll (facts_of past)) at e (lines_of past)) (settled_notes (next_poll (facts_of past)) at e (lines_of past))
+    → Grows holds clean first draft (with_settled (next_poll (facts_of past)) at e (slots_of past)) (settled_notes (next_poll (facts_of past)) at e (slots_of past))
     → holds (facts_of past) → clean → DraftStands past at e draft
 draft_stands law past kept at e s next holds clean first draft no_facts no_notes on h c =
     let F : List Fact = facts_of past in
-    let lines : List sessions.Line = lines_of past in
+    let slots : List sessions.Slot = slots_of past in
     let number : ℕ = next_poll F in
     let start : so_far first F ≡ F = ap (λ (fs : List Fact). reverse fs ++ F) no_facts in
-    let final : with_settled number at e lines (so_far first F) ≡ facts_of (Fed at e ∷ past) =
-    ap (with_settled number at e lines) start ∙ facts_happened number at e s lines F in
+    let final : with_settled number at e slots (so_far first F) ≡ facts_of (Fed at e ∷ past) =
+    ap (with_settled number at e slots) start ∙ facts_happened number at e s slots F in
     let lawful : AreLawful (facts_of (Fed at e ∷ past)) = lawful_next law past kept at e s next in
     let all = on F h c (subst AreTold (sym no_facts) tt) (subst AreLawful (sym final) lawful) in
     let facts : so_far draft F ≡ facts_of (Fed at e ∷ past) = all.facts ∙ final in
     record {
       facts = facts;
       notes =
-          all.notes ∙ ap (λ (ns : List Note). ns ++ settled_notes number at e lines (so_far first F)) no_notes
-          ∙ ap (settled_notes number at e lines) start ∙ notes_happened number at e s lines F;
+          all.notes ∙ ap (λ (ns : List Note). ns ++ settled_notes number at e slots (so_far first F)) no_notes
+          ∙ ap (settled_notes number at e slots) start ∙ notes_happened number at e s slots F;
       lawful = subst AreLawful (sym facts) lawful;
     }

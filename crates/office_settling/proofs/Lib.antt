@@ -4,7 +4,7 @@ pub mod Reading
 pub mod Overlays
 pub mod Growing
 pub mod Turning
-pub mod SettledLines
+pub mod SettledSlots
 pub mod Moments
 pub mod Happened
 pub mod Moving

@@ -7,7 +7,7 @@ use Rattle.std.specs.declared.vec.Vec.{Vec}
 use Rattle.office_events.specs.declared.answers.Note.{Note}
 use Rattle.office_events.specs.declared.events.Event.{Event}
 use Rattle.office_rules.specs.History.{History, Fed, facts_of}
-use Rattle.office_lines.specs.declared.lines.Line.{Line}
+use Rattle.office_lines.specs.declared.slots.Slot.{Slot}
 use Rattle.office_settling.specs.Events.{Settles}
 use Rattle.office_events.specs.declared.facts.Fact.{Fact}
 use Rattle.office_rules.specs.Lawful.{AreLawful}
@@ -108,12 +108,12 @@ failed_as old new held later fault moves = record {
 }
 
 -- An event that fails settles nothing that is told.
-pub settles_not : {T : Type 0} (past : History) (at : ℕ) (e : Event) (old new : Ledger) (after : List Line) (fault : BooksFault)
+pub settles_not : {T : Type 0} (past : History) (at : ℕ) (e : Event) (old new : Ledger) (after : List Slot) (fault : BooksFault)
     (r : Result (Vec Note Global) BooksFault) → Moves {T = T} old new (facts_of past) (facts_of (Fed at e ∷ past)) (Err fault)
     → IsErrAnd r (λ f. f ≡ fault) → Settles past at e old new after r
 settles_not past at e old new after fault (Ok notes) moves is = absurd is
 settles_not past at e old new after fault (Err f) moves is = record {
-  lines = tt;
+  slots = tt;
   books =
       subst (λ g. Moves {T = Vec Note Global} old new (facts_of past) (facts_of (Fed at e ∷ past)) (Err g)) (sym is)
       (failed_as old new (facts_of past) (facts_of (Fed at e ∷ past)) fault moves);

@@ -5,7 +5,7 @@ use Rattle.std.proofs.Math.Seq.{take-add}
 use Rattle.poll_core.specs.Settling.{Event, Piece, Settlement, moment_of, outcomes_at}
 use Rattle.poll_core.specs.Standing.{State, Stands, Within, Before, After, owed}
 use Rattle.poll_core.specs.Telling.{Tells as TellsOn, IsCall}
-use Rattle.poll_core.specs.declared.call.Call.{Call}
+use Rattle.poll_core.specs.declared.outcome.Call.{Call}
 use Rattle.office_events.specs.declared.facts.Fact.{Fact}
 use Rattle.office_rules.specs.History.{with_outcome, with_outcomes}
 use Rattle.office_rules.specs.Notes.{outcome_notes, outcomes_notes}

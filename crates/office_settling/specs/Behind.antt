@@ -1,10 +1,10 @@
 -- An installation behind facts that are not booked yet.
 use Rattle.std.specs.Prelude.{◌≡◌, ◌+◌, List, ◌++◌, reverse, Result, Ok, Err, if◌then◌else◌}
-use Rattle.energy_core.specs.Entering.{entered}
+use Rattle.energy_core.specs.Admission.{entered}
 use Rattle.energy_core.specs.declared.entries.Last.{Last}
 use Rattle.energy_core.specs.declared.entries.Step.{Step}
 use Rattle.energy_core.specs.declared.entries.Entry.{Entry}
-use Rattle.energy_core.specs.declared.entering.TermFault.{TermFault}
+use Rattle.energy_core.specs.declared.admission.TermFault.{TermFault}
 use Rattle.office_events.specs.declared.facts.BookedEntry.{BookedEntry}
 use Rattle.office_events.specs.declared.facts.Fact.{Fact}
 use Rattle.office_events.specs.declared.facts.Fact.TheVariants as fact

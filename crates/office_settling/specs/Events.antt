@@ -4,29 +4,29 @@ use Rattle.std.specs.declared.alloc.Global.{Global}
 use Rattle.std.specs.declared.vec.Vec.{Vec}
 use Rattle.office_events.specs.declared.answers.Note.{Note}
 use Rattle.office_events.specs.declared.events.Event.{Event}
-use Rattle.office_rules.specs.History.{History, Fed, facts_of, lines_of, next_poll}
+use Rattle.office_rules.specs.History.{History, Fed, facts_of, slots_of, next_poll}
 use Rattle.office_rules.specs.Notes.{notes_of}
 use Rattle.office_rules.specs.Refusals.{refusal_of}
 use Rattle.office_lawful.specs.Laws.{IsPast}
-use Rattle.office_lines.specs.declared.lines.Line.{Line}
-use Rattle.office_lines.specs.Keeping.{KeepsLines}
+use Rattle.office_lines.specs.declared.slots.Slot.{Slot}
+use Rattle.office_lines.specs.Keeping.{KeepsSlots}
 use Rattle.office_books.specs.declared.faults.BooksFault.{BooksFault}
 use Rattle.office_books.specs.Ledgers.{Ledger, Moves}
 
--- The lines stand where the past leaves them, and nothing speaks against the event.
-pub record IsNext (past : History) (lines : List Line) (at : ℕ) (e : Event) : Type 0 where
+-- The slots stand where the past leaves them, and nothing speaks against the event.
+pub record IsNext (past : History) (slots : List Slot) (at : ℕ) (e : Event) : Type 0 where
   pub is_past : IsPast past
-  pub keeps : KeepsLines lines (lines_of past)
+  pub keeps : KeepsSlots slots (slots_of past)
   pub accepted : refusal_of past at e ≡ None
 
--- What it settles is booked all at once and told. At Ok the lines stand where the event leaves them, the notes are the
+-- What it settles is booked all at once and told. At Ok the slots stand where the event leaves them, the notes are the
 -- event's, and the books move to the facts behind it; where the call fails they stay, or a stop may leave the later facts.
-pub record Settles (past : History) (at : ℕ) (e : Event) (old new : Ledger) (after : List Line)
+pub record Settles (past : History) (at : ℕ) (e : Event) (old new : Ledger) (after : List Slot)
     (result : Result (Vec Note Global) BooksFault) : Type 0 where
-  pub lines : OnOk result (KeepsLines after (lines_of (Fed at e ∷ past)))
+  pub slots : OnOk result (KeepsSlots after (slots_of (Fed at e ∷ past)))
   pub books : Moves old new (facts_of past) (facts_of (Fed at e ∷ past)) result
   pub notes : old.holds (facts_of past) → new.is_clean → IfOk result (λ told.
-      told.items ≡ notes_of (next_poll (facts_of past)) at e (lines_of past) (facts_of past))
+      told.items ≡ notes_of (next_poll (facts_of past)) at e (slots_of past) (facts_of past))
 
 -- The call succeeds, asks no books, and tells nothing.
 pub record IsQuiet {B : Type 0} (old new : B)

@@ -10,8 +10,8 @@ use Rattle.office_rules.specs.Facts.{is_named}
 use Rattle.office_rules.specs.Sessions as sessions
 use Rattle.office_rules.specs.History.{with_outcomes, settled_by}
 use Rattle.office_rules.specs.Notes.{outcomes_notes}
-use Rattle.office_lines.specs.declared.lines.Line.{Line}
-use Rattle.office_lines.specs.Keeping.{KeepsLine}
+use Rattle.office_lines.specs.declared.slots.Slot.{Slot}
+use Rattle.office_lines.specs.Keeping.{KeepsSlot}
 use Rattle.office_lines.specs.Moments.{none_later}
 use Rattle.office_books.specs.declared.faults.BooksFault.{BooksFault}
 use Rattle.office_books.specs.Ledgers.{Ledger}
@@ -36,14 +36,14 @@ happening_on at (event.Gone given closing) device =
     if is_named given device.name then Some (session.Close at closing) else None
 happening_on at _ device = None
 
--- A line is kept, and an event that comes now may reach it.
-pub record MayReach (at : ℕ) (kept : Line) (line : sessions.Line) : Type 0 where
-  pub keeps : KeepsLine kept line
-  pub before : none_later at line.present
+-- A slot is kept, and an event that comes now may reach it.
+pub record MayReach (at : ℕ) (kept : Slot) (slot : sessions.Slot) : Type 0 where
+  pub keeps : KeepsSlot kept slot
+  pub before : none_later at slot.present
 
-abbrev pub MayReachAll : ℕ → List Line → List sessions.Line → Type 0
+abbrev pub MayReachAll : ℕ → List Slot → List sessions.Slot → Type 0
 MayReachAll at [] [] = Unit {0}
-MayReachAll at (k ∷ kept) (line ∷ lines) = MayReach at k line × MayReachAll at kept lines
+MayReachAll at (k ∷ kept) (slot ∷ slots) = MayReach at k slot × MayReachAll at kept slots
 MayReachAll at _ _ = ⊥
 
 -- no poll of the session is settled by this, which isn't back
@@ -90,7 +90,7 @@ ends_session None = false
 ends_session (Some happening) = sessions.is_close happening
 
 -- The event settles no poll of any of these.
-abbrev pub SettleNothing : (number at : ℕ) → Event → List sessions.Line → Type 0
+abbrev pub SettleNothing : (number at : ℕ) → Event → List sessions.Slot → Type 0
 SettleNothing number at e [] = Unit {0}
-SettleNothing number at e (line ∷ lines) =
-    (settled_by number at e line ≡ []) × SettleNothing number at e lines
+SettleNothing number at e (slot ∷ slots) =
+    (settled_by number at e slot ≡ []) × SettleNothing number at e slots

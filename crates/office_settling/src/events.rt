@@ -1,7 +1,7 @@
 //! What an event of a device settles, booked all at once.
 ghost use Rattle.std.specs.Prelude.{◌≡◌, ◌≤◌, [], List, IsOk, OnErr};
 ghost use Rattle.office_rules.specs.Facts.{moment_limit};
-ghost use Rattle.office_rules.specs.History.{History, facts_of, lines_of, next_poll};
+ghost use Rattle.office_rules.specs.History.{History, facts_of, slots_of, next_poll};
 ghost use Rattle.office_events.specs.declared.facts.Fact.{Fact};
 ghost use Rattle.office_rules.specs.Lawful.{AreLawful};
 ghost use Rattle.office_books.specs.Ledgers.{GoesOn, Moves, with_facts};
@@ -9,11 +9,11 @@ ghost use Rattle.office_settling.specs.Settling.{IsSettling, SettleNothing};
 ghost use Rattle.office_settling.specs.Events.{IsNext, IsQuiet, Settles};
 
 use crate::drafts::Draft;
-use crate::lines::settle_lines;
+use crate::slots::settle_slots;
 use office_books::{Books, BooksFault};
 use office_events::{Event, Fact, Note};
 use office_lawful::facts_are_lawful;
-use office_lines::Line;
+use office_lines::Slot;
 use std::alloc::Global;
 
 /// Books the facts of an event, if it has any.
@@ -31,28 +31,28 @@ fn book_all<B: Books>(books: &mut B, facts: Vec<Fact>) -> Result<(), BooksFault>
     books.book(facts)
 }
 
-/// Brings an event to the lines of the devices, and books what it settles, all at once. Answers its notes: each poll that
+/// Brings an event to the slots of the devices, and books what it settles, all at once. Answers its notes: each poll that
 /// ended, and then the readings of its reply. An event that settles nothing asks no books and takes no memory. Where the
-/// books or memory fail, some lines may have gone on already, so the caller is to give the sessions up.
+/// books or memory fail, some slots may have gone on already, so the caller is to give the sessions up.
 pub fn settle_event<B: Books>(
     alloc: Global,
-    lines: &mut [Line],
+    slots: &mut [Slot],
     books: &mut B,
     moment: u64,
     event: &Event,
 ) -> Result<Vec<Note>, BooksFault>
     requires settling { IsSettling event.now }
     requires limit { moment ≤ moment_limit }
-    ensures settles { (past : History) → IsNext past lines.old moment event.now
-        → Settles past moment event.now (B.ledger books.old) (B.ledger books.new) lines.new result }
-    ensures quiet { (past : History) → IsNext past lines.old moment event.now
-        → SettleNothing (next_poll (facts_of past)) moment event.now (lines_of past)
+    ensures settles { (past : History) → IsNext past slots.old moment event.now
+        → Settles past moment event.now (B.ledger books.old) (B.ledger books.new) slots.new result }
+    ensures quiet { (past : History) → IsNext past slots.old moment event.now
+        → SettleNothing (next_poll (facts_of past)) moment event.now (slots_of past)
         → IsQuiet books.old books.new result }
     ensures goes { GoesOn (B.ledger books.old) (B.ledger books.new) result }
 {
     facts_are_lawful();
     let mut draft = Draft::new(alloc);
-    settle_lines(lines, books, &mut draft, moment, event)?;
+    settle_slots(slots, books, &mut draft, moment, event)?;
     let Draft { facts, notes } = draft;
     book_all(books, facts)?;
     Ok(notes)

@@ -4,9 +4,9 @@
 mod behind;
 mod drafts;
 mod events;
-mod lines;
 mod outcomes;
 mod readings;
 mod sessions;
+mod slots;
 
 pub use events::settle_event;

@@ -6,6 +6,7 @@ ghost use Rattle.office_settling.specs.Replies.{words_of};
 use energy_core::Reading;
 use mb_wire::{ReadSpan, Reply};
 use office_events::{Register, ScaleSource};
+use sun_points::{acc32, sunssf};
 
 /// Whether these registers lie in the span.
 fn holds(span: ReadSpan, address: u16, count: u32) -> bool
@@ -44,24 +45,13 @@ fn word_at(span: ReadSpan, reply: &Reply, address: u32) -> u16
     reply.word(place as usize).unwrap_or(0)
 }
 
-/// The scale that a word tells.
-fn scale_in(word: u16) -> i16
-    ensures { result ≡ readings.scale_in word }
-{
-    if word == 0x8000 {
-        0
-    } else {
-        word.cast_signed()
-    }
-}
-
 /// The scale of a register.
 fn scale_of(span: ReadSpan, reply: &Reply, scale: ScaleSource) -> i16
     ensures { result ≡ readings.scale_of span (words_of reply.now) scale }
 {
     match scale {
         ScaleSource::Fixed(sf) => sf,
-        ScaleSource::Register(address) => scale_in(word_at(span, reply, u32::from(address))),
+        ScaleSource::Register(address) => sunssf(word_at(span, reply, u32::from(address))),
     }
 }
 
@@ -74,7 +64,7 @@ pub fn reading_of(at: u64, span: ReadSpan, reply: &Reply, register: &Register) -
     let low = word_at(span, reply, address + 1);
     Reading {
         at,
-        raw: u32::from(high) * 65536 + u32::from(low),
+        raw: acc32(high, low),
         sf: scale_of(span, reply, register.scale),
     }
 }

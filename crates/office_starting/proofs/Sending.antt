@@ -21,9 +21,9 @@ use Rattle.office_rules.specs.Sessions.{Send, is_startable, start_by, sends_on, 
 use Rattle.office_rules.specs.History.{poll_by}
 use Rattle.office_rules.specs.Notes.{frame_of}
 use Rattle.office_lines.specs.Moments.{none_later}
-use Rattle.office_lines.specs.Keeping.{KeepsSession, KeepsPresent, KeepsLine}
-use Rattle.office_lines.specs.declared.lines.Line.{Line}
-use Rattle.office_starting.specs.Starts.{IsBefore, sent_from, line_sent}
+use Rattle.office_lines.specs.Keeping.{KeepsSession, KeepsPresent, KeepsSlot}
+use Rattle.office_lines.specs.declared.slots.Slot.{Slot}
+use Rattle.office_starting.specs.Starts.{IsBefore, sent_from, slot_sent}
 use Rattle.office_laws.proofs.Rounds.{round_count}
 
 -- how many reads a session lets through
@@ -210,16 +210,16 @@ pub room_after : (i len : ℕ) (out bytes more : List ℕ) → length out ≤ i 
 room_after i len out bytes more room size long is =
     omega (arith, room, size, ap length is, length-append out (take len bytes), length-take-le len bytes (omega (arith, size, long)))
 
--- the line after its reads were sent
-sent_events : (at : ℕ) (line : sessions.Line) (before : List session.Event) (sends : List Send)
-    → with_happenings line before (map (start_by at line.device) sends)
-    ≡ record { device = line.device; ended = line.ended; present = Some (before ++ map (start_by at line.device) sends) }
-sent_events at line before [] =
-    ap (λ (es : List session.Event). record { device = line.device; ended = line.ended; present = Some es }) (sym (append-nil before))
-sent_events at line before (send ∷ sends) =
-    sent_events at line (before ++ start_by at line.device send ∷ []) sends
-    ∙ ap (λ (es : List session.Event). record { device = line.device; ended = line.ended; present = Some es })
-    (append_assoc before (start_by at line.device send ∷ []) (map (start_by at line.device) sends))
+-- the slot after its reads were sent
+sent_events : (at : ℕ) (slot : sessions.Slot) (before : List session.Event) (sends : List Send)
+    → with_happenings slot before (map (start_by at slot.device) sends)
+    ≡ record { device = slot.device; ended = slot.ended; present = Some (before ++ map (start_by at slot.device) sends) }
+sent_events at slot before [] =
+    ap (λ (es : List session.Event). record { device = slot.device; ended = slot.ended; present = Some es }) (sym (append-nil before))
+sent_events at slot before (send ∷ sends) =
+    sent_events at slot (before ++ start_by at slot.device send ∷ []) sends
+    ∙ ap (λ (es : List session.Event). record { device = slot.device; ended = slot.ended; present = Some es })
+    (append_assoc before (start_by at slot.device send ∷ []) (map (start_by at slot.device) sends))
 
 pub record Kept (device : Device) (old : State) (present : Option (List session.Event)) : Type 0 where
   pub events : List session.Event
@@ -233,20 +233,20 @@ kept_of device old (Some events) keeps = record { events = events; is = refl; ke
 pub earlier_of : (at : ℕ) (present : Option (List session.Event)) (events : List session.Event) → none_later at present → present ≡ Some events → last_moment events ≤ at
 earlier_of at present events h is = subst (none_later at) is h
 
-pub line_keeps : (number at : ℕ) (spans : List ReadSpan) (now line : Line) (kept : sessions.Line) (old new : State)
-    → line.device ≡ now.device → line.session ≡ Some new → now.session ≡ Some old → KeepsLine now kept → IsBefore at kept
+pub slot_keeps : (number at : ℕ) (spans : List ReadSpan) (now slot : Slot) (kept : sessions.Slot) (old new : State)
+    → slot.device ≡ now.device → slot.session ≡ Some new → now.session ≡ Some old → KeepsSlot now kept → IsBefore at kept
     → ((events : List session.Event) → KeepsSession now.device old events → last_moment events ≤ at
     → KeepsSession now.device new (events ++ map (start_by at now.device) (sends_on number at now.device events spans)))
-    → KeepsLine line (line_sent number at spans kept)
-line_keeps number at spans now line kept old new same after before keeps early onward =
+    → KeepsSlot slot (slot_sent number at spans kept)
+slot_keeps number at spans now slot kept old new same after before keeps early onward =
     let had = kept_of kept.device old kept.present (subst (λ (s : Option State). KeepsPresent kept.device s kept.present) before keeps.session) in
     let sends : List Send = sends_on number at kept.device had.events spans in
-    let is : line_sent number at spans kept ≡ record { device = kept.device; ended = kept.ended; present = Some (had.events ++ map (start_by at kept.device) sends) } =
+    let is : slot_sent number at spans kept ≡ record { device = kept.device; ended = kept.ended; present = Some (had.events ++ map (start_by at kept.device) sends) } =
     ap (λ (p : Option (List session.Event)). sent_from at kept (sends_at number at kept.device p spans) p) had.is ∙ sent_events at kept had.events sends in
     let goes : KeepsSession kept.device new (had.events ++ map (start_by at kept.device) sends) =
     subst (λ (d : Device). KeepsSession d old had.events → last_moment had.events ≤ at → KeepsSession d new (had.events ++ map (start_by at d) (sends_on number at d had.events spans)))
     keeps.device (onward had.events) had.keeps (earlier_of at kept.present had.events early had.is) in
-    subst (KeepsLine line) (sym is) (record {
+    subst (KeepsSlot slot) (sym is) (record {
       device = same ∙ keeps.device;
       session = subst (λ (s : Option State). KeepsPresent kept.device s (Some (had.events ++ map (start_by at kept.device) sends))) (sym after) goes;
     })

@@ -11,30 +11,30 @@ use Rattle.office_lines.specs.Keeping.{KeepsSession}
 use Rattle.office_lines.specs.Moments.{none_later}
 use Rattle.office_events.specs.declared.facts.Device.{Device}
 use Rattle.office_events.specs.declared.facts.Fact.{Fact}
-use Rattle.office_rules.specs.Sessions.{Line, Send, start_by, sends_on, sends_at, with_happenings}
+use Rattle.office_rules.specs.Sessions.{Slot, Send, start_by, sends_on, sends_at, with_happenings}
 use Rattle.office_rules.specs.History.{poll_by}
 use Rattle.office_rules.specs.Notes.{frame_of}
 
--- the reads of these that the session of the line lets through
-abbrev pub sends_of : (number at : ℕ) → List ReadSpan → Line → List Send
-sends_of number at spans line = sends_at number at line.device line.present spans
+-- the reads of these that the session of the slot lets through
+abbrev pub sends_of : (number at : ℕ) → List ReadSpan → Slot → List Send
+sends_of number at spans slot = sends_at number at slot.device slot.present spans
 
 -- the facts of their polls
-abbrev pub polls_of : (number at : ℕ) → List ReadSpan → Line → List Fact
-polls_of number at spans line = map (poll_by at line.device) (sends_of number at spans line)
+abbrev pub polls_of : (number at : ℕ) → List ReadSpan → Slot → List Fact
+polls_of number at spans slot = map (poll_by at slot.device) (sends_of number at spans slot)
 
 -- their frames
-abbrev pub frames_of : (number at : ℕ) → List ReadSpan → Line → List ℕ
-frames_of number at spans line = flat_map (frame_of line.device) (sends_of number at spans line)
+abbrev pub frames_of : (number at : ℕ) → List ReadSpan → Slot → List ℕ
+frames_of number at spans slot = flat_map (frame_of slot.device) (sends_of number at spans slot)
 
--- the line once these are sent
-abbrev pub sent_from : (at : ℕ) → Line → List Send → Option (List session.Event) → Line
-sent_from at line sends None = line
-sent_from at line sends (Some before) =
-    with_happenings line before (map (start_by at line.device) sends)
+-- the slot once these are sent
+abbrev pub sent_from : (at : ℕ) → Slot → List Send → Option (List session.Event) → Slot
+sent_from at slot sends None = slot
+sent_from at slot sends (Some before) =
+    with_happenings slot before (map (start_by at slot.device) sends)
 
-abbrev pub line_sent : (number at : ℕ) → List ReadSpan → Line → Line
-line_sent number at spans line = sent_from at line (sends_of number at spans line) line.present
+abbrev pub slot_sent : (number at : ℕ) → List ReadSpan → Slot → Slot
+slot_sent number at spans slot = sent_from at slot (sends_of number at spans slot) slot.present
 
 -- So many of these reads a session lets through that is kept so, whatever its next poll's number and moment.
 abbrev pub CountsSends : (device : Device) (kept : State) → List ReadSpan → ℕ → Type 0
@@ -56,6 +56,6 @@ WhereSent device kept number at spans so =
     (events : List session.Event) → KeepsSession device kept events → last_moment events ≤ at
     → so events (sends_on number at device events spans)
 
--- nothing on the session of the line is later than this moment
-abbrev pub IsBefore : ℕ → Line → Type 0
-IsBefore at line = none_later at line.present
+-- nothing on the session of the slot is later than this moment
+abbrev pub IsBefore : ℕ → Slot → Type 0
+IsBefore at slot = none_later at slot.present

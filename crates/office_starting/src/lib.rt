@@ -1,8 +1,8 @@
 //! The reads that are started on the session of a device.
 #![tactic(auto)]
 
-mod outgoing;
+mod output;
 mod starts;
 
-pub use outgoing::Outgoing;
+pub use output::Outgoing;
 pub use starts::{polls_on, start_on};

@@ -1,23 +1,23 @@
 //! The reads of a list that the session of a device lets through, one after the other.
-ghost use Rattle.std.specs.Prelude.{◌≡◌, ◌≤◌, ◌++◌, None, map, length, IfOk};
+ghost use Rattle.std.specs.Prelude.{◌≡◌, ◌+◌, ◌≤◌, ◌++◌, None, map, length, IfOk};
 ghost use Rattle.std.specs.List.{flat_map};
 ghost use Rattle.office_rules.specs.Sessions as sessions;
 ghost use Rattle.office_rules.specs.Sessions.{start_by};
 ghost use Rattle.office_rules.specs.Notes.{frame_of};
-ghost use Rattle.office_lines.specs.Keeping.{KeepsLine, KeepsSession};
+ghost use Rattle.office_lines.specs.Keeping.{KeepsSlot, KeepsSession};
 ghost use Rattle.office_starting.specs.Starts.{CountsSends, GivesPolls, IsBefore, WhereSent};
-ghost use Rattle.office_starting.specs.Starts.{polls_of, frames_of, line_sent};
+ghost use Rattle.office_starting.specs.Starts.{polls_of, frames_of, slot_sent};
 
-use crate::outgoing::Outgoing;
+use crate::output::Outgoing;
 use mb_wire::ReadSpan;
-use office_events::{Device, Fact, Poll};
-use office_lines::Line;
-use poll_core::Session;
+use office_events::{Device, Fact, MAX_POLLS, Poll};
+use office_lines::Slot;
+use poll_core::{LAST_MOMENT, MAX_WINDOW, Session};
 use std::alloc::{AllocError, Global};
 
 /// How many of these reads the session lets through now.
 fn count_on(kept: &Session, device: &Device, spans: &[ReadSpan]) -> usize
-    ensures few { result ≤ 16 }
+    ensures few { result ≤ MAX_WINDOW }
     ensures inside { result ≤ length spans.now }
     ensures count { CountsSends device.now kept.now spans.now result }
 {
@@ -36,7 +36,7 @@ fn poll_facts(
     moment: u64,
     spans: &[ReadSpan],
 ) -> Result<Vec<Fact>, AllocError>
-    requires { number ≤ 4611686018427387905 }
+    requires { number ≤ MAX_POLLS + 1 }
     ensures { GivesPolls device.now kept.now number moment spans.now result }
 {
     let mut facts = Vec::new(alloc);
@@ -59,18 +59,18 @@ fn poll_facts(
 /// of the first.
 pub fn polls_on(
     alloc: Global,
-    line: &Line,
+    slot: &Slot,
     number: u64,
     moment: u64,
     spans: &[ReadSpan],
 ) -> Result<Vec<Fact>, AllocError>
-    requires { number ≤ 4611686018427387905 }
-    ensures { (kept : sessions.Line) → KeepsLine line.now kept
+    requires { number ≤ MAX_POLLS + 1 }
+    ensures { (kept : sessions.Slot) → KeepsSlot slot.now kept
         → IfOk result (λ facts. facts.items ≡ polls_of number moment spans.now kept) }
 {
-    match &line.session {
+    match &slot.session {
         None => Ok(Vec::new(alloc)),
-        Some(kept) => poll_facts(alloc, kept, &line.device, number, moment, spans),
+        Some(kept) => poll_facts(alloc, kept, &slot.device, number, moment, spans),
     }
 }
 
@@ -82,8 +82,8 @@ fn start_each(
     moment: u64,
     spans: &[ReadSpan],
 ) -> Outgoing
-    requires number { number ≤ 4611686018427387905 }
-    requires limit { moment ≤ 4102444800 }
+    requires number { number ≤ MAX_POLLS + 1 }
+    requires limit { moment ≤ LAST_MOMENT }
     requires rests { kept.old.settling ≡ None }
     ensures keeps { WhereSent device.now kept.old number moment spans.now (λ events sends.
         KeepsSession device.now kept.new (events ++ map (start_by moment device.now) sends)) }
@@ -104,18 +104,18 @@ fn start_each(
 
 /// Starts the polls of these reads on the session of the device, as far as it lets them through, in order, and answers the
 /// frames that it wants sent. `number` is that of the first.
-pub fn start_on(line: &mut Line, number: u64, moment: u64, spans: &[ReadSpan]) -> Outgoing
-    requires number { number ≤ 4611686018427387905 }
-    requires limit { moment ≤ 4102444800 }
-    ensures keeps { (kept : sessions.Line) → KeepsLine line.old kept → IsBefore moment kept
-        → KeepsLine line.new (line_sent number moment spans.now kept) }
-    ensures sent { (kept : sessions.Line) → KeepsLine line.old kept → IsBefore moment kept
+pub fn start_on(slot: &mut Slot, number: u64, moment: u64, spans: &[ReadSpan]) -> Outgoing
+    requires number { number ≤ MAX_POLLS + 1 }
+    requires limit { moment ≤ LAST_MOMENT }
+    ensures keeps { (kept : sessions.Slot) → KeepsSlot slot.old kept → IsBefore moment kept
+        → KeepsSlot slot.new (slot_sent number moment spans.now kept) }
+    ensures sent { (kept : sessions.Slot) → KeepsSlot slot.old kept → IsBefore moment kept
         → result ≡ frames_of number moment spans.now kept }
 {
-    let Some(mut kept) = line.session.take() else {
+    let Some(mut kept) = slot.session.take() else {
         return Outgoing::none();
     };
-    let outgoing = start_each(&mut kept, &line.device, number, moment, spans);
-    line.session = Some(kept);
+    let outgoing = start_each(&mut kept, &slot.device, number, moment, spans);
+    slot.session = Some(kept);
     outgoing
 }

@@ -19,14 +19,6 @@ pub(crate) struct Stop {
     pub(crate) is_lost: bool,
 }
 
-/// Each of the files, and what is there afterwards.
-pub(crate) static STOPS: [(Stopping, bool); 4] = [
-    (Stopping::Log, true),
-    (Stopping::Log, false),
-    (Stopping::Database, true),
-    (Stopping::Database, false),
-];
-
 /// A file that has these bytes, and whose calls don't fail.
 fn written(alloc: Global, bytes: &[u8]) -> Result<Fuse<Memory>, Fail> {
     let mut file = Memory::new(alloc);

@@ -29,27 +29,51 @@ fn stopped(rt: &impl Abort, alloc: Global, stop: Stop) -> Result<usize, Fail> {
     Ok(steps)
 }
 
-/// The machine stops at each call of a file, until it comes to none.
-fn stop_each(rt: &impl Abort, alloc: Global, file: Stopping, is_lost: bool) -> Result<u64, Fail> {
+/// The machine stops at each call of a file, until it comes to none, so that all steps are acknowledged. For each stop, how
+/// many were.
+fn stop_each(
+    rt: &impl Abort,
+    alloc: Global,
+    file: Stopping,
+    is_lost: bool,
+) -> Result<Vec<usize>, Fail> {
+    let mut stops = Vec::new(alloc);
     for calls in 0..1000 {
         let stop = Stop {
             file,
             calls,
             is_lost,
         };
-        if stopped(rt, alloc, stop)? == 8 {
-            return Ok(calls);
+        let steps = stopped(rt, alloc, stop)?;
+        if steps == 8 {
+            return Ok(stops);
         }
+        stops.push(steps)?;
     }
     Err(Fail::from("it stops each time"))
+}
+
+/// How many steps go before each one that books something. The step behind the first four connects the device, and books
+/// nothing.
+static BOOKING: [usize; 7] = [0, 1, 2, 3, 5, 6, 7];
+
+/// Whether a stop came in each step that books something.
+fn each_came_up(stops: &[usize]) -> bool {
+    for steps in &BOOKING {
+        if !stops.contains(steps) {
+            return false;
+        }
+    }
+    true
 }
 
 #[test]
 fn what_was_acknowledged_stands(rt: HostRuntime) -> Result<(), Fail> {
     for is_lost in [true, false] {
         let of_log = stop_each(&rt, rt.alloc(), Stopping::Log, is_lost)?;
+        assert!(rt; of_log.len() > 30 && each_came_up(&of_log));
         let of_database = stop_each(&rt, rt.alloc(), Stopping::Database, is_lost)?;
-        assert!(rt; of_log > 30 && of_database > 5);
+        assert!(rt; of_database.len() > 5);
     }
     Ok(())
 }

@@ -10,11 +10,11 @@ use Rattle.store_tables.specs.Content.{Content, AreTables}
 use Rattle.store_tables.specs.Steps.{TransactsTo}
 use Rattle.store_files.specs.declared.layouts.Layout.TheVariants.{Third}
 use Rattle.store_files.specs.Layouts.{no_schema}
-use Rattle.store_files.specs.Making.{Makes}
-use Rattle.store_files.specs.Bringing.{IsFile, IsBrought, OpensFile}
+use Rattle.store_files.specs.NewFile.{Makes}
+use Rattle.store_files.specs.Upgrade.{IsFile, IsBrought, OpensFile}
 use Rattle.store_facts.specs.Holding.{HasFacts, HoldsFacts, LeavesFacts, IsLeft, IsOneOf}
 use Rattle.store_laws.specs.Files.{NewFilesHaveNone, OpenedFilesKeepTheirs}
-use Rattle.office_store.specs.Opening.{HasFile, HoldsAlone, HoldsYet}
+use Rattle.office_store.specs.Database.{HasFile, HoldsAlone, HoldsYet}
 
 -- while the store is open, a stop leaves the last commit
 abbrev pub Settles : {S : Type 0} → Ghosts S → Held S → Type 0

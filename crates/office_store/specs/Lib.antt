@@ -1,4 +1,4 @@
 pub mod Answers
 pub mod Stored
-pub mod Opening
+pub mod Database
 pub mod Made

@@ -2,8 +2,8 @@
 #![tactic(auto)]
 
 mod books;
-mod counting;
-mod opening;
+mod database;
+mod fault_counts;
 mod tables;
 
 pub use books::{SqlBooks, Unopened};

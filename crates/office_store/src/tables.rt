@@ -1,6 +1,6 @@
 //! Books over the tables of a database.
 use crate::books::SqlBooks;
-use crate::counting::answered;
+use crate::fault_counts::answered;
 use interval_core::{Share, Zone};
 use office_books::{Books, BooksFault, Repeat, RowSink};
 use office_events::{

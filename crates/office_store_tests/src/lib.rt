@@ -2,11 +2,11 @@
 #![tactic(auto)]
 
 #[cfg(test)]
+mod databases;
+#[cfg(test)]
 mod kept_rows;
 #[cfg(test)]
 mod made;
-#[cfg(test)]
-mod opening;
 #[cfg(test)]
 mod requests;
 #[cfg(test)]

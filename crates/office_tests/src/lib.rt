@@ -15,11 +15,11 @@ mod failures;
 #[cfg(test)]
 mod kept_rows;
 #[cfg(test)]
-mod mixed;
-#[cfg(test)]
 mod polls;
 #[cfg(test)]
 mod questions;
+#[cfg(test)]
+mod random_acts;
 #[cfg(test)]
 mod readings;
 #[cfg(test)]

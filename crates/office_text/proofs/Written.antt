@@ -10,7 +10,7 @@ use Rattle.office_text.specs.Lines.{HasWritten, WritesLine}
 use Rattle.office_text.specs.declared.lines.DayLines.{DayLines}
 use Rattle.command_io.specs.declared.status.Status.{Status}
 use Rattle.command_io.specs.declared.status.Status.TheVariants.{Failed}
-use Rattle.office_text.specs.Telling.{IsTold}
+use Rattle.office_text.specs.EndTexts.{IsTold}
 use Rattle.sun_points.specs.Writing.{GotPart}
 
 abbrev TakesLine : {W T : Type 0} → (W → Option (List ℕ)) → (T → List ℕ) → DayLines W → T → DayLines W → Type 0

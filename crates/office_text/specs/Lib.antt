@@ -1,6 +1,6 @@
-pub mod Telling
+pub mod EndTexts
 pub mod Passing
-pub mod Opening
+pub mod OpenedOffice
 pub mod Lines
 pub mod Reports
 pub mod Rounds

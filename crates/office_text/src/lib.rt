@@ -1,12 +1,12 @@
 //! What the commands over an office print, and how they end.
 #![tactic(auto)]
 
+mod end_texts;
 mod lines;
-mod opening;
+mod opened_office;
 mod report;
 mod round;
-mod telling;
 
-pub use opening::{Unopened, open_office};
+pub use opened_office::{Unopened, open_office};
 pub use report::report_days;
 pub use round::{poll_round, round_status};

@@ -2,10 +2,10 @@
 ghost use Rattle.office_core.specs.Standing.{After, books_in};
 ghost use Rattle.office_core.specs.Taking.{failures_of};
 ghost use Rattle.office_text.specs.Reports.{Asks, ReportPrints, last_line, meant_by};
-ghost use Rattle.office_text.specs.Telling.{IsTold, Tells};
+ghost use Rattle.office_text.specs.EndTexts.{IsTold, Tells};
 
+use crate::end_texts::{ended, print_refusal};
 use crate::lines::DayLines;
-use crate::telling::{ended, print_refusal};
 use command_io::Status;
 use office_books::Books;
 use office_core::Office;

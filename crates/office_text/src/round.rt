@@ -7,7 +7,7 @@ ghost use Rattle.office_rounds.specs.Rounds.{desk, passage, wire};
 ghost use Rattle.office_text.specs.Rounds as rounds;
 ghost use Rattle.office_text.specs.Rounds.{IsRefusalTold, PollsRound};
 
-use crate::telling::print_refusal;
+use crate::end_texts::print_refusal;
 use command_io::Status;
 use mb_wire::Link;
 use office_books::Books;

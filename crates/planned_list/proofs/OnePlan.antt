@@ -2,24 +2,16 @@
 use Rattle.std.proofs.Common.{◌≡◌, ◌∙◌, ℕ, ◌+◌, ◌≤◌, List, [], ◌∷◌, refl, ap, subst, arith}
 use Rattle.std.proofs.Math.Bridge.{le_prop}
 use Rattle.mb_wire.specs.declared.span.ReadFunction.{ReadFunction}
-use Rattle.mb_wire.specs.declared.span.ReadFunction.TheVariants.{HoldingRegisters, InputRegisters}
 use Rattle.mb_wire.specs.declared.span.ReadSpan.{ReadSpan}
 use Rattle.point_list.specs.declared.point.ListedPoint.{ListedPoint}
-use Rattle.point_list.specs.Points.{function_of}
-use Rattle.read_plan.specs.declared.planned.PlannedRead.{PlannedRead}
+use Rattle.read_plan.specs.declared.planned_reads.PlannedRead.{PlannedRead}
 use Rattle.read_plan.specs.declared.run.Run.{Run}
 use Rattle.read_plan.specs.Items.{items_of}
-use Rattle.read_plan.specs.PlannedReads.{table_of, read_run, read_runs}
+use Rattle.read_plan.specs.PlannedReads.{read_run, read_runs}
 use Rattle.read_plan.specs.Plans.{FollowsRule}
 use Rattle.planned_list.specs.Lists.{Planned}
 use Rattle.planned_list.specs.Laws.{ListsArePlannedOnce}
 use Rattle.planned_list.proofs.OneRule.{rule_is_one}
-
-one_function : (f g : ReadFunction) → table_of f ≡ table_of g → f ≡ g
-one_function HoldingRegisters HoldingRegisters e = refl
-one_function HoldingRegisters InputRegisters e = absurd (let n : 3 ≡ 4 = ap function_of e in omega (arith, n))
-one_function InputRegisters HoldingRegisters e = absurd (let n : 4 ≡ 3 = ap function_of e in omega (arith, n))
-one_function InputRegisters InputRegisters e = refl
 
 one_bound : (m n : ℕ) (p q : m ≤ n) → p ≡ q
 one_bound m n p q = le_prop p q
@@ -49,7 +41,7 @@ one_read x y e =
     let first : x.span.address ≡ y.span.address = ap (λ (r : Run). r.first) e in
     let end : x.span.address + x.span.count ≡ y.span.address + y.span.count = ap (λ (r : Run). r.end) e in
     let span : x.span ≡ y.span =
-    one_span x.span y.span (one_function x.span.function y.span.function (ap (λ (r : Run). r.table) e)) first (omega (arith, first, end)) in
+    one_span x.span y.span (ap (λ (r : Run). r.function) e) first (omega (arith, first, end)) in
     ap (λ (s : ReadSpan). let r : PlannedRead = record { area = x.area; span = s } in r) span
     ∙ ap (λ (n : ℕ). let r : PlannedRead = record { area = n; span = y.span } in r) (ap (λ (r : Run). r.area) e)
 

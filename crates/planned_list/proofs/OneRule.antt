@@ -4,33 +4,33 @@ use Rattle.std.specs.List.{All, AllPairs}
 use Rattle.std.proofs.lemmas.Bool.{cases_lt}
 use Rattle.std.proofs.lemmas.List.{get_or_default, take_more}
 use Rattle.std.proofs.Math.Seq.{take-length}
-use Rattle.point_list.specs.Points.{function_of}
-use Rattle.point_list.specs.declared.point.RegisterTable.{RegisterTable}
-use Rattle.point_list.specs.declared.point.RegisterTable.TheVariants.{Holding}
+use Rattle.mb_wire.specs.Spans.{code_of}
+use Rattle.mb_wire.specs.declared.span.ReadFunction.{ReadFunction}
+use Rattle.mb_wire.specs.declared.span.ReadFunction.TheVariants.{HoldingRegisters}
 use Rattle.read_plan.specs.declared.run.Run.{Run}
 use Rattle.read_plan.specs.Plans.{SameArea, Holds, IsHeld, ComesBefore, LiesWithinReach, EndsAtLastInReach, FollowsRule}
 use Rattle.read_plan.proofs.BeginningLemmas.{before-or-same}
 use Rattle.read_plan.proofs.PlanLemmas.{any-take, same_area-sym, same_area-trans}
 
-same_function : (a b : Run) → a.table ≡ b.table → function_of a.table ≡ function_of b.table
-same_function a b same = ap function_of same
+same_function : (a b : Run) → a.function ≡ b.function → code_of a.function ≡ code_of b.function
+same_function a b same = ap code_of same
 
 -- a read of the item's area that comes after one which begins there does not hold it
 too_late : (x r item : Run) → SameArea x item → item.first ≡ x.first → ComesBefore x r → Holds r item → ⊥
 too_late x r item same first (inl lt) holds =
-    omega (arith, same_function x item same.table, same_function r item holds.same_area.table, lt)
+    omega (arith, same_function x item same.function, same_function r item holds.same_area.function, lt)
 too_late x r item same first (inr (inl h)) holds = omega (arith, same.area, holds.same_area.area, h.1)
 too_late x r item same first (inr (inr h)) holds = omega (arith, first, holds.from_first, h.1)
 
 after_both : (x y r : Run) → ComesBefore x y → ComesBefore y r → ComesBefore x r
 after_both x y r (inl a) (inl b) = inl (omega (arith, a, b))
 after_both x y r (inl a) (inr (inl b)) = inl (omega (arith, a, same_function y r b.0))
-after_both x y r (inl a) (inr (inr b)) = inl (omega (arith, a, same_function y r b.0.table))
+after_both x y r (inl a) (inr (inr b)) = inl (omega (arith, a, same_function y r b.0.function))
 after_both x y r (inr (inl a)) (inl b) = inl (omega (arith, same_function x y a.0, b))
 after_both x y r (inr (inl a)) (inr (inl b)) = inr (inl (a.0 ∙ b.0, omega (arith, a.1, b.1)))
-after_both x y r (inr (inl a)) (inr (inr b)) = inr (inl (a.0 ∙ b.0.table, omega (arith, a.1, b.0.area)))
-after_both x y r (inr (inr a)) (inl b) = inl (omega (arith, same_function x y a.0.table, b))
-after_both x y r (inr (inr a)) (inr (inl b)) = inr (inl (a.0.table ∙ b.0, omega (arith, a.0.area, b.1)))
+after_both x y r (inr (inl a)) (inr (inr b)) = inr (inl (a.0 ∙ b.0.function, omega (arith, a.1, b.0.area)))
+after_both x y r (inr (inr a)) (inl b) = inl (omega (arith, same_function x y a.0.function, b))
+after_both x y r (inr (inr a)) (inr (inl b)) = inr (inl (a.0.function ∙ b.0, omega (arith, a.0.area, b.1)))
 after_both x y r (inr (inr a)) (inr (inr b)) = inr (inr (same_area-trans x y r a.0 b.0, omega (arith, a.1, b.1)))
 
 -- what comes before a read comes before each later one
@@ -81,10 +81,10 @@ ends_no_later items x y same first ex ey =
 
 same_run : (x y : Run) → SameArea x y → x.first ≡ y.first → x.end ≡ y.end → x ≡ y
 same_run x y same first end =
-    ap (λ (t : RegisterTable). let r : Run = record { table = t; area = x.area; first = x.first; end = x.end } in r) same.table
-    ∙ ap (λ n. let r : Run = record { table = y.table; area = n; first = x.first; end = x.end } in r) same.area
-    ∙ ap (λ n. let r : Run = record { table = y.table; area = y.area; first = n; end = x.end } in r) first
-    ∙ ap (λ n. let r : Run = record { table = y.table; area = y.area; first = y.first; end = n } in r) end
+    ap (λ (t : ReadFunction). let r : Run = record { function = t; area = x.area; first = x.first; end = x.end } in r) same.function
+    ∙ ap (λ n. let r : Run = record { function = y.function; area = n; first = x.first; end = x.end } in r) same.area
+    ∙ ap (λ n. let r : Run = record { function = y.function; area = y.area; first = n; end = x.end } in r) first
+    ∙ ap (λ n. let r : Run = record { function = y.function; area = y.area; first = y.first; end = n } in r) end
 
 same_read : (items xs ys : List Run) (k : ℕ) (d : Run) → FollowsRule items xs → FollowsRule items ys → k < length xs → k < length ys
     → take k xs ≡ take k ys → get_or xs k d ≡ get_or ys k d
@@ -101,7 +101,7 @@ same_read items xs ys k d hx hy there here same =
     ]
 
 a_run : Run
-a_run = record { table = Holding; area = 0; first = 0; end = 0 }
+a_run = record { function = HoldingRegisters; area = 0; first = 0; end = 0 }
 
 same_front : (items xs ys : List Run) (k : ℕ) → FollowsRule items xs → FollowsRule items ys → k ≤ length xs → k ≤ length ys → take k xs ≡ take k ys
 same_front items xs ys zero hx hy there here = refl

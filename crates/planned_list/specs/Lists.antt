@@ -2,7 +2,7 @@
 use Rattle.std.specs.Prelude.{List}
 use Rattle.point_list.specs.declared.point.ListedPoint.{ListedPoint}
 use Rattle.point_list.specs.Points.{IsPointList}
-use Rattle.read_plan.specs.declared.planned.PlannedRead.{PlannedRead}
+use Rattle.read_plan.specs.declared.planned_reads.PlannedRead.{PlannedRead}
 use Rattle.read_plan.specs.Items.{items_of}
 use Rattle.read_plan.specs.PlannedReads.{read_runs}
 use Rattle.read_plan.specs.Plans.{FollowsRule}

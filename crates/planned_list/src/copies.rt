@@ -32,7 +32,7 @@ fn copy_point(alloc: Global, point: &ListedPoint) -> Result<ListedPoint, AllocEr
 {
     Ok(ListedPoint {
         name: copy_name(alloc, &point.name)?,
-        table: point.table,
+        function: point.function,
         area: point.area,
         address: point.address,
         kind: point.kind,

@@ -185,7 +185,7 @@ group-of place model others p q f g =
     let kp : registers_of p.ty ≡ registers_of f.row.ty = ap registers_of f.kind in
     let kq : registers_of q.ty ≡ registers_of g.row.ty = ap registers_of g.kind in
     record {
-      table = refl;
+      function = refl;
       area = refl;
       narrow =
           narrow-group model.address p.address q.address (registers_of p.ty) (registers_of q.ty) f.row.offset g.row.offset f.address g.address

@@ -14,13 +14,14 @@ use Rattle.point_list.specs.declared.fault.FaultyRow.{FaultyRow}
 use Rattle.point_list.specs.declared.fault.ListFault.{ListFault}
 use Rattle.point_list.specs.declared.fault.RowFault.{RowFault}
 use Rattle.point_list.specs.declared.point.ListedPoint.{ListedPoint}
-use Rattle.point_list.specs.declared.point.RegisterTable.{RegisterTable}
-use Rattle.point_list.specs.declared.point.RegisterTable.TheVariants.{Holding, Input}
+use Rattle.mb_wire.specs.declared.span.ReadFunction.{ReadFunction}
+use Rattle.mb_wire.specs.declared.span.ReadFunction.TheVariants.{HoldingRegisters, InputRegisters}
 use Rattle.point_list.specs.declared.point.PointScale.{PointScale}
 use Rattle.point_list.specs.declared.point.PointScale.TheVariants.{Unscaled, Fixed, Named}
 use Rattle.point_list.specs.Faults.{RowText, has_name, six_fields}
 use Rattle.point_list.specs.Lists.{ExplainsList, SpellEach, faults_below, faulty_rows, or_else, is_one_group, group_fault, point_of_row, points_of, row_fault, row_faults, scale_fault, scale_faults}
-use Rattle.point_list.specs.Points.{HasLawfulScale, IsGroup, IsPointList, function_of, scale_point}
+use Rattle.mb_wire.specs.Spans.{code_of}
+use Rattle.point_list.specs.Points.{HasLawfulScale, IsGroup, IsPointList, scale_point}
 use Rattle.point_list.proofs.ListLemmas.{faulty-push}
 use Rattle.point_list.proofs.SoundRows.{Sound, sound}
 use Rattle.point_list.proofs.SpelledRows.{Spelled, Suits, spelled}
@@ -111,17 +112,17 @@ few-rows rows n size none = elim (cases_Bool (nat_le n 512)) [
       absurd (cc (faultless rows 512 (none 512 many)).lacking.few)
 ]
 
-same-table : (a b : RegisterTable) → (function_of a == function_of b) ≡ true → a ≡ b
-same-table Holding Holding h = refl
-same-table Holding Input h = absurd (cc h)
-same-table Input Holding h = absurd (cc h)
-same-table Input Input h = refl
+same-function : (a b : ReadFunction) → (code_of a == code_of b) ≡ true → a ≡ b
+same-function HoldingRegisters HoldingRegisters h = refl
+same-function HoldingRegisters InputRegisters h = absurd (cc h)
+same-function InputRegisters HoldingRegisters h = absurd (cc h)
+same-function InputRegisters InputRegisters h = refl
 
 group : (point scale : ListedPoint) → is_one_group point scale ≡ true → IsGroup point scale
 group point scale h =
     let parts = and-parts _ _ h in
     let both = and-parts _ _ parts.0 in
-    record { table = same-table point.table scale.table both.0; area = grind (arith, both.1); narrow = grind (arith, parts.1) }
+    record { function = same-function point.function scale.function both.0; area = grind (arith, both.1); narrow = grind (arith, parts.1) }
 
 found : (point : ListedPoint) (o : Option ListedPoint) → group_fault point o ≡ None → IsSomeAnd o (IsGroup point)
 found point None h = absurd (cc h)

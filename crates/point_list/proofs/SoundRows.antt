@@ -12,14 +12,14 @@ use Rattle.sun_points.specs.PointType.{registers_of}
 use Rattle.point_list.specs.declared.fault.RowFault.{RowFault}
 use Rattle.point_list.specs.declared.fault.RowFault.TheVariants as fault
 use Rattle.point_list.specs.Faults.{RowText, conditions_where, first_of, is_bad_scale, is_no_number, reaches_past}
-use Rattle.point_list.specs.Fields.{fixed_scale_of, minus, number_of, number_within, table_of, text_type_of, type_of}
+use Rattle.point_list.specs.Fields.{fixed_scale_of, function_of, minus, number_of, number_within, text_type_of, type_of}
 use Rattle.point_list.specs.Names.{is_name}
 
 -- what six fields are that lack nothing
 pub record Sound (taken : Bool) (place : ℕ) (row : RowText) : Type 0 where
   pub name : not (is_name row.name) ≡ false
   pub untaken : taken ≡ false
-  pub table : is_none (table_of row.function) ≡ false
+  pub function : is_none (function_of row.function) ≡ false
   pub area : is_no_number 0 255 row.area ≡ false
   pub address : (is_no_number 0 65535 row.address || reaches_past (number_within 0 65535 row.address) (type_of row.kind)) ≡ false
   pub kind : is_none (type_of row.kind) ≡ false
@@ -38,20 +38,20 @@ sound taken place row h =
     let rest5 : List (RowFault × Bool) = (fault.«Type», is_none (type_of row.kind)) ∷ rest6 in
     let rest4 : List (RowFault × Bool) = (fault.Address, is_no_number 0 65535 row.address || reaches_past (number_within 0 65535 row.address) (type_of row.kind)) ∷ rest5 in
     let rest3 : List (RowFault × Bool) = (fault.Area, is_no_number 0 255 row.area) ∷ rest4 in
-    let rest2 : List (RowFault × Bool) = (fault.Function, is_none (table_of row.function)) ∷ rest3 in
+    let rest2 : List (RowFault × Bool) = (fault.Function, is_none (function_of row.function)) ∷ rest3 in
     let rest1 : List (RowFault × Bool) = (fault.DoubleName, taken) ∷ rest2 in
     let name = first-none fault.Name (not (is_name row.name)) rest1 h in
     let untaken = first-none fault.DoubleName (taken) rest2 name.1 in
-    let table = first-none fault.Function (is_none (table_of row.function)) rest3 untaken.1 in
-    let area = first-none fault.Area (is_no_number 0 255 row.area) rest4 table.1 in
+    let function = first-none fault.Function (is_none (function_of row.function)) rest3 untaken.1 in
+    let area = first-none fault.Area (is_no_number 0 255 row.area) rest4 function.1 in
     let address = first-none fault.Address (is_no_number 0 65535 row.address || reaches_past (number_within 0 65535 row.address) (type_of row.kind)) rest5 area.1 in
     let kind = first-none fault.«Type» (is_none (type_of row.kind)) rest6 address.1 in
     let scale = first-none fault.Scale (is_bad_scale row.scale (type_of row.kind)) rest7 kind.1 in
     let few = first-none fault.TooMany (nat_le 512 place) rest8 scale.1 in
-    record { name = name.0; untaken = untaken.0; table = table.0; area = area.0; address = address.0; kind = kind.0; scale = scale.0; few = few.0 }
+    record { name = name.0; untaken = untaken.0; function = function.0; area = area.0; address = address.0; kind = kind.0; scale = scale.0; few = few.0 }
 
 pub sound-none : (taken : Bool) (place : ℕ) (row : RowText) → Sound taken place row → first_of (conditions_where taken place row) ≡ None
-sound-none taken place row s = rw (s.name, s.untaken, s.table, s.area, s.address, s.kind, s.scale, s.few) refl
+sound-none taken place row s = rw (s.name, s.untaken, s.function, s.area, s.address, s.kind, s.scale, s.few) refl
 
 -- a value that is there
 pub there : {X : Type 0} (o : Option X) → is_none o ≡ false → (x : X) × (o ≡ Some x)

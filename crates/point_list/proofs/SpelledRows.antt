@@ -7,7 +7,7 @@ use Rattle.point_list.specs.declared.point.ListedPoint.{ListedPoint}
 use Rattle.point_list.specs.declared.point.PointScale.{PointScale}
 use Rattle.point_list.specs.declared.point.PointScale.TheVariants.{Unscaled, Fixed, Named}
 use Rattle.point_list.specs.Faults.{RowText, is_bad_scale, is_no_number, reaches_past}
-use Rattle.point_list.specs.Fields.{fixed_scale_of, number_within, table_of, type_of}
+use Rattle.point_list.specs.Fields.{fixed_scale_of, function_of, number_within, type_of}
 use Rattle.point_list.specs.Lists.{point_spelled, scale_spelled}
 use Rattle.point_list.specs.Names.{is_name}
 use Rattle.point_list.specs.Points.{end_of, takes_scale}
@@ -48,23 +48,23 @@ within-registers : (a : Option ℕ) (k : Option PointType) (address : ℕ) (kind
     → address + registers_of kind ≤ 65536
 within-registers a k address kind here is h = past-end address (registers_of kind) (rw (here, is) at h)
 
-pub spells-with : (row : RowText) (point : ListedPoint) → is_name row.name ≡ true → row.name ≡ point.name → table_of row.function ≡ Some point.table
+pub spells-with : (row : RowText) (point : ListedPoint) → is_name row.name ≡ true → row.name ≡ point.name → function_of row.function ≡ Some point.function
     → number_within 0 255 row.area ≡ Some point.area → number_within 0 65535 row.address ≡ Some point.address → type_of row.kind ≡ Some point.kind
     → scale_spelled row.scale ≡ Some point.scale → point_spelled row ≡ Some point
-spells-with row point named name table area address kind scale = rw (named, table, area, address, kind, scale, name) refl
+spells-with row point named name function area address kind scale = rw (named, function, area, address, kind, scale, name) refl
 
 pub spelled : (taken : Bool) (place : ℕ) (row : RowText) → Sound taken place row → (point : ListedPoint) × Spelled row point
 spelled taken place row s =
     let named = not-false _ s.name in
-    let table = there (table_of row.function) s.table in
+    let function = there (function_of row.function) s.function in
     let area = there (number_within 0 255 row.area) s.area in
     let addressed = or-first (is_no_number 0 65535 row.address) (reaches_past (number_within 0 65535 row.address) (type_of row.kind)) s.address in
     let address = there (number_within 0 65535 row.address) addressed.0 in
     let kind = there (type_of row.kind) s.kind in
     let scale = scale-there row.scale kind.0 (rw kind.1 at s.scale) in (
-      record { name = row.name; table = table.0; area = area.0; address = address.0; kind = kind.0; scale = scale.0 },
+      record { name = row.name; function = function.0; area = area.0; address = address.0; kind = kind.0; scale = scale.0 },
       record {
-        spells = spells-with row _ named refl table.1 area.1 address.1 kind.1 scale.1;
+        spells = spells-with row _ named refl function.1 area.1 address.1 kind.1 scale.1;
         name = refl;
         named = named;
         sized = type-sized row.kind kind.0 kind.1;

@@ -11,15 +11,16 @@ use Rattle.sun_points.specs.declared.point_type.PointType.TheVariants as kind
 use Rattle.sun_points.specs.PointType.{registers_of}
 use Rattle.point_list.specs.declared.point.PointScale.{PointScale}
 use Rattle.point_list.specs.declared.point.PointScale.TheVariants.{Unscaled, Fixed, Named}
-use Rattle.point_list.specs.declared.point.RegisterTable.{RegisterTable}
-use Rattle.point_list.specs.declared.point.RegisterTable.TheVariants.{Holding, Input}
+use Rattle.mb_wire.specs.declared.span.ReadFunction.{ReadFunction}
+use Rattle.mb_wire.specs.declared.span.ReadFunction.TheVariants.{HoldingRegisters, InputRegisters}
 use Rattle.point_list.specs.Faults.{is_bad_scale}
 use Rattle.digits.specs.Digits.{digits_value}
-use Rattle.point_list.specs.Fields.{fixed_scale_of, number_of, number_within, table_of, type_of}
+use Rattle.point_list.specs.Fields.{fixed_scale_of, function_of, number_of, number_within, type_of}
 use Rattle.point_list.specs.Lists.{scale_spelled}
 use Rattle.point_list.specs.Names.{is_name}
-use Rattle.point_list.specs.Points.{function_of, takes_scale}
-use Rattle.point_list.specs.Written.{scale_text, type_text}
+use Rattle.mb_wire.specs.Spans.{code_of}
+use Rattle.point_list.specs.Points.{takes_scale}
+use Rattle.point_list.specs.RowTexts.{scale_text, type_text}
 use Rattle.point_list.proofs.SpelledRows.{Suits}
 
 and-both : (a b : Bool) → (a && b) ≡ true → (a ≡ true) × (b ≡ true)
@@ -63,9 +64,9 @@ within-read low high n small from till =
     let b : nat_le n high ≡ true = grind (arith, till) in
     rw (number-read n small, a, b) refl
 
-pub table-read : (table : RegisterTable) → table_of (decimal (function_of table)) ≡ Some table
-table-read Holding = rw (number-read 3 (omega arith)) refl
-table-read Input = rw (number-read 4 (omega arith)) refl
+pub function-read : (function : ReadFunction) → function_of (decimal (code_of function)) ≡ Some function
+function-read HoldingRegisters = rw (number-read 3 (omega arith)) refl
+function-read InputRegisters = rw (number-read 4 (omega arith)) refl
 
 pub type-read : (kind : PointType) → 1 ≤ registers_of kind → registers_of kind ≤ 125 → type_of (type_text kind) ≡ Some kind
 type-read kind.Int16 some few = refl

@@ -18,24 +18,25 @@ use Rattle.point_list.specs.declared.point.ListedPoint.{ListedPoint}
 use Rattle.point_list.specs.declared.point.PointScale.{PointScale}
 use Rattle.point_list.specs.declared.point.PointScale.TheVariants.{Unscaled, Fixed, Named}
 use Rattle.point_list.specs.Faults.{RowText, has_name, is_bad_scale, least_fault}
-use Rattle.point_list.specs.Fields.{number_within, table_of, type_of}
+use Rattle.point_list.specs.Fields.{function_of, number_within, type_of}
 use Rattle.point_list.specs.Lists.{SpellsList, faults_below, faulty_rows, group_fault, is_one_group, list_faults, or_else, point_of_row, points_of, row_fault, row_faults, rows_read, scale_fault, scale_faults, scale_spelled}
 use Rattle.point_list.specs.Names.{is_name}
-use Rattle.point_list.specs.Points.{HasLawfulScale, IsGroup, IsPointList, end_of, function_of, is_sunssf, scale_point}
+use Rattle.mb_wire.specs.Spans.{code_of}
+use Rattle.point_list.specs.Points.{HasLawfulScale, IsGroup, IsPointList, end_of, is_sunssf, scale_point}
 use Rattle.point_list.specs.Rows.{csv_rows}
-use Rattle.point_list.specs.Written.{header_row, list_text, row_of, rows_text, scale_text, type_text}
+use Rattle.point_list.specs.RowTexts.{header_row, list_text, row_of, rows_text, scale_text, type_text}
 use Rattle.point_list.proofs.AnyLemmas.{list_any-map}
 use Rattle.point_list.proofs.DistinctLemmas.{distinct-earlier}
 use Rattle.point_list.proofs.ListLemmas.{faulty-push}
 use Rattle.point_list.proofs.SoundRows.{Sound, sound-none}
 use Rattle.point_list.proofs.SpelledRows.{Suits, spells-with}
-use Rattle.point_list.proofs.WrittenFields.{scale-read, table-read, type-read, within-read}
+use Rattle.point_list.proofs.WrittenFields.{function-read, scale-read, type-read, within-read}
 use Rattle.point_list.proofs.WrittenRows.{written-rows}
 
 abbrev pub text_of : ListedPoint → RowText
 text_of point = record {
   name = point.name;
-  function = decimal (function_of point.table);
+  function = decimal (code_of point.function);
   area = decimal point.area;
   address = decimal point.address;
   kind = type_text point.kind;
@@ -54,7 +55,7 @@ pub record Alone (point : ListedPoint) : Type 0 where
 
 -- what the fields of a point spell
 pub record Spelt (point : ListedPoint) : Type 0 where
-  pub table : table_of (decimal (function_of point.table)) ≡ Some point.table
+  pub function : function_of (decimal (code_of point.function)) ≡ Some point.function
   pub area : number_within 0 255 (decimal point.area) ≡ Some point.area
   pub address : number_within 0 65535 (decimal point.address) ≡ Some point.address
   pub kind : type_of (type_text point.kind) ≡ Some point.kind
@@ -66,7 +67,7 @@ spelt point a =
     let scale = scale-read point.kind point.scale a.suits a.scale_named in
     let low : point.address ≤ 65535 = omega (arith, a.inside, a.some) in
     record {
-      table = table-read point.table;
+      function = function-read point.function;
       area = within-read 0 255 point.area (omega (arith, a.area)) (omega arith) a.area;
       address = within-read 0 65535 point.address (omega (arith, low)) (omega arith) low;
       kind = type-read point.kind a.some a.few;
@@ -75,7 +76,7 @@ spelt point a =
     }
 
 pub written-point : (point : ListedPoint) → Alone point → point_of_row (row_of point) ≡ Some point
-written-point point a = let s = spelt point a in spells-with (text_of point) point a.named refl s.table s.area s.address s.kind s.scale
+written-point point a = let s = spelt point a in spells-with (text_of point) point a.named refl s.function s.area s.address s.kind s.scale
 
 no-past : (address size : ℕ) → address + size ≤ 65536 → nat_lt 65536 (address + size) ≡ false
 no-past address size h = grind (arith, h)
@@ -86,7 +87,7 @@ written-sound place taken point a untaken below =
     record {
       name = rw (a.named) refl;
       untaken = untaken;
-      table = rw (s.table) refl;
+      function = rw (s.function) refl;
       area = rw (s.area) refl;
       address = rw (s.address, s.kind) (no-past point.address (registers_of point.kind) a.inside);
       kind = rw (s.kind) refl;
@@ -138,7 +139,7 @@ same-number n = grind arith
 one-group : (point scale : ListedPoint) → IsGroup point scale → is_one_group point scale ≡ true
 one-group point scale g =
     let narrow : nat_le (max (end_of point) (end_of scale)) (min point.address scale.address + 125) ≡ true = grind (arith, g.narrow) in
-    rw (g.table, g.area, narrow, same-number (function_of scale.table), same-number scale.area) refl
+    rw (g.function, g.area, narrow, same-number (code_of scale.function), same-number scale.area) refl
 
 no-group-fault : (point : ListedPoint) (o : Option ListedPoint) → IsSomeAnd o (IsGroup point) → group_fault point o ≡ None
 no-group-fault point None h = absurd h

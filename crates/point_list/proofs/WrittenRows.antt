@@ -7,7 +7,7 @@ use Rattle.csv.specs.Reading.{Reached, default_config, records, strip_bom}
 use Rattle.csv.specs.Writing.{default_writer, fields_text, is_blank, read_back, row_text}
 use Rattle.csv.specs.declared.parser.State.TheVariants as st
 use Rattle.point_list.specs.Rows.{csv_rows}
-use Rattle.point_list.specs.Written.{header_row, rows_text}
+use Rattle.point_list.specs.RowTexts.{header_row, rows_text}
 use Rattle.point_list.proofs.RowFacts.{rows-begin}
 
 -- one more row written

@@ -16,7 +16,7 @@ use Rattle.point_list.specs.declared.fault.RowFault.TheVariants.{TooMany}
 use Rattle.point_list.specs.declared.point.ListedPoint.{ListedPoint}
 use Rattle.point_list.specs.declared.point.PointScale.{PointScale}
 use Rattle.point_list.specs.declared.point.PointScale.TheVariants.{Unscaled, Named}
-use Rattle.point_list.specs.declared.point.RegisterTable.TheVariants.{Holding}
+use Rattle.mb_wire.specs.declared.span.ReadFunction.TheVariants.{HoldingRegisters}
 
 -- `m`, the model's place in the chain, `.` and the point's name
 abbrev pub chain_name : ℕ → List ℕ → List ℕ
@@ -33,7 +33,7 @@ chain_scale place others (Some name) =
 abbrev pub listed : ℕ → ℕ → List ModelPoint → ModelPoint → ListedPoint
 listed place id others point = record {
   name = chain_name place point.name;
-  table = Holding;
+  function = HoldingRegisters;
   area = 0;
   address = point.address;
   kind = point.ty;

@@ -9,7 +9,7 @@ use Rattle.sun_points.specs.PointType.{registers_of}
 use Rattle.point_list.specs.declared.fault.RowFault.{RowFault}
 use Rattle.point_list.specs.declared.fault.RowFault.TheVariants.{Csv, Header, Name, DoubleName, Function, Area, Address, «Type», Scale, NoSuchScale, GroupTooWide, TooMany}
 use Rattle.point_list.specs.declared.row.RowFields.{RowFields}
-use Rattle.point_list.specs.Fields.{fixed_scale_of, number_within, table_of, type_of}
+use Rattle.point_list.specs.Fields.{fixed_scale_of, function_of, number_within, type_of}
 use Rattle.point_list.specs.Names.{is_name}
 use Rattle.point_list.specs.Points.{takes_scale}
 
@@ -73,7 +73,7 @@ abbrev pub conditions_where : Bool → ℕ → RowText → List (RowFault × Boo
 conditions_where taken place row =
     (Name, not (is_name row.name))
     ∷ (DoubleName, taken)
-    ∷ (Function, is_none (table_of row.function))
+    ∷ (Function, is_none (function_of row.function))
     ∷ (Area, is_no_number 0 255 row.area)
     ∷ (Address, is_no_number 0 65535 row.address || reaches_past (number_within 0 65535 row.address) (type_of row.kind))
     ∷ («Type», is_none (type_of row.kind))

@@ -7,8 +7,8 @@ use Rattle.std.specs.Str.{bytes_eq}
 use Rattle.digits.specs.Digits.{number_of_digits}
 use Rattle.sun_points.specs.declared.point_type.PointType.{PointType}
 use Rattle.sun_points.specs.declared.point_type.PointType.TheVariants as kind
-use Rattle.point_list.specs.declared.point.RegisterTable.{RegisterTable}
-use Rattle.point_list.specs.declared.point.RegisterTable.TheVariants.{Holding, Input}
+use Rattle.mb_wire.specs.declared.span.ReadFunction.{ReadFunction}
+use Rattle.mb_wire.specs.declared.span.ReadFunction.TheVariants.{HoldingRegisters, InputRegisters}
 
 -- a whole number: one to ten digits
 abbrev pub number_of : List ℕ → Option ℕ
@@ -19,12 +19,12 @@ abbrev pub number_within : ℕ → ℕ → List ℕ → Option ℕ
 number_within low high field =
     option_and_then (λ n. if nat_le low n && nat_le n high then Some n else None) (number_of field)
 
--- the registers that function 3 or 4 reads
-abbrev pub table_read_by : ℕ → Option RegisterTable
-table_read_by n = if n == 3 then Some Holding else if n == 4 then Some Input else None
+-- the function of a code: 3 or 4
+abbrev pub function_coded : ℕ → Option ReadFunction
+function_coded n = if n == 3 then Some HoldingRegisters else if n == 4 then Some InputRegisters else None
 
-abbrev pub table_of : List ℕ → Option RegisterTable
-table_of field = option_and_then table_read_by (number_of field)
+abbrev pub function_of : List ℕ → Option ReadFunction
+function_of field = option_and_then function_coded (number_of field)
 
 -- `string` and 1 to 125
 abbrev pub text_type_of : List ℕ → Option PointType

@@ -2,9 +2,9 @@ pub mod ChainPoints
 pub mod Faults
 pub mod Fields
 pub mod Laws
+pub mod ListWriter
 pub mod Lists
 pub mod Names
 pub mod Points
+pub mod RowTexts
 pub mod Rows
-pub mod Writing
-pub mod Written

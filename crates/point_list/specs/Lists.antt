@@ -13,9 +13,10 @@ use Rattle.point_list.specs.declared.point.ListedPoint.{ListedPoint}
 use Rattle.point_list.specs.declared.point.PointScale.{PointScale}
 use Rattle.point_list.specs.declared.point.PointScale.TheVariants.{Unscaled, Fixed, Named}
 use Rattle.point_list.specs.Faults.{RowText, least_fault, six_fields}
-use Rattle.point_list.specs.Fields.{fixed_scale_of, number_within, table_of, type_of}
+use Rattle.point_list.specs.Fields.{fixed_scale_of, function_of, number_within, type_of}
 use Rattle.point_list.specs.Names.{is_name}
-use Rattle.point_list.specs.Points.{end_of, function_of, scale_point}
+use Rattle.mb_wire.specs.Spans.{code_of}
+use Rattle.point_list.specs.Points.{end_of, scale_point}
 use Rattle.point_list.specs.Rows.{csv_rows}
 
 abbrev pub named_scale : List ℕ → Option PointScale
@@ -34,21 +35,21 @@ name_spelled field = if is_name field then Some field else None
 abbrev pub spelled_with : Option (List ℕ) → Option PointScale → RowText → Option ListedPoint
 spelled_with spelled scaled row =
     option_and_then (λ name.
-    option_and_then (λ table.
+    option_and_then (λ function.
     option_and_then (λ area.
     option_and_then (λ address.
     option_and_then (λ kind.
     option_map (λ scale.
     record {
       name = name;
-      table = table;
+      function = function;
       area = area;
       address = address;
       kind = kind;
       scale = scale;
     })
     scaled) (type_of row.kind)) (number_within 0 65535 row.address)) (number_within 0 255 row.area))
-    (table_of row.function)) spelled
+    (function_of row.function)) spelled
 
 -- the point that six fields spell
 abbrev pub point_spelled : RowText → Option ListedPoint
@@ -73,7 +74,7 @@ row_faults rows (suc n) = row_faults rows n ++ (row_fault rows n ∷ [])
 -- whether a point and its scale point lie in one area, within 125 registers
 abbrev pub is_one_group : ListedPoint → ListedPoint → Bool
 is_one_group point scale =
-    (function_of point.table == function_of scale.table) && (point.area == scale.area)
+    (code_of point.function == code_of scale.function) && (point.area == scale.area)
     && nat_le (max (end_of point) (end_of scale)) (min point.address scale.address + 125)
 
 abbrev pub group_fault : ListedPoint → Option ListedPoint → Option RowFault

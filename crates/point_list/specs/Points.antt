@@ -10,13 +10,6 @@ use Rattle.point_list.specs.Names.{is_name}
 use Rattle.point_list.specs.declared.point.ListedPoint.{ListedPoint}
 use Rattle.point_list.specs.declared.point.PointScale.{PointScale}
 use Rattle.point_list.specs.declared.point.PointScale.TheVariants.{Unscaled, Fixed, Named}
-use Rattle.point_list.specs.declared.point.RegisterTable.{RegisterTable}
-use Rattle.point_list.specs.declared.point.RegisterTable.TheVariants.{Holding, Input}
-
--- the Modbus function that reads the registers
-abbrev pub function_of : RegisterTable → ℕ
-function_of Holding = 3
-function_of Input = 4
 
 abbrev pub is_sunssf : PointType → Bool
 is_sunssf kind.Sunssf = true
@@ -41,7 +34,7 @@ scale_point points name = find (λ point. is_sunssf point.kind && bytes_eq point
 
 -- a point and its scale point lie in one area, within 125 registers
 pub record IsGroup (point scale : ListedPoint) : Type 0 where
-  pub table : point.table ≡ scale.table
+  pub function : point.function ≡ scale.function
   pub area : point.area ≡ scale.area
   pub narrow : max (end_of point) (end_of scale) ≤ min point.address scale.address + 125
 

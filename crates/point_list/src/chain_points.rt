@@ -16,8 +16,9 @@ use crate::fault::{FaultyRow, FaultyRows, ListFault, RowFault};
 use crate::lawful::POINT_LIMIT;
 use crate::list::PointList;
 use crate::name::PointName;
-use crate::point::{ListedPoint, PointScale, RegisterTable};
+use crate::point::{ListedPoint, PointScale};
 use crate::rows::ROW_LIMIT;
+use mb_wire::ReadFunction;
 use std::alloc::{AllocError, Global};
 use sun_chain::{Chain, Model, NamedPoint, scale_name};
 
@@ -95,7 +96,7 @@ fn listed(
     let scale = chain_scale(alloc, place, others, scale_name(id, point.name()))?;
     Ok(ListedPoint {
         name,
-        table: RegisterTable::Holding,
+        function: ReadFunction::HoldingRegisters,
         area: 0,
         address: point.address(),
         kind: point.ty(),

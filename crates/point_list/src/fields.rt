@@ -2,10 +2,10 @@
 ghost use Rattle.std.specs.Prelude.{◌≡◌, ◌≤◌, IsTrue, length, pos};
 ghost use Rattle.sun_points.specs.Scale.{scale_of};
 ghost use Rattle.point_list.specs.Fields.{fixed_scale_of, minus, number_of, number_within};
-ghost use Rattle.point_list.specs.Fields.{table_of, text_type_of, type_of};
+ghost use Rattle.point_list.specs.Fields.{function_of, text_type_of, type_of};
 
-use crate::point::RegisterTable;
 use digits::number_of_digits;
+use mb_wire::ReadFunction;
 use sun_points::{PointType, Scale, TextLength};
 
 /// The most digits of a whole number.
@@ -28,13 +28,13 @@ pub fn number_in(low: u64, high: u64, field: &[u8]) -> Option<u64>
     }
 }
 
-/// The registers of function 3 or 4.
-pub fn table(field: &[u8]) -> Option<RegisterTable>
-    ensures { result ≡ table_of field.now }
+/// The function of a code: 3 or 4.
+pub fn function(field: &[u8]) -> Option<ReadFunction>
+    ensures { result ≡ function_of field.now }
 {
     match number(field) {
-        Some(3) => Some(RegisterTable::Holding),
-        Some(4) => Some(RegisterTable::Input),
+        Some(3) => Some(ReadFunction::HoldingRegisters),
+        Some(4) => Some(ReadFunction::InputRegisters),
         _ => None,
     }
 }

@@ -40,7 +40,7 @@ pub fn is_group(point: &ListedPoint, scale: &ListedPoint) -> bool
 {
     let first = u32::from(point.address).min(u32::from(scale.address));
     let last = end(point).max(end(scale));
-    point.table == scale.table && point.area == scale.area && last <= first + 125
+    point.function == scale.function && point.area == scale.area && last <= first + 125
 }
 
 fn has_lawful_scale(points: &[ListedPoint], point: &ListedPoint) -> bool

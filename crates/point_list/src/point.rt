@@ -4,30 +4,8 @@ ghost use Rattle.std.specs.Option.{option_copied};
 ghost use Rattle.point_list.specs.Points.{is_sunssf, scale_point};
 
 use crate::name::PointName;
+use mb_wire::ReadFunction;
 use sun_points::{PointType, Scale};
-
-/// The registers that a function reads.
-#[derive(Clone, Copy, Debug, PartialEq, Eq)]
-pub enum RegisterTable {
-    /// Holding registers, which function 3 reads.
-    Holding,
-    /// Input registers, which function 4 reads.
-    Input,
-}
-
-impl RegisterTable {
-    ghost use Rattle.point_list.specs.Points.{function_of};
-
-    /// The function that reads the registers.
-    pub fn function(self) -> u8
-        ensures { result ≡ function_of self }
-    {
-        match self {
-            RegisterTable::Holding => 3,
-            RegisterTable::Input => 4,
-        }
-    }
-}
 
 /// By which power of ten a point's value is multiplied.
 #[derive(Debug, Drop)]
@@ -44,7 +22,7 @@ pub enum PointScale {
 #[derive(Debug, Drop)]
 pub struct ListedPoint {
     pub name: PointName,
-    pub table: RegisterTable,
+    pub function: ReadFunction,
     pub area: u8,
     pub address: u16,
     pub kind: PointType,

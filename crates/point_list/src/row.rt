@@ -9,7 +9,7 @@ ghost use Rattle.point_list.specs.Faults.{six_fields};
 ghost use Rattle.point_list.specs.Fields.{number_within, type_of};
 
 use crate::fault::RowFault;
-use crate::fields::{fixed_scale, number_in, point_type, table};
+use crate::fields::{fixed_scale, function, number_in, point_type};
 use crate::lawful::{POINT_LIMIT, is_scaled_type};
 use crate::name::is_point_name;
 use csv::ByteRecord;
@@ -118,7 +118,7 @@ fn first_fault(place: usize, taken: bool, row: RowFields<'_>) -> Option<RowFault
         Some(RowFault::Name)
     } else if taken {
         Some(RowFault::DoubleName)
-    } else if table(row.function).is_none() {
+    } else if function(row.function).is_none() {
         Some(RowFault::Function)
     } else if number_in(0, 255, row.area).is_none() {
         Some(RowFault::Area)

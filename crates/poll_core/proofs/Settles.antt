@@ -21,8 +21,8 @@ use Rattle.poll_core.specs.Steps.{TellsOwed, Finds, told_by, told_list}
 use Rattle.poll_core.specs.Polls.{Poll, due}
 use Rattle.poll_core.specs.Inside.{call_if, told_of, garbled_end}
 use Rattle.poll_core.specs.declared.poll.SettledPoll.{SettledPoll}
-use Rattle.poll_core.specs.declared.call.Call.{Call}
-use Rattle.poll_core.specs.declared.call.Call.TheVariants as call
+use Rattle.poll_core.specs.declared.outcome.Call.{Call}
+use Rattle.poll_core.specs.declared.outcome.Call.TheVariants as call
 use Rattle.poll_core.specs.declared.poll.SettledBy.TheVariants as by
 
 -- `Within`, by what it reads of a session

@@ -6,7 +6,8 @@ use Rattle.poll_core.specs.Settling.{Settlement}
 use Rattle.poll_core.specs.Standing.{State}
 use Rattle.poll_core.specs.Steps.{AreApart, told_by}
 use Rattle.poll_core.specs.declared.poll.SettledPoll.{SettledPoll}
-use Rattle.poll_core.specs.declared.call.Call.{Call}
+use Rattle.poll_core.specs.declared.limits.TheConstants.{MAX_TIMEOUT, MAX_WINDOW}
+use Rattle.poll_core.specs.declared.outcome.Call.{Call}
 use Rattle.poll_core.specs.declared.inner.Inner.{Inner}
 use Rattle.poll_core.specs.declared.outcome.LostCause.{LostCause}
 use Rattle.poll_core.specs.declared.outcome.LostCause.TheVariants.{Garbled}
@@ -24,8 +25,8 @@ state_of s = record {
 }
 
 pub record IsSound (s : Inner) : Type 0 where
-  pub window : s.window ≤ 16
-  pub timeout : s.timeout ≤ 60
+  pub window : s.window ≤ MAX_WINDOW
+  pub timeout : s.timeout ≤ MAX_TIMEOUT
   pub room : length s.polls.items ≤ s.window
   pub apart : AreApart s.polls.items
 

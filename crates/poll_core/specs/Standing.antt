@@ -7,8 +7,8 @@ use Rattle.mb_wire.specs.Reader.{Held}
 use Rattle.poll_core.specs.Settling.{Event, Start, Piece, Tick, Close, moment_of, bytes_of, closing_of, stream, next_id, Settlement, alive, silences, losses, pending, outcomes_at}
 use Rattle.poll_core.specs.Polls.{Poll, due}
 use Rattle.poll_core.specs.declared.outcome.LostCause.{LostCause}
-use Rattle.poll_core.specs.declared.call.Call.{Call}
-use Rattle.poll_core.specs.declared.call.Call.TheVariants as call
+use Rattle.poll_core.specs.declared.outcome.Call.{Call}
+use Rattle.poll_core.specs.declared.outcome.Call.TheVariants as call
 
 -- What a session holds: its terms, the latest moment, the next transaction id, the half-read frame, the pending
 -- polls in the order of their starts, why it is over, and the call that has outcomes left to tell.

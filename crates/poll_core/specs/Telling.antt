@@ -6,7 +6,7 @@ use Rattle.mb_wire.specs.declared.replies.Reply.{Reply}
 use Rattle.poll_core.specs.Settling as told
 use Rattle.poll_core.specs.Settling.{Event, Piece, Settlement, moment_of, words_in}
 use Rattle.poll_core.specs.Standing.{State, Before, After, call_of}
-use Rattle.poll_core.specs.declared.call.Call.{Call}
+use Rattle.poll_core.specs.declared.outcome.Call.{Call}
 use Rattle.poll_core.specs.declared.outcome.Outcome as plain
 use Rattle.poll_core.specs.declared.outcome.Outcome.TheVariants.{Answered, Exception, Silent, Malformed, Lost}
 use Rattle.poll_core.specs.declared.answers.Settled.{Settled}

@@ -1,4 +1,4 @@
-// What the calls of a session answer.
+//! What the calls of a session answer.
 use crate::outcome::Outcome;
 use mb_wire::Reply;
 

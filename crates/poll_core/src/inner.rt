@@ -1,4 +1,5 @@
-// The fields of a session, and its steps.
+//! The fields of a session, and its steps. They stand apart from `Session`, whose clauses see only its model and whose
+//! calls lend the frame that they tell: the clauses of a step speak of the fields, and a step lends nothing.
 ghost use Rattle.std.specs.Prelude.{◌≡◌, ℕ, ◌+◌, ◌≤◌, ◌<◌, List, [], ◌∷◌, ◌++◌, length, take, Some};
 ghost use Rattle.std.specs.Prelude.{None, is_some, true, false, if◌then◌else◌, OnOk, OnErr, IfOk};
 ghost use Rattle.std.specs.Result.{result_err};
@@ -12,11 +13,11 @@ ghost use Rattle.poll_core.specs.Standing.{Stands, Before, After};
 ghost use Rattle.poll_core.specs.Inside.{state_of, IsSound, told_of, call_if, garbled_end};
 
 use crate::answers::StartFault;
-use crate::call::Call;
-use crate::outcome::{Closing, LostCause};
+use crate::limits::LAST_MOMENT;
+use crate::outcome::{Call, Closing, LostCause};
 use crate::poll::{PendingPoll, SettledBy, SettledPoll};
 use crate::table::{Found, Table, feed_until, free_ids, has_poll, take_owed};
-use mb_wire::{FrameReader, ReadSpan, encode_request, one_reading, write_frame};
+use mb_wire::{FrameReader, MAX_ADU, MAX_PDU, ReadSpan, encode_request, one_reading, write_frame};
 
 #[derive(Drop)]
 pub struct Inner {
@@ -38,12 +39,12 @@ pub struct Step {
 }
 
 // Writes the frame that asks for a span of registers.
-fn write_request(id: u16, unit: u8, span: ReadSpan, out: &mut [u8; 260]) -> usize
+fn write_request(id: u16, unit: u8, span: ReadSpan, out: &mut [u8; MAX_ADU]) -> usize
     ensures size { result ≡ 12 }
     ensures written { take result out.new
         ≡ spelling id unit (request_bytes (request_of (span_view span))) }
 {
-    let mut pdu = [0; 253];
+    let mut pdu = [0; MAX_PDU];
     let count = encode_request(&span.request(), &mut pdu);
     write_frame(id, unit, &pdu[..count], out)
 }
@@ -83,10 +84,10 @@ impl Inner {
         poll: u64,
         unit: u8,
         span: ReadSpan,
-        out: &mut [u8; 260],
+        out: &mut [u8; MAX_ADU],
     ) -> Result<usize, StartFault>
         requires sound { IsSound self.old }
-        requires limit { moment ≤ 4102444800 }
+        requires limit { moment ≤ LAST_MOMENT }
         ensures sound { IsSound self.new }
         ensures refused { (events : List Event) → Stands (state_of self.old) events →
             result_err result ≡ start_fault self.old.timeout self.old.window events moment }

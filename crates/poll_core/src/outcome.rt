@@ -1,5 +1,14 @@
-// How a poll ends.
+//! How a poll ends.
+
 use mb_wire::ReplyFault;
+
+/// The call that settles polls, while it has outcomes left to tell.
+#[derive(Clone, Copy, Debug, PartialEq, Eq)]
+pub enum Call {
+    Piece,
+    Tick,
+    Close(Closing),
+}
 
 /// How a poll ended.
 #[derive(Clone, Copy, Debug, PartialEq, Eq)]

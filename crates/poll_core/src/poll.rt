@@ -1,4 +1,4 @@
-// A poll that waits for its reply.
+//! A poll that waits for its reply.
 use crate::outcome::LostCause;
 use mb_wire::{ReadFunction, ReadSpan, Request};
 use std::marker::Model;

@@ -1,4 +1,4 @@
-// One device's polling session.
+//! One device's polling session.
 ghost use Rattle.std.specs.Prelude.{◌≡◌, ℕ, ◌+◌, ◌≤◌, ◌<◌, ◌⊎◌, ◌↔◌, List, [], ◌∷◌, ◌++◌, length};
 ghost use Rattle.std.specs.Prelude.{take, Some, None, is_some, IsTrue, true, false, IsErr, OnOk};
 ghost use Rattle.std.specs.Prelude.{OnErr, IfOk, IfSome};
@@ -19,12 +19,12 @@ ghost use Rattle.poll_core.specs.Telling.{settled_of, LendsReply, IsCall, TellsP
 ghost use Rattle.poll_core.specs.contracts.session.Session.{the_row};
 
 use crate::answers::{ClockBack, Ready, Settled, StartFault, Turn};
-use crate::call::Call;
 use crate::inner::{Inner, Step};
-use crate::outcome::{Closing, LostCause, Malformation, Outcome};
+use crate::limits::{LAST_MOMENT, MAX_TIMEOUT, MAX_WINDOW};
+use crate::outcome::{Call, Closing, LostCause, Malformation, Outcome};
 use crate::poll::{PendingPoll, SettledBy, SettledPoll};
 use crate::table::Table;
-use mb_wire::{Frame, FrameReader, ReadSpan, Reply, decode_reply, one_reading};
+use mb_wire::{Frame, FrameReader, MAX_ADU, ReadSpan, Reply, decode_reply, one_reading};
 use std::marker::Model;
 
 /// The polls of one device over one connection. All moments are whole seconds since 1970-01-01 UTC.
@@ -49,9 +49,9 @@ impl Session {
     /// at most `window` wait at a time.
     pub fn new(timeout: u64, window: usize) -> Self
         requires timeout_low { 1 ≤ timeout }
-        requires timeout_high { timeout ≤ 60 }
+        requires timeout_high { timeout ≤ MAX_TIMEOUT }
         requires window_low { 1 ≤ window }
-        requires window_high { window ≤ 16 }
+        requires window_high { window ≤ MAX_WINDOW }
         ensures stands { Stands result [] }
         ensures timeout { result.timeout ≡ timeout }
         ensures window { result.window ≡ window }
@@ -100,9 +100,9 @@ impl Session {
         poll: u64,
         unit: u8,
         span: ReadSpan,
-        out: &mut [u8; 260],
+        out: &mut [u8; MAX_ADU],
     ) -> Result<usize, StartFault>
-        requires limit { moment ≤ 4102444800 }
+        requires limit { moment ≤ LAST_MOMENT }
         requires rests { self.old.settling ≡ None }
         ensures refused { (events : List Event) → Stands self.old events →
             result_err result ≡ start_fault self.old.timeout self.old.window events moment }
@@ -123,7 +123,7 @@ impl Session {
 
     /// Takes bytes of the piece, up to the first outcome. The caller repeats with the rest until none is settled.
     pub fn next(&mut self, moment: u64, piece: &[u8]) -> Result<Turn<'_>, ClockBack>
-        requires limit { moment ≤ 4102444800 }
+        requires limit { moment ≤ LAST_MOMENT }
         requires call { IsCall Call.Piece self.old moment }
         ensures* after { sem 𝓛 (Rests the_row self.entry (λ new. OnErr result (new ≡ self.old)
             × IfOk result (λ turn.
@@ -161,7 +161,7 @@ impl Session {
 
     /// A moment with no bytes. The caller repeats until none is settled.
     pub fn tick(&mut self, moment: u64) -> Result<Option<Settled<'_>>, ClockBack>
-        requires limit { moment ≤ 4102444800 }
+        requires limit { moment ≤ LAST_MOMENT }
         requires call { IsCall Call.Tick self.old moment }
         ensures* after { sem 𝓛 (Rests the_row self.entry (λ new. OnErr result (new ≡ self.old)
             × IfOk result (λ settled.
@@ -189,7 +189,7 @@ impl Session {
 
     /// The end of the session. The caller repeats until none is settled.
     pub fn close(&mut self, moment: u64, closing: Closing) -> Result<Option<Settled<'_>>, ClockBack>
-        requires limit { moment ≤ 4102444800 }
+        requires limit { moment ≤ LAST_MOMENT }
         requires call { IsCall (Call.Close closing) self.old moment }
         ensures* after { sem 𝓛 (Rests the_row self.entry (λ new. OnErr result (new ≡ self.old)
             × IfOk result (λ settled.

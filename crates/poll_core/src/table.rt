@@ -1,4 +1,4 @@
-// The table of pending polls.
+//! The table of pending polls.
 ghost use Rattle.std.specs.Prelude.{◌≡◌, ℕ, ◌+◌, ◌≤◌, ◌<◌, List, length, take, true, false, ◌%◌};
 ghost use Rattle.std.specs.Prelude.{IsSome, Option};
 ghost use Rattle.std.specs.List.{filter, list_any};
@@ -7,12 +7,13 @@ ghost use Rattle.poll_core.specs.Polls.{due, has_id};
 ghost use Rattle.poll_core.specs.Steps.{AreApart, TakesOut, TellsOwed, FindsFirst, FindsBy, Finds};
 ghost use Rattle.poll_core.specs.Steps.{OneLess, CanTell};
 
+use crate::limits::MAX_WINDOW;
 use crate::outcome::LostCause;
 use crate::poll::{PendingPoll, SettledBy, SettledPoll};
 use arrayvec::ArrayVec;
 use mb_wire::{FrameReader, Framing};
 
-pub type Table = ArrayVec<PendingPoll, 16>;
+pub type Table = ArrayVec<PendingPoll, MAX_WINDOW>;
 
 // The place of the first poll that is due.
 fn first_due(polls: &[PendingPoll], moment: u64) -> Option<usize>
@@ -40,7 +41,7 @@ fn first_with_id(polls: &[PendingPoll], id: u16) -> Option<usize>
 
 /// How many ids in a row from `next` no poll has, up to `room`.
 pub fn free_ids(polls: &[PendingPoll], next: u16, room: usize) -> usize
-    requires { room ≤ 16 }
+    requires { room ≤ MAX_WINDOW }
     ensures room { result ≤ room }
     ensures free { (k : ℕ) → k < result → list_any (has_id ((next + k) % 65536)) polls.now ≡ false }
     ensures busy { result < room → list_any (has_id ((next + result) % 65536)) polls.now ≡ true }

@@ -5,34 +5,34 @@ use Rattle.std.proofs.lemmas.Bool.{cases_lt, cases_eq}
 use Rattle.std.proofs.lemmas.List.{get_or-take, get_or_default, length-take-le, take_more}
 use Rattle.std.proofs.lemmas.List.Elements.{All-push, All-weaker, Contains-append_left, Contains-push}
 use Rattle.std.proofs.lemmas.List.Quantifiers.{Any-push, all_pairs_push}
-use Rattle.point_list.specs.declared.point.RegisterTable.{RegisterTable}
-use Rattle.point_list.specs.declared.point.RegisterTable.TheVariants.{Holding, Input}
+use Rattle.mb_wire.specs.declared.span.ReadFunction.{ReadFunction}
+use Rattle.mb_wire.specs.declared.span.ReadFunction.TheVariants.{HoldingRegisters, InputRegisters}
 use Rattle.read_plan.specs.declared.run.Run.{Run}
 use Rattle.read_plan.specs.Beginnings.{AreBeginnings, BeginsApart}
-use Rattle.point_list.specs.Points.{function_of}
+use Rattle.mb_wire.specs.Spans.{code_of}
 use Rattle.read_plan.specs.Plans.{ComesBefore, IsReadable, LiesWithinReach, SameArea}
 use Rattle.read_plan.proofs.PlanLemmas.{same_area-sym, same_area-trans}
 
-pub same-function : (a b : RegisterTable) → function_of a ≡ function_of b → a ≡ b
-same-function Holding Holding e = refl
-same-function Holding Input e = absurd (omega (arith, e))
-same-function Input Holding e = absurd (omega (arith, e))
-same-function Input Input e = refl
+pub same-function : (a b : ReadFunction) → code_of a ≡ code_of b → a ≡ b
+same-function HoldingRegisters HoldingRegisters e = refl
+same-function HoldingRegisters InputRegisters e = absurd (omega (arith, e))
+same-function InputRegisters HoldingRegisters e = absurd (omega (arith, e))
+same-function InputRegisters InputRegisters e = refl
 
 -- of two runs one comes before the other, or both begin at one register
 pub before-or-same : (a b : Run) → ComesBefore a b ⊎ (ComesBefore b a ⊎ (SameArea a b × (a.first ≡ b.first)))
-before-or-same a b = elim (cases_lt (function_of a.table) (function_of b.table)) [
+before-or-same a b = elim (cases_lt (code_of a.function) (code_of b.function)) [
   | inl l ↦ inl (inl l)
-  | inr ge ↦ elim (cases_lt (function_of b.table) (function_of a.table)) [
+  | inr ge ↦ elim (cases_lt (code_of b.function) (code_of a.function)) [
     | inl l ↦ inr (inl (inl l))
     | inr le ↦
-        let t : a.table ≡ b.table = same-function a.table b.table (omega (arith, ge, le)) in
+        let t : a.function ≡ b.function = same-function a.function b.function (omega (arith, ge, le)) in
         elim (cases_lt a.area b.area) [
           | inl l ↦ inl (inr (inl (t, l)))
           | inr ge2 ↦ elim (cases_lt b.area a.area) [
             | inl l ↦ inr (inl (inr (inl (sym t, l))))
             | inr le2 ↦
-                let s : SameArea a b = record { table = t; area = omega (arith, ge2, le2) } in
+                let s : SameArea a b = record { function = t; area = omega (arith, ge2, le2) } in
                 elim (cases_lt a.first b.first) [
                   | inl l ↦ inl (inr (inr (s, l)))
                   | inr ge3 ↦ elim (cases_lt b.first a.first) [
@@ -47,8 +47,8 @@ before-or-same a b = elim (cases_lt (function_of a.table) (function_of b.table))
 
 -- what stands between two runs of one area is of that area
 pub same-between : (a l x : Run) → ComesBefore a l → ¬ ComesBefore x l → SameArea a x → SameArea a l
-same-between a l x (inl f) never s = absurd (never (inl (subst (λ (t : RegisterTable). function_of t < function_of l.table) s.table f)))
-same-between a l x (inr (inl h)) never s = absurd (never (inr (inl (sym s.table ∙ h.0, subst (λ (n : ℕ). n < l.area) s.area h.1))))
+same-between a l x (inl f) never s = absurd (never (inl (subst (λ (t : ReadFunction). code_of t < code_of l.function) s.function f)))
+same-between a l x (inr (inl h)) never s = absurd (never (inr (inl (sym s.function ∙ h.0, subst (λ (n : ℕ). n < l.area) s.area h.1))))
 same-between a l x (inr (inr h)) never s = h.0
 
 pub not-before : (a x : Run) → ¬ ComesBefore x a → SameArea a x → a.first ≤ x.first
@@ -100,7 +100,7 @@ apart-from-each sorted found n x within is ordered readable so_far beyond k d be
     ]
   where
     not-lower : (a l : Run) → ComesBefore a l → SameArea a l → l.first ≤ a.first → ⊥
-    not-lower a l (inl f) s ge = let e = ap function_of s.table in omega (arith, e, f)
+    not-lower a l (inl f) s ge = let e = ap code_of s.function in omega (arith, e, f)
     not-lower a l (inr (inl h)) s ge = let e = s.area in let o = h.1 in omega (arith, e, o)
     not-lower a l (inr (inr h)) s ge = let o = h.1 in omega (arith, ge, o)
 
@@ -110,7 +110,7 @@ pub beginnings-push : (sorted found : List Run) (n : ℕ) (x : Run) → n < leng
     → AreBeginnings (take (n + 1) sorted) (found ++ (x ∷ []))
 beginnings-push sorted found n x within is ordered readable so_far beyond =
     let more : take (n + 1) sorted ≡ take n sorted ++ (x ∷ []) = take_more sorted n x within ∙ ap (λ (r : Run). take n sorted ++ (r ∷ [])) (sym is) in
-    let reaches : LiesWithinReach x x = record { same_area = record { table = refl; area = refl }; from_first = omega arith; in_reach = readable.1 } in
+    let reaches : LiesWithinReach x x = record { same_area = record { function = refl; area = refl }; from_first = omega arith; in_reach = readable.1 } in
     subst (λ (xs : List Run). AreBeginnings xs (found ++ (x ∷ []))) (sym more) (record {
       among = All-push (Contains (take n sorted ++ (x ∷ []))) found x
           (All-weaker (Contains (take n sorted)) (Contains (take n sorted ++ (x ∷ []))) (λ r w. Contains-append_left (take n sorted) (x ∷ []) r w) found so_far.among)

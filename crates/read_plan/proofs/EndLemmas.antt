@@ -8,7 +8,7 @@ use Rattle.std.proofs.lemmas.Bool.Decides.{nat_tests}
 use Rattle.std.proofs.lemmas.List.{get_or_default}
 use Rattle.read_plan.specs.declared.run.Run.{Run}
 use Rattle.read_plan.specs.Beginnings.{IsGreatestEnd, ends_by}
-use Rattle.point_list.specs.Points.{function_of}
+use Rattle.mb_wire.specs.Spans.{code_of}
 use Rattle.read_plan.specs.Plans.{EndsBefore, SameArea}
 use Rattle.read_plan.proofs.BeginningLemmas.{same-function}
 
@@ -35,54 +35,54 @@ test-false f g a b x y e = elim (cases_lt g f) [
 ]
 
 pub ends_by-from : (run limit : Run) → SameArea run limit → run.end ≤ limit.end → ends_by run limit ≡ true
-ends_by-from run limit s le = test-true (function_of run.table) (function_of limit.table) run.area limit.area run.end limit.end (ap function_of s.table) s.area le
+ends_by-from run limit s le = test-true (code_of run.function) (code_of limit.function) run.area limit.area run.end limit.end (ap code_of s.function) s.area le
 
 pub ends_by-false : (run limit : Run) → ends_by run limit ≡ false → EndsBefore limit run
-ends_by-false run limit e = elim (test-false (function_of run.table) (function_of limit.table) run.area limit.area run.end limit.end e) [
+ends_by-false run limit e = elim (test-false (code_of run.function) (code_of limit.function) run.area limit.area run.end limit.end e) [
   | inl l ↦ inl l
-  | inr (inl h) ↦ inr (inl (sym (same-function run.table limit.table h.0), h.1))
-  | inr (inr h) ↦ inr (inr (record { table = sym (same-function run.table limit.table h.0); area = sym h.1 }, h.2))
+  | inr (inl h) ↦ inr (inl (sym (same-function run.function limit.function h.0), h.1))
+  | inr (inr h) ↦ inr (inr (record { function = sym (same-function run.function limit.function h.0); area = sym h.1 }, h.2))
 ]
 
 pub ends_by-true : (run limit : Run) → ends_by run limit ≡ true → ¬ EndsBefore limit run
 ends_by-true run limit e (inl l) = grind (arith, nat_tests)
-ends_by-true run limit e (inr (inl h)) = let f = ap function_of h.0 in let l = h.1 in grind (arith, nat_tests)
-ends_by-true run limit e (inr (inr h)) = let f = ap function_of h.0.table in let a = h.0.area in let l = h.1 in grind (arith, nat_tests)
+ends_by-true run limit e (inr (inl h)) = let f = ap code_of h.0 in let l = h.1 in grind (arith, nat_tests)
+ends_by-true run limit e (inr (inr h)) = let f = ap code_of h.0.function in let a = h.0.area in let l = h.1 in grind (arith, nat_tests)
 
 -- what comes before a run comes before each that is not before that run
 pub ends-before-further : (l x y : Run) → EndsBefore l x → ¬ EndsBefore y x → EndsBefore l y
-ends-before-further l x y (inl f) never = inl (elim (cases_lt (function_of y.table) (function_of x.table)) [ inl o ↦ absurd (never (inl o)) | inr ge ↦ omega (arith, f, ge) ])
+ends-before-further l x y (inl f) never = inl (elim (cases_lt (code_of y.function) (code_of x.function)) [ inl o ↦ absurd (never (inl o)) | inr ge ↦ omega (arith, f, ge) ])
 ends-before-further l x y (inr (inl h)) never =
-    let t = ap function_of h.0 in
+    let t = ap code_of h.0 in
     let a = h.1 in
-    elim (cases_lt (function_of y.table) (function_of x.table)) [
+    elim (cases_lt (code_of y.function) (code_of x.function)) [
       | inl o ↦ absurd (never (inl o))
-      | inr ge ↦ elim (cases_lt (function_of x.table) (function_of y.table)) [
+      | inr ge ↦ elim (cases_lt (code_of x.function) (code_of y.function)) [
         | inl o ↦ inl (omega (arith, t, o))
         | inr le ↦
-            let s = same-function y.table x.table (omega (arith, ge, le)) in
+            let s = same-function y.function x.function (omega (arith, ge, le)) in
             elim (cases_lt y.area x.area) [ inl o ↦ absurd (never (inr (inl (s, o)))) | inr high ↦ inr (inl (h.0 ∙ sym s, omega (arith, a, high))) ]
       ]
     ]
 ends-before-further l x y (inr (inr h)) never =
-    let t = ap function_of h.0.table in
+    let t = ap code_of h.0.function in
     let a = h.0.area in
     let e = h.1 in
-    elim (cases_lt (function_of y.table) (function_of x.table)) [
+    elim (cases_lt (code_of y.function) (code_of x.function)) [
       | inl o ↦ absurd (never (inl o))
-      | inr ge ↦ elim (cases_lt (function_of x.table) (function_of y.table)) [
+      | inr ge ↦ elim (cases_lt (code_of x.function) (code_of y.function)) [
         | inl o ↦ inl (omega (arith, t, o))
         | inr le ↦
-            let s = same-function y.table x.table (omega (arith, ge, le)) in
+            let s = same-function y.function x.function (omega (arith, ge, le)) in
             elim (cases_lt y.area x.area) [
               | inl o ↦ absurd (never (inr (inl (s, o))))
               | inr high ↦ elim (cases_lt x.area y.area) [
-                | inl o ↦ inr (inl (h.0.table ∙ sym s, omega (arith, a, o)))
+                | inl o ↦ inr (inl (h.0.function ∙ sym s, omega (arith, a, o)))
                 | inr low ↦
                     let n : y.area ≡ x.area = omega (arith, high, low) in
                     elim (cases_lt y.end x.end) [
-                      | inl o ↦ absurd (never (inr (inr (record { table = s; area = n }, o))))
-                      | inr far ↦ inr (inr (record { table = h.0.table ∙ sym s; area = a ∙ sym n }, omega (arith, e, far)))
+                      | inl o ↦ absurd (never (inr (inr (record { function = s; area = n }, o))))
+                      | inr far ↦ inr (inr (record { function = h.0.function ∙ sym s; area = a ∙ sym n }, omega (arith, e, far)))
                     ]
               ]
             ]
@@ -105,17 +105,17 @@ ends-partitioned ended limit ordered i j d below within e = elim (cases_eq i j) 
 -- what stands between two runs of one area is of that area
 area-between : (b i l : Run) → SameArea b l → ¬ EndsBefore l i → ¬ EndsBefore i b → SameArea b i
 area-between b i l s after before =
-    let f = ap function_of s.table in
+    let f = ap code_of s.function in
     let a = s.area in
-    elim (cases_lt (function_of l.table) (function_of i.table)) [
+    elim (cases_lt (code_of l.function) (code_of i.function)) [
       | inl o ↦ absurd (after (inl o))
-      | inr le ↦ elim (cases_lt (function_of i.table) (function_of b.table)) [
+      | inr le ↦ elim (cases_lt (code_of i.function) (code_of b.function)) [
         | inl o ↦ absurd (before (inl o))
         | inr ge ↦
-            let t : b.table ≡ i.table = same-function b.table i.table (omega (arith, f, le, ge)) in
+            let t : b.function ≡ i.function = same-function b.function i.function (omega (arith, f, le, ge)) in
             elim (cases_lt l.area i.area) [
-              | inl o ↦ absurd (after (inr (inl (sym s.table ∙ t, o))))
-              | inr low ↦ elim (cases_lt i.area b.area) [ inl o ↦ absurd (before (inr (inl (sym t, o)))) | inr high ↦ record { table = t; area = omega (arith, a, low, high) } ]
+              | inl o ↦ absurd (after (inr (inl (sym s.function ∙ t, o))))
+              | inr low ↦ elim (cases_lt i.area b.area) [ inl o ↦ absurd (before (inr (inl (sym t, o)))) | inr high ↦ record { function = t; area = omega (arith, a, low, high) } ]
             ]
       ]
     ]
@@ -150,18 +150,18 @@ greatest-end ended begin limit count ordered area is among few bound point =
           let passes : ends_by last limit ≡ true = point.0 m d (omega arith) (omega (arith, some)) in
           let same : SameArea begin last = area-between begin last limit area (ends_by-true last limit passes) (not-after begin k below among.2) in
           let reach : last.end ≤ limit.end = elim (cases_lt limit.end last.end) [
-            | inl o ↦ absurd (ends_by-true last limit passes (inr (inr (record { table = sym area.table ∙ same.table; area = sym area.area ∙ same.area }, o))))
+            | inl o ↦ absurd (ends_by-true last limit passes (inr (inr (record { function = sym area.function ∙ same.function; area = sym area.area ∙ same.area }, o))))
             | inr le ↦ le
           ] in
           record {
             at_item = (m, last, inside, get_or_default ended m last d inside, (same, omega (arith, reach, is), refl));
             last = λ j e inside-j same-x fits.
                 let x = get_or ended j e in
-                let x-limit : SameArea x limit = record { table = sym same-x.table ∙ area.table; area = sym same-x.area ∙ area.area } in
+                let x-limit : SameArea x limit = record { function = sym same-x.function ∙ area.function; area = sym same-x.area ∙ area.area } in
                 let at : get_or ended j x ≡ x = get_or_default ended j x e inside-j in
                 let front-x = front x j inside-j at (ends_by-from x limit x-limit (omega (arith, fits, is))) in
                 elim (cases_lt last.end x.end) [
-                  | inl o ↦ absurd (not-after x j front-x at (inr (inr (record { table = sym same.table ∙ same-x.table; area = sym same.area ∙ same-x.area }, o))))
+                  | inl o ↦ absurd (not-after x j front-x at (inr (inr (record { function = sym same.function ∙ same-x.function; area = sym same.area ∙ same-x.area }, o))))
                   | inr le ↦ le
                 ];
           }),

@@ -44,7 +44,7 @@ module _ (points : List ListedPoint) (lawful : IsPointList points) (p : ListedPo
       let sized = at-point (λ q. (1 ≤ registers_of q.kind) × (registers_of q.kind ≤ 125)) lawful.sized p among in
       let low = sized.0 in
       let high = sized.1 in
-      let self : SameArea (point_run p) (point_run p) = record { table = refl; area = refl } in
+      let self : SameArea (point_run p) (point_run p) = record { function = refl; area = refl } in
       record {
         readable = (omega (arith, low), omega (arith, high));
         inside = at-point (λ q. end_of q ≤ 65536) lawful.inside p among;
@@ -63,8 +63,8 @@ module _ (points : List ListedPoint) (lawful : IsPointList points) (p : ListedPo
       let inside-q = at-point (λ r. end_of r ≤ 65536) lawful.inside q among-q in
       let narrow = group.narrow in
       let item = with_scale (point_run p) (Some q) in
-      let self : SameArea (point_run p) item = record { table = refl; area = refl } in
-      let other : SameArea (point_run q) item = record { table = sym group.table; area = sym group.area } in
+      let self : SameArea (point_run p) item = record { function = refl; area = refl } in
+      let other : SameArea (point_run q) item = record { function = sym group.function; area = sym group.area } in
       record {
         readable = (omega (arith, low), narrow);
         inside = omega (arith, inside-p, inside-q);

@@ -9,7 +9,7 @@ use Rattle.std.proofs.lemmas.Cmp.{nat_cmp_total, on_total, then_total}
 use Rattle.std.proofs.lemmas.Fn.{always_returns_same}
 use Rattle.std.proofs.lemmas.List.Sorted.{ranks_by, sorted_far}
 use Rattle.read_plan.specs.declared.run.Run.{Run}
-use Rattle.point_list.specs.Points.{function_of}
+use Rattle.mb_wire.specs.Spans.{code_of}
 use denote.Param.Members.{Mut}
 
 abbrev pub Key : Type 0
@@ -24,7 +24,7 @@ key_cmp-total =
     then_total (then_total (on_total (λ (t : Key). t.0) nat_cmp_total) (on_total (λ (t : Key). t.1) nat_cmp_total)) (on_total (λ (t : Key). t.2) nat_cmp_total)
 
 abbrev pub key_of : (Run → ℕ) → Run → Key
-key_of register run = (function_of run.table, run.area, register run)
+key_of register run = (code_of run.function, run.area, register run)
 
 -- of two runs of a sorted list, the later is not the lesser
 pub sorted-far : (register : Run → ℕ) {F : Type 0} {g : Mut F (Bor Run × Unit {0}) Key} {f : F} (xs : List Run)

@@ -4,8 +4,8 @@ use Rattle.std.specs.List.{All}
 use Rattle.std.specs.List.Sorted.{IsPartitionedBy, IsPartitionPoint}
 use Rattle.std.proofs.lemmas.Bool.{cases_Bool, cases_eq, cases_lt}
 use Rattle.std.proofs.lemmas.List.{get_or-map, get_or-take, get_or_default, length-map, length-take-le}
-use Rattle.point_list.specs.Points.{function_of}
-use Rattle.read_plan.specs.declared.planned.PlannedRead.{PlannedRead}
+use Rattle.mb_wire.specs.Spans.{code_of}
+use Rattle.read_plan.specs.declared.planned_reads.PlannedRead.{PlannedRead}
 use Rattle.read_plan.specs.declared.run.Run.{Run}
 use Rattle.read_plan.specs.Beginnings.{ends_by}
 use Rattle.read_plan.specs.PlannedReads.{IsFirstHolding, IsPlan, Planned, read_run, read_runs}
@@ -14,7 +14,7 @@ use Rattle.read_plan.proofs.EndLemmas.{ends_by-false, ends_by-true}
 use Rattle.read_plan.proofs.PlanLemmas.{all-at, any-take, anything, first-before, same_area-trans}
 
 holds-ends : (r x : Run) → Holds r x → ¬ EndsBefore r x
-holds-ends r x h (inl o) = let e = ap function_of h.same_area.table in omega (arith, e, o)
+holds-ends r x h (inl o) = let e = ap code_of h.same_area.function in omega (arith, e, o)
 holds-ends r x h (inr (inl o)) = let e = h.same_area.area in let l = o.1 in omega (arith, e, l)
 holds-ends r x h (inr (inr o)) = let e = h.to_end in let l = o.1 in omega (arith, e, l)
 
@@ -47,13 +47,13 @@ module _ (items runs : List Run) (rule : FollowsRule items runs) (readable : All
     where
       by : ComesBefore (run_at i) (run_at j) → EndsBefore (run_at j) x → EndsBefore (run_at i) x
       by (inl c) (inl e) = inl (omega (arith, c, e))
-      by (inl c) (inr (inl e)) = let f = ap function_of e.0 in inl (omega (arith, c, f))
-      by (inl c) (inr (inr e)) = let f = ap function_of e.0.table in inl (omega (arith, c, f))
-      by (inr (inl c)) (inl e) = let f = ap function_of c.0 in inl (omega (arith, e, f))
+      by (inl c) (inr (inl e)) = let f = ap code_of e.0 in inl (omega (arith, c, f))
+      by (inl c) (inr (inr e)) = let f = ap code_of e.0.function in inl (omega (arith, c, f))
+      by (inr (inl c)) (inl e) = let f = ap code_of c.0 in inl (omega (arith, e, f))
       by (inr (inl c)) (inr (inl e)) = let a = c.1 in let b = e.1 in inr (inl (c.0 ∙ e.0, omega (arith, a, b)))
-      by (inr (inl c)) (inr (inr e)) = let a = c.1 in let b = e.0.area in inr (inl (c.0 ∙ e.0.table, omega (arith, a, b)))
-      by (inr (inr c)) (inl e) = let f = ap function_of c.0.table in inl (omega (arith, e, f))
-      by (inr (inr c)) (inr (inl e)) = let a = c.0.area in let b = e.1 in inr (inl (c.0.table ∙ e.0, omega (arith, a, b)))
+      by (inr (inl c)) (inr (inr e)) = let a = c.1 in let b = e.0.area in inr (inl (c.0 ∙ e.0.function, omega (arith, a, b)))
+      by (inr (inr c)) (inl e) = let f = ap code_of c.0.function in inl (omega (arith, e, f))
+      by (inr (inr c)) (inr (inl e)) = let a = c.0.area in let b = e.1 in inr (inl (c.0.function ∙ e.0, omega (arith, a, b)))
       by (inr (inr c)) (inr (inr e)) =
           let rises = ends-rise i j below within c.0 in
           let b = e.1 in
@@ -87,8 +87,8 @@ module _ (items runs : List Run) (rule : FollowsRule items runs) (readable : All
       }
     where
       earlier : (s r x : Run) → ComesBefore r s → Holds s x → ¬ EndsBefore r x → Holds r x
-      earlier s r x (inl c) h never = let f = ap function_of h.same_area.table in absurd (never (inl (omega (arith, c, f))))
-      earlier s r x (inr (inl c)) h never = let a = h.same_area.area in let b = c.1 in absurd (never (inr (inl (c.0 ∙ h.same_area.table, omega (arith, a, b)))))
+      earlier s r x (inl c) h never = let f = ap code_of h.same_area.function in absurd (never (inl (omega (arith, c, f))))
+      earlier s r x (inr (inl c)) h never = let a = h.same_area.area in let b = c.1 in absurd (never (inr (inl (c.0 ∙ h.same_area.function, omega (arith, a, b)))))
       earlier s r x (inr (inr c)) h never =
           let area = same_area-trans r s x c.0 h.same_area in
           let a = c.1 in

@@ -2,20 +2,20 @@
 use Rattle.std.proofs.Common.{◌≡◌, ◌∙◌, ℕ, ◌<◌, ◌≤◌, List, length, get_or, take, sym, ap, arith, inl, inr, subst}
 use Rattle.std.specs.List.{All, Any, Contains}
 use Rattle.std.proofs.lemmas.List.{get_or-take, get_or_default, length-take-le}
-use Rattle.point_list.specs.declared.point.RegisterTable.TheVariants.{Holding}
+use Rattle.mb_wire.specs.declared.span.ReadFunction.TheVariants.{HoldingRegisters}
 use Rattle.read_plan.specs.declared.run.Run.{Run}
-use Rattle.point_list.specs.Points.{function_of}
+use Rattle.mb_wire.specs.Spans.{code_of}
 use Rattle.read_plan.specs.Plans.{ComesBefore, FollowsRule, Holds, IsHeld, IsLawful, IsReadable, LiesWithinReach, SameArea}
 use Rattle.read_plan.proofs.Pigeons.{pigeonhole}
 
 abbrev pub anything : Run
-anything = record { table = Holding; area = 0; first = 0; end = 0 }
+anything = record { function = HoldingRegisters; area = 0; first = 0; end = 0 }
 
 pub same_area-sym : (a b : Run) → SameArea a b → SameArea b a
-same_area-sym a b s = record { table = sym s.table; area = sym s.area }
+same_area-sym a b s = record { function = sym s.function; area = sym s.area }
 
 pub same_area-trans : (a b c : Run) → SameArea a b → SameArea b c → SameArea a c
-same_area-trans a b c s t = record { table = s.table ∙ t.table; area = s.area ∙ t.area }
+same_area-trans a b c s t = record { function = s.function ∙ t.function; area = s.area ∙ t.area }
 
 -- what holds of an element holds of some element of a front that reaches it
 pub any-take : {X : Type 0} (P : X → Type 0) (xs : List X) (k j : ℕ) (d : X) → j < k → k ≤ length xs → P (get_or xs j d) → Any P (take k xs)
@@ -30,7 +30,7 @@ any-take {X} P xs k j d below within p =
 
 -- of two runs of one area, the first has the lower first register
 pub first-before : (a b : Run) → ComesBefore a b → SameArea a b → a.first < b.first
-first-before a b (inl f) s = let e = ap function_of s.table in absurd (omega (arith, e, f))
+first-before a b (inl f) s = let e = ap code_of s.function in absurd (omega (arith, e, f))
 first-before a b (inr (inl h)) s = let e = s.area in absurd (omega (arith, e, h.1))
 first-before a b (inr (inr h)) s = h.1
 

@@ -8,7 +8,7 @@ use Rattle.std.proofs.lemmas.List.Sorted.{All-permutation, Contains-permutation,
 use Rattle.std.proofs.lemmas.List.Elements.{All-weaker, AllZip-get_or, length_all_zip}
 use Rattle.read_plan.specs.declared.run.Run.{Run}
 use Rattle.read_plan.specs.Beginnings.{AreBeginnings, IsGreatestEnd, ReadsFrom}
-use Rattle.point_list.specs.Points.{function_of}
+use Rattle.mb_wire.specs.Spans.{code_of}
 use Rattle.read_plan.specs.Plans.{BeginsAtFirstUnheld, ComesBefore, EndsAtLastInReach, FollowsRule, Holds, IsHeld, IsReadable, LiesWithinReach, SameArea}
 use Rattle.read_plan.proofs.PlanLemmas.{all-at, any-take, anything, first-before, same_area-sym, same_area-trans}
 
@@ -29,8 +29,8 @@ greatest-permutation xs ys begin end moved greatest = record {
 }
 
 before-moved : (a b x y : Run) → SameArea a x → a.first ≡ x.first → SameArea b y → b.first ≡ y.first → ComesBefore a b → ComesBefore x y
-before-moved a b x y sa ea sb eb (inl f) = let p = ap function_of sa.table in let q = ap function_of sb.table in inl (omega (arith, p, q, f))
-before-moved a b x y sa ea sb eb (inr (inl h)) = let p = sa.area in let q = sb.area in let o = h.1 in inr (inl (sym sa.table ∙ h.0 ∙ sb.table, omega (arith, p, q, o)))
+before-moved a b x y sa ea sb eb (inl f) = let p = ap code_of sa.function in let q = ap code_of sb.function in inl (omega (arith, p, q, f))
+before-moved a b x y sa ea sb eb (inr (inl h)) = let p = sa.area in let q = sb.area in let o = h.1 in inr (inl (sym sa.function ∙ h.0 ∙ sb.function, omega (arith, p, q, o)))
 before-moved a b x y sa ea sb eb (inr (inr h)) = let o = h.1 in inr (inr (same_area-trans x a y (same_area-sym a x sa) (same_area-trans a b y h.0 sb), omega (arith, ea, eb, o)))
 
 module _ (items begins reads : List Run) (readable : All IsReadable items) (from : AreBeginnings items begins) (same : length reads ≡ length begins)
@@ -126,7 +126,7 @@ module _ (items begins reads : List Run) (readable : All IsReadable items) (from
       let ends = w.4.2 in
       let among = from.among k anything within in
       let own : b.end ≤ r.end =
-      all-at (λ item. SameArea b item → item.end ≤ b.first + 125 → item.end ≤ r.end) items f.end.last b among (record { table = refl; area = refl }) (all-at IsReadable items readable b among).1 in
+      all-at (λ item. SameArea b item → item.end ≤ b.first + 125 → item.end ≤ r.end) items f.end.last b among (record { function = refl; area = refl }) (all-at IsReadable items readable b among).1 in
       let high : b.first ≤ x.first = elim (cases_lt x.first b.first) [
         | inr ge ↦ ge
         | inl lower ↦

@@ -2,7 +2,7 @@
 use Rattle.std.specs.Prelude.{◌≡◌, ℕ, ◌+◌, ◌<◌, ◌≤◌, Bool, ◌==◌, nat_lt, nat_le, ◌&&◌, ◌||◌, List}
 use Rattle.std.specs.List.{All, AllPairs, Any, Contains}
 use Rattle.read_plan.specs.declared.run.Run.{Run}
-use Rattle.point_list.specs.Points.{function_of}
+use Rattle.mb_wire.specs.Spans.{code_of}
 use Rattle.read_plan.specs.Plans.{ComesBefore, LiesWithinReach, SameArea}
 
 -- b begins after a, and ends beyond the reach of a read that begins at a
@@ -18,8 +18,8 @@ pub record AreBeginnings (items found : List Run) : Type 0 where
 -- not after the limit, by function, then by area number, then by last register
 abbrev pub ends_by : Run → Run → Bool
 ends_by run limit =
-    nat_lt (function_of run.table) (function_of limit.table)
-    || (function_of run.table == function_of limit.table)
+    nat_lt (code_of run.function) (code_of limit.function)
+    || (code_of run.function == code_of limit.function)
     && (nat_lt run.area limit.area || (run.area == limit.area) && nat_le run.end limit.end)
 
 -- the greatest last register of the items of an area that end within reach of its first register

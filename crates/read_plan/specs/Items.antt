@@ -15,12 +15,12 @@ use Rattle.read_plan.specs.declared.run.Run.{Run}
 -- the registers of a point
 abbrev pub point_run : ListedPoint → Run
 point_run point =
-    record { table = point.table; area = point.area; first = point.address; end = end_of point }
+    record { function = point.function; area = point.area; first = point.address; end = end_of point }
 
 -- the least run with both, of one area
 abbrev pub joined : Run → Run → Run
 joined a b = record {
-  table = a.table;
+  function = a.function;
   area = a.area;
   first = min a.first b.first;
   end = max a.end b.end;

@@ -1,12 +1,12 @@
 -- Runs of registers, lawful plans of reads, and the rule by which one plan is chosen.
 use Rattle.std.specs.Prelude.{◌≡◌, ℕ, ◌+◌, ◌<◌, ◌≤◌, ◌⊎◌, List, length, take, slice_index_or}
 use Rattle.std.specs.List.{All, AllPairs, Any}
-use Rattle.point_list.specs.Points.{function_of}
+use Rattle.mb_wire.specs.Spans.{code_of}
 use Rattle.read_plan.specs.declared.run.Run.{Run}
 
 -- of one function and one area number
 pub record SameArea (a b : Run) : Type 0 where
-  pub table : a.table ≡ b.table
+  pub function : a.function ≡ b.function
   pub area : a.area ≡ b.area
 
 -- a read holds the items of its own area that lie inside it, and no others
@@ -37,15 +37,15 @@ pub record IsLawful (points items reads : List Run) : Type 0 where
 -- before, by function, then by area number, then by first register
 abbrev pub ComesBefore : Run → Run → Type 0
 ComesBefore a b =
-    (function_of a.table < function_of b.table)
-    ⊎ ((a.table ≡ b.table) × (a.area < b.area))
+    (code_of a.function < code_of b.function)
+    ⊎ ((a.function ≡ b.function) × (a.area < b.area))
     ⊎ (SameArea a b × a.first < b.first)
 
 -- before, by function, then by area number, then by last register
 abbrev pub EndsBefore : Run → Run → Type 0
 EndsBefore a b =
-    (function_of a.table < function_of b.table)
-    ⊎ ((a.table ≡ b.table) × (a.area < b.area))
+    (code_of a.function < code_of b.function)
+    ⊎ ((a.function ≡ b.function) × (a.area < b.area))
     ⊎ (SameArea a b × a.end < b.end)
 
 -- the item lies within the 125 registers from the read's first

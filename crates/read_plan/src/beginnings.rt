@@ -14,7 +14,7 @@ use std::alloc::{AllocError, Global};
 fn lies_within_reach(begin: &Run, item: &Run) -> bool
     ensures { IsTrue result ↔ LiesWithinReach begin.now item.now }
 {
-    begin.table == item.table
+    begin.function == item.function
         && begin.area == item.area
         && begin.first <= item.first
         && item.end.saturating_sub(READ_LIMIT) <= begin.first
@@ -51,8 +51,8 @@ pub fn beginnings(alloc: Global, items: &[Run]) -> Result<Vec<Run>, AllocError>
 pub fn ends_by_limit(run: &Run, limit: &Run) -> bool
     ensures { result ≡ ends_by run.now limit.now }
 {
-    let function = run.table.function();
-    let last = limit.table.function();
+    let function = run.function.code();
+    let last = limit.function.code();
     function < last
         || function == last
             && (run.area < limit.area || run.area == limit.area && run.end <= limit.end)

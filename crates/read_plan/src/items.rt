@@ -19,7 +19,7 @@ fn run_of_point(point: &ListedPoint) -> Run
 {
     let first = u32::from(point.address);
     Run {
-        table: point.table,
+        function: point.function,
         area: point.area,
         first,
         end: first + u32::from(point.kind.registers()),

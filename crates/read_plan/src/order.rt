@@ -13,7 +13,7 @@ pub fn by_first(alloc: Global, runs: &[Run]) -> Result<Vec<Run>, AllocError>
     ensures ordered { IfOk result (λ v. AllPairs (λ a b. ¬ ComesBefore b a) v.items) }
 {
     let mut sorted = runs.to_vec(alloc)?;
-    sorted.sort_by_key(|run| (run.table.function(), run.area, run.first))?;
+    sorted.sort_by_key(|run| (run.function.code(), run.area, run.first))?;
     Ok(sorted)
 }
 
@@ -23,6 +23,6 @@ pub fn by_end(alloc: Global, runs: &[Run]) -> Result<Vec<Run>, AllocError>
     ensures ordered { IfOk result (λ v. AllPairs (λ a b. ¬ EndsBefore b a) v.items) }
 {
     let mut sorted = runs.to_vec(alloc)?;
-    sorted.sort_by_key(|run| (run.table.function(), run.area, run.end))?;
+    sorted.sort_by_key(|run| (run.function.code(), run.area, run.end))?;
     Ok(sorted)
 }

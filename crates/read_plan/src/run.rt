@@ -1,6 +1,6 @@
 //! Runs of registers.
 
-use point_list::RegisterTable;
+use mb_wire::ReadFunction;
 
 /// The most registers that one read holds.
 pub const READ_LIMIT: u32 = 125;
@@ -8,7 +8,7 @@ pub const READ_LIMIT: u32 = 125;
 /// A run of registers of one function and area number: from `first` up to, and without, `end`.
 #[derive(Clone, Copy)]
 pub struct Run {
-    pub table: RegisterTable,
+    pub function: ReadFunction,
     pub area: u8,
     pub first: u32,
     pub end: u32,

@@ -2,7 +2,7 @@
 #![tactic(auto)]
 
 #[cfg(test)]
-mod booked;
+mod bookings;
 #[cfg(test)]
 mod inputs;
 #[cfg(test)]

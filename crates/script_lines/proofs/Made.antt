@@ -2,7 +2,7 @@
 use Rattle.std.proofs.Common.{◌≡◌, ℕ, List, [], ◌∷◌, Some, None, Option, refl, sym, ap, ◌∙◌, subst}
 use Rattle.std.specs.Prelude.{option_map}
 use Rattle.script_words.specs.Fields.{Kind, Value, Field, Of, Spell, first_value, missing, spelled}
-use Rattle.script_lines.specs.Reading.{◌>>=◌, Values, made}
+use Rattle.script_lines.specs.LineReader.{◌>>=◌, Values, made}
 
 -- the fields of values
 abbrev pub fields : (kinds : List Kind) → Values kinds → List Field

@@ -6,7 +6,7 @@ use Rattle.hex.specs.Hex.{decode_of}
 use Rattle.hex.specs.declared.error.FromHexError.{FromHexError}
 use Rattle.hex.proofs.HexLemmas.{decode_of-ok}
 use Rattle.script_words.specs.Fields.{AnyName, Hex, first_value, nothing_more}
-use Rattle.script_lines.specs.Reading.{◌>>=◌, SaysPiece, device_bytes_said, made}
+use Rattle.script_lines.specs.LineReader.{◌>>=◌, SaysPiece, device_bytes_said, made}
 use Rattle.script_words.specs.Values.{bytes_of}
 use Rattle.script_lines.proofs.Made.{made_again, same, spelled_made}
 

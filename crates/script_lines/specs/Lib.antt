@@ -1,4 +1,4 @@
 pub mod Forms
 pub mod LineFaults
-pub mod Reading
+pub mod LineReader
 pub mod Seen

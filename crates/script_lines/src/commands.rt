@@ -1,6 +1,6 @@
 //! The forms of commands, behind the words that name them.
 ghost use Rattle.std.specs.Prelude.{◌≡◌};
-ghost use Rattle.script_lines.specs.Reading.{said_by};
+ghost use Rattle.script_lines.specs.LineReader.{said_by};
 ghost use Rattle.script_lines.specs.declared.verbs.Verb.TheVariants as verb;
 
 use crate::script::ScriptLine;

@@ -1,6 +1,6 @@
 //! The forms of what happens at a device, behind the words that name it.
 ghost use Rattle.std.specs.Prelude.{◌≡◌};
-ghost use Rattle.script_lines.specs.Reading.{asked_by, said_by};
+ghost use Rattle.script_lines.specs.LineReader.{asked_by, said_by};
 ghost use Rattle.script_lines.specs.declared.verbs.Verb.TheVariants as verb;
 
 use crate::script::{GivenStart, ScriptLine};

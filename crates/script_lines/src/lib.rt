@@ -4,7 +4,7 @@
 mod commands;
 mod happenings;
 mod line_fault;
-mod reading;
+mod line_reader;
 mod script;
 mod verbs;
 

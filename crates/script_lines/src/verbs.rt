@@ -1,6 +1,6 @@
 //! The words that say what a line is.
 ghost use Rattle.std.specs.Prelude.{◌≡◌};
-ghost use Rattle.script_lines.specs.Reading.{early_verb, late_verb, middle_verb, question_of, verb_of};
+ghost use Rattle.script_lines.specs.LineReader.{early_verb, late_verb, middle_verb, question_of, verb_of};
 
 /// What happens at a moment.
 #[derive(Clone, Copy)]

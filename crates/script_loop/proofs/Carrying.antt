@@ -19,10 +19,10 @@ use Rattle.script_lines.specs.declared.script.ScriptLine.{ScriptLine}
 use Rattle.script_loop.specs.Lines.{AlikePrints, CommandPrints, HappensPrints, PlainPrints, SaidPrints, round_of}
 use Rattle.script_replay.specs.Lines.{LinePrints}
 use Rattle.script_replay.specs.Events.{EventPrints}
-use Rattle.script_replay.specs.Running.{IsCarriedOut, MayCarryOut, stage_of}
+use Rattle.script_replay.specs.TextRun.{IsCarriedOut, MayCarryOut, stage_of}
 use Rattle.script_replay.specs.Stages.{Stage}
 use Rattle.sun_points.specs.Writing.{GotText}
-use Rattle.script_loop.specs.Running.{LineRuns}
+use Rattle.script_loop.specs.TextRun.{LineRuns}
 use Rattle.script_loop.specs.Standings.{Carried, CarriedOut, Carries, CarriesOut, Desk, LoopStage, desk, stage_on}
 
 -- a text that was written whole

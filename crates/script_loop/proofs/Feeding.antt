@@ -17,7 +17,7 @@ use Rattle.office_rules.specs.History.{History}
 use Rattle.office_rules.specs.Refusals.{with_answer}
 use Rattle.script_replay.proofs.Replies.{right_or_fails, same_stage}
 use Rattle.script_replay.specs.Events.{EventPrints, IsReply, reply_text}
-use Rattle.script_replay.specs.Running.{stage_of}
+use Rattle.script_replay.specs.TextRun.{stage_of}
 use Rattle.script_replay.specs.Stages.{Stage, after_reply}
 use Rattle.script_loop.specs.Answers.{AnswersPrint, FedAll, FedPrints, fed, fed_text, most_takes}
 use Rattle.stand_in.specs.Exchanges.{Exchanged}

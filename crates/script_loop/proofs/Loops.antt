@@ -16,13 +16,13 @@ use Rattle.office_core.specs.declared.office.Office.{Office}
 use Rattle.office_events.specs.declared.refusals.Refusal.{Refusal}
 use Rattle.office_events.specs.declared.refusals.Refusal.TheVariants as refusal
 use Rattle.office_lists.specs.declared.list_books.ListBooks.{ListBooks}
-use Rattle.script_replay.specs.Running.{stage_of}
+use Rattle.script_replay.specs.TextRun.{stage_of}
 use Rattle.script_replay.specs.Stages.{Stage, beginning}
 use Rattle.script_text.specs.AnswerText.{bad_line, refused_line}
 use Rattle.script_words.specs.Words.{words_of}
 use Rattle.script_loop.specs.Lines.{AreWrong, WordsPrint}
 use Rattle.script_loop.specs.Loops.{InputPrints, LoopPrints, TextPrints}
-use Rattle.script_loop.specs.Running.{InputRuns, LinesRun, TellsText, TextRuns, Writes}
+use Rattle.script_loop.specs.TextRun.{InputRuns, LinesRun, TellsText, TextRuns, Writes}
 use Rattle.script_loop.specs.Standings.{CarriedOut, Desk, LoopStage, desk, stage_on}
 
 -- Whatever the rest of the lines prints from here, all of them print it behind what was printed before.

@@ -2,4 +2,4 @@ pub mod Answers
 pub mod Standings
 pub mod Lines
 pub mod Loops
-pub mod Running
+pub mod TextRun

@@ -7,7 +7,7 @@ use Rattle.office_core.specs.declared.office.Office.{Office}
 use Rattle.office_lists.specs.Listed.{ledger_of}
 use Rattle.office_lists.specs.declared.list_books.ListBooks.{ListBooks}
 use Rattle.office_rules.specs.History.{History}
-use Rattle.script_replay.specs.Running.{stage_of}
+use Rattle.script_replay.specs.TextRun.{stage_of}
 use Rattle.script_replay.specs.Stages.{Stage}
 
 -- Where the script stands, what the stand-in holds, and whether a line has asked for a connection.

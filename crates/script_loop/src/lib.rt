@@ -4,10 +4,10 @@
 mod answers;
 mod lines;
 mod loopback;
-mod running;
-mod sending;
+mod stand_in_lines;
+mod text_run;
 mod wires;
 
 pub use loopback::Loopback;
-pub use running::loop_text;
+pub use text_run::loop_text;
 pub use wires::{Connects, Ends};

@@ -4,12 +4,12 @@ ghost use Rattle.std.specs.Io.KnownBytes.{Appends};
 ghost use Rattle.bank_text.specs.Settings as setting;
 ghost use Rattle.script_loop.specs.Lines as form;
 ghost use Rattle.script_loop.specs.Lines.{AreWrong, BankPrints, SaidPrints, WordsPrint};
-ghost use Rattle.script_loop.specs.Running.{LineRuns};
+ghost use Rattle.script_loop.specs.TextRun.{LineRuns};
 ghost use Rattle.script_loop.specs.Standings.{CarriesOut, desk};
 ghost use Rattle.script_words.specs.Words.{words_of};
 
 use crate::answers::write_ok;
-use crate::sending::{connect, leave, start};
+use crate::stand_in_lines::{connect, leave, start};
 use crate::wires::{Connects, Wires};
 use bank_lines::BankLine;
 use bank_text::{add_in, set_in};

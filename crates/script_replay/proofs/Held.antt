@@ -4,7 +4,7 @@ use Rattle.std.specs.Io.KnownBytes.{Appends, Keeps, append_known}
 use Rattle.command_io.specs.declared.status.Status.{Status}
 use Rattle.command_io.specs.declared.status.Status.TheVariants.{Fine, Refused, Failed}
 use Rattle.interval_core.specs.declared.zone.Zone.{Zone}
-use Rattle.script_replay.specs.Running.{HoldsPart, InputRuns, Replays}
+use Rattle.script_replay.specs.TextRun.{HoldsPart, InputRuns, Replays}
 use Rattle.script_replay.proofs.Scripts.{input_begun}
 
 -- where nothing is held back, the writer behind has all

@@ -16,7 +16,7 @@ use Rattle.office_core.specs.Standing.{Stands, is_stopped}
 use Rattle.office_core.specs.Taking.{Ends, IsAnswer, IsQuiet, SettlesNothing}
 use Rattle.office_core.specs.declared.office.Office.{Office}
 use Rattle.script_replay.specs.Events.{EventPrints, reply_text}
-use Rattle.script_replay.specs.Running.{IsCarriedOut, stage_of}
+use Rattle.script_replay.specs.TextRun.{IsCarriedOut, stage_of}
 use Rattle.script_replay.specs.Stages.{Fails, Stage}
 use Rattle.sun_points.specs.Writing.{GotText}
 

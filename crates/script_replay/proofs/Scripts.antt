@@ -29,7 +29,7 @@ use Rattle.office_core.specs.Standing.{Stands}
 use Rattle.office_core.specs.declared.office.Office.{Office}
 use Rattle.script_words.specs.Words.{words_of}
 use Rattle.script_replay.specs.Lines.{BadPrints, LineBegins, LinePrints, WordsPrint}
-use Rattle.script_replay.specs.Running.{InputRuns, LineRan, LineRuns, MayCarryOut, TextRuns, stage_of}
+use Rattle.script_replay.specs.TextRun.{InputRuns, LineRan, LineRuns, MayCarryOut, TextRuns, stage_of}
 use Rattle.script_replay.specs.Scripts.{ReplayBegins, ReplayPrints, ScriptBegins, ScriptPrints, TextBegins, TextPrints}
 use Rattle.script_replay.specs.Stages.{Fails, Stage, beginning}
 

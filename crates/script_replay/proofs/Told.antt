@@ -14,7 +14,7 @@ use Rattle.interval_core.specs.declared.totals.DayTotal.{DayTotal}
 use Rattle.office_core.specs.Standing.{Stands}
 use Rattle.office_core.specs.declared.office.Office.{Office}
 use Rattle.script_replay.specs.Asked.{AreDaysTold, IsAnswered, RowPrints, RowsPrint, counted, last_line, row_text}
-use Rattle.script_replay.specs.Running.{IsCarriedOut, stage_of}
+use Rattle.script_replay.specs.TextRun.{IsCarriedOut, stage_of}
 use Rattle.script_replay.specs.Stages.{Stage}
 use Rattle.script_replay.proofs.Replies.{right_or_fails, same_stage}
 use Rattle.sun_points.specs.Writing.{GotText}

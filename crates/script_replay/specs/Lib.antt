@@ -3,5 +3,5 @@ pub mod Events
 pub mod Asked
 pub mod Lines
 pub mod Scripts
-pub mod Running
+pub mod TextRun
 pub mod Rows

@@ -1,13 +1,13 @@
 //! Scripts, run over an office in memory.
 #![tactic(auto)]
 
-mod asking;
-mod carrying;
-mod feeding;
-mod replaying;
+mod events;
+mod lines;
+mod questions;
+mod replayed_script;
 mod rows;
-mod running;
+mod text_run;
 
-pub use carrying::carry_out;
-pub use feeding::feed;
-pub use replaying::{Replayed, replay};
+pub use events::feed;
+pub use lines::carry_out;
+pub use replayed_script::{Replayed, replay};

@@ -2,11 +2,11 @@
 //! fails. No call takes memory.
 #![tactic(auto)]
 
-mod accepted;
+mod accepted_events;
 mod lines;
 mod notes;
 mod parts;
 
-pub use accepted::{write_accepted, write_answer, write_notes};
+pub use accepted_events::{write_accepted, write_answer, write_notes};
 pub use lines::{write_bad_line, write_faults, write_meter, write_poll, write_refusal};
 pub use notes::write_note;

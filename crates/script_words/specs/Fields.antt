@@ -1,5 +1,6 @@
 -- What one word of a line spells.
 use Rattle.std.specs.Prelude.{◌≡◌, ℕ, ℤ, List, [], ◌∷◌, Option, Some, None, option_map}
+use Rattle.energy_core.specs.declared.limits.TheConstants.{MAX_RANGE}
 use Rattle.office_events.specs.declared.commands.GivenScale.{GivenScale}
 use Rattle.script_words.specs.Values.{bytes_of, name_of, number_of, scale_of, signed_of}
 
@@ -40,7 +41,7 @@ missing Number = None
 missing Signed = None
 missing Scale = None
 missing Hex = Some []
-missing Range = Some 4294967296
+missing Range = Some MAX_RANGE
 missing Moment = Some None
 
 -- a word of a line: itself, or what it spells

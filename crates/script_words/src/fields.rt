@@ -5,10 +5,8 @@ ghost use Rattle.script_words.specs.Values.{name_of, scale_of, signed_of};
 
 use crate::values::number;
 use crate::words::Words;
+use energy_core::MAX_RANGE;
 use office_events::{GivenScale, Name};
-
-/// The range of a meter of which a line tells none: that of an acc32 counter.
-const WHOLE_RANGE: u64 = 4_294_967_296;
 
 // Any word: the name that it is, or none where the office knows no such names. An empty word is none.
 fn any_name(word: &[u8]) -> Option<Option<Name>>
@@ -80,7 +78,7 @@ pub fn next_range(words: &mut Words<'_>) -> Option<u64>
 {
     match words.next_word() {
         Some(word) => number(word),
-        None => Some(WHOLE_RANGE),
+        None => Some(MAX_RANGE),
     }
 }
 

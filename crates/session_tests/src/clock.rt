@@ -1,4 +1,4 @@
-// A clock that goes back.
+//! A clock that goes back.
 use crate::first_poll::first_poll;
 use crate::script::{Event, GOOD, Line, play};
 use poll_core::{ClockBack, Closing, Outcome, StartFault};

@@ -1,4 +1,4 @@
-// What comes to a session with a timeout of 5 seconds, whose poll 1 was started at 100.
+//! What comes to a session with a timeout of 5 seconds, whose poll 1 was started at 100.
 use crate::script::{Asked, Event, GOOD, Line, feed, play, start};
 use poll_core::{LostCause, Malformation, Outcome, Session};
 use std::alloc::Global;

@@ -1,4 +1,4 @@
-// An id that a pending poll has, when it comes again after 65,535 more starts.
+//! An id that a pending poll has, when it comes again after 65,535 more starts.
 use crate::script::{Asked, Event, Line, feed, play, start};
 use poll_core::{Outcome, Session, StartFault};
 use std::alloc::Global;

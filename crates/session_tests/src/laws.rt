@@ -1,4 +1,4 @@
-// The laws, whose clauses hold over all values.
+//! The laws, whose clauses hold over all values.
 use poll_core::{
     each_once, longer_pieces_settle, one_event_more, over_for_good, pending_waits, whole_answers,
 };

@@ -4,8 +4,6 @@
 #[cfg(test)]
 mod clock;
 #[cfg(test)]
-mod ending;
-#[cfg(test)]
 mod first_poll;
 #[cfg(test)]
 mod ids;
@@ -15,6 +13,8 @@ mod laws;
 mod numbers;
 #[cfg(test)]
 mod script;
+#[cfg(test)]
+mod session_end;
 #[cfg(test)]
 mod several_polls;
 #[cfg(test)]

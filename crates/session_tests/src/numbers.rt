@@ -1,4 +1,4 @@
-// The numbers of outcomes and of refusals.
+//! The numbers of outcomes and of refusals.
 use mb_wire::ReplyFault;
 use poll_core::{Closing, LostCause, Malformation, Outcome, StartFault};
 

@@ -1,4 +1,4 @@
-// Events of a session as tables, each with what it tells.
+//! Events of a session as tables, each with what it tells.
 use mb_wire::ReadSpan;
 use poll_core::{Closing, Outcome, Ready, Session, StartFault};
 use std::alloc::Global;

@@ -1,4 +1,4 @@
-// Several polls, one after another and side by side.
+//! Several polls, one after another and side by side.
 use crate::script::{Asked, Event, GOOD, Line, play};
 use poll_core::{Closing, LostCause, Outcome, Session, StartFault};
 use std::test::Fail;

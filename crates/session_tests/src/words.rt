@@ -1,4 +1,4 @@
-// The reply that an answered poll lends, and a call that has told it.
+//! The reply that an answered poll lends, and a call that has told it.
 use crate::first_poll::first_poll;
 use crate::script::GOOD;
 use mb_wire::Reply;

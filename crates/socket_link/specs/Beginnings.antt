@@ -1,6 +1,6 @@
 -- Links that were just made.
 use Rattle.std.specs.Prelude.{◌≡◌, ℕ, None}
-use Rattle.socket_link.specs.declared.hurried.HurriedLink.{HurriedLink}
+use Rattle.socket_link.specs.declared.hurried_link.HurriedLink.{HurriedLink}
 use Rattle.socket_link.specs.declared.socket.SocketLink.{SocketLink}
 
 -- the last moment at which a link in haste works

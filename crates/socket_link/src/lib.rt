@@ -2,9 +2,9 @@
 #![tactic(auto)]
 
 mod clock;
-mod hurried;
+mod hurried_link;
 mod socket;
 
 pub use clock::{Clock, ListedClock, SystemClock};
-pub use hurried::HurriedLink;
+pub use hurried_link::HurriedLink;
 pub use socket::SocketLink;

@@ -4,11 +4,11 @@ use Rattle.std.specs.Prelude.{Ok, Err, true, false}
 use Rattle.std.specs.declared.result.Result.{Result}
 use Rattle.mb_device.proofs.Streams.{maps_after_all-append}
 use Rattle.mb_device.specs.Maps.{Maps}
-use Rattle.mb_device.specs.Serving.{Answered, Around, Faulted, Holds, Over, Standing, Turns, around, maps_after_all, own_frames}
+use Rattle.mb_device.specs.Server.{Answered, Around, Faulted, Holds, Over, Standing, Turns, around, maps_after_all, own_frames}
 use Rattle.mb_device.specs.Tricks.{Course, carried_out}
-use Rattle.mb_device.specs.declared.serving.ServeFault.{ServeFault}
-use Rattle.mb_device.specs.declared.serving.ServeFault.TheVariants.{Read, Write, Garbled, TurnsUsed}
-use Rattle.mb_device.specs.declared.serving.Turned.{Turned}
+use Rattle.mb_device.specs.declared.server.ServeFault.{ServeFault}
+use Rattle.mb_device.specs.declared.server.ServeFault.TheVariants.{Read, Write, Garbled, TurnsUsed}
+use Rattle.mb_device.specs.declared.server.Turned.{Turned}
 use Rattle.stand_in.specs.Exchanges.{Exchanged}
 
 pub nothing_done : (maps maps' : Maps) → maps' ≡ maps → Exchanged maps maps'

@@ -1,9 +1,9 @@
 -- What a stand-in does on a connection.
 use Rattle.std.specs.Prelude.{ℕ, List, []}
 use Rattle.std.specs.declared.result.Result.{Result}
-use Rattle.mb_device.specs.Serving.{Around, Serves, Standing}
+use Rattle.mb_device.specs.Server.{Around, Serves, Standing}
 use Rattle.mb_device.specs.Tricks.{begun}
-use Rattle.mb_device.specs.declared.serving.ServeFault.{ServeFault}
+use Rattle.mb_device.specs.declared.server.ServeFault.{ServeFault}
 use Rattle.mb_device.specs.declared.trick.Trick.{Trick}
 
 -- A server that has taken nothing yet serves the connection, and plays these tricks on its answers.

@@ -1,7 +1,7 @@
 -- What a stand-in's device holds after it was sent frames.
 use Rattle.std.specs.Prelude.{◌≡◌, ℕ, List}
 use Rattle.mb_device.specs.Maps.{Maps}
-use Rattle.mb_device.specs.Serving.{maps_after_all}
+use Rattle.mb_device.specs.Server.{maps_after_all}
 
 -- it has carried out some frames
 abbrev pub Exchanged : (old new : Maps) → Type 0

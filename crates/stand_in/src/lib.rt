@@ -1,6 +1,6 @@
 //! A stand-in for a device, which answers on a listener.
 #![tactic(auto)]
 
-mod answering;
+mod connections;
 
-pub use answering::{MOST_TURNS, answer_all, answer_one};
+pub use connections::{MOST_TURNS, answer_all, answer_one};

@@ -1,4 +1,4 @@
-// A stand-in on a listener, and its peers in the same process.
+//! A stand-in on a listener, and its peers in the same process.
 use mb_device::{Area, Bank, Kind, ServeFault, Trick};
 use mb_wire::MemoryLink;
 use stand_in::{answer_all, answer_one};

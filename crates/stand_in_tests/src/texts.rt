@@ -1,4 +1,4 @@
-// Texts that set a stand-in up.
+//! Texts that set a stand-in up.
 use bank_text::{Setup, SetupParts, set_up};
 use command_io::Status;
 use mb_device::{Kind, Trick};

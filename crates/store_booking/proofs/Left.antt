@@ -41,7 +41,7 @@ use Rattle.store_meters.specs.Rows.{installed_columns, ranged_columns}
 use Rattle.store_entries.specs.Trees as entry_tree
 use Rattle.store_entries.specs.Rows.{Entered, entry_columns, voided_columns, is_entry, is_of as is_entry_of, rolled as with_rollovers}
 use Rattle.store_intervals.specs.Rows.{Interval, is_of as is_interval_of}
-use Rattle.store_intervals.specs.Replacing.{row_of, with_all, ReplacesShares}
+use Rattle.store_intervals.specs.Replacement.{row_of, with_all, ReplacesShares}
 use Rattle.store_polls.specs.Trees as poll_tree
 use Rattle.store_polls.specs.Rows.{poll_columns, outcome_columns, hold_columns, reply_columns}
 use Rattle.store_facts.specs.Rows.{placed, added, registered, installed_as, installed_row, ranged, voided, interval_of, started, outcome_row, held_row, kept, rolls_of, entered_rows, entries_at, entries_of}
@@ -51,7 +51,7 @@ use Rattle.store_facts.proofs.Entered.{SparesOthers, other_entries, other_interv
 use Rattle.store_facts.proofs.Passing.{filter_edited, filter_spared}
 use Rattle.store_facts.proofs.Recorded.{stay, points_stay, entries_stay, intervals_stay}
 use Rattle.store_metering.proofs.Shapes.{FoundThere, found_there}
-use Rattle.store_booking.specs.Standing.{stands_at, settled}
+use Rattle.store_booking.specs.MeterState.{stands_at, settled}
 use Rattle.store_booking.specs.Voids.{IsJournalFrom, IsJournalOf, IsSaidIn, HasRolls, Corrects, RollsNext, EntersVoid}
 use Rattle.store_booking.specs.declared.corrections.Correction.{Correction}
 use Rattle.store_booking.specs.declared.corrections.Rollover.{Rollover}

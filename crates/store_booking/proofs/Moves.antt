@@ -4,7 +4,7 @@ use Rattle.std.proofs.lemmas.Bool.{cond-true, cond-false}
 use Rattle.sqlite.specs.Order.{Row}
 use Rattle.energy_core.specs.declared.entries.Last.{Last}
 use Rattle.energy_core.specs.declared.entries.Step.{Step}
-use Rattle.energy_core.specs.Entering.{entered as entered_behind}
+use Rattle.energy_core.specs.Admission.{entered as entered_behind}
 use Rattle.interval_core.specs.Share.{shares_of}
 use Rattle.meter_journal.specs.Books.{last_in}
 use Rattle.meter_journal.specs.Changes.{step_on}
@@ -26,16 +26,16 @@ use Rattle.store_meters.specs.Rows.{installed_columns, ranged_columns, is_meter,
 use Rattle.store_entries.specs.Trees as entry_tree
 use Rattle.store_entries.specs.declared.rows.EntryRow.{EntryRow}
 use Rattle.store_entries.specs.Rows.{Entered, entry_columns, entry_place, is_of}
-use Rattle.store_intervals.specs.Booking.{BooksShares}
+use Rattle.store_intervals.specs.StepShares.{BooksShares}
 use Rattle.store_facts.specs.Rows.{placed, installed_as, installed_row, last_row, ranged, entered, entry_row, scale_behind, entered_rows, entries_at}
 use Rattle.store_facts.specs.Recording.{Records, IsNext}
 use Rattle.store_facts.proofs.Energy.{found_recorded}
 use Rattle.store_facts.proofs.EntryRecorded.{entries_count, entry_recorded}
 use Rattle.store_facts.proofs.Standing.{stands_found, range_found}
-use Rattle.store_booking.specs.declared.standing.Standing.{Standing}
-use Rattle.store_booking.specs.declared.moving.Advance.{Advance}
+use Rattle.store_booking.specs.declared.meter_state.Standing.{Standing}
+use Rattle.store_booking.specs.declared.meter_entries.Advance.{Advance}
 use Rattle.store_booking.specs.Places.{IsSeenIn, StandsThere}
-use Rattle.store_booking.specs.Standing.{IsStanding, Advances, EntersEntry, Settles, counter_of, stands_at, settled}
+use Rattle.store_booking.specs.MeterState.{IsStanding, Advances, EntersEntry, Settles, counter_of, stands_at, settled}
 
 -- three questions, one after the other
 pub stands : (meter : List ℕ) (it : Standing) (a b c d : Content) → IsNext entry_tree.entries entry_columns (is_of meter) entry_place it.place a b

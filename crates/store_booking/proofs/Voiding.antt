@@ -18,7 +18,7 @@ use Rattle.store_entries.specs.Rows.{entry_columns, is_entry, rolled}
 use Rattle.store_facts.specs.Going.{Goes}
 use Rattle.store_facts.specs.Rows.{rolls_of}
 use Rattle.store_facts.proofs.GoingLemmas.{nothing_done}
-use Rattle.store_booking.specs.Standing.{stands_at}
+use Rattle.store_booking.specs.MeterState.{stands_at}
 use Rattle.store_booking.specs.Voids.{IsNextOf, IsAccountOf, Corrects, RollsNext}
 use Rattle.store_booking.specs.declared.corrections.Account.{Account}
 use Rattle.store_booking.specs.declared.corrections.Correction.{Correction}

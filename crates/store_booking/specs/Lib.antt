@@ -1,3 +1,3 @@
+pub mod MeterState
 pub mod Places
-pub mod Standing
 pub mod Voids

@@ -15,14 +15,14 @@ use Rattle.office_rules.specs.Meters.{opened, rows_of}
 use Rattle.store_tables.specs.Content.{Content, Edits, with_row, changed_where}
 use Rattle.store_entries.specs.Trees.{entries, voids}
 use Rattle.store_entries.specs.Rows.{Entered, entry_columns, is_entry, rolled, voided_columns}
-use Rattle.store_intervals.specs.Replacing.{ReplacesShares}
+use Rattle.store_intervals.specs.Replacement.{ReplacesShares}
 use Rattle.store_facts.specs.Rows.{rolls_of}
 use Rattle.store_facts.specs.Tables.{AreOf}
 use Rattle.store_booking.specs.declared.corrections.Account.{Account}
 use Rattle.store_booking.specs.declared.corrections.Correction.{Correction}
 use Rattle.store_booking.specs.declared.corrections.Rollover.{Rollover}
 use Rattle.store_booking.specs.declared.journals.MeterJournal.{MeterJournal}
-use Rattle.store_booking.specs.Standing.{stands_at, Settles}
+use Rattle.store_booking.specs.MeterState.{stands_at, Settles}
 
 -- The facts say this whose tables these are, and nothing was changed.
 pub record IsSaidIn (Say : List Fact → Type 0) (held after : Content) : Type 0 where

@@ -7,8 +7,8 @@ ghost use Rattle.store_facts.specs.Recording.{Records, RecordsAll};
 
 use crate::devices::enter_device;
 use crate::lists::enter_list;
+use crate::meter_entries::enter_entry;
 use crate::meters::enter_opening;
-use crate::moving::enter_entry;
 use crate::polls::{enter_hold, enter_outcome, enter_poll, enter_reply};
 use crate::registers::enter_register;
 use crate::voids::enter_void;

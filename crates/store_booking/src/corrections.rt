@@ -12,15 +12,15 @@ ghost use Rattle.store_facts.specs.Rows.{rolls_of};
 ghost use Rattle.store_booking.specs.Voids.{IsNextOf, IsAccountOf, Corrects};
 
 use crate::journals::MeterJournal;
-use crate::moving::is_sound;
-use energy_core::{Entry, Last};
+use crate::meter_entries::is_sound;
+use energy_core::{Entry, Last, MAX_RANGE, MAX_TOTAL, MIN_RANGE};
 use interval_core::Share;
 use meter_journal::{EntryRow, Installed, find_row, interval_rows, last_behind, strike};
 use sqlite::Error;
 use std::alloc::Global;
 use store_facts::last_row;
 use store_metering::{are_numbered, tally};
-use store_meters::{GREATEST_TOTAL, LastRow};
+use store_meters::LastRow;
 use store_tables::{GREATEST_PLACE, LATEST_MOMENT, RowFault};
 
 /// How many times the counter went past its range before the entry at a place.
@@ -79,12 +79,12 @@ fn next_of(journal: &MeterJournal, place: u64) -> Result<Option<Rollover>, RowFa
 
 /// Whether a meter's counter shows what it can show, at a scale that the tables can have.
 fn is_well_installed(meter: &Installed) -> bool
-    ensures low { IsTrue result → 65536 ≤ meter.now.range }
-    ensures high { IsTrue result → meter.now.range ≤ 4294967296 }
+    ensures low { IsTrue result → MIN_RANGE ≤ meter.now.range }
+    ensures high { IsTrue result → meter.now.range ≤ MAX_RANGE }
     ensures well { IsTrue result → IsWellInstalled meter.now }
 {
     let opening = meter.opening;
-    let ranged = 65_536 <= meter.range && meter.range <= 4_294_967_296;
+    let ranged = MIN_RANGE <= meter.range && meter.range <= MAX_RANGE;
     ranged && u64::from(opening.raw) < meter.range && -3 <= opening.sf && opening.sf <= 3
 }
 
@@ -93,7 +93,7 @@ fn are_sound(shares: &[Share]) -> bool
     ensures { IsTrue result → All IsSoundShare shares.now }
 {
     for share in shares {
-        if LATEST_MOMENT < share.start || GREATEST_TOTAL < share.mwh {
+        if LATEST_MOMENT < share.start || MAX_TOTAL < share.mwh {
             return false;
         }
     }
@@ -102,8 +102,8 @@ fn are_sound(shares: &[Share]) -> bool
 
 /// The interval rows of the entries that stand. Want of memory is the database's.
 fn shares_of(alloc: Global, meter: &Installed, rows: &[EntryRow]) -> Result<Vec<Share>, Error>
-    requires range_low { 65536 ≤ meter.now.range }
-    requires range_high { meter.now.range ≤ 4294967296 }
+    requires range_low { MIN_RANGE ≤ meter.now.range }
+    requires range_high { meter.now.range ≤ MAX_RANGE }
     requires installed { IsWellInstalled meter.now }
     requires account { HasAccount meter.now (entries_in (latest_first rows.now)) }
     ensures { let es = entries_in (latest_first rows.now) in

@@ -7,7 +7,7 @@ ghost use Rattle.store_facts.specs.Going.{Goes};
 ghost use Rattle.store_booking.specs.Places.{Answered};
 ghost use Rattle.store_booking.specs.Voids.{IsSaidIn, IsJournalOf};
 
-use crate::standing::range_of;
+use crate::meter_state::range_of;
 use energy_core::Last;
 use meter_journal::{EntryRow, rows_stand, voids_change_two_rows};
 use office_laws::journals_fit;

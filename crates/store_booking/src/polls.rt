@@ -6,15 +6,12 @@ ghost use Rattle.store_facts.specs.Going.{Goes};
 ghost use Rattle.store_facts.specs.Recording.{Records};
 
 use crate::places::next_hold;
-use office_events::{EndedPoll, HeldReading, Poll, Reply};
+use office_events::{EndedPoll, HeldReading, MAX_REQUEST, Poll, Reply};
 use office_laws::holds_change_nothing;
 use sqlite::{Alter, Transaction};
 use store_facts::{hold_row, outcome_row, poll_row, reply_kind, text};
 use store_polls::{insert_hold, insert_outcome, insert_poll, insert_reply};
 use store_tables::{GREATEST_PLACE, LATEST_MOMENT, RowFault};
-
-/// The greatest number of a request.
-const GREATEST_NUMBER: u64 = 9_223_372_036_854_775_807;
 
 /// Enters a poll that was started.
 pub fn enter_poll<S: Alter>(tx: &mut Transaction<'_, S>, poll: &Poll) -> Result<(), RowFault>
@@ -68,7 +65,7 @@ pub fn enter_reply<S: Alter>(tx: &mut Transaction<'_, S>, reply: &Reply) -> Resu
     ensures does { Goes (state S.Store tx.old.conn.now) (state S.Store tx.new.conn.now) result
         (Records (fact.Reply reply.now)) }
 {
-    if GREATEST_NUMBER < reply.number || LATEST_MOMENT < reply.at {
+    if MAX_REQUEST < reply.number || LATEST_MOMENT < reply.at {
         return Err(RowFault::Damaged);
     }
     let caller = text(&reply.caller)?;

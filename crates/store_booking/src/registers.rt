@@ -9,7 +9,7 @@ ghost use Rattle.store_facts.specs.Recording.{Records};
 ghost use Rattle.store_facts.specs.Rows.{scale_as};
 
 use crate::places::next_register;
-use office_events::{Register, ScaleSource};
+use office_events::{LAST_COUNTER, Register, ScaleSource};
 use sqlite::{Alter, Transaction};
 use store_facts::{register_row, text};
 use store_lists::insert_register;
@@ -41,7 +41,7 @@ pub fn enter_register<S: Alter>(
     ensures does { Goes (state S.Store tx.old.conn.now) (state S.Store tx.new.conn.now) result
         (Records (fact.Register register.now)) }
 {
-    if 65_534 < register.address || !is_sound(register.scale) {
+    if LAST_COUNTER < u64::from(register.address) || !is_sound(register.scale) {
         return Err(RowFault::Damaged);
     }
     let name = text(&register.name)?;

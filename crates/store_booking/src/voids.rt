@@ -11,7 +11,7 @@ ghost use Rattle.store_booking.specs.Voids.{RollsNext, EntersVoid, KeepsAccount}
 
 use crate::corrections::{Account, Correction, Rollover, correct};
 use crate::journals::journal_of;
-use crate::moving::settle;
+use crate::meter_entries::settle;
 use meter_journal::{rows_stand, voids_change_two_rows};
 use office_events::VoidedEntry;
 use office_laws::{journals_fit, other_meters_stay};

@@ -2,10 +2,10 @@
 #![tactic(auto)]
 
 #[cfg(test)]
-mod booked;
+mod bookings;
 #[cfg(test)]
 mod facts;
 #[cfg(test)]
 mod given;
 #[cfg(test)]
-mod voided;
+mod voids;

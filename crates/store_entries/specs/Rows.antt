@@ -1,6 +1,7 @@
 -- Rows of the tables, their columns, and the ranges of their values.
 use Rattle.std.specs.Prelude.{◌≡◌, ℕ, pos, ◌≤◌, List, [], ◌∷◌, IsTrue, Bool, bytes_eq, ◌&&◌, ◌==◌, Option, Some, None, if◌then◌else◌, Result, Ok}
 use Rattle.std.specs.Option.{option_and_then}
+use Rattle.energy_core.specs.declared.limits.TheConstants.{MAX_SHOWN}
 use Rattle.sqlite.specs.declared.types.Value.{Value}
 use Rattle.store_tables.specs.declared.faults.RowFault.{RowFault}
 use Rattle.sqlite.specs.declared.types.Value.TheVariants.{Int, Text}
@@ -53,9 +54,9 @@ rolled rolls e = record e { entry = record e.entry { rolls = rolls } }
 pub record IsSoundEntry (e : EntryRow) : Type 0 where
   pub place : (1 ≤ e.place) × (e.place ≤ greatest_place)
   pub moment : e.moment ≤ latest_moment
-  pub raw : e.raw ≤ 4294967295
+  pub raw : e.raw ≤ MAX_SHOWN
   pub rolls : e.rolls ≤ 255
-  pub after : e.after ≤ 4294967295
+  pub after : e.after ≤ MAX_SHOWN
   pub sf : IsTrue (is_within 3 e.sf)
 
 -- what the queries show of an entry
@@ -83,9 +84,9 @@ entry_in row =
     and_then (or_damaged (whole_in 1 greatest_place (column row 0))) (λ place.
     and_then (or_damaged (kind_in (column row 1))) (λ kind.
     and_then (or_damaged (whole_in 0 latest_moment (column row 2))) (λ moment.
-    and_then (or_damaged (whole_in 0 4294967295 (column row 3))) (λ raw.
+    and_then (or_damaged (whole_in 0 MAX_SHOWN (column row 3))) (λ raw.
     and_then (or_damaged (whole_in 0 255 (column row 4))) (λ rolls.
-    and_then (or_damaged (whole_in 0 4294967295 (column row 5))) (λ after.
+    and_then (or_damaged (whole_in 0 MAX_SHOWN (column row 5))) (λ after.
     and_then (or_damaged (within 3 (column row 6))) (λ sf.
     Ok (record {
       place = place;

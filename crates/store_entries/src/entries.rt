@@ -11,7 +11,7 @@ ghost use Rattle.store_entries.specs.Rows.{is_entry, is_of, IsRow, HasEntryPlace
 ghost use Rattle.store_entries.specs.Rows.{IsSoundEntry, IsSoundEntered};
 ghost use Rattle.store_entries.specs.Trees.{entries};
 
-use crate::reading::{entry, place};
+use crate::columns::{entry, place};
 use crate::rows::EntryRow;
 use sqlite::{Alter, Connection, Error, Row, Transaction, params};
 use store_tables::{RowFault, number, signed};

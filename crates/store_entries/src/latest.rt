@@ -10,7 +10,7 @@ ghost use Rattle.store_entries.specs.Latest.{void_moment, void_moment_shown, Has
 ghost use Rattle.store_entries.specs.Latest.{IsTimelyVoid};
 ghost use Rattle.store_entries.specs.Trees.{entries, voids};
 
-use crate::reading::moment;
+use crate::columns::moment;
 use sqlite::{Alter, Connection, Error, Row};
 use store_tables::RowFault;
 

@@ -1,16 +1,16 @@
 //! The entries of meters in the tables of the books, and which of them were voided.
 #![tactic(auto)]
 
+mod columns;
 mod entries;
 mod inside;
 mod latest;
-mod reading;
 mod rows;
 mod voids;
 
+pub use columns::{read_entry, read_place, read_void};
 pub use entries::{entry_at, entry_rows, insert_entry, last_entry_rows, last_place, roll_entry};
 pub use inside::{entry_rows_inside, void_rows_inside};
 pub use latest::{latest_entry, latest_void};
-pub use reading::{read_entry, read_place, read_void};
 pub use rows::{EntryKind, EntryRow};
 pub use voids::{insert_void, void_rows};

@@ -12,7 +12,7 @@ use Rattle.interval_core.specs.declared.shares.Share.{Share}
 use Rattle.meter_journal.specs.Intervals as journal
 use Rattle.store_tables.specs.Content.{changed_where}
 use Rattle.store_intervals.specs.Rows.{Interval, is_of, is_at}
-use Rattle.store_intervals.specs.Booking.{raised, lowered, with_share, without_share, with_shares, without_shares}
+use Rattle.store_intervals.specs.StepShares.{raised, lowered, with_share, without_share, with_shares, without_shares}
 use Rattle.store_facts.specs.Rows.{interval_of}
 use Rattle.store_facts.proofs.Passing.{filter_agree, map_agree, any_agree, filter_edited, filter_spared, any_filter, any_permutation, any_map}
 

@@ -20,7 +20,7 @@ use Rattle.office_laws.specs.Laws.{IsRecorded, MetersAreKept}
 use Rattle.office_laws.specs.Ranges.{InstallationsAreInRange}
 use Rattle.store_meters.specs.Rows.{greatest_total}
 use Rattle.store_intervals.specs.Rows.{Interval, is_of}
-use Rattle.store_intervals.specs.Booking.{AreSmall}
+use Rattle.store_intervals.specs.StepShares.{AreSmall}
 use Rattle.store_facts.specs.Rows.{interval_of}
 use Rattle.store_facts.proofs.Passing.{all_passing}
 use Rattle.store_facts.proofs.Booked.{AreApart, has_start, itself}

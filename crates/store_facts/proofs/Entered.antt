@@ -28,7 +28,7 @@ use Rattle.store_entries.specs.Trees.{entries}
 use Rattle.store_entries.specs.Rows.{Entered, entry_columns, is_of as is_entry_of}
 use Rattle.store_intervals.specs.Trees.{intervals}
 use Rattle.store_intervals.specs.Rows.{Interval, interval_columns, is_of as is_interval_of}
-use Rattle.store_intervals.specs.Booking.{with_shares, BooksShares}
+use Rattle.store_intervals.specs.StepShares.{with_shares, BooksShares}
 use Rattle.sqlite_keyed.proofs.ListLemmas.{all_weaker}
 use Rattle.store_facts.specs.Rows.{placed, installed_as, installed_row, entered_rows, entries_at, entries_of, interval_of}
 use Rattle.store_facts.specs.Tables.{AreEntries, AreIntervals}

@@ -26,7 +26,7 @@ use Rattle.store_meters.specs.Rows.{Installed, installed_columns, ranged_columns
 use Rattle.store_entries.specs.Trees as entry_tree
 use Rattle.store_entries.specs.Rows.{Entered, entry_columns, entry_place, voided_columns}
 use Rattle.store_intervals.specs.Trees as interval_tree
-use Rattle.store_intervals.specs.Booking.{BooksShares}
+use Rattle.store_intervals.specs.StepShares.{BooksShares}
 use Rattle.store_polls.specs.Trees as poll_tree
 use Rattle.store_polls.specs.Rows.{poll_columns, outcome_columns, hold_columns, reply_columns}
 use Rattle.store_facts.specs.Rows.{placed, added, registered, installed_row, ranged, voided, started, outcome_row, held_row, kept, entered, entry_row, opening_row, scale_behind, entered_rows}

@@ -1,8 +1,6 @@
 -- The rows that the tables have for facts.
 use Rattle.std.specs.Prelude.{ℕ, ℤ, ◌+◌, ◌≤◌, IsTrue, false, List, [], ◌∷◌, length, Option, Some, None}
 use Rattle.std.specs.List.{find}
-use Rattle.mb_wire.specs.declared.span.ReadFunction.{ReadFunction}
-use Rattle.mb_wire.specs.declared.span.ReadFunction.TheVariants.{HoldingRegisters, InputRegisters}
 use Rattle.energy_core.specs.declared.entries.Entry.{Entry}
 use Rattle.energy_core.specs.declared.entries.Entry.TheVariants as entry
 use Rattle.energy_core.specs.Account.{moment_of, last_of}
@@ -12,9 +10,7 @@ use Rattle.meter_journal.specs.declared.lines.EntryRow as journal
 use Rattle.meter_journal.specs.declared.lines.EntryKind as journal_kind
 use Rattle.meter_journal.specs.declared.lines.EntryKind.TheVariants as from
 use Rattle.point_list.specs.declared.point.ListedPoint.{ListedPoint}
-use Rattle.point_list.specs.declared.point.RegisterTable.{RegisterTable}
-use Rattle.point_list.specs.declared.point.RegisterTable.TheVariants.{Holding, Input}
-use Rattle.point_list.specs.Written.{type_text, scale_text}
+use Rattle.point_list.specs.RowTexts.{type_text, scale_text}
 use Rattle.office_events.specs.declared.answers.CommandKind.{CommandKind}
 use Rattle.office_events.specs.declared.answers.CommandKind.TheVariants as command
 use Rattle.office_events.specs.declared.facts.Device.{Device}
@@ -72,11 +68,6 @@ added place device = record {
   };
 }
 
--- the function that reads the registers of a table
-abbrev pub function_of : RegisterTable → ReadFunction
-function_of Holding = HoldingRegisters
-function_of Input = InputRegisters
-
 abbrev pub listed : (device : List ℕ) → (place : ℕ) → ListedPoint → Listed
 listed device place point = record {
   device = device;
@@ -85,7 +76,7 @@ listed device place point = record {
   scale = scale_text point.scale;
   row = record {
     place = place;
-    function = function_of point.table;
+    function = point.function;
     area = point.area;
     address = point.address;
   };

@@ -2,29 +2,19 @@
 ghost use Rattle.std.specs.Prelude.{◌≡◌, ◌++◌, ◌∷◌, [], ℕ, List, map, IfOk, All};
 ghost use Rattle.std.specs.Fmt.{signed_decimal};
 ghost use Rattle.std.specs.String.{string_bytes};
-ghost use Rattle.point_list.specs.Written as written;
+ghost use Rattle.point_list.specs.RowTexts as written;
 ghost use Rattle.store_tables.specs.Limits.{IsPlace};
 ghost use Rattle.store_lists.specs.Rows.{IsSoundPoint, listed_at};
 ghost use Rattle.store_facts.specs.Rows as rows;
 
 use mb_wire::ReadFunction;
-use point_list::{ListedPoint, PointName, PointScale, RegisterTable, type_text};
+use point_list::{ListedPoint, PointName, PointScale, type_text};
 use sqlite::Error;
 use std::alloc::Global;
 use std::str;
 use store_lists::{Point, PointRow};
 use store_tables::{GREATEST_PLACE, RowFault};
 use sun_points::PointType;
-
-/// The function that reads the registers of a table.
-fn function(table: RegisterTable) -> ReadFunction
-    ensures { result ≡ rows.function_of table }
-{
-    match table {
-        RegisterTable::Holding => ReadFunction::HoldingRegisters,
-        RegisterTable::Input => ReadFunction::InputRegisters,
-    }
-}
 
 /// The text of a type. Want of memory is the database's.
 fn kind(alloc: Global, kind: PointType) -> Result<String, Error>
@@ -69,10 +59,10 @@ fn scale(alloc: Global, scale: &PointScale) -> Result<String, RowFault>
 }
 
 /// The numbers of a point at a place of its list.
-fn numbers(place: u64, table: RegisterTable, area: u8, address: u16) -> PointRow
+fn numbers(place: u64, function: ReadFunction, area: u8, address: u16) -> PointRow
     ensures row { result ≡ record {
       place = place;
-      function = rows.function_of table;
+      function = function;
       area = area;
       address = address;
     } }
@@ -80,7 +70,7 @@ fn numbers(place: u64, table: RegisterTable, area: u8, address: u16) -> PointRow
 {
     PointRow {
         place,
-        function: function(table),
+        function,
         area,
         address,
     }
@@ -99,7 +89,7 @@ fn point_at(alloc: Global, point: &ListedPoint, place: u64) -> Result<Point, Row
         name,
         kind,
         scale,
-        row: numbers(place, point.table, point.area, point.address),
+        row: numbers(place, point.function, point.area, point.address),
     })
 }
 

@@ -10,14 +10,14 @@ ghost use Rattle.store_polls.specs.Rows.{IsSoundPoll};
 ghost use Rattle.store_facts.specs.Rows.{IsSoundOpening};
 ghost use Rattle.store_facts.specs.Rows as rows;
 
-use energy_core::{Entry, Last};
+use energy_core::{Entry, Last, MAX_CEILING, MAX_RANGE, MIN_RANGE};
 use meter_journal::EntryKind;
 use office_events::{
-    CommandKind, Device, EndedPoll, HeldReading, Opening, Poll, Register, ScaleSource,
+    CommandKind, Device, EndedPoll, HeldReading, LAST_COUNTER, Opening, Poll, Register, ScaleSource,
 };
 use store_entries::EntryRow;
 use store_lists::{DeviceRow, RegisterRow, RegisterScale};
-use store_meters::{GREATEST_CEILING, InstallationRow, LastRow};
+use store_meters::{InstallationRow, LastRow};
 use store_polls::{HoldRow, OutcomeRow, PollRow, ReplyKind};
 use store_tables::LATEST_MOMENT;
 
@@ -46,7 +46,7 @@ fn scale(source: ScaleSource) -> RegisterScale
 /// A register at a place.
 pub fn register_row(register: Register, place: u64) -> RegisterRow
     ensures row { result ≡ (rows.registered place register).row }
-    ensures sound { IsPlace place → register.address ≤ 65534
+    ensures sound { IsPlace place → register.address ≤ LAST_COUNTER
         → IsSoundScale (rows.scale_as register.scale) → IsSoundRegister result }
 {
     RegisterRow {
@@ -120,9 +120,9 @@ pub fn is_sound_opening(opening: &Opening) -> bool
     ensures { result ≡ true → IsSoundOpening opening.now }
 {
     1 <= opening.ceiling
-        && opening.ceiling <= GREATEST_CEILING
-        && 65_536 <= opening.range
-        && opening.range <= 4_294_967_296
+        && opening.ceiling <= MAX_CEILING
+        && MIN_RANGE <= opening.range
+        && opening.range <= MAX_RANGE
         && opening.at <= LATEST_MOMENT
         && -3 <= opening.sf
         && opening.sf <= 3

@@ -4,6 +4,6 @@
 #[cfg(test)]
 mod given;
 #[cfg(test)]
-mod making;
+mod new_files;
 #[cfg(test)]
-mod opening;
+mod opened_files;

@@ -17,7 +17,7 @@ use Rattle.store_files.specs.declared.layouts.Layout.TheVariants.{Third}
 use Rattle.store_files.specs.Layouts.{first_tables}
 use Rattle.store_files.specs.Meta.{meta, meta_columns, with_version, IsMarked}
 use Rattle.store_files.specs.Growing.{HasFirst, Grows}
-use Rattle.store_files.specs.Bringing.{IsFile, full_range, IsBrought, meter_shown, range_in, GivesRanges, BringsFirst, BringsSecond, OpensFile, IsOpenTo}
+use Rattle.store_files.specs.Upgrade.{IsFile, full_range, IsBrought, meter_shown, range_in, GivesRanges, BringsFirst, BringsSecond, OpensFile, IsOpenTo}
 use Rattle.store_files.proofs.Grown.{has_not, has_split}
 
 abbrev SetsVersion : Content → Content → Type 0

@@ -9,7 +9,7 @@ use Rattle.store_tables.proofs.StepLemmas.{goes_then}
 use Rattle.store_files.specs.Layouts.{no_schema}
 use Rattle.store_files.specs.Meta.{meta, meta_columns}
 use Rattle.store_files.specs.Growing.{HasFirst, Grows}
-use Rattle.store_files.specs.Making.{Makes}
+use Rattle.store_files.specs.NewFile.{Makes}
 
 nothing : Content
 nothing t = []

@@ -14,7 +14,7 @@ use Rattle.store_files.specs.declared.layouts.Layout.{Layout}
 use Rattle.store_files.specs.declared.layouts.Layout.TheVariants.{First, Second, Third}
 use Rattle.store_files.specs.Layouts.{schema_of}
 use Rattle.store_files.specs.Meta.{Meta, meta_columns, meta_shown, IsMarked}
-use Rattle.store_files.specs.Bringing.{meter_shown}
+use Rattle.store_files.specs.Upgrade.{meter_shown}
 use Rattle.store_files.proofs.Texts as text
 
 told_same : (rows : List Row) → map (told true) rows ≡ rows

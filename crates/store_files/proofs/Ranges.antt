@@ -12,7 +12,7 @@ use Rattle.store_tables.specs.Steps.{Steps, Turns}
 use Rattle.store_tables.proofs.StepLemmas.{steps_then, no_steps, answered, weaker}
 use Rattle.store_meters.specs.Rows.{Ranged, ranged_columns}
 use Rattle.store_meters.specs.Trees.{ranges}
-use Rattle.store_files.specs.Bringing.{text_in, range_in, with_ranges, GivesRanges}
+use Rattle.store_files.specs.Upgrade.{text_in, range_in, with_ranges, GivesRanges}
 
 one_behind : (shown : List Row) (row : Row) (rs : List Ranged) → IsPermutation (with_ranges (shown ++ row ∷ []) rs) (range_in row ∷ with_ranges shown rs)
 one_behind shown row rs =

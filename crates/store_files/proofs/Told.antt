@@ -12,7 +12,7 @@ use Rattle.store_files.specs.declared.layouts.Layout.TheVariants.{First, Second,
 use Rattle.store_files.specs.Layouts.{names_of, schema_of}
 use Rattle.store_files.specs.Meta.{Meta}
 use Rattle.store_files.specs.Zones.{IsZone}
-use Rattle.store_files.specs.Opening.{Tells}
+use Rattle.store_files.specs.OpenedFile.{Tells}
 
 apart_from : (e d f g : OpenFault) → (e ≡ d) ⊎ (e ≡ f) → d ≢ g → f ≢ g → e ≢ g
 apart_from e d f g (inl is) off away same = off (sym is ∙ same)

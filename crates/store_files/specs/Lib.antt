@@ -3,6 +3,6 @@ pub mod Zones
 pub mod Layouts
 pub mod Meta
 pub mod Growing
-pub mod Making
-pub mod Bringing
-pub mod Opening
+pub mod NewFile
+pub mod Upgrade
+pub mod OpenedFile

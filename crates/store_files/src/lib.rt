@@ -1,16 +1,16 @@
 //! The file of the books: how its tables are made, found again, and brought from an earlier version.
 #![tactic(auto)]
 
-mod bringing;
 mod faults;
 mod layouts;
-mod making;
 mod meta;
-mod opening;
+mod new_file;
+mod opened_file;
 mod tables;
+mod upgrade;
 mod zones;
 
 pub use faults::OpenFault;
 pub use layouts::{Layout, layout_of};
-pub use making::create;
-pub use opening::open;
+pub use new_file::create;
+pub use opened_file::open;

@@ -7,13 +7,10 @@ use Rattle.std.proofs.lemmas.List.Sorted.{IsPermutation-sym, IsPermutation-trans
 use Rattle.std.proofs.lemmas.List.Elements.{recursion_from_All}
 use Rattle.sqlite.specs.Order.{Row}
 use Rattle.sqlite_keyed.proofs.ListLemmas.{all_both}
-use Rattle.mb_wire.specs.declared.span.ReadFunction.{ReadFunction}
 use Rattle.sun_points.specs.declared.point_type.PointType.{PointType}
 use Rattle.point_list.specs.declared.point.ListedPoint.{ListedPoint}
 use Rattle.point_list.specs.declared.point.PointScale.{PointScale}
 use Rattle.point_list.specs.declared.point.PointScale.TheVariants.{Unscaled, Fixed, Named}
-use Rattle.point_list.specs.declared.point.RegisterTable.{RegisterTable}
-use Rattle.point_list.specs.declared.point.RegisterTable.TheVariants.{Holding, Input}
 use Rattle.point_list.specs.Fields.{type_of}
 use Rattle.point_list.specs.Lists.{name_spelled, scale_spelled}
 use Rattle.point_list.specs.Names.{is_name}
@@ -37,10 +34,10 @@ use Rattle.store_tables.proofs.ReadLemmas.{IsFair, fair_then, fair_some}
 use Rattle.store_lists.specs.declared.rows.Point as list_point
 use Rattle.store_lists.specs.declared.rows.PointRow.{PointRow}
 use Rattle.store_lists.specs.Rows.{Listed, IsPoint, is_point_of, point_place, point_shown}
-use Rattle.store_facts.specs.Rows.{placed_on, listed, points_of, points_put, function_of}
+use Rattle.store_facts.specs.Rows.{placed_on, listed, points_of, points_put}
 use Rattle.store_facts.specs.Tables.{ArePoints}
 use Rattle.store_finding.specs.Each.{AreEach}
-use Rattle.store_finding.specs.Points.{table_from, point_with, IsSpelled, IsPointOf, IsReadablePoint}
+use Rattle.store_finding.specs.Points.{point_with, IsSpelled, IsPointOf, IsReadablePoint}
 use Rattle.store_finding.proofs.Each.{each_same, each_equal}
 use Rattle.store_finding.proofs.Ordered.{Rises, one_order}
 use Rattle.store_finding.proofs.ReadRows.{fair_if, fair_ok}
@@ -97,10 +94,6 @@ all_spelled points l = recursion_from_All IsSpelled points (λ k d below.
 
 -- ---- one point
 
-table_back : (t : RegisterTable) → table_from (function_of t) ≡ t
-table_back Holding = refl
-table_back Input = refl
-
 never : {A : Type 0} (S : Type 0) (Is : A → Type 0) → (S → ⊥) → IsFair S Is (Err Damaged)
 never S Is none = record { read = tt; fault = λ s is. none s }
 
@@ -108,20 +101,19 @@ one_of : {X : Type 0} (o : Option X) (x y : X) → o ≡ Some x → o ≡ Some y
 one_of o x y e f = let g : Some x ≡ Some y = sym e ∙ f in cc
 
 point_as : Listed → PointType → PointScale → ListedPoint
-point_as x kind scale = record { name = x.name; table = table_from x.row.function; area = x.row.area; address = x.row.address; kind = kind; scale = scale }
+point_as x kind scale = record { name = x.name; function = x.row.function; area = x.row.area; address = x.row.address; kind = kind; scale = scale }
 
 point_is : (x : Listed) (k : PointType) (s : PointScale) → type_of x.kind ≡ Some k → scale_spelled x.scale ≡ Some s → IsPointOf x (point_as x k s)
 unfolding point_as
 point_is x k s ek es device place p spelled is =
     let kind : k ≡ p.kind = one_of (type_of x.kind) k p.kind ek (ap (λ (y : Listed). type_of y.kind) is ∙ spelled.kind) in
     let scale : s ≡ p.scale = one_of (scale_spelled x.scale) s p.scale es (ap (λ (y : Listed). scale_spelled y.scale) is ∙ spelled.scale) in
-    (λ i. point_as (is i) (kind i) (scale i))
-    ∙ ap (λ (t : RegisterTable). let q : ListedPoint = record { name = p.name; table = t; area = p.area; address = p.address; kind = p.kind; scale = p.scale } in q) (table_back p.table)
+    λ i. point_as (is i) (kind i) (scale i)
 
 with_parts : Listed → Option PointType → Option PointScale → Result ListedPoint RowFault
 with_parts x k s =
     and_then (or_damaged (name_spelled x.name)) (λ name. and_then (or_damaged k) (λ kind. and_then (or_damaged s) (λ scale.
-    Ok (record { name = name; table = table_from x.row.function; area = x.row.area; address = x.row.address; kind = kind; scale = scale }))))
+    Ok (record { name = name; function = x.row.function; area = x.row.area; address = x.row.address; kind = kind; scale = scale }))))
 
 fair_parts : (x : Listed) (k : Option PointType) (s : Option PointScale) → type_of x.kind ≡ k → scale_spelled x.scale ≡ s → IsFair (IsReadablePoint x) (IsPointOf x) (with_parts x k s)
 unfolding point_as with_parts

@@ -7,8 +7,8 @@ use Rattle.office_events.specs.declared.answers.CommandKind.TheVariants as comma
 use Rattle.office_events.specs.declared.facts.Reply.{Reply}
 use Rattle.office_events.specs.declared.facts.Fact.{Fact}
 use Rattle.office_events.specs.declared.facts.Fact.TheVariants as fact
-use Rattle.office_books.specs.declared.repeats.Repeat.{Repeat}
-use Rattle.office_books.specs.declared.repeats.Repeat.TheVariants.{Same, Other}
+use Rattle.office_books.specs.declared.books.Repeat.{Repeat}
+use Rattle.office_books.specs.declared.books.Repeat.TheVariants.{Same, Other}
 use Rattle.office_books.specs.Repeats.{as_repeat, repeat_of}
 use Rattle.office_rules.specs.Facts.{same, replies_in, reply_of, request_limit}
 use Rattle.office_rules.specs.Lawful.{AreLawful}

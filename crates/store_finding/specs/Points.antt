@@ -1,27 +1,19 @@
 -- The points that rows stand for.
 use Rattle.std.specs.Prelude.{◌≡◌, ℕ, true, List, Option, Some, None, Result, Ok, Err}
 use Rattle.std.specs.List.{AllByRecursion}
-use Rattle.mb_wire.specs.declared.span.ReadFunction.{ReadFunction}
-use Rattle.mb_wire.specs.declared.span.ReadFunction.TheVariants.{HoldingRegisters, InputRegisters}
 use Rattle.point_list.specs.declared.point.ListedPoint.{ListedPoint}
-use Rattle.point_list.specs.declared.point.RegisterTable.{RegisterTable}
-use Rattle.point_list.specs.declared.point.RegisterTable.TheVariants.{Holding, Input}
 use Rattle.sun_points.specs.declared.point_type.PointType.{PointType}
 use Rattle.point_list.specs.declared.point.PointScale.{PointScale}
 use Rattle.point_list.specs.Fields.{type_of}
 use Rattle.point_list.specs.Lists.{name_spelled, scale_spelled}
 use Rattle.point_list.specs.Names.{is_name}
-use Rattle.point_list.specs.Written.{type_text, scale_text}
+use Rattle.point_list.specs.RowTexts.{type_text, scale_text}
 use Rattle.office_events.specs.declared.facts.Fact.{Fact}
 use Rattle.store_tables.specs.declared.faults.RowFault.{RowFault}
 use Rattle.store_tables.specs.Columns.{or_damaged, and_then}
 use Rattle.store_lists.specs.declared.rows.PointRow.{PointRow}
 use Rattle.store_lists.specs.Rows.{Listed, IsSoundListed}
 use Rattle.store_facts.specs.Rows.{placed_on, listed, points_of}
-
-abbrev pub table_from : ReadFunction → RegisterTable
-table_from HoldingRegisters = Holding
-table_from InputRegisters = Input
 
 -- the point of these texts and numbers, or damage
 abbrev pub point_with : (name kind scale : List ℕ) → PointRow → Result ListedPoint RowFault
@@ -31,7 +23,7 @@ point_with named typed scaled row =
     and_then (or_damaged (scale_spelled scaled)) (λ scale.
     Ok (record {
       name = name;
-      table = table_from row.function;
+      function = row.function;
       area = row.area;
       address = row.address;
       kind = kind;

@@ -1,5 +1,6 @@
 -- What rows stand for.
 use Rattle.std.specs.Prelude.{◌≡◌, ℕ, nat_le, ◌&&◌, if◌then◌else◌, List, Option, Some, None, Result, Ok, Err, string_bytes}
+use Rattle.poll_core.specs.declared.limits.TheConstants.{MAX_TIMEOUT, MAX_WINDOW}
 use Rattle.office_events.specs.Names.{named}
 use Rattle.office_events.specs.declared.answers.CommandKind.{CommandKind}
 use Rattle.office_events.specs.declared.answers.CommandKind.TheVariants as command
@@ -23,8 +24,8 @@ use Rattle.store_polls.specs.declared.rows.ReplyKind.{ReplyKind}
 use Rattle.store_polls.specs.declared.rows.ReplyKind.TheVariants as reply
 use Rattle.store_polls.specs.declared.rows.Repeat as kept
 use Rattle.store_polls.specs.declared.rows.Repeat.TheVariants as kept_as
-use Rattle.office_books.specs.declared.repeats.Repeat.{Repeat}
-use Rattle.office_books.specs.declared.repeats.Repeat.TheVariants.{Same, Other}
+use Rattle.office_books.specs.declared.books.Repeat.{Repeat}
+use Rattle.office_books.specs.declared.books.Repeat.TheVariants.{Same, Other}
 use Rattle.store_facts.specs.Rows.{added, registered, started, outcome_row}
 
 -- ---- devices
@@ -34,10 +35,11 @@ abbrev pub device_with : (name : List ℕ) → DeviceRow → Result Device RowFa
 device_with text row =
     and_then (or_damaged (named text)) (λ name.
     and_then (or_damaged
-    (if nat_le 1 row.timeout && nat_le row.timeout 60 then Some row.timeout else None))
+    (if nat_le 1 row.timeout && nat_le row.timeout MAX_TIMEOUT then Some row.timeout else None))
     (λ timeout.
     and_then (or_damaged
-    (if nat_le 1 row.window && nat_le row.window 16 then Some row.window else None)) (λ window.
+    (if nat_le 1 row.window && nat_le row.window MAX_WINDOW then Some row.window else None))
+    (λ window.
     Ok (record { name = name; unit = row.unit; timeout = timeout; window = window }))))
 
 -- whatever device the row stands for, it is this

@@ -12,6 +12,7 @@ ghost use Rattle.store_finding.specs.Sound.{IsReadableDevice, HasReadableDevices
 
 use crate::memory::put;
 use office_events::{Device, Timeout, Window};
+use poll_core::{MAX_TIMEOUT, MAX_WINDOW};
 use sqlite::{Alter, Connection, Row};
 use store_facts::name;
 use store_lists::{device_rows, read_device};
@@ -19,7 +20,7 @@ use store_tables::{RowFault, touch};
 
 fn timeout(seconds: u8) -> Result<Timeout, RowFault>
     ensures { result ≡ or_damaged
-        (if nat_le 1 seconds && nat_le seconds 60 then Some seconds else None) }
+        (if nat_le 1 seconds && nat_le seconds MAX_TIMEOUT then Some seconds else None) }
 {
     match Timeout::new(u64::from(seconds)) {
         Some(timeout) => Ok(timeout),
@@ -29,7 +30,7 @@ fn timeout(seconds: u8) -> Result<Timeout, RowFault>
 
 fn window(polls: u8) -> Result<Window, RowFault>
     ensures { result ≡ or_damaged
-        (if nat_le 1 polls && nat_le polls 16 then Some polls else None) }
+        (if nat_le 1 polls && nat_le polls MAX_WINDOW then Some polls else None) }
 {
     match Window::new(u64::from(polls)) {
         Some(window) => Ok(window),

@@ -10,14 +10,11 @@ ghost use Rattle.store_finding.specs.Reading.{kind_from, repeat_from};
 ghost use Rattle.store_finding.specs.Sound.{HasReadableReplies};
 
 use office_books::Repeat;
-use office_events::{CommandKind, Name};
+use office_events::{CommandKind, MAX_REQUEST, Name};
 use sqlite::{Alter, Connection};
 use store_facts::text;
 use store_polls::ReplyKind;
 use store_tables::{RowFault, touch};
-
-/// The greatest number of a request.
-const GREATEST_NUMBER: u64 = 9_223_372_036_854_775_807;
 
 fn command(kind: ReplyKind) -> CommandKind
     ensures { result ≡ kind_from kind }
@@ -76,7 +73,7 @@ pub fn repeat<S: Alter>(
         (λ facts kept. kept ≡ repeat_of facts caller.now number request.now)
         (λ facts. IsUtf8 caller.now × HasReadableReplies facts) }
 {
-    if GREATEST_NUMBER < number {
+    if MAX_REQUEST < number {
         touch(conn)?;
         return Ok(None);
     }

@@ -7,25 +7,15 @@ ghost use Rattle.point_list.specs.Lists.{scale_spelled, name_spelled};
 ghost use Rattle.store_lists.specs.Rows.{point_shown};
 ghost use Rattle.store_facts.specs.Rows.{placed_on, listed, points_of};
 ghost use Rattle.store_finding.specs.Finding.{Finds, OfLawful, ReadsAll};
-ghost use Rattle.store_finding.specs.Points.{table_from, point_with, IsPointOf, IsReadablePoint};
+ghost use Rattle.store_finding.specs.Points.{point_with, IsPointOf, IsReadablePoint};
 ghost use Rattle.store_finding.specs.Points.{HasReadablePoints};
 
 use crate::memory::put;
-use mb_wire::ReadFunction;
-use point_list::{ListedPoint, PointName, PointScale, RegisterTable, fixed_scale, point_type};
+use point_list::{ListedPoint, PointName, PointScale, fixed_scale, point_type};
 use sqlite::{Alter, Connection, Row};
 use store_lists::{point_rows, read_point};
 use store_tables::{RowFault, touch};
 use sun_points::PointType;
-
-fn table(function: ReadFunction) -> RegisterTable
-    ensures { result ≡ table_from function }
-{
-    match function {
-        ReadFunction::HoldingRegisters => RegisterTable::Holding,
-        ReadFunction::InputRegisters => RegisterTable::Input,
-    }
-}
 
 fn point_name(text: String) -> Result<PointName, RowFault>
     ensures { result ≡ or_damaged (name_spelled (string_bytes text)) }
@@ -67,7 +57,7 @@ fn point_from(row: store_lists::Point) -> Result<ListedPoint, RowFault>
     let scale = scale(row.scale)?;
     Ok(ListedPoint {
         name,
-        table: table(row.row.function),
+        function: row.row.function,
         area: row.row.area,
         address: row.row.address,
         kind,

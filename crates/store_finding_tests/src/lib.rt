@@ -2,10 +2,10 @@
 #![tactic(auto)]
 
 #[cfg(test)]
-mod finding;
-#[cfg(test)]
 mod given;
 #[cfg(test)]
 mod latest;
 #[cfg(test)]
-mod listing;
+mod lookups;
+#[cfg(test)]
+mod point_lists;

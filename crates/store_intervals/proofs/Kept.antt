@@ -21,7 +21,7 @@ use Rattle.store_tables.proofs.Tables.{cast_int}
 use Rattle.store_intervals.specs.Trees.{intervals}
 use Rattle.store_meters.specs.Rows.{greatest_total}
 use Rattle.store_intervals.specs.Rows.{Interval, interval_columns, is_at}
-use Rattle.store_intervals.specs.Booking.{raised, lowered, with_share, without_share, AreSmall, HasEnergy, EditsIf}
+use Rattle.store_intervals.specs.StepShares.{raised, lowered, with_share, without_share, AreSmall, HasEnergy, EditsIf}
 
 pub record Kept : Type 0 where
   pub meter : List ℕ

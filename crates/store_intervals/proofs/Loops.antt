@@ -18,7 +18,7 @@ use Rattle.store_intervals.specs.Trees.{intervals}
 use Rattle.store_meters.specs.Rows.{greatest_total}
 use Rattle.store_tables.specs.Limits.{latest_moment}
 use Rattle.store_intervals.specs.Rows.{Interval, interval_columns, is_at, IsSoundShare}
-use Rattle.store_intervals.specs.Booking.{raised, with_share, without_share, with_shares, without_shares, AreSmall, AreTherein, EditsIf, BooksShares, TakesShares}
+use Rattle.store_intervals.specs.StepShares.{raised, with_share, without_share, with_shares, without_shares, AreSmall, AreTherein, EditsIf, BooksShares, TakesShares}
 use Rattle.store_intervals.proofs.Kept.{turns_weaker}
 
 -- ---- each share is in its ranges

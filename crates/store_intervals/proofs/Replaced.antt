@@ -18,7 +18,7 @@ use Rattle.store_tables.proofs.Tables.{cast_int, cast_null}
 use Rattle.store_tables.proofs.Inserts.{plainly, inserts, chosen_rowid}
 use Rattle.store_intervals.specs.Trees.{intervals}
 use Rattle.store_intervals.specs.Rows.{Interval, interval_columns, is_of}
-use Rattle.store_intervals.specs.Replacing.{row_of, with_rows, with_all, ReplacesShares}
+use Rattle.store_intervals.specs.Replacement.{row_of, with_rows, with_all, ReplacesShares}
 use Rattle.store_intervals.proofs.Texts as text
 
 -- ---- the statements

@@ -23,7 +23,7 @@ use Rattle.store_tables.proofs.Updates.{updates, deletes}
 use Rattle.store_tables.proofs.Tables.{cast_int, rowid_stays}
 use Rattle.store_intervals.specs.Trees.{intervals}
 use Rattle.store_intervals.specs.Rows.{interval_columns, is_from}
-use Rattle.store_intervals.specs.Booking.{BooksShares, TakesShares, DropsFrom, AreSmall, AreTherein, with_shares, without_shares}
+use Rattle.store_intervals.specs.StepShares.{BooksShares, TakesShares, DropsFrom, AreSmall, AreTherein, with_shares, without_shares}
 use Rattle.store_intervals.proofs.Kept.{kept_columns, is_kept, takes, added_share, taken_share, upserted, of_intervals, turns_weaker}
 use Rattle.store_intervals.proofs.Upserts.{columns, upserts}
 use Rattle.store_intervals.proofs.Texts as text

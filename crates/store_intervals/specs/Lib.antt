@@ -1,5 +1,5 @@
 pub mod Trees
 pub mod Rows
-pub mod Booking
+pub mod StepShares
 pub mod Handing
-pub mod Replacing
+pub mod Replacement

@@ -10,7 +10,7 @@ ghost use Rattle.store_intervals.specs.Handing.{TookSome, HandsOn, HandsOnQuery,
 ghost use Rattle.store_intervals.specs.Handing.{AreSharesOfMeter, AreSoundIntervals, HaveLying};
 ghost use Rattle.store_intervals.specs.Handing.{AreSharesAt, AreSoundLying};
 
-use crate::reading::read_share;
+use crate::columns::read_share;
 use interval_core::Share;
 use office_books::RowSink;
 use sqlite::types::ValueRef;

@@ -4,8 +4,8 @@ use Rattle.std.specs.Prelude.{◌==◌}
 use Rattle.mb_wire.specs.declared.span.ReadFunction.{ReadFunction}
 use Rattle.mb_wire.specs.declared.span.ReadFunction.TheVariants.{HoldingRegisters, InputRegisters}
 use Rattle.mb_wire.specs.Spans.{code_of}
-use Rattle.energy_core.specs.declared.judging.Cause.{Cause}
-use Rattle.energy_core.specs.declared.judging.Cause.TheVariants as cause
+use Rattle.energy_core.specs.declared.verdicts.Cause.{Cause}
+use Rattle.energy_core.specs.declared.verdicts.Cause.TheVariants as cause
 use Rattle.energy_core.specs.Verdict.{cause_number}
 use Rattle.poll_core.specs.declared.outcome.Outcome.{Outcome}
 use Rattle.poll_core.specs.declared.outcome.Outcome.TheVariants.{Answered, Exception, Silent, Malformed, Lost}

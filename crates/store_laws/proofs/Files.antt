@@ -16,7 +16,7 @@ use Rattle.store_intervals.specs.Rows.{interval_columns}
 use Rattle.store_polls.specs.Trees as poll_tree
 use Rattle.store_polls.specs.Rows.{poll_columns, outcome_columns, hold_columns, reply_columns}
 use Rattle.store_files.specs.declared.layouts.Layout.TheVariants.{Third}
-use Rattle.store_files.specs.Bringing.{IsBrought}
+use Rattle.store_files.specs.Upgrade.{IsBrought}
 use Rattle.store_facts.specs.Rows.{placed, added, registered, installed_row, ranged, voided, started, outcome_row, held_row, kept}
 use Rattle.store_facts.specs.Tables.{AreOf}
 use Rattle.store_facts.proofs.Recorded.{stay, points_stay, entries_stay, intervals_stay}

@@ -5,18 +5,14 @@ use Rattle.std.specs.Option.{option_and_then}
 use Rattle.std.specs.Prelude.{IsSomeAnd, bytes_eq}
 use Rattle.std.proofs.lemmas.List.Elements.{recursion_from_All}
 use Rattle.std.proofs.lemmas.Slice.Eq.{bytes_eq-Decides}
-use Rattle.mb_wire.specs.declared.span.ReadFunction.{ReadFunction}
-use Rattle.mb_wire.specs.declared.span.ReadFunction.TheVariants.{HoldingRegisters, InputRegisters}
 use Rattle.point_list.specs.declared.point.ListedPoint.{ListedPoint}
 use Rattle.point_list.specs.declared.point.PointScale.{PointScale}
 use Rattle.point_list.specs.declared.point.PointScale.TheVariants.{Unscaled, Fixed, Named}
-use Rattle.point_list.specs.declared.point.RegisterTable.{RegisterTable}
-use Rattle.point_list.specs.declared.point.RegisterTable.TheVariants.{Holding, Input}
 use Rattle.point_list.specs.Fields.{type_of}
 use Rattle.point_list.specs.Lists.{scale_spelled}
 use Rattle.point_list.specs.Names.{is_name}
 use Rattle.point_list.specs.Points.{is_sunssf, scale_point, IsGroup, HasLawfulScale, IsPointList}
-use Rattle.point_list.specs.Written.{type_text, scale_text}
+use Rattle.point_list.specs.RowTexts.{type_text, scale_text}
 use Rattle.point_list.proofs.WrittenFields.{type-read, scale-read}
 use Rattle.planned_list.specs.Laws.{ListsArePlannedOnce}
 use Rattle.planned_list.specs.Lists.{Planned, IsPlanned}
@@ -24,8 +20,8 @@ use Rattle.office_events.specs.declared.facts.DeviceList.{DeviceList}
 use Rattle.office_rules.specs.Facts.{if_some}
 use Rattle.office_laws.proofs.Lookups.{find_passes}
 use Rattle.store_lists.specs.Rows.{point_place}
-use Rattle.store_facts.specs.Rows.{placed_on, listed, function_of, points_put}
-use Rattle.store_laws.proofs.Lists.{undone, same_by_parts, found_has}
+use Rattle.store_facts.specs.Rows.{placed_on, listed, points_put}
+use Rattle.store_laws.proofs.Lists.{same_by_parts, found_has}
 use Rattle.store_laws.proofs.Placed.{placed_on_alike}
 
 -- The texts of a point's type and scale are read back.
@@ -64,30 +60,20 @@ all_read points l = recursion_from_All IsRead points (λ k d below.
 -- the columns of two points agree
 record IsAlike (a b : ListedPoint) : Type 0 where
   name : a.name ≡ b.name
-  function : function_of a.table ≡ function_of b.table
+  function : a.function ≡ b.function
   area : a.area ≡ b.area
   address : a.address ≡ b.address
   kind : type_text a.kind ≡ type_text b.kind
   scale : scale_text a.scale ≡ scale_text b.scale
-
-table_of : ReadFunction → Option RegisterTable
-table_of HoldingRegisters = Some Holding
-table_of InputRegisters = Some Input
-
-table_back : (t : RegisterTable) → table_of (function_of t) ≡ Some t
-unfolding table_of
-table_back Holding = refl
-table_back Input = refl
 
 read_alike : {X : Type 0} (text : X → List ℕ) (reads : List ℕ → Option X) (x y : X) → reads (text x) ≡ Some x → reads (text y) ≡ Some y → text x ≡ text y → x ≡ y
 read_alike text reads x y h k e = let same : Some x ≡ Some y = sym h ∙ ap reads e ∙ k in cc
 
 one_alike : (a b : ListedPoint) → IsAlike a b → IsRead a → IsRead b → a ≡ b
 one_alike a b h p q =
-    let table : a.table ≡ b.table = undone function_of table_of table_back _ _ h.function in
     let kind : a.kind ≡ b.kind = read_alike type_text type_of _ _ p.kind q.kind h.kind in
     let scale : a.scale ≡ b.scale = read_alike scale_text scale_spelled _ _ p.scale q.scale h.scale in
-    λ i. record { name = h.name i; table = table i; area = h.area i; address = h.address i; kind = kind i; scale = scale i }
+    λ i. record { name = h.name i; function = h.function i; area = h.area i; address = h.address i; kind = kind i; scale = scale i }
 
 -- ---- the list that was put last
 

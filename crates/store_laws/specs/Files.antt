@@ -4,8 +4,8 @@ use Rattle.sqlite.specs.Effect.{Database}
 use Rattle.office_events.specs.declared.facts.Fact.{Fact}
 use Rattle.store_tables.specs.Content.{Content}
 use Rattle.store_files.specs.declared.layouts.Layout.TheVariants.{Third}
-use Rattle.store_files.specs.Making.{IsNew}
-use Rattle.store_files.specs.Bringing.{IsFile, IsBrought}
+use Rattle.store_files.specs.NewFile.{IsNew}
+use Rattle.store_files.specs.Upgrade.{IsFile, IsBrought}
 use Rattle.store_facts.specs.Tables.{AreOf}
 use Rattle.store_facts.specs.Holding.{HasFacts}
 

@@ -4,6 +4,8 @@ use Rattle.sqlite.specs.declared.types.Value.{Value}
 use Rattle.sqlite.specs.declared.types.Value.TheVariants.{Null, Int, Text}
 use Rattle.sqlite.specs.Order.{Row, column}
 use Rattle.mb_wire.specs.Spans.{code_of}
+use Rattle.poll_core.specs.declared.limits.TheConstants.{MAX_TIMEOUT, MAX_WINDOW}
+use Rattle.office_events.specs.declared.limits.TheConstants.{LAST_ADDRESS, LAST_COUNTER, LAST_UNIT}
 use Rattle.store_tables.specs.declared.faults.RowFault.{RowFault}
 use Rattle.store_tables.specs.Columns.{is_within, whole_in, within, function_in, or_damaged, and_then}
 use Rattle.store_tables.specs.Content.{without_where}
@@ -43,9 +45,9 @@ device_place_shown d = Int (pos d.row.place) ∷ []
 
 pub record IsSoundDevice (d : DeviceRow) : Type 0 where
   pub place : IsPlace d.place
-  pub unit : d.unit ≤ 255
-  pub timeout : (1 ≤ d.timeout) × (d.timeout ≤ 60)
-  pub window : (1 ≤ d.window) × (d.window ≤ 16)
+  pub unit : d.unit ≤ LAST_UNIT
+  pub timeout : (1 ≤ d.timeout) × (d.timeout ≤ MAX_TIMEOUT)
+  pub window : (1 ≤ d.window) × (d.window ≤ MAX_WINDOW)
 
 pub record IsSoundAdded (d : Added) : Type 0 where
   pub row : IsSoundDevice d.row
@@ -62,9 +64,9 @@ HasDevicePlace d place = place ≡ d.row.place
 abbrev pub device_in : Row → Result DeviceRow RowFault
 device_in row =
     and_then (or_damaged (whole_in 1 greatest_place (column row 0))) (λ place.
-    and_then (or_damaged (whole_in 0 255 (column row 2))) (λ unit.
-    and_then (or_damaged (whole_in 1 60 (column row 3))) (λ timeout.
-    and_then (or_damaged (whole_in 1 16 (column row 4))) (λ window.
+    and_then (or_damaged (whole_in 0 LAST_UNIT (column row 2))) (λ unit.
+    and_then (or_damaged (whole_in 1 MAX_TIMEOUT (column row 3))) (λ timeout.
+    and_then (or_damaged (whole_in 1 MAX_WINDOW (column row 4))) (λ window.
     Ok (record { place = place; unit = unit; timeout = timeout; window = window })))))
 
 -- ---- points
@@ -97,7 +99,7 @@ point_place p = p.row.place
 pub record IsSoundPoint (p : PointRow) : Type 0 where
   pub place : IsPlace p.place
   pub area : p.area ≤ 255
-  pub address : p.address ≤ 65535
+  pub address : p.address ≤ LAST_ADDRESS
 
 pub record IsSoundListed (p : Listed) : Type 0 where
   pub row : IsSoundPoint p.row
@@ -135,7 +137,7 @@ point_in row =
     and_then (or_damaged (whole_in 1 greatest_place (column row 0))) (λ place.
     and_then (or_damaged (function_in (column row 2))) (λ function.
     and_then (or_damaged (whole_in 0 255 (column row 3))) (λ area.
-    and_then (or_damaged (whole_in 0 65535 (column row 4))) (λ address.
+    and_then (or_damaged (whole_in 0 LAST_ADDRESS (column row 4))) (λ address.
     Ok (record { place = place; function = function; area = area; address = address })))))
 
 -- ---- registers
@@ -151,7 +153,7 @@ scale_number (scale.At address) = pos address
 
 abbrev pub IsSoundScale : RegisterScale → Type 0
 IsSoundScale (scale.Fixed sf) = IsTrue (is_within 3 sf)
-IsSoundScale (scale.At address) = address ≤ 65535
+IsSoundScale (scale.At address) = address ≤ LAST_ADDRESS
 
 -- a register of a device under its name
 pub record Registered : Type 0 where
@@ -185,7 +187,7 @@ is_register_of device r = bytes_eq r.device device
 
 pub record IsSoundRegister (r : RegisterRow) : Type 0 where
   pub place : IsPlace r.place
-  pub address : r.address ≤ 65534
+  pub address : r.address ≤ LAST_COUNTER
   pub scale : IsSoundScale r.scale
 
 pub record IsSoundRegistered (r : Registered) : Type 0 where
@@ -211,14 +213,14 @@ at_by (Some address) = Some (scale.At address)
 
 -- the scale of a kind and a number, if they are those of one
 abbrev pub scale_of : (kind : ℕ) → Value → Option RegisterScale
-scale_of kind v = if kind == 0 then fixed_by (within 3 v) else at_by (whole_in 0 65535 v)
+scale_of kind v = if kind == 0 then fixed_by (within 3 v) else at_by (whole_in 0 LAST_ADDRESS v)
 
 -- the register that the columns of a row are, or damage
 abbrev pub register_in : Row → Result RegisterRow RowFault
 register_in row =
     and_then (or_damaged (whole_in 1 greatest_place (column row 0))) (λ place.
     and_then (or_damaged (function_in (column row 3))) (λ function.
-    and_then (or_damaged (whole_in 0 65534 (column row 4))) (λ address.
+    and_then (or_damaged (whole_in 0 LAST_COUNTER (column row 4))) (λ address.
     and_then (or_damaged (whole_in 0 1 (column row 5))) (λ kind.
     and_then (or_damaged (scale_of kind (column row 6))) (λ scale.
     Ok (record { place = place; function = function; address = address; scale = scale }))))))

@@ -11,7 +11,7 @@ ghost use Rattle.store_lists.specs.Rows.{device_place_shown, HasDevicePlace, IsS
 ghost use Rattle.store_lists.specs.Rows.{IsSoundAdded};
 ghost use Rattle.store_lists.specs.Trees.{devices};
 
-use crate::reading::place;
+use crate::columns::place;
 use crate::rows::DeviceRow;
 use sqlite::{Alter, Connection, Error, Row, Transaction, params};
 use store_tables::{RowFault, number};

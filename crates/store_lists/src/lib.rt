@@ -1,15 +1,15 @@
 //! The devices in the tables of the books: devices, the points of their lists, and registers.
 #![tactic(auto)]
 
+mod columns;
 mod devices;
 mod points;
-mod reading;
 mod registers;
 mod rows;
 
+pub use columns::{read_device, read_point, read_register};
 pub use devices::{device_rows, insert_device, last_device, last_device_rows};
 pub use points::{point_rows, replace_points};
-pub use reading::{read_device, read_point, read_register};
 pub use registers::{
     insert_register, last_register, last_register_rows, register_count, register_of, register_rows,
 };

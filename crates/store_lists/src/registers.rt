@@ -15,7 +15,7 @@ ghost use Rattle.store_lists.specs.Rows.{IsSoundRegister, IsSoundRegistered, sca
 ghost use Rattle.store_lists.specs.Rows.{scale_number};
 ghost use Rattle.store_lists.specs.Trees.{registers};
 
-use crate::reading::{place, read_register};
+use crate::columns::{place, read_register};
 use crate::rows::{Register, RegisterRow, RegisterScale};
 use sqlite::types::Value;
 use sqlite::{Alter, Connection, Error, Row, Transaction, params};

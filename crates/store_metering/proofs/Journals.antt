@@ -77,7 +77,7 @@ entered_if : (b : Bool) (place : ℕ) (k : EntryKind) (e : Entry) (lines : Rattl
 entered_if true place k e lines = refl
 entered_if false place k e lines = refl
 
-held_if : (b : Bool) (place : ℕ) (reading : Rattle.energy_core.specs.declared.judging.Reading.Reading) (cause : Rattle.energy_core.specs.declared.judging.Cause.Cause) (lines : Rattle.meter_journal.specs.Journal.Journal)
+held_if : (b : Bool) (place : ℕ) (reading : Rattle.energy_core.specs.declared.verdicts.Reading.Reading) (cause : Rattle.energy_core.specs.declared.verdicts.Cause.Cause) (lines : Rattle.meter_journal.specs.Journal.Journal)
     → is_voided place (cons_option (cond b (Some (Rattle.meter_journal.specs.Journal.Held reading cause)) None) lines) ≡ is_voided place lines
 held_if true place reading cause lines = refl
 held_if false place reading cause lines = refl

@@ -2,11 +2,11 @@
 #![tactic(auto)]
 
 mod entries;
+mod installations;
 mod journal;
 mod meters;
 mod places;
 mod rows;
-mod standing;
 mod streams;
 
 pub use entries::entry;

@@ -6,8 +6,8 @@ ghost use Rattle.office_rules.specs.Meters.{meter_of, installation_at};
 ghost use Rattle.store_metering.specs.Looking.{Finds};
 ghost use Rattle.store_metering.specs.Meters.{CountsOpenings};
 
+use crate::installations::standing;
 use crate::rows::{row_at, row_of};
-use crate::standing::standing;
 use office_events::{Installation, Name};
 use sqlite::{Alter, Connection};
 use store_facts::text;

@@ -12,7 +12,9 @@ ghost use Rattle.office_rules.specs.Meters as meters;
 ghost use Rattle.office_rules.specs.Meters.{installation_of, rows_of, place_in};
 ghost use Rattle.store_metering.specs.Places.{HasNumbers};
 
-use energy_core::{Last, Ranged, Terms, accounts_are_sound, enter};
+use energy_core::{
+    Last, MAX_CEILING, MAX_RANGE, MIN_RANGE, Ranged, Terms, accounts_are_sound, enter,
+};
 use meter_journal::{EntryRow, Installed, Tally, find_row};
 use office_events::{EntryPlace, Installation, Opening};
 use store_tables::RowFault;
@@ -57,8 +59,8 @@ fn installed(opening: &Opening) -> Installed
 
 /// Where the counter stands behind these rows, and the energy; damaged where one does not follow.
 pub fn tally(meter: &Installed, rows: &[EntryRow]) -> Result<Tally, RowFault>
-    requires range_low { 65536 ≤ meter.now.range }
-    requires range_high { meter.now.range ≤ 4294967296 }
+    requires range_low { MIN_RANGE ≤ meter.now.range }
+    requires range_high { meter.now.range ≤ MAX_RANGE }
     requires installed { books.IsWellInstalled meter.now }
     ensures { let es = entries_in (lists.latest_first rows.now) in
         IfOk result (λ t. IsAccount meter.now.range meter.now.opening es t.last t.total) }
@@ -93,8 +95,8 @@ pub fn tally(meter: &Installed, rows: &[EntryRow]) -> Result<Tally, RowFault>
 fn has_numbers(opening: &Opening) -> bool
     ensures { IsTrue result → HasNumbers opening.now }
 {
-    let ranged = 65_536 <= opening.range && opening.range <= 4_294_967_296;
-    let limited = 1 <= opening.ceiling && opening.ceiling <= 1_000_000_000;
+    let ranged = MIN_RANGE <= opening.range && opening.range <= MAX_RANGE;
+    let limited = 1 <= opening.ceiling && opening.ceiling <= MAX_CEILING;
     let scaled = -3 <= opening.sf && opening.sf <= 3;
     ranged && limited && scaled && u64::from(opening.raw) < opening.range
 }

@@ -1,6 +1,7 @@
 -- Rows of the tables, their columns, and the ranges of their values.
 use Rattle.std.specs.Prelude.{◌≡◌, ℕ, pos, ◌≤◌, List, [], ◌∷◌, IsTrue, Bool, bytes_eq, ◌==◌, Option, Some, None, if◌then◌else◌, Result, Ok, true, false, IsUtf8, string_bytes}
 use Rattle.std.specs.Option.{option_and_then}
+use Rattle.energy_core.specs.declared.limits.TheConstants.{MAX_CEILING, MAX_RANGE, MAX_SHOWN, MAX_TOTAL, MIN_RANGE}
 use Rattle.sqlite.specs.declared.types.Value.{Value}
 use Rattle.store_tables.specs.declared.faults.RowFault.{RowFault}
 use Rattle.sqlite.specs.declared.types.Value.TheVariants.{Null, Int, Text}
@@ -12,10 +13,10 @@ use Rattle.store_meters.specs.declared.rows.Installation.{Installation}
 use Rattle.store_tables.specs.Limits.{greatest_place, latest_moment}
 
 abbrev pub greatest_ceiling : ℕ
-greatest_ceiling = 1000000000
+greatest_ceiling = MAX_CEILING
 
 abbrev pub greatest_total : ℕ
-greatest_total = 4000000000000000000
+greatest_total = MAX_TOTAL
 
 abbrev pub ended_number : Bool → ℕ
 ended_number false = 0
@@ -60,7 +61,7 @@ ended i = record i { row = record i.row { is_ended = true } }
 
 pub record IsSoundLast (last : LastRow) : Type 0 where
   pub moment : last.moment ≤ latest_moment
-  pub raw : last.raw ≤ 4294967295
+  pub raw : last.raw ≤ MAX_SHOWN
   pub sf : IsTrue (is_within 3 last.sf)
   pub total : last.total ≤ greatest_total
 
@@ -89,7 +90,7 @@ flag_in v = option_and_then flag_of (whole_in 0 1 v)
 abbrev pub last_in : Row → Result LastRow RowFault
 last_in row =
     and_then (or_damaged (whole_in 0 latest_moment (column row 5))) (λ moment.
-    and_then (or_damaged (whole_in 0 4294967295 (column row 6))) (λ raw.
+    and_then (or_damaged (whole_in 0 MAX_SHOWN (column row 6))) (λ raw.
     and_then (or_damaged (within 3 (column row 7))) (λ sf.
     and_then (or_damaged (whole_in 0 greatest_total (column row 8))) (λ total.
     Ok (record { moment = moment; raw = raw; sf = sf; total = total })))))
@@ -125,7 +126,7 @@ abbrev pub is_range_of : (meter : List ℕ) → Ranged → Bool
 is_range_of meter r = bytes_eq r.meter meter
 
 abbrev pub IsRange : ℕ → Type 0
-IsRange range = (65536 ≤ range) × (range ≤ 4294967296)
+IsRange range = (MIN_RANGE ≤ range) × (range ≤ MAX_RANGE)
 
 abbrev pub IsSoundRanged : Ranged → Type 0
 IsSoundRanged r = IsRange r.range

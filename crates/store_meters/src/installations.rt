@@ -13,7 +13,7 @@ ghost use Rattle.store_meters.specs.Rows.{ended_number, IsSoundLast, IsSoundInst
 ghost use Rattle.store_meters.specs.Rows.{IsSoundInstalled};
 ghost use Rattle.store_meters.specs.Trees.{installations};
 
-use crate::reading::{place, read_installation};
+use crate::columns::{place, read_installation};
 use crate::rows::{Installation, InstallationRow, LastRow};
 use sqlite::{Alter, Connection, Error, Row, Transaction, params};
 use store_tables::{RowFault, number, signed};

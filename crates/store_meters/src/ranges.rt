@@ -9,6 +9,7 @@ ghost use Rattle.store_meters.specs.Rows.{ranged_columns, range_shown, is_range_
 ghost use Rattle.store_meters.specs.Rows.{IsRange, IsSoundRanged};
 ghost use Rattle.store_meters.specs.Trees.{ranges};
 
+use energy_core::{MAX_RANGE, MIN_RANGE};
 use sqlite::{Alter, Connection, Error, Row, Transaction, params};
 use store_tables::{RowFault, number, whole};
 
@@ -52,7 +53,7 @@ pub fn range_of<S: Alter>(conn: &mut Connection<S>, meter: &str) -> Result<Optio
     let rows = rows_of(conn, meter)?;
     match rows.first() {
         None => Ok(None),
-        Some(row) => Ok(Some(whole(row, 0, 65_536, 4_294_967_296)?)),
+        Some(row) => Ok(Some(whole(row, 0, MIN_RANGE, MAX_RANGE)?)),
     }
 }
 

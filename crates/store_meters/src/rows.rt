@@ -1,11 +1,5 @@
 //! Rows of the tables.
 
-/// The greatest load of a register, in W.
-pub const GREATEST_CEILING: u64 = 1_000_000_000;
-
-/// The greatest energy of a meter, in mWh.
-pub const GREATEST_TOTAL: u64 = 4_000_000_000_000_000_000;
-
 /// Where a meter stands: its last entry, and its energy since its opening, in mWh.
 #[derive(Clone, Copy, Debug, PartialEq, Eq)]
 pub struct LastRow {

@@ -12,7 +12,7 @@ ghost use Rattle.store_polls.specs.Rows.{HasHoldMoment, IsSoundHeld, reply_colum
 ghost use Rattle.store_polls.specs.Rows.{reply_moment_shown, HasReplyMoment, IsSoundKept};
 ghost use Rattle.store_polls.specs.Trees.{polls, outcomes, holds, replies};
 
-use crate::reading::moment;
+use crate::columns::moment;
 use sqlite::{Alter, Connection, Error, Row};
 use store_tables::RowFault;
 

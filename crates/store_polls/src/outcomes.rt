@@ -10,7 +10,7 @@ ghost use Rattle.store_polls.specs.Rows.{outcome_columns, outcome_shown, is_outc
 ghost use Rattle.store_polls.specs.Rows.{IsSoundOutcome};
 ghost use Rattle.store_polls.specs.Trees.{outcomes};
 
-use crate::reading::outcome;
+use crate::columns::outcome;
 use crate::rows::OutcomeRow;
 use sqlite::{Alter, Connection, Error, Row, Transaction, params};
 use store_tables::{RowFault, number};

@@ -12,7 +12,7 @@ ghost use Rattle.store_polls.specs.Rows.{IsSoundStarted};
 ghost use Rattle.store_polls.specs.Pending.{ShowsPending};
 ghost use Rattle.store_polls.specs.Trees.{polls};
 
-use crate::reading::{place, read_poll};
+use crate::columns::{place, read_poll};
 use crate::rows::{Poll, PollRow};
 use sqlite::{Alter, Connection, Error, Row, Transaction, params};
 use store_tables::{RowFault, number};

@@ -10,7 +10,7 @@ ghost use Rattle.store_polls.specs.Rows.{reply_columns, reply_shown, is_reply, I
 ghost use Rattle.store_polls.specs.Rows.{IsRepeat, IsSoundKept};
 ghost use Rattle.store_polls.specs.Trees.{replies};
 
-use crate::reading::repeat;
+use crate::columns::repeat;
 use crate::rows::{Repeat, ReplyKind};
 use sqlite::{Alter, Connection, Error, Row, Transaction, params};
 use store_tables::RowFault;

@@ -1,8 +1,8 @@
 //! What a stop leaves of the office's files.
 #![tactic(auto)]
 
-mod ending;
+mod connection_end;
 mod laws;
 
-pub use ending::end;
+pub use connection_end::end;
 pub use laws::{opened_files_are_found, stops_leave_facts};

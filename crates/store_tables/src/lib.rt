@@ -5,10 +5,10 @@ mod columns;
 mod faults;
 mod limits;
 mod numbers;
-mod opened;
+mod probe;
 
 pub use columns::{function, scale, text, whole};
 pub use faults::RowFault;
 pub use limits::{GREATEST_PLACE, LATEST_MOMENT};
 pub use numbers::{number, signed};
-pub use opened::touch;
+pub use probe::touch;

@@ -1,7 +1,8 @@
 //! Bounds that several tables have in common.
+use poll_core::LAST_MOMENT;
 
 /// The greatest place of a row, and number of a poll.
 pub const GREATEST_PLACE: u64 = 4_611_686_018_427_387_904;
 
 /// The latest moment of the books, in seconds since 1970-01-01 UTC.
-pub const LATEST_MOMENT: u64 = 4_102_444_800;
+pub const LATEST_MOMENT: u64 = LAST_MOMENT;

@@ -1,8 +1,10 @@
 //! Commands over the database of an office: its books are found, and then the command is carried out over them.
-ghost use Rattle.std.specs.Prelude.{◌≡◌, ◌≢◌, ◌⊎◌, false, Err, IfErr};
+ghost use Rattle.std.specs.Prelude.{◌≡◌, ◌≢◌, ◌⊎◌, false, Err, IfOk, IfErr};
+ghost use Rattle.office_rules.specs.History.{History};
 ghost use Rattle.store_files.specs.declared.layouts.Layout.{Layout as TheLayout};
 ghost use Rattle.store_files.specs.Layouts.{no_schema, IsNamedAs};
 ghost use Rattle.store_files.specs.Zones.{IsZone};
+ghost use Rattle.stored_office.specs.BooksFound.{HasPast, Reports, Serves, Polls};
 
 use command_io::Status;
 use office_program::{Polling, Serving, poll_books, report_books, serve_books};
@@ -44,6 +46,9 @@ pub fn report_stored<S: Alter + Drop, C: Clock, W: Write>(
     ensures foreign { ((layout : TheLayout) → ¬ IsNamedAs connection.schema layout)
         → result ≡ Err OpenFault.NotOurs }
     ensures silent { IfErr result (λ fault. output.new ≡ output.old) }
+    ensures reports { (past : History) → HasPast S.Store connection past
+        → IfOk result (Reports S.Store past register.now (C.moments clock.old) (C.moments clock.new)
+        (W.contents output.old) (W.contents output.new)) }
 {
     match SqlBooks::open(alloc, connection) {
         Ok(books) => {
@@ -68,6 +73,9 @@ pub fn serve_stored<R: Net, S: Alter + Drop, C: Clock, W: Write>(
     ensures foreign { ((layout : TheLayout) → ¬ IsNamedAs connection.schema layout)
         → result ≡ Err OpenFault.NotOurs }
     ensures silent { IfErr result (λ fault. output.new ≡ output.old) }
+    ensures serves { (past : History) → HasPast S.Store connection past
+        → IfOk result (Serves S.Store past connections (C.moments clock.old) (C.moments clock.new)
+        (W.contents output.old) (W.contents output.new)) }
 {
     match SqlBooks::open(alloc, connection) {
         Ok(books) => {
@@ -92,6 +100,9 @@ pub fn poll_stored<R: Net, S: Alter + Drop, C: Clock, W: Write>(
     ensures foreign { ((layout : TheLayout) → ¬ IsNamedAs connection.schema layout)
         → result ≡ Err OpenFault.NotOurs }
     ensures silent { IfErr result (λ fault. output.new ≡ output.old) }
+    ensures polls { (past : History) → HasPast S.Store connection past
+        → IfOk result (Polls S.Store past device.now (C.moments clock.old) (C.moments clock.new)
+        (W.contents output.old) (W.contents output.new)) }
 {
     match SqlBooks::open(alloc, connection) {
         Ok(books) => {

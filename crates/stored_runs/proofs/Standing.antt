@@ -8,7 +8,7 @@ use Rattle.office_rules.specs.History.{History, facts_of}
 use Rattle.office_lawful.specs.Laws.{IsPast}
 use Rattle.office_core.specs.Leaving.{MayBeLeft, BooksStand}
 use Rattle.office_store.specs.Stored.{ledger_of}
-use Rattle.office_store.specs.Opening.{HoldsAlone}
+use Rattle.office_store.specs.Database.{HoldsAlone}
 
 left_alone : (past : History) → All (MayBeLeft past) (facts_of past ∷ [])
 left_alone past zero d less = inl refl

@@ -1,20 +1,35 @@
--- Which task was carried out.
-use Rattle.std.specs.Prelude.{ℕ}
+-- What a task does over the books that a database is found to hold, and how it ends.
+use Rattle.std.specs.Prelude.{ℕ, List, Option}
+use Rattle.sqlite.specs.Store.{Ghosts}
+use Rattle.office_rules.specs.History.{History}
+use Rattle.office_running.specs.Runs.{BooksRun}
+use Rattle.stored_office.specs.BooksFound.{OverBooks, Reports, Serves, Polls, ledger_in}
 use Rattle.stored_tasks.specs.declared.tasks.Task.{Task}
 use Rattle.stored_tasks.specs.declared.tasks.Task.TheVariants as task
 use Rattle.stored_tasks.specs.declared.tasks.Done.{Done}
 use Rattle.stored_tasks.specs.declared.tasks.Done.TheVariants.{Reported, Served, Polled, Ran}
 
--- a number for each kind of task
-abbrev pub kind_of : Task → ℕ
-kind_of (task.Report register) = 1
-kind_of (task.Serve host port connections) = 2
-kind_of (task.Round device host port) = 3
-kind_of (task.Run settings sites) = 4
+-- A task ends as its kind does.
+abbrev pub IsOf : Task → Done → Type 0
+IsOf (task.Report register) (Reported end) = Unit {0}
+IsOf (task.Serve host port connections) (Served end) = Unit {0}
+IsOf (task.Round device host port) (Polled end) = Unit {0}
+IsOf (task.Run settings sites) (Ran end) = Unit {0}
+IsOf _ _ = ⊥
 
--- and for how one ended
-abbrev pub kind_done : Done → ℕ
-kind_done (Reported end) = 1
-kind_done (Served end) = 2
-kind_done (Polled end) = 3
-kind_done (Ran end) = 4
+module _ {S : Type 0} (g : Ghosts S) where
+  -- A run leaves books that stand as they did, or behind an opening, and then events and requests.
+  abbrev pub Runs : (past : History) → Type 0
+  Runs past = OverBooks g past (λ found left. BooksRun (ledger_in g left) past)
+
+  -- The task that was asked for was done, and so it ended.
+  unfoldable pub Does : (past : History) → (moments later held holds : Option (List ℕ)) → Task → Done
+      → Type 0
+  Does past moments later held holds (task.Report register) (Reported end) =
+      Reports g past register.now moments later held holds end
+  Does past moments later held holds (task.Serve host port connections) (Served end) =
+      Serves g past connections moments later held holds end
+  Does past moments later held holds (task.Round device host port) (Polled end) =
+      Polls g past device.now moments later held holds end
+  Does past moments later held holds (task.Run settings sites) (Ran end) = Runs past
+  Does past moments later held holds _ _ = ⊥

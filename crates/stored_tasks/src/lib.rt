@@ -1,8 +1,8 @@
 //! The tasks of the program over an office in a database, as one call: over any store, clock, sockets and writer.
 #![tactic(auto)]
 
-mod running;
+mod stored_run;
 mod tasks;
 
-pub use running::run_stored;
+pub use stored_run::run_stored;
 pub use tasks::{Done, Task, carry_out_stored};

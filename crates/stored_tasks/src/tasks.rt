@@ -1,10 +1,12 @@
 //! The tasks, one of which is carried out.
 ghost use Rattle.std.specs.Prelude.{◌≡◌, Err, IfOk, IfErr};
+ghost use Rattle.office_rules.specs.History.{History};
 ghost use Rattle.store_files.specs.declared.layouts.Layout.{Layout as TheLayout};
 ghost use Rattle.store_files.specs.Layouts.{IsNamedAs};
-ghost use Rattle.stored_tasks.specs.Tasks.{kind_of, kind_done};
+ghost use Rattle.stored_office.specs.BooksFound.{HasPast};
+ghost use Rattle.stored_tasks.specs.Tasks.{IsOf, Does};
 
-use crate::running::run_stored;
+use crate::stored_run::run_stored;
 use command_io::Status;
 use office_program::{Polling, Serving};
 use office_running::{RunFault, Settings, Site};
@@ -63,7 +65,10 @@ pub fn carry_out_stored<R: Net + std::rt::Clock, S: Alter + Drop, C: Clock, W: W
     ensures foreign { ((layout : TheLayout) → ¬ IsNamedAs connection.schema layout)
         → result ≡ Err OpenFault.NotOurs }
     ensures silent { IfErr result (λ fault. output.new ≡ output.old) }
-    ensures same { IfOk result (λ done. kind_done done ≡ kind_of task.entry) }
+    ensures same { IfOk result (IsOf task.entry) }
+    ensures does { (past : History) → HasPast S.Store connection past
+        → IfOk result (Does S.Store past (C.moments clock.old) (C.moments clock.new)
+        (W.contents output.old) (W.contents output.new) task.entry) }
 {
     match task {
         Task::Report { register } => {

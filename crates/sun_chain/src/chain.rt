@@ -1,3 +1,4 @@
+//! The chain of models in an image.
 ghost use Rattle.std.specs.Prelude.{◌+◌, ◌≤◌, length};
 ghost use Rattle.std.specs.List.{All};
 

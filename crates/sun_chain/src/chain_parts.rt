@@ -1,3 +1,4 @@
+//! The parts of a chain: its mark, its models and its end.
 ghost use Rattle.std.specs.Prelude.{◌≡◌, ◌≤◌, length};
 ghost use Rattle.std.specs.List.{All};
 ghost use Rattle.sun_chain.specs.Chain.{base_of, end_of, models_of, next_after};

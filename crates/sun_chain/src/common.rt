@@ -1,3 +1,4 @@
+//! What a device says of itself in its first model 1.
 ghost use Rattle.std.specs.Prelude.{◌≡◌};
 ghost use Rattle.std.specs.Option.{option_map};
 ghost use Rattle.sun_chain.specs.Chain.{models_of, words_of};

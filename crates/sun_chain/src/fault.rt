@@ -1,3 +1,4 @@
+//! Why words are not put into an image, and why an image has no chain.
 ghost use Rattle.std.specs.Prelude.{◌≡◌};
 ghost use Rattle.sun_chain.specs.Fault.{chain_fault_number, image_fault_number};
 

@@ -1,3 +1,4 @@
+//! The words that were read from a device, by address.
 ghost use Rattle.std.specs.Prelude.{◌≡◌, ◌↔◌, ℕ, ◌+◌, ◌<◌, ◌≤◌, length, None, IfSome, IsSome, OnOk};
 ghost use Rattle.std.specs.Prelude.{OnErr, ◌++◌, ◌-◌, take, drop, replicate, true, vec_len};
 ghost use Rattle.std.specs.Option.{option_map};

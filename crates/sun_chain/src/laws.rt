@@ -1,3 +1,4 @@
+//! Laws of the tables and of chains, over all words.
 ghost use Rattle.sun_chain.specs.Laws.{ChainHasNoFault, ChainIsOne, ChainOrFault, FaultIsOne};
 ghost use Rattle.sun_chain.specs.TableRules.{TablesAreLawful};
 

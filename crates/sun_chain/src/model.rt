@@ -1,3 +1,4 @@
+//! Models: where each stands, its ID and its length.
 ghost use Rattle.std.specs.Prelude.{◌≡◌};
 
 /// A model: the address of its ID register, its ID, and how many registers follow its ID and its length.

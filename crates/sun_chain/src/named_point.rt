@@ -1,3 +1,4 @@
+//! The points of a model, with their names and what scales them.
 ghost use Rattle.std.specs.Prelude.{◌≡◌};
 ghost use Rattle.sun_chain.specs.Points.{faulty_text, scale_said, seen, value_text};
 ghost use Rattle.sun_points.specs.Point.{seen as point_seen};

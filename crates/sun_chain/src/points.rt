@@ -1,3 +1,4 @@
+//! The points of a model that were read, in order of address.
 ghost use Rattle.std.specs.Prelude.{◌≡◌, ◌<◌, ◌≤◌, ◌+◌, map, length, IfOk, IfSome, OnOk};
 ghost use Rattle.std.specs.Option.{option_map};
 ghost use Rattle.sun_chain.specs.Chain.{words_of};

@@ -2,6 +2,7 @@
 use Rattle.std.proofs.Common.{◌≡◌, pos, negsuc, refl, Some, None, [], ◌∷◌}
 use Rattle.std.specs.Prelude.{codes}
 use Rattle.std.specs.Fmt.{digits}
+use Rattle.sun_points.specs.Counters.{acc32_value, scale_value}
 use Rattle.sun_points.specs.Decimal.{scaled_text}
 use Rattle.sun_points.specs.Point.{Absent, Signed, Unsigned, Bits, value_of}
 use Rattle.sun_points.specs.PointText.{point_text}
@@ -51,6 +52,23 @@ minus_ten = refl
 
 minus_eleven : scale_of 0xFFF5 ≡ None
 minus_eleven = refl
+
+-- Counters, and their scales.
+
+a_count_of_the_high_word : acc32_value 0x0001 0x0000 ≡ 65536
+a_count_of_the_high_word = refl
+
+the_greatest_count : acc32_value 0xFFFF 0xFFFF ≡ 4294967295
+the_greatest_count = refl
+
+a_count_of_zero : acc32_value 0 0 ≡ 0
+a_count_of_zero = refl
+
+thousandths : scale_value 0xFFFD ≡ negsuc 2
+thousandths = refl
+
+no_scale_counts_as_zero : scale_value 0x8000 ≡ pos 0
+no_scale_counts_as_zero = refl
 
 -- Values of registers.
 

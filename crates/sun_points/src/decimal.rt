@@ -1,12 +1,13 @@
+//! Numbers in decimals, scaled by a power of ten.
 ghost use Rattle.std.specs.Prelude.{◌≤◌, ◌+◌, ◌*◌, ◌/◌, ◌^◌, ◌++◌, ◌≡◌, codes, length};
 ghost use Rattle.std.specs.Fmt.{decimal};
 ghost use Rattle.arrayvec.specs.ArrayVec.{array_vec_len};
 ghost use Rattle.sun_points.specs.Decimal.{low_digits, magnitude_text, scaled_text};
 
 use crate::digits::fill_digits;
-use crate::room::append;
 use crate::scale::Scale;
 use crate::sink::Sink;
+use crate::text::append;
 use arrayvec::ArrayVec;
 use std::io;
 

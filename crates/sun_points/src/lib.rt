@@ -1,16 +1,17 @@
-//! SunSpec points: what a point's registers say, scale factors, and the exact text of a scaled value.
+//! SunSpec points: what a point's registers say, counters and scale factors, and the exact text of a scaled value.
 #![tactic(auto)]
 
+mod counters;
 mod decimal;
 mod digits;
 mod point;
 mod point_text;
 mod point_type;
-mod room;
 mod scale;
 mod sink;
 mod text;
 
+pub use counters::{acc32, sunssf};
 pub use decimal::write_scaled;
 pub use point::{Point, read_point};
 pub use point_type::{PointType, TextLength};

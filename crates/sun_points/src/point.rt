@@ -1,3 +1,4 @@
+//! What a point's registers say.
 ghost use Rattle.std.specs.Prelude.{◌≡◌, ◌≤◌, ◌==◌, nat_le, if◌then◌else◌, length};
 ghost use Rattle.std.specs.Int.{w16, w32, cast_signed};
 ghost use Rattle.std.specs.List.{list_all};

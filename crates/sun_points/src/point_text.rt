@@ -1,3 +1,4 @@
+//! The text of a point.
 ghost use Rattle.std.specs.Prelude.{◌≡◌};
 ghost use Rattle.sun_points.specs.Point.{seen};
 ghost use Rattle.sun_points.specs.PointText.{bits_text, point_text};

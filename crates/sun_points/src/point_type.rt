@@ -1,3 +1,4 @@
+//! The types of points, and how many registers each takes.
 ghost use Rattle.std.specs.Prelude.{◌≡◌, ◌≤◌, ◌↔◌, IsSome, IfSome};
 ghost use Rattle.sun_points.specs.PointType.{registers_of};
 

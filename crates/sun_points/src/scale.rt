@@ -1,3 +1,4 @@
+//! Scale factors, from a `sunssf` register.
 ghost use Rattle.std.specs.Prelude.{◌≡◌, ◌≤ℤ◌, pos, negsuc};
 ghost use Rattle.sun_points.specs.Scale.{scale_of};
 

@@ -1,13 +1,22 @@
+//! Texts in registers, two bytes in each.
 ghost use Rattle.std.specs.Prelude.{◌≡◌, ◌≤◌, ◌+◌, ◌++◌, length};
 ghost use Rattle.std.specs.List.{flat_map};
 ghost use Rattle.arrayvec.specs.ArrayVec.{array_vec_len};
 ghost use Rattle.sun_points.specs.Text.{shown_byte, shown_text, text_bytes};
 
 use crate::digits::upper_digit;
-use crate::room::append;
 use crate::sink::Sink;
 use arrayvec::ArrayVec;
 use std::io;
+
+/// Appends bytes for which there is room.
+pub(crate) fn append<const N: usize>(text: &mut ArrayVec<u8, N>, more: &[u8])
+    requires { array_vec_len text.old + length more.now ≤ N }
+    ensures bytes { text.new.items ≡ text.old.items ++ more.now }
+    ensures len { array_vec_len text.new ≡ array_vec_len text.old + length more.now }
+{
+    let _ = text.try_extend_from_slice(more);
+}
 
 /// The most registers of a text.
 const MOST_REGISTERS: usize = 125;

@@ -1,4 +1,4 @@
-// An image in which each point has the absent value of its type.
+//! An image in which each point has the absent value of its type.
 
 use crate::support::{chain_of, put};
 use std::alloc::Global;

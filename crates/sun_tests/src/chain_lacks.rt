@@ -1,3 +1,4 @@
+//! Images that have no chain, or not all of it.
 use crate::support::put;
 use std::alloc::Global;
 use std::test::Fail;

@@ -1,3 +1,4 @@
+//! Chains of models.
 use crate::support::{chain_of, put, same};
 use std::alloc::Global;
 use std::io::Write;

@@ -1,3 +1,4 @@
+//! What devices say of themselves.
 use crate::support::{chain_of, put, same};
 use std::alloc::Global;
 use std::io::{self, Write};

@@ -1,4 +1,4 @@
-// Writers that take a few bytes at a time, are interrupted, and then fail or take nothing.
+//! Writers that take a few bytes at a time, are interrupted, and then fail or take nothing.
 ghost use Rattle.std.specs.Prelude.{◌≤◌, IfOk, length};
 
 use std::alloc::Global;

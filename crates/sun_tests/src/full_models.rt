@@ -1,4 +1,4 @@
-// Images of full models, in which each point has a value of its own.
+//! Images of full models, in which each point has a value of its own.
 
 use crate::support::{chain_of, put, same};
 use std::alloc::Global;

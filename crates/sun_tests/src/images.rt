@@ -1,3 +1,4 @@
+//! Words that are put into images.
 use crate::support::put;
 use std::alloc::Global;
 use std::test::Fail;

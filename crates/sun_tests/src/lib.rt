@@ -10,6 +10,8 @@ mod chains;
 #[cfg(test)]
 mod common_models;
 #[cfg(test)]
+mod counters;
+#[cfg(test)]
 mod failing_writers;
 #[cfg(test)]
 mod full_models;

@@ -1,3 +1,4 @@
+//! The types of points.
 use crate::support::same;
 use std::alloc::Global;
 use std::io::{self, Write};

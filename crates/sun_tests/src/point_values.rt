@@ -1,3 +1,4 @@
+//! The values of points.
 use crate::support::same;
 use std::alloc::Global;
 use std::io::Write;

@@ -1,3 +1,4 @@
+//! The names of scale points.
 use sun_chain::scale_name;
 
 static NAMES: [(u16, &str, Option<&str>); 8] = [

@@ -1,4 +1,4 @@
-// Scaled values: the texts come from decimal arithmetic in another language.
+//! Scaled values: the texts come from decimal arithmetic in another language.
 
 use crate::support::same;
 use std::alloc::Global;

@@ -1,3 +1,4 @@
+//! Scale factors.
 use sun_points::Scale;
 
 // A scale point's register, and the exponent that it says.

@@ -1,4 +1,4 @@
-// What the tests share.
+//! What the tests share.
 
 use std::alloc::Global;
 use std::process::Abort;

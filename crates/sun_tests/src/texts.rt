@@ -1,3 +1,4 @@
+//! Texts in registers.
 use crate::support::same;
 use std::alloc::Global;
 use std::test::Fail;

@@ -1,13 +1,13 @@
 //! The commands, over the streams and sockets of the process.
-use crate::ending::{Ending, Failure, ending_of};
 use crate::offices::{create, report, round, run, serve};
-use crate::running::settings_of;
+use crate::run_words::settings_of;
 use bank_text::{SetupParts, set_up};
 use chain_text::chain_text;
 use command_io::{Buffered, Status};
 use command_words::CommandLine;
 use interval_core::Zone;
 use list_text::plan_text;
+use program_end::{Ending, Failure, ending_of};
 use script_loop::{Loopback, loop_text};
 use script_replay::replay;
 use stand_in::answer_all;

@@ -1,14 +1,17 @@
 //! The program: it keeps point lists, polls devices and books energy.
 #![tactic(auto)]
 
+ghost use Rattle.std.specs.Prelude.{◌≡◌};
+ghost use Rattle.std.specs.Process.{exit_status};
+ghost use Rattle.program_end.specs.Endings.{ending_number};
+
 mod commands;
-mod ending;
 mod offices;
-mod running;
+mod run_words;
 
 use crate::commands::carry_out;
-use crate::ending::{Ending, Failure, exit_code, say};
 use command_words::{WordsFault, command_of};
+use program_end::{Ending, Failure, say};
 use std::alloc::{AllocError, Global};
 use std::env;
 use std::io::{self, ErrorKind, Write};
@@ -63,8 +66,10 @@ fn print_help(rt: &HostRuntime, text: &str) -> Ending<'static> {
 }
 
 // Says how the program ends, and answers its exit status.
-fn ended(rt: &HostRuntime, ending: &Ending<'_>) -> ExitCode {
+fn ended(rt: &HostRuntime, ending: &Ending<'_>) -> ExitCode
+    ensures { exit_status result ≡ ending_number ending.now }
+{
     let mut errors = rt.stderr();
     say(ending, &mut errors);
-    exit_code(ending)
+    ExitCode::from(ending.number())
 }

@@ -1,13 +1,16 @@
 //! The commands over an office in a file.
-use crate::ending::{Ending, Failure, ending_of_done};
-use crate::running::sites_of;
+ghost use Rattle.std.specs.Prelude.{IfOk};
+ghost use Rattle.stored_tasks.specs.Tasks.{IsOf};
+
+use crate::run_words::sites_of;
 use command_io::Buffered;
 use command_words::Device;
 use interval_core::Zone;
-use office_files::{make_file, open_file};
+use office_files::{FileFault, make_file, open_file};
 use office_running::Settings;
+use program_end::{Ending, Failure, ending_of_done};
 use socket_link::SystemClock;
-use sqlite::Unknown;
+use sqlite::{Alter, Connection, FileFrom, FileStore, Unknown};
 use std::io;
 use std::io::Write;
 use stored_office::create_stored;
@@ -16,29 +19,65 @@ use stored_tasks::{Done, Task, carry_out_stored};
 /// The host on which HTTP is answered.
 const OWN_HOST: &str = "127.0.0.1";
 
-/// Makes the tables of a new office.
-pub(crate) fn create<'a>(rt: &HostRuntime, path: &'a str, zone: &'a str) -> Ending<'a> {
-    if Zone::read(zone).is_err() {
-        return Ending::NoZone(zone);
+// Where a database comes from. What holds a connection is proved over any of these, since over a connection to a file it
+// would cost minutes.
+trait Databases {
+    type Store: Alter + Drop;
+
+    // A connection to the database, which is made where there is none.
+    fn make(&self) -> Result<Connection<Self::Store>, FileFault>;
+
+    // A connection to a database that is there.
+    fn open(&self) -> Result<Connection<Self::Store>, FileFault>;
+}
+
+// The file of an office.
+#[derive(Clone, Copy)]
+struct OfficeFile<'a> {
+    rt: &'a HostRuntime,
+    path: &'a str,
+}
+
+impl<'a> Databases for OfficeFile<'a> {
+    type Store = FileStore<FileFrom<Unknown>>;
+
+    fn make(&self) -> Result<Connection<FileStore<FileFrom<Unknown>>>, FileFault> {
+        make_file(self.rt, self.path, Unknown)
     }
-    match make_file(rt, path, Unknown) {
-        Ok(connection) => match create_stored(rt.alloc(), connection, zone) {
-            Ok(()) => Ending::Fine,
-            Err(fault) => Ending::Failed(Failure::Unmade { path, fault }),
-        },
-        Err(fault) => Ending::Failed(Failure::File { path, fault }),
+
+    fn open(&self) -> Result<Connection<FileStore<FileFrom<Unknown>>>, FileFault> {
+        open_file(self.rt, self.path, Unknown)
     }
 }
 
-// Carries a task out over the office in a file. The one function that is proved over a connection to a file with an office,
-// since each such function costs minutes.
-fn carry_out_in<'a, W: Write>(
+// Makes the tables of a new office in the database at a path.
+fn create_in<'a, D: Databases>(
     rt: &HostRuntime,
+    databases: &D,
+    path: &'a str,
+    zone: &str,
+) -> Result<(), Failure<'a>> {
+    let connection = match databases.make() {
+        Ok(connection) => connection,
+        Err(fault) => return Err(Failure::File { path, fault }),
+    };
+    match create_stored(rt.alloc(), connection, zone) {
+        Ok(()) => Ok(()),
+        Err(fault) => Err(Failure::Unmade { path, fault }),
+    }
+}
+
+// Carries a task out over the office in the database at a path.
+fn carry_out_in<'a, D: Databases, W: Write>(
+    rt: &HostRuntime,
+    databases: &D,
     path: &'a str,
     task: Task<'_>,
     output: &mut W,
-) -> Result<Done, Failure<'a>> {
-    let connection = match open_file(rt, path, Unknown) {
+) -> Result<Done, Failure<'a>>
+    ensures same { IfOk result (IsOf task.entry) }
+{
+    let connection = match databases.open() {
         Ok(connection) => connection,
         Err(fault) => return Err(Failure::File { path, fault }),
     };
@@ -49,10 +88,33 @@ fn carry_out_in<'a, W: Write>(
     }
 }
 
+// Carries a task out over the office in a file.
+fn carry_out_at<'a, W: Write>(
+    rt: &HostRuntime,
+    path: &'a str,
+    task: Task<'_>,
+    output: &mut W,
+) -> Result<Done, Failure<'a>>
+    ensures same { IfOk result (IsOf task.entry) }
+{
+    carry_out_in(rt, &OfficeFile { rt, path }, path, task, output)
+}
+
+/// Makes the tables of a new office.
+pub(crate) fn create<'a>(rt: &HostRuntime, path: &'a str, zone: &'a str) -> Ending<'a> {
+    if Zone::read(zone).is_err() {
+        return Ending::NoZone(zone);
+    }
+    match create_in(rt, &OfficeFile { rt, path }, path, zone) {
+        Ok(()) => Ending::Fine,
+        Err(failure) => Ending::Failed(failure),
+    }
+}
+
 /// Prints the energy of a register by days.
 pub(crate) fn report<'a>(rt: &HostRuntime, path: &'a str, register: &str) -> Ending<'a> {
     let mut output = Buffered::new(io::writer(rt));
-    let done = carry_out_in(rt, path, Task::Report { register }, &mut output);
+    let done = carry_out_at(rt, path, Task::Report { register }, &mut output);
     match output.flush() {
         Ok(()) => ending_of_done(done, OWN_HOST, 0),
         Err(_) => Ending::Failed(Failure::Streams),
@@ -72,7 +134,7 @@ pub(crate) fn serve<'a>(
         connections,
     };
     let mut output = io::writer(rt);
-    ending_of_done(carry_out_in(rt, path, task, &mut output), OWN_HOST, port)
+    ending_of_done(carry_out_at(rt, path, task, &mut output), OWN_HOST, port)
 }
 
 /// Polls the whole plan of a device once.
@@ -85,7 +147,7 @@ pub(crate) fn round<'a>(
 ) -> Ending<'a> {
     let task = Task::Round { device, host, port };
     let mut output = io::writer(rt);
-    ending_of_done(carry_out_in(rt, path, task, &mut output), host, port)
+    ending_of_done(carry_out_at(rt, path, task, &mut output), host, port)
 }
 
 /// Polls devices on a schedule and answers HTTP, as the settings say.
@@ -105,5 +167,5 @@ pub(crate) fn run<'a>(
     };
     let mut output = io::writer(rt);
     let port = settings.listen.port();
-    ending_of_done(carry_out_in(rt, path, task, &mut output), OWN_HOST, port)
+    ending_of_done(carry_out_at(rt, path, task, &mut output), OWN_HOST, port)
 }

@@ -1,4 +1,4 @@
-// What a device answers.
+//! What a device answers.
 use mb_device::{Area, Bank, Kind};
 use std::alloc::Global;
 use std::test::Fail;

@@ -1,4 +1,4 @@
-// A device's values.
+//! A device's values.
 use mb_device::{Area, Bank, BankFault, Kind};
 use std::test::Fail;
 

@@ -1,4 +1,4 @@
-// Frames in streams of bytes.
+//! Frames in streams of bytes.
 use mb_wire::{Fed, FrameReader, Framing, Request, decode_reply, encode_request, write_frame};
 
 // A request of unit 17 for three registers from 107, and the reply to it.

@@ -14,7 +14,7 @@ mod replies;
 #[cfg(test)]
 mod requests;
 #[cfg(test)]
-mod serving;
+mod server;
 #[cfg(test)]
 mod spans;
 #[cfg(test)]

@@ -1,4 +1,4 @@
-// A link over memory.
+//! A link over memory.
 use mb_wire::{LastTake, Link, LinkFailed, MemoryLink, Took};
 
 // What a take answers, and the piece after it.

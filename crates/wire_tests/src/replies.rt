@@ -1,4 +1,4 @@
-// Replies in PDUs.
+//! Replies in PDUs.
 use mb_wire::{Reply, ReplyFault, Request, decode_reply, decode_request, encode_reply};
 
 static HOLDING: Request<'static> = Request::ReadHolding {

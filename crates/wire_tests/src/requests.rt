@@ -1,4 +1,4 @@
-// Requests in PDUs.
+//! Requests in PDUs.
 use mb_wire::{decode_request, encode_request};
 
 // The examples of the standard.

@@ -1,4 +1,4 @@
-// Registers to be read together.
+//! Registers to be read together.
 use mb_wire::{ReadFunction, ReadSpan, Request};
 
 const THREE: ReadSpan = ReadSpan {

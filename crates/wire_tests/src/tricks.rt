@@ -1,4 +1,4 @@
-// A server that plays tricks, over a link.
+//! A server that plays tricks, over a link.
 use mb_device::{Area, Bank, Kind, Server, Trick};
 use mb_wire::{Link, MemoryLink};
 use std::alloc::Global;

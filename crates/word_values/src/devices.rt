@@ -1,4 +1,4 @@
-// The list of devices that one option names.
+//! The list of devices that one option names.
 ghost use Rattle.std.specs.Prelude.{◌≡◌, ◌<◌, ◌≤◌, IfOk, MatchResult, is_ok, length, option_map};
 ghost use Rattle.std.specs.List.{slice_split};
 ghost use Rattle.word_values.specs.Devices.{CutsAtEquals, CutsAtLastColon, device_in, devices_in};

@@ -1,4 +1,4 @@
-// Why a text is no list of devices.
+//! Why a text is no list of devices.
 use crate::devices::{MOST_DEVICES, MOST_PORT};
 use std::alloc::{AllocError, AllocFailed};
 use std::error::Error;

@@ -1,4 +1,4 @@
-// Lists of devices.
+//! Lists of devices.
 use command_words::{CommandLine, Device, WordsFault, command_of};
 use std::alloc::Global;
 

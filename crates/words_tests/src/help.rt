@@ -1,4 +1,4 @@
-// Help, wherever it is asked for.
+//! Help, wherever it is asked for.
 use command_words::{WordsFault, command_of};
 use std::alloc::Global;
 

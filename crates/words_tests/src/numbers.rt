@@ -1,4 +1,4 @@
-// Numbers in their ranges.
+//! Numbers in their ranges.
 use command_words::{CommandLine, WordsFault, command_of};
 use std::alloc::Global;
 

@@ -1,4 +1,4 @@
-// Words that spell a command.
+//! Words that spell a command.
 use command_words::{CommandLine, Device, command_of};
 
 #[test]

@@ -1,4 +1,4 @@
-// Words that spell no command.
+//! Words that spell no command.
 use command_words::{WordsFault, command_of};
 
 static WRONG: [&[&str]; 26] = [

@@ -1,5 +1,5 @@
 use Rattle.std.proofs.Common.{refl, arith, ◌∙◌, ap, List, ℕ}
-use Rattle.hub_status.specs.declared.device.DeviceState.{DeviceState}
+use Rattle.hub_status.specs.declared.status.DeviceState.{DeviceState}
 use Rattle.std.specs.Prelude.{codes}
 use Rattle.hub_status.specs.StatusText.{with_name}
 use Rattle.hub_status.specs.MetricsText as text

@@ -6,5 +6,5 @@ use Rattle.office_commands.proofs.additions.facts_by.Goals as goal
 
 pub returns-in-Exchange-clause-found : goal.returns-in-Exchange-clause-found
 returns-in-Exchange-clause-found g c = λ held h clean.
-    subst (λ (x : Command). IfOk c.exchanged.result (λ facts. (number : ℕ) (kept : List sessions.Line) → facts.items ≡ added_by number c.args.moment kept held x))
+    subst (λ (x : Command). IfOk c.exchanged.result (λ facts. (number : ℕ) (kept : List sessions.Slot) → facts.items ≡ added_by number c.args.moment kept held x))
     (sym c.in-Exchange.is) (c.exchanged.ensures.found held h clean)

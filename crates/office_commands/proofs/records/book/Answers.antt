@@ -1,6 +1,6 @@
 use Rattle.std.proofs.Common.{List, subst}
 use Rattle.office_events.specs.declared.facts.Fact.{Fact}
-use Rattle.office_commands.specs.Carrying.{Tries}
+use Rattle.office_commands.specs.Effects.{Tries}
 use Rattle.office_commands.proofs.Trying.{asked}
 use Rattle.office_commands.proofs.records.book.Goals as goal
 

@@ -1,5 +1,5 @@
 use Rattle.std.proofs.Common.{sym, ap, ◌∙◌}
-use Rattle.read_plan.specs.declared.planned.PlannedRead.{PlannedRead}
+use Rattle.read_plan.specs.declared.planned_reads.PlannedRead.{PlannedRead}
 use Rattle.office_rules.specs.History.{round_spans}
 use Rattle.office_commands.proofs.Dropping.{left_of}
 use Rattle.office_commands.proofs.rounds.reads_from.Goals as goal

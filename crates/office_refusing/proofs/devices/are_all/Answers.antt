@@ -3,4 +3,4 @@ use Rattle.office_lines.proofs.Keeping.{same_length}
 use Rattle.office_refusing.proofs.devices.are_all.Goals as goal
 
 pub returns : goal.returns
-returns c kept keeps = ap (nat_le 64) (same_length c.args.lines.now kept keeps)
+returns c kept keeps = ap (nat_le 64) (same_length c.args.slots.now kept keeps)

@@ -8,9 +8,9 @@ returns-in-Command-clause-in_range g c =
 
 pub returns-in-Asked-clause-found : goal.returns-in-Asked-clause-found
 returns-in-Asked-clause-found g c past latest keeps holds clean =
-    request_refused past c.args.lines.now c.args.latest c.args.moment c.in-Asked.asked c.of_request-arrival.result c.args.event.now
+    request_refused past c.args.slots.now c.args.latest c.args.moment c.in-Asked.asked c.of_request-arrival.result c.args.event.now
     c.refusal_of_command-in-Asked.result c.in-Asked.is latest c.of_request-arrival.ensures
-    (under past c.args.lines.now c.of_request-arrival.result c.in-Asked.asked.command c.refusal_of_command-in-Asked.result keeps
+    (under past c.args.slots.now c.of_request-arrival.result c.in-Asked.asked.command c.refusal_of_command-in-Asked.result keeps
     (c.refusal_of_command-in-Asked.ensures.found _ holds clean))
 
 pub returns-in-Asked-clause-in_range : goal.returns-in-Asked-clause-in_range

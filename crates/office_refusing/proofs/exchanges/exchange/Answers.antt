@@ -3,22 +3,22 @@ use Rattle.office_refusing.proofs.AtMeters.{exchanged}
 use Rattle.office_refusing.proofs.exchanges.exchange.Goals as goal
 
 pub returns-in-Some-refusal_of_entry-clause-found : goal.returns-in-Some-refusal_of_entry-clause-found
-returns-in-Some-refusal_of_entry-clause-found g c held holds clean lines =
+returns-in-Some-refusal_of_entry-clause-found g c held holds clean slots =
     let first = c.in_ok-row.ensures.reads.reads.keeps.facts held holds in
     let clean_first = c.in_ok-has_meter.ensures.reads.goes.clean clean in
-    exchanged lines held c.args.arrival.now c.args.exchange.now c.in-Some.row _ _ _ (Some c.in-Some-refusal_of_entry.why)
+    exchanged slots held c.args.arrival.now c.args.exchange.now c.in-Some.row _ _ _ (Some c.in-Some-refusal_of_entry.why)
     (sym c.in-Some.is ∙ c.in_ok-row.ensures.found held holds clean_first)
     (sym c.if-branch.false ∙ c.in_ok-has_meter.ensures.found held first clean)
     c.is_off_scale_exchange-off_scale.ensures c.is_bad_exchange-off_limits.ensures refl
     (sym c.in-Some-refusal_of_entry.is ∙ c.refusal_of_entry.ensures.found)
 
 pub returns-then-branch-2-clause-found : goal.returns-then-branch-2-clause-found
-returns-then-branch-2-clause-found g c held holds clean lines =
+returns-then-branch-2-clause-found g c held holds clean slots =
     let first = c.in_ok-row.ensures.reads.reads.keeps.facts held holds in
     let second = c.in_ok-has_meter.ensures.reads.keeps.facts held first in
     let clean_second = c.in_ok-are_all.ensures.reads.goes.clean clean in
     let clean_first = c.in_ok-has_meter.ensures.reads.goes.clean clean_second in
-    exchanged lines held c.args.arrival.now c.args.exchange.now c.in-Some.row _ _ true None
+    exchanged slots held c.args.arrival.now c.args.exchange.now c.in-Some.row _ _ true None
     (sym c.in-Some.is ∙ c.in_ok-row.ensures.found held holds clean_first)
     (sym c.if-branch.false ∙ c.in_ok-has_meter.ensures.found held first clean_second)
     c.is_off_scale_exchange-off_scale.ensures c.is_bad_exchange-off_limits.ensures
@@ -26,12 +26,12 @@ returns-then-branch-2-clause-found g c held holds clean lines =
     (sym c.in_default-refusal_of_entry.is ∙ c.refusal_of_entry.ensures.found)
 
 pub returns-clause-found : goal.returns-clause-found
-returns-clause-found g c held holds clean lines =
+returns-clause-found g c held holds clean slots =
     let first = c.in_ok-row.ensures.reads.reads.keeps.facts held holds in
     let second = c.in_ok-has_meter.ensures.reads.keeps.facts held first in
     let clean_second = c.in_ok-are_all.ensures.reads.goes.clean clean in
     let clean_first = c.in_ok-has_meter.ensures.reads.goes.clean clean_second in
-    exchanged lines held c.args.arrival.now c.args.exchange.now c.in-Some.row _ _ false None
+    exchanged slots held c.args.arrival.now c.args.exchange.now c.in-Some.row _ _ false None
     (sym c.in-Some.is ∙ c.in_ok-row.ensures.found held holds clean_first)
     (sym c.if-branch.false ∙ c.in_ok-has_meter.ensures.found held first clean_second)
     c.is_off_scale_exchange-off_scale.ensures c.is_bad_exchange-off_limits.ensures

@@ -1,6 +1,6 @@
 use Rattle.std.proofs.Common.{sym, subst, ◌∙◌}
 use Rattle.std.proofs.lemmas.Result.{on_ok_weaker}
-use Rattle.energy_core.specs.declared.judging.Reading.{Reading}
+use Rattle.energy_core.specs.declared.verdicts.Reading.{Reading}
 use Rattle.office_rules.specs.Readings.{reading_fact}
 use Rattle.office_rules.specs.Notes.{reading_note}
 use Rattle.office_settling.specs.Drafts.{HasMore}

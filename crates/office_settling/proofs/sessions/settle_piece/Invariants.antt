@@ -1,6 +1,6 @@
 use Rattle.std.proofs.Common.{◌≡◌, Ok, ◌≤◌, length, take}
 use Rattle.poll_core.specs.Settling.{Piece}
-use Rattle.poll_core.specs.declared.call.Call.TheVariants as call
+use Rattle.poll_core.specs.declared.outcome.Call.TheVariants as call
 use Rattle.office_books.specs.Ledgers.{OnlyReads}
 use Rattle.office_settling.proofs.Turning.{Turned}
 use Rattle.office_settling.proofs.sessions.settle_piece.Given as goal

@@ -13,7 +13,7 @@ overflow_sub-result c =
     let limit : Run = record begin { end = begin.first + 125 } in
     let point = IsPartitionPoint-from_clause (λ r. ends_by r limit) items c.partition_point-count.result c.partition_point-count.ensures.partitioned
     (ends-partitioned items limit c.requires.ordered) (λ a r q k. search rules) in
-    (greatest-end items begin limit c.partition_point-count.result c.requires.ordered (record { table = refl; area = refl }) refl c.requires.among c.requires.few c.partition_point-count.ensures.bound point).0
+    (greatest-end items begin limit c.partition_point-count.result c.requires.ordered (record { function = refl; area = refl }) refl c.requires.among c.requires.few c.partition_point-count.ensures.bound point).0
 
 pub returns : goal.returns
 returns c =
@@ -22,4 +22,4 @@ returns c =
     let limit : Run = record begin { end = begin.first + 125 } in
     let point = IsPartitionPoint-from_clause (λ r. ends_by r limit) items c.partition_point-count.result c.partition_point-count.ensures.partitioned
     (ends-partitioned items limit c.requires.ordered) (λ a r q k. search rules) in
-    (greatest-end items begin limit c.partition_point-count.result c.requires.ordered (record { table = refl; area = refl }) refl c.requires.among c.requires.few c.partition_point-count.ensures.bound point).1 anything
+    (greatest-end items begin limit c.partition_point-count.result c.requires.ordered (record { function = refl; area = refl }) refl c.requires.among c.requires.few c.partition_point-count.ensures.bound point).1 anything

@@ -15,4 +15,4 @@ loop-begin-preserved c =
     let read : Run = record x { end = c.end_within_reach-end.result } in
     rw c.in_ok-push.ensures.items
     (all_zip_more (ReadsFrom c.args.items.now) begins c.loop-begin.reads.items n x read within (get_or_default begins n anything x within) c.loop-begin.invariant
-    (record { same_area = record { table = refl; area = refl }; first = refl; end = c.end_within_reach-end.ensures }))
+    (record { same_area = record { function = refl; area = refl }; first = refl; end = c.end_within_reach-end.ensures }))

@@ -1,6 +1,6 @@
 use Rattle.std.proofs.Common.{length}
 use Rattle.poll_core.specs.Telling.{IsCall}
-use Rattle.poll_core.specs.declared.call.Call.TheVariants as call
+use Rattle.poll_core.specs.declared.outcome.Call.TheVariants as call
 use Rattle.session_tests.proofs.script.tick.Given as goal
 
 abbrev pub invariant-turns : goal.invariant-turns

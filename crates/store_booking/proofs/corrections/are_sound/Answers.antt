@@ -8,7 +8,7 @@ use Rattle.store_booking.proofs.corrections.are_sound.Goals as goal
 pub loop-share-preserved : goal.loop-share-preserved
 loop-share-preserved c =
     All-more IsSoundShare c.args.shares.now c.loop-share.share-index (record { start = 0; mwh = 0 }) c.loop-share-test.true c.loop-share.invariant
-    (record { start = c.if-share-gt-LATEST_MOMENT.false; mwh = c.if-share-gt-GREATEST_TOTAL.false })
+    (record { start = c.if-share-gt-LATEST_MOMENT.false; mwh = c.if-share-gt-MAX_TOTAL.false })
 
 pub returns : goal.returns
 returns c = λ yes.

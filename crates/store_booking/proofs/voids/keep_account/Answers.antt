@@ -2,8 +2,8 @@ use Rattle.std.proofs.Common.{Ok, false}
 use Rattle.sqlite.specs.declared.error.Error.{Error}
 use Rattle.sqlite.specs.Held.{state}
 use Rattle.store_facts.proofs.GoingLemmas.{goes_then, of_steps}
-use Rattle.store_intervals.specs.Replacing.{ReplacesShares}
-use Rattle.store_booking.specs.Standing.{Settles}
+use Rattle.store_intervals.specs.Replacement.{ReplacesShares}
+use Rattle.store_booking.specs.MeterState.{Settles}
 use Rattle.store_booking.specs.Voids.{KeepsAccount}
 use Rattle.store_booking.proofs.voids.keep_account.Goals as goal
 

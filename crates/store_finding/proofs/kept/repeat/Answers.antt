@@ -5,10 +5,10 @@ use Rattle.store_finding.proofs.Found.{answered, become}
 use Rattle.store_finding.proofs.Replies.{no_repeat, this_repeat, no_repeat_past}
 use Rattle.store_finding.proofs.kept.repeat.Goals as goal
 
-pub returns-then-number-gt-GREATEST_NUMBER : goal.returns-then-number-gt-GREATEST_NUMBER
-returns-then-number-gt-GREATEST_NUMBER g c =
+pub returns-then-number-gt-MAX_REQUEST : goal.returns-then-number-gt-MAX_REQUEST
+returns-then-number-gt-MAX_REQUEST g c =
     seen_alone g.S.Store c.args.conn.now c.touch.new.conn (record { mode = c.in_ok-touch.ensures.autocommit; opened = c.in_ok-touch.ensures.opened; kept = c.in_ok-touch.ensures.kept; survives = c.in_ok-touch.ensures.survives })
-    None _ _ (λ facts lawful. no_repeat_past facts c.args.caller.now c.args.number c.args.request.now lawful c.if-number-gt-GREATEST_NUMBER.true)
+    None _ _ (λ facts lawful. no_repeat_past facts c.args.caller.now c.args.number c.args.request.now lawful c.if-number-gt-MAX_REQUEST.true)
 
 pub returns-in-None : goal.returns-in-None
 returns-in-None g c =

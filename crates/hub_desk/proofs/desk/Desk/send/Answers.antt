@@ -1,5 +1,5 @@
 use Rattle.std.proofs.Common.{◌<◌, length, subst, arith}
-use Rattle.hub_desk.specs.Sending.{IsPut}
+use Rattle.hub_desk.specs.Output.{IsPut}
 use Rattle.hub_desk.proofs.Queues.{bytes_of, sent_at}
 use Rattle.hub_desk.proofs.desk.Desk.send.Goals as goal
 

@@ -2,7 +2,7 @@ use Rattle.std.proofs.Common.{◌≡◌, List, reverse, take}
 use Rattle.office_books.specs.Rows.{TakesAll}
 use Rattle.office_events.specs.declared.facts.Fact.{Fact}
 use Rattle.office_rules.specs.Lawful.{AreLawful}
-use Rattle.list_tables.specs.Handing.{TakesSome, rows_at}
+use Rattle.list_tables.specs.IntervalRows.{TakesSome, rows_at}
 use Rattle.list_tables.specs.Whole.{AreWhole}
 use Rattle.list_tables.proofs.tables.Tables.hand_on_all.Given as goal
 

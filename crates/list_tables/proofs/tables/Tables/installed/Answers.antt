@@ -1,7 +1,7 @@
 use Rattle.std.proofs.Common.{◌∙◌, Some, None}
 use Rattle.list_tables.specs.declared.places.Kind.TheVariants.{RegisterOpenings}
 use Rattle.list_tables.specs.Keys.{named}
-use Rattle.list_tables.specs.Placed.{opening_at}
+use Rattle.list_tables.specs.Lookups.{opening_at}
 use Rattle.list_tables.proofs.Found.{looked_up, opening_found}
 use Rattle.list_tables.proofs.tables.Tables.installed.Goals as goal
 

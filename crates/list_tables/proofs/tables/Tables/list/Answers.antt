@@ -2,7 +2,7 @@ use Rattle.std.proofs.Common.{◌∙◌, Some, None, Option}
 use Rattle.planned_list.specs.Lists.{Planned}
 use Rattle.list_tables.specs.declared.places.Kind.TheVariants.{DeviceLists}
 use Rattle.list_tables.specs.Keys.{named}
-use Rattle.list_tables.specs.Placed.{list_at}
+use Rattle.list_tables.specs.Lookups.{list_at}
 use Rattle.list_tables.proofs.Found.{if_ok_then, looked_up, list_found}
 use Rattle.list_tables.proofs.tables.Tables.list.Goals as goal
 

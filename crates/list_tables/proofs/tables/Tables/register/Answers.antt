@@ -1,7 +1,7 @@
 use Rattle.std.proofs.Common.{◌∙◌, Some, None}
 use Rattle.list_tables.specs.declared.places.Kind.TheVariants.{Registers}
 use Rattle.list_tables.specs.Keys.{named}
-use Rattle.list_tables.specs.Placed.{register_at}
+use Rattle.list_tables.specs.Lookups.{register_at}
 use Rattle.list_tables.proofs.Found.{looked_up, register_found}
 use Rattle.list_tables.proofs.tables.Tables.register.Goals as goal
 

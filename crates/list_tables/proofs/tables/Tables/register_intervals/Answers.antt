@@ -6,7 +6,7 @@ use Rattle.office_events.specs.declared.facts.Fact.{Fact}
 use Rattle.office_rules.specs.Intervals.{rows_of_opening}
 use Rattle.list_tables.specs.declared.keys.Key.{Key}
 use Rattle.list_tables.specs.declared.places.Kind.TheVariants.{RegisterOpenings}
-use Rattle.list_tables.specs.Handing.{rows_at}
+use Rattle.list_tables.specs.IntervalRows.{rows_at}
 use Rattle.list_tables.specs.Places.{has_key, places_of}
 use Rattle.list_tables.proofs.Found.{openings_found}
 use Rattle.list_tables.proofs.tables.Tables.register_intervals.Goals as goal

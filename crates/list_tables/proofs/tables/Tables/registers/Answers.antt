@@ -4,7 +4,7 @@ use Rattle.office_events.specs.declared.facts.Fact.{Fact}
 use Rattle.list_tables.specs.declared.keys.Key.{Key}
 use Rattle.list_tables.specs.declared.places.Kind.TheVariants.{DeviceRegisters}
 use Rattle.list_tables.specs.Places.{has_key, places_of}
-use Rattle.list_tables.specs.Placed.{register_at}
+use Rattle.list_tables.specs.Lookups.{register_at}
 use Rattle.list_tables.proofs.Found.{if_ok_then, registers_found}
 use Rattle.list_tables.proofs.tables.Tables.registers.Goals as goal
 

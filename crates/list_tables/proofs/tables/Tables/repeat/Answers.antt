@@ -1,7 +1,7 @@
 use Rattle.std.proofs.Common.{◌∙◌, Some, None, refl}
 use Rattle.list_tables.specs.declared.places.Kind.TheVariants.{Replies}
 use Rattle.list_tables.specs.Keys.{numbered}
-use Rattle.list_tables.specs.Placed.{repeat_at}
+use Rattle.list_tables.specs.Lookups.{repeat_at}
 use Rattle.list_tables.proofs.Found.{looked_up, repeat_found}
 use Rattle.list_tables.proofs.tables.Tables.repeat.Goals as goal
 

@@ -4,7 +4,7 @@ use Rattle.interval_core.specs.declared.day.DayFault.{DayFault}
 use Rattle.office_core.specs.DaySums.{UnlessFailed}
 use Rattle.office_core.proofs.Summing.{no_earlier}
 use Rattle.office_core.proofs.day_sink.DaySink.add.Goals as goal
-use Rattle.office_core.proofs.day_sink.DaySink.add.Goals.{then-row-unwrap_or-via-then-row-unwrap_or, then-row-unwrap_or-via-else-row-unwrap_or+then-row-gt4102444800}
+use Rattle.office_core.proofs.day_sink.DaySink.add.Goals.{then-row-unwrap_or-via-then-row-unwrap_or, then-row-unwrap_or-via-else-row-unwrap_or+then-row-gt-LAST_MOMENT}
 
 pub returns-then-row-unwrap_or : goal.returns-then-row-unwrap_or
 returns-then-row-unwrap_or c = record {
@@ -14,7 +14,7 @@ returns-then-row-unwrap_or c = record {
       let turn = no_earlier sink.zone rows sink.fold sink.latest c.args.row sink.in_step taken may in
       elim c.then-row-unwrap_or.branch [
         | then-row-unwrap_or-via-then-row-unwrap_or w ↦ omega (arith, turn, c.unwrap_or.ensures, w.if-row-unwrap_or.true)
-        | then-row-unwrap_or-via-else-row-unwrap_or+then-row-gt4102444800 w ↦ omega (arith, may.moment, w.if-row-gt4102444800.true)
+        | then-row-unwrap_or-via-else-row-unwrap_or+then-row-gt-LAST_MOMENT w ↦ omega (arith, may.moment, w.if-row-gt-LAST_MOMENT.true)
       ];
 }
 

@@ -1,0 +1,68 @@
+-- The table by which an entry by hand is booked or refused.
+use Rattle.std.specs.Prelude.{◌≡◌, ◌≤◌, ℕ, pos, negsuc, ◌+◌, nat_lt, nat_le, int_lt, Bool, ◌||◌, false, List, [], ◌∷◌, Option, Some, None, Result, Ok, Err}
+use Rattle.std.specs.List.{find}
+use Rattle.energy_core.specs.declared.limits.TheConstants.{MAX_INTERVALS, MAX_TOTAL}
+use Rattle.energy_core.specs.declared.entries.Last.{Last}
+use Rattle.energy_core.specs.declared.entries.Step.{Step}
+use Rattle.energy_core.specs.declared.entries.Entry.{Entry}
+use Rattle.energy_core.specs.declared.entries.Entry.TheVariants as entry
+use Rattle.energy_core.specs.declared.admission.TermFault.{TermFault}
+use Rattle.energy_core.specs.declared.admission.TermFault.TheVariants as fault
+use Rattle.energy_core.specs.Account.{intervals_touched, moment_of, after, reached, energy_of, step_to, Follows}
+
+-- the number of a fault
+abbrev pub fault_number : TermFault → ℕ
+fault_number fault.NegativeStep = 1
+fault_number fault.NotLater = 2
+fault_number fault.SpanTooLong = 3
+fault_number fault.TotalFull = 4
+fault_number fault.BadScale = 5
+fault_number fault.NotBelowRange = 6
+
+-- an entry sets a scale that no register may have
+abbrev pub has_bad_scale : Entry → Bool
+has_bad_scale (entry.Step at raw rolls) = false
+has_bad_scale (entry.Change at before new sf) = int_lt sf (negsuc 2) || int_lt (pos 3) sf
+
+-- an entry tells a number that the counter can't show
+abbrev pub is_beyond : (range : ℕ) → Entry → Bool
+is_beyond range (entry.Step at raw rolls) = nat_le range raw
+is_beyond range (entry.Change at before new sf) = nat_le range before || nat_le range new
+
+-- whether an entry is to be refused for a fault
+abbrev pub refuses : (range total : ℕ) → Last → Entry → TermFault → Bool
+-- the counter would have gone back
+refuses range total last e fault.NegativeStep = nat_lt (reached range e) last.raw
+-- the last entry is as late, or later
+refuses range total last e fault.NotLater = nat_le (moment_of e) last.at
+-- more than 3,000 intervals lie between
+refuses range total last e fault.SpanTooLong =
+    nat_lt MAX_INTERVALS (intervals_touched last.at (moment_of e))
+-- the whole energy would pass its limit
+refuses range total last e fault.TotalFull = nat_lt MAX_TOTAL (total + energy_of range last e)
+refuses range total last e fault.BadScale = has_bad_scale e
+refuses range total last e fault.NotBelowRange = is_beyond range e
+
+-- The faults, in the order in which they are looked at.
+abbrev pub faults : List TermFault
+faults = fault.NegativeStep ∷ fault.NotLater ∷ fault.SpanTooLong ∷ fault.TotalFull ∷ fault.BadScale
+    ∷ fault.NotBelowRange ∷ []
+
+-- refused for a fault, or booked
+abbrev pub answered : (range : ℕ) → Last → Entry → Option TermFault → Result (Last × Step) TermFault
+answered range last e (Some fault) = Err fault
+answered range last e None = Ok (after last e, step_to range last e)
+
+-- Refused for the first fault that applies. Where none does, booked: where the counter stands then, and the step.
+-- What a load can draw is not looked at.
+abbrev pub entered : (range total : ℕ) → Last → Entry → Result (Last × Step) TermFault
+entered range total last e = answered range last e (find (refuses range total last e) faults)
+
+-- An entry that may follow was booked: the counter stands then where the entry says, the step goes up to it, and the
+-- whole energy is within its limit.
+pub record IsBooked (range total : ℕ) (last : Last) (e : Entry) (next : Last) (step : Step) : Type 0
+  where
+    pub next_is : next ≡ after last e
+    pub step_is : step ≡ step_to range last e
+    pub follows : Follows range last e
+    pub within : total + step.mwh ≤ MAX_TOTAL

@@ -1,0 +1,164 @@
+//! Whether an entry by hand is booked, and why one is refused.
+ghost use Rattle.std.specs.Prelude.{◌≡◌, ℕ, ◌≤◌, ◌<◌, ◌+◌, pos, negsuc, ◌≤ℤ◌, List, ◌∷◌};
+ghost use Rattle.std.specs.Prelude.{IfOk};
+ghost use Rattle.energy_core.specs.Admission.{entered, is_beyond, has_bad_scale, fault_number};
+ghost use Rattle.energy_core.specs.Account.{moment_of, reached, after, IsAccount};
+ghost use Rattle.energy_core.specs.Account.{intervals_touched};
+ghost use Rattle.energy_core.specs.declared.entries.Last.{Last};
+ghost use Rattle.energy_core.specs.declared.entries.Entry.{Entry};
+
+use crate::counters::Counter;
+use crate::entries::{Entry, Last, Step};
+use crate::limits::{MAX_INTERVALS, MAX_RANGE, MAX_TOTAL};
+use crate::measures::{is_long_span, unit};
+use crate::verdicts::Terms;
+
+/// Why an entry is refused.
+#[derive(Clone, Copy, Debug, PartialEq, Eq)]
+pub enum TermFault {
+    /// The counter would have gone back.
+    NegativeStep,
+    /// The last entry is as late, or later.
+    NotLater,
+    /// More than 3,000 intervals lie between.
+    SpanTooLong,
+    /// The installation's energy would pass 4 * 10^18 mWh.
+    TotalFull,
+    /// The scale factor is not from -3 to 3.
+    BadScale,
+    /// A number is not below the counter's range.
+    NotBelowRange,
+}
+
+impl TermFault {
+    /// The number of the fault, from 1 to 6.
+    pub fn number(self) -> u8
+        ensures { result ≡ fault_number self }
+    {
+        match self {
+            TermFault::NegativeStep => 1,
+            TermFault::NotLater => 2,
+            TermFault::SpanTooLong => 3,
+            TermFault::TotalFull => 4,
+            TermFault::BadScale => 5,
+            TermFault::NotBelowRange => 6,
+        }
+    }
+}
+
+/// When an entry was made.
+fn moment(entry: &Entry) -> u64
+    ensures { result ≡ moment_of entry.now }
+{
+    match *entry {
+        Entry::Step { at, .. } | Entry::Change { at, .. } => at,
+    }
+}
+
+/// What the counter would have reached, had it neither turned over nor been set.
+fn reach(range: u64, entry: &Entry) -> u64
+    requires { range ≤ MAX_RANGE }
+    ensures value { result ≡ reached range entry.now }
+    ensures small { result ≤ 1099511627776 }
+{
+    match *entry {
+        Entry::Step { raw, rolls, .. } => u64::from(raw) + u64::from(rolls) * range,
+        Entry::Change { before, .. } => u64::from(before),
+    }
+}
+
+/// Whether an entry sets a scale that no register may have.
+fn is_off_scale(entry: &Entry) -> bool
+    ensures { result ≡ has_bad_scale entry.now }
+{
+    match *entry {
+        Entry::Step { .. } => false,
+        Entry::Change { sf, .. } => sf < -3 || 3 < sf,
+    }
+}
+
+/// Whether an entry tells a number that the counter can't show.
+fn is_out_of_range(range: u64, entry: &Entry) -> bool
+    ensures { result ≡ is_beyond range entry.now }
+{
+    match *entry {
+        Entry::Step { raw, .. } => range <= u64::from(raw),
+        Entry::Change { before, after, .. } => {
+            range <= u64::from(before) || range <= u64::from(after)
+        }
+    }
+}
+
+/// Where the counter stands after an entry.
+fn stand(last: &Last, entry: &Entry) -> Last
+    ensures { result ≡ after last.now entry.now }
+{
+    match *entry {
+        Entry::Step { at, raw, .. } => Last {
+            at,
+            raw,
+            sf: last.sf,
+        },
+        Entry::Change { at, after, sf, .. } => Last { at, raw: after, sf },
+    }
+}
+
+/// Books an entry after where the counter stands: where it stands then, and the step between; or refuses it for the
+/// first fault that applies. So books that are kept as entries are added up, one entry after the other.
+pub fn enter<C: Counter>(
+    counter: &C,
+    terms: &Terms,
+    last: &Last,
+    entry: &Entry,
+) -> Result<(Last, Step), TermFault>
+    requires total { terms.now.total ≤ MAX_TOTAL }
+    requires raw { last.now.raw < C.range counter.now }
+    requires scale_low { negsuc 2 ≤ℤ last.now.sf }
+    requires scale_high { last.now.sf ≤ℤ pos 3 }
+    ensures booked { result ≡ entered (C.range counter.now) terms.now.total last.now entry.now }
+    ensures account { let range = C.range counter.now in
+        (opening : Last) (es : List Entry) → IsAccount range opening es last.now terms.now.total
+        → IfOk result (λ r. IsAccount range opening (entry.now ∷ es) r.0
+        (terms.now.total + r.1.mwh)) }
+
+    // what the next call requires
+    ensures total { IfOk result (λ r. terms.now.total + r.1.mwh ≤ MAX_TOTAL) }
+    ensures raw { IfOk result (λ r. r.0.raw < C.range counter.now) }
+    ensures scale_low { IfOk result (λ r. negsuc 2 ≤ℤ r.0.sf) }
+    ensures scale_high { IfOk result (λ r. r.0.sf ≤ℤ pos 3) }
+
+    // the step can be shared out over its intervals
+    ensures later { IfOk result (λ r. r.1.from < r.1.till) }
+    ensures span { IfOk result (λ r. intervals_touched r.1.from r.1.till ≤ MAX_INTERVALS) }
+{
+    let range = counter.range();
+    let reached = reach(range, entry);
+    let before = u64::from(last.raw);
+    if reached < before {
+        return Err(TermFault::NegativeStep);
+    }
+    let till = moment(entry);
+    if till <= last.at {
+        return Err(TermFault::NotLater);
+    }
+    if is_long_span(last.at, till) {
+        return Err(TermFault::SpanTooLong);
+    }
+    let unit = unit(last.sf);
+    let mwh = reached * unit - before * unit;
+    if terms.total + mwh > MAX_TOTAL {
+        return Err(TermFault::TotalFull);
+    }
+    if is_off_scale(entry) {
+        return Err(TermFault::BadScale);
+    }
+    if is_out_of_range(range, entry) {
+        return Err(TermFault::NotBelowRange);
+    }
+    let step = Step {
+        from: last.at,
+        till,
+        mwh,
+    };
+    Ok((stand(last, entry), step))
+}

@@ -1,0 +1,147 @@
+//! What holds of an installation, and whether a reading is accepted.
+ghost use Rattle.std.specs.Prelude.{◌≡◌, ◌≤◌, ◌<◌, pos, negsuc, ◌≤ℤ◌};
+ghost use Rattle.energy_core.specs.Verdict.{verdict_of, can_count, distance, cause_number};
+
+use crate::counters::Counter;
+use crate::entries::Last;
+use crate::limits::{MAX_CEILING, MAX_RANGE, MAX_TOTAL, MAX_UNIT};
+use crate::measures::{is_long_span, unit};
+
+/// What holds of an installation when an entry is judged: the greatest load that can flow, in W, and its energy so
+/// far, in mWh.
+#[derive(Clone, Copy, Debug, PartialEq, Eq)]
+pub struct Terms {
+    pub ceiling: u64,
+    pub total: u64,
+}
+
+/// What a meter told: the moment, in seconds since 1970-01-01 UTC, its counter, and the scale factor of the counter. A
+/// scale factor that is not implemented counts as 0.
+#[derive(Clone, Copy, Debug, PartialEq, Eq)]
+pub struct Reading {
+    pub at: u64,
+    pub raw: u32,
+    pub sf: i16,
+}
+
+/// Why a reading is held.
+#[derive(Clone, Copy, Debug, PartialEq, Eq)]
+pub enum Cause {
+    /// The counter shows 0: SunSpec's value of an accumulator that does not count.
+    NotAccumulated,
+    /// The scale factor is another than at the last entry.
+    ScaleChanged,
+    /// The last entry is as late, or later.
+    NotLater,
+    /// More than 3,000 intervals lie between.
+    SpanTooLong,
+    /// The counter could have made a full turn.
+    GapTooLong,
+    /// The counter went further than the ceiling allows.
+    TooFast,
+    /// The installation's energy would pass 4 * 10^18 mWh.
+    TotalFull,
+    /// The counter shows a number that is not below its range.
+    NotBelowRange,
+}
+
+impl Cause {
+    /// The number under which the cause is printed and kept.
+    pub fn number(self) -> u8
+        ensures { result ≡ cause_number self }
+    {
+        match self {
+            Cause::NotAccumulated => 1,
+            Cause::ScaleChanged => 2,
+            Cause::NotLater => 3,
+            Cause::SpanTooLong => 4,
+            Cause::GapTooLong => 5,
+            Cause::TooFast => 6,
+            Cause::TotalFull => 7,
+            Cause::NotBelowRange => 8,
+        }
+    }
+}
+
+/// What becomes of a reading.
+#[derive(Clone, Copy, Debug, PartialEq, Eq)]
+pub enum Verdict {
+    /// The reading is an entry: how often the counter turned over since the last one, 0 or 1, and the energy between,
+    /// in mWh.
+    Accepted { rolls: u8, step: u64 },
+    /// The reading is no entry.
+    Held(Cause),
+}
+
+/// Whether a load of at most `ceiling` W can make a meter count this far in so many seconds.
+fn may_count(ceiling: u64, unit: u64, seconds: u64, count: u64) -> bool
+    requires ceiling { ceiling ≤ MAX_CEILING }
+    requires unit { unit ≤ MAX_UNIT }
+    requires seconds { seconds ≤ 3000000 }
+    requires count { count ≤ MAX_RANGE }
+    ensures { result ≡ can_count ceiling unit seconds count }
+{
+    count.saturating_sub(1) * unit * 18 <= ceiling * seconds * 5
+}
+
+/// How far a counter went from one number to another, if it made less than a full turn.
+fn distance_between(range: u64, from: u64, to: u64) -> u64
+    requires some { 0 < range }
+    requires range { range ≤ MAX_RANGE }
+    requires from { from < range }
+    requires to { to < range }
+    ensures value { result ≡ distance range from to }
+    ensures below { result < range }
+{
+    if to < from {
+        to + range - from
+    } else {
+        to - from
+    }
+}
+
+/// Accepts a reading or holds it for the first cause that applies, in the order 1, 2, 8, 3, 4, 5, 6, 7.
+pub fn judge<C: Counter>(counter: &C, terms: &Terms, last: &Last, reading: &Reading) -> Verdict
+    requires ceiling_low { 1 ≤ terms.now.ceiling }
+    requires ceiling_high { terms.now.ceiling ≤ MAX_CEILING }
+    requires total { terms.now.total ≤ MAX_TOTAL }
+    requires raw { last.now.raw < C.range counter.now }
+    requires scale_low { negsuc 2 ≤ℤ last.now.sf }
+    requires scale_high { last.now.sf ≤ℤ pos 3 }
+    ensures { result ≡ verdict_of (C.range counter.now) terms.now last.now reading.now }
+{
+    let range = counter.range();
+    let raw = u64::from(reading.raw);
+    if reading.raw == 0 {
+        return Verdict::Held(Cause::NotAccumulated);
+    }
+    if reading.sf != last.sf {
+        return Verdict::Held(Cause::ScaleChanged);
+    }
+    if range <= raw {
+        return Verdict::Held(Cause::NotBelowRange);
+    }
+    if reading.at <= last.at {
+        return Verdict::Held(Cause::NotLater);
+    }
+    if is_long_span(last.at, reading.at) {
+        return Verdict::Held(Cause::SpanTooLong);
+    }
+    let unit = unit(last.sf);
+    let seconds = reading.at - last.at;
+    if may_count(terms.ceiling, unit, seconds, range) {
+        return Verdict::Held(Cause::GapTooLong);
+    }
+    let distance = distance_between(range, u64::from(last.raw), raw);
+    if !may_count(terms.ceiling, unit, seconds, distance) {
+        return Verdict::Held(Cause::TooFast);
+    }
+    let step = distance * unit;
+    if terms.total + step > MAX_TOTAL {
+        return Verdict::Held(Cause::TotalFull);
+    }
+    Verdict::Accepted {
+        rolls: u8::from(reading.raw < last.raw),
+        step,
+    }
+}

@@ -1,0 +1,221 @@
+//! Which entries are booked, and as what.
+use crate::terms::{PREVIOUS, TOTAL_LIMIT, booked, last};
+use energy_core::{Acc32, Counter, Entry, Last, Ranged, Step, TermFault, Terms, enter};
+use std::process::Abort;
+
+struct Case {
+    total: u64,
+    last: Last,
+    entry: Entry,
+    answer: Result<(Last, Step), TermFault>,
+}
+
+const NEARLY_FULL: u64 = 3_999_999_999_999_999_000;
+
+macro_rules! step {
+    ($at:expr, $raw:expr, $rolls:expr) => {
+        Entry::Step {
+            at: $at,
+            raw: $raw,
+            rolls: $rolls,
+        }
+    };
+}
+
+macro_rules! change {
+    ($at:expr, $before:expr, $after:expr, $sf:expr) => {
+        Entry::Change {
+            at: $at,
+            before: $before,
+            after: $after,
+            sf: $sf,
+        }
+    };
+}
+
+static CASES: [Case; 17] = [
+    Case {
+        total: 200_000,
+        last: PREVIOUS,
+        entry: step!(2000, 5100, 0),
+        answer: Err(TermFault::NegativeStep),
+    },
+    Case {
+        total: 200_000,
+        last: PREVIOUS,
+        entry: step!(1900, 5300, 0),
+        answer: Err(TermFault::NotLater),
+    },
+    Case {
+        total: 200_000,
+        last: PREVIOUS,
+        entry: step!(2_701_801, 5300, 0),
+        answer: Err(TermFault::SpanTooLong),
+    },
+    Case {
+        total: 200_000,
+        last: PREVIOUS,
+        entry: step!(2_701_800, 5300, 0),
+        answer: booked!(last!(2_701_800, 5300, 0), 1900, 100_000),
+    },
+    Case {
+        total: 200_000,
+        last: PREVIOUS,
+        entry: step!(5_000_000, 5300, 0),
+        answer: Err(TermFault::SpanTooLong),
+    },
+    Case {
+        total: 300_000,
+        last: last!(2_701_800, 5300, 0),
+        entry: step!(5_000_000, 5300, 0),
+        answer: booked!(last!(5_000_000, 5300, 0), 2_701_800, 0),
+    },
+    // the most rollovers
+    Case {
+        total: 0,
+        last: last!(1900, 5200, -3),
+        entry: step!(2000, 0, 255),
+        answer: booked!(last!(2000, 0, -3), 1900, 1_095_216_655_280),
+    },
+    // the limit of the total
+    Case {
+        total: NEARLY_FULL,
+        last: PREVIOUS,
+        entry: step!(2000, 5201, 0),
+        answer: booked!(last!(2000, 5201, 0), 1900, 1000),
+    },
+    Case {
+        total: NEARLY_FULL,
+        last: PREVIOUS,
+        entry: step!(2000, 5202, 0),
+        answer: Err(TermFault::TotalFull),
+    },
+    // the step goes up to what was shown before, and the counter goes on from what it was set to
+    Case {
+        total: 200_000,
+        last: PREVIOUS,
+        entry: change!(2000, 5200, 520, 1),
+        answer: booked!(last!(2000, 520, 1), 1900, 0),
+    },
+    Case {
+        total: 200_000,
+        last: PREVIOUS,
+        entry: change!(2000, 5250, 0, 0),
+        answer: booked!(last!(2000, 0, 0), 1900, 50_000),
+    },
+    // scale factors
+    Case {
+        total: 0,
+        last: PREVIOUS,
+        entry: change!(2000, 5200, 1, -4),
+        answer: Err(TermFault::BadScale),
+    },
+    Case {
+        total: 0,
+        last: PREVIOUS,
+        entry: change!(2000, 5200, 1, -3),
+        answer: booked!(last!(2000, 1, -3), 1900, 0),
+    },
+    Case {
+        total: 0,
+        last: PREVIOUS,
+        entry: change!(2000, 5200, 1, 3),
+        answer: booked!(last!(2000, 1, 3), 1900, 0),
+    },
+    Case {
+        total: 0,
+        last: PREVIOUS,
+        entry: change!(2000, 5200, 1, 4),
+        answer: Err(TermFault::BadScale),
+    },
+    // the least fault
+    Case {
+        total: NEARLY_FULL,
+        last: PREVIOUS,
+        entry: change!(1900, 5202, 1, 4),
+        answer: Err(TermFault::NotLater),
+    },
+    Case {
+        total: NEARLY_FULL,
+        last: PREVIOUS,
+        entry: change!(2000, 5202, 1, 4),
+        answer: Err(TermFault::TotalFull),
+    },
+];
+
+static BELOW_A_MILLION: [Case; 7] = [
+    Case {
+        total: 0,
+        last: PREVIOUS,
+        entry: step!(2000, 999_999, 0),
+        answer: booked!(last!(2000, 999_999, 0), 1900, 994_799_000),
+    },
+    Case {
+        total: 0,
+        last: PREVIOUS,
+        entry: step!(2000, 1_000_000, 0),
+        answer: Err(TermFault::NotBelowRange),
+    },
+    Case {
+        total: 0,
+        last: PREVIOUS,
+        entry: step!(2000, 5200, 1),
+        answer: booked!(last!(2000, 5200, 0), 1900, 1_000_000_000),
+    },
+    Case {
+        total: 0,
+        last: PREVIOUS,
+        entry: change!(2000, 999_999, 999_999, 0),
+        answer: booked!(last!(2000, 999_999, 0), 1900, 994_799_000),
+    },
+    Case {
+        total: 0,
+        last: PREVIOUS,
+        entry: change!(2000, 1_000_000, 0, 0),
+        answer: Err(TermFault::NotBelowRange),
+    },
+    Case {
+        total: 0,
+        last: PREVIOUS,
+        entry: change!(2000, 5200, 1_000_000, 0),
+        answer: Err(TermFault::NotBelowRange),
+    },
+    Case {
+        total: 0,
+        last: PREVIOUS,
+        entry: change!(2000, 5200, 1_000_000, 4),
+        answer: Err(TermFault::BadScale),
+    },
+];
+
+fn entered<C: Counter>(
+    rt: &impl Abort,
+    counter: &C,
+    case: &Case,
+) -> Result<(Last, Step), TermFault> {
+    let total = case.total;
+    assert!(rt; total <= TOTAL_LIMIT);
+    assert!(rt; u64::from(case.last.raw) < counter.range());
+    assert!(rt; -3 <= case.last.sf && case.last.sf <= 3);
+    enter(
+        counter,
+        &Terms { ceiling: 1, total },
+        &case.last,
+        &case.entry,
+    )
+}
+
+#[test]
+fn entries_are_booked_or_refused(rt: HostRuntime) {
+    for (i, case) in CASES.iter().enumerate() {
+        assert_eq!(rt; entered(&rt, &Acc32, case), case.answer, "case {i}");
+    }
+}
+
+#[test]
+fn entries_tell_what_the_counter_can_show(rt: HostRuntime) {
+    let counter = Ranged::new(1_000_000).expect(&rt, "a lawful range");
+    for (i, case) in BELOW_A_MILLION.iter().enumerate() {
+        assert_eq!(rt; entered(&rt, &counter, case), case.answer, "case {i}");
+    }
+}

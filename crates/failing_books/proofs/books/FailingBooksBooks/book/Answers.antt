@@ -1,0 +1,24 @@
+use Rattle.std.proofs.Common.{◌≡◌, [], refl, arith}
+use Rattle.std.proofs.lemmas.Grind.{common_steps}
+use Rattle.failing_books.proofs.Booking.{passed, refused}
+use Rattle.failing_books.proofs.books.FailingBooksBooks.book.Goals as goal
+
+pub returns-then-is_empty : goal.returns-then-is_empty
+returns-then-is_empty c = record {
+  books = passed c.args.self.now.books c.args.self.now.books c.book.new.self c.args.self.now.faults c.args.self.now.faults
+      c.args.facts.items c.book.result refl refl c.book.ensures.books;
+}
+
+pub returns-in-Ok : goal.returns-in-Ok
+returns-in-Ok c = record {
+  books = passed c.args.self.now.books c.called.new.self.books c.book-in-Ok.new.self c.args.self.now.faults c.called.new.self.faults
+      c.args.facts.items c.book-in-Ok.result c.in-Ok.ensures.books c.in-Ok.ensures.ok c.book-in-Ok.ensures.books;
+}
+
+pub returns-in-Err : goal.returns-in-Err
+returns-in-Err c =
+    let some : c.args.facts.items ≡ [] → ⊥ = λ none. grind (arith, common_steps, c.if-is_empty.ensures) in
+    record {
+      books = refused c.args.self.now.books c.called.new.self.books c.args.self.now.faults c.called.new.self.faults
+          c.args.facts.items c.in-Err.fault c.in-Err.ensures.books c.in-Err.ensures.refused.1 c.in-Err.ensures.refused.0 some;
+    }

@@ -1,7 +1,0 @@
-use Rattle.failing_books.proofs.Reading.{read_on}
-use Rattle.failing_books.proofs.failing.FailingBooksBooks.devices.Goals as goal
-
-pub returns-clause-reads : goal.returns-clause-reads
-returns-clause-reads c =
-    read_on c.args.self.now.books c.called.new.self.books c.devices.new.self c.args.self.now.faults c.called.new.self.faults
-    c.devices.result c.in_ok-called.ensures.books c.in_ok-called.ensures.ok c.devices.ensures.reads

@@ -1,0 +1,94 @@
+//! The tests of a POST's headers.
+ghost use Rattle.std.specs.Prelude.{◌≡◌, length, map, All};
+ghost use Rattle.httparse.specs.Spans.{IsHeaderWithin, header_bytes};
+ghost use Rattle.http_request.specs.Asking.{TestsPost};
+ghost use Rattle.http_request.specs.Tests.{post_headers_of};
+ghost use Rattle.http_request.specs.Seen.{is_missing_given, is_repeated_given, seen_headers};
+
+use crate::numbers::{digits, is_name, number};
+use http_head::{Given, header_value};
+use http_status::Status;
+use httparse::spans::HeaderSpan;
+
+/// The most bytes of a body.
+pub const MOST_BODY: usize = 65_536;
+
+/// What the headers of a command say.
+#[derive(Clone, Copy)]
+pub struct Posted<'b> {
+    /// How many bytes the body has.
+    pub size: u64,
+    /// Who asks.
+    pub caller: &'b [u8],
+    /// The number that the caller gave the request.
+    pub number: u64,
+}
+
+fn is_missing(given: &Given<'_>) -> bool
+    ensures { result ≡ is_missing_given given.now }
+{
+    matches!(given, Given::Never)
+}
+
+fn is_repeated(given: &Given<'_>) -> bool
+    ensures { result ≡ is_repeated_given given.now }
+{
+    matches!(given, Given::Often)
+}
+
+// Takes the tests in turn.
+fn test_headers<'b>(
+    transfer: Given<'b>,
+    size: Given<'b>,
+    caller: Given<'b>,
+    number_of: Given<'b>,
+) -> Result<Posted<'b>, Status>
+    ensures { TestsPost
+        (seen_headers transfer.entry size.entry caller.entry number_of.entry) result }
+{
+    if !is_missing(&transfer)
+        || is_repeated(&size)
+        || is_repeated(&caller)
+        || is_repeated(&number_of)
+    {
+        return Err(Status::BadRequest);
+    }
+    let Given::Once(size) = size else {
+        return Err(Status::LengthRequired);
+    };
+    let Some(size) = digits(size) else {
+        return Err(Status::BadRequest);
+    };
+    if size > MOST_BODY as u64 {
+        return Err(Status::ContentTooLarge);
+    }
+    let Given::Once(caller) = caller else {
+        return Err(Status::BadRequest);
+    };
+    if !is_name(caller) {
+        return Err(Status::BadRequest);
+    }
+    let Given::Once(number_text) = number_of else {
+        return Err(Status::BadRequest);
+    };
+    let Some(number) = number(number_text) else {
+        return Err(Status::BadRequest);
+    };
+    Ok(Posted {
+        size,
+        caller,
+        number,
+    })
+}
+
+/// What the headers of a command say, or the status of the first test that fails.
+pub fn post_headers<'b>(bytes: &'b [u8], headers: &[HeaderSpan]) -> Result<Posted<'b>, Status>
+    requires within { All (IsHeaderWithin (length bytes.now)) headers.now }
+    ensures { TestsPost (post_headers_of (map (header_bytes bytes.now) headers.now)) result }
+{
+    let transfer = header_value(bytes, headers, b"transfer-encoding");
+    let size = header_value(bytes, headers, b"content-length");
+    let caller = header_value(bytes, headers, b"office-caller");
+    let number_of = header_value(bytes, headers, b"office-request");
+    test_headers(transfer, size, caller, number_of)
+}

@@ -1,0 +1,31 @@
+-- What stands at a place of facts, from 0 on, in the order in which they came.
+use Rattle.std.specs.Prelude.{ℕ, List, Option}
+use Rattle.std.specs.List.{slice_get}
+use Rattle.std.specs.Option.{option_and_then, option_map}
+use Rattle.office_events.specs.declared.facts.Register.{Register}
+use Rattle.office_events.specs.declared.facts.Opening.{Opening}
+use Rattle.office_events.specs.declared.facts.Fact.{Fact}
+use Rattle.planned_list.specs.Lists.{Planned}
+use Rattle.office_books.specs.declared.books.Repeat.{Repeat}
+use Rattle.office_books.specs.Repeats.{as_repeat}
+use Rattle.office_rules.specs.Facts.{as_register, as_opening, as_list, as_reply, if_some}
+
+-- the list that a fact puts; one without points counts as none
+abbrev pub listed : Fact → Option Planned
+listed f = option_and_then (λ put. if_some put.list.points put.list) (as_list f)
+
+-- what a request is to the one that a fact keeps
+abbrev pub repeated : (request : List ℕ) → Fact → Option Repeat
+repeated request f = option_map (as_repeat request) (as_reply f)
+
+abbrev pub register_at : List Fact → ℕ → Option Register
+register_at facts place = option_and_then as_register (slice_get facts place)
+
+abbrev pub opening_at : List Fact → ℕ → Option Opening
+opening_at facts place = option_and_then as_opening (slice_get facts place)
+
+abbrev pub list_at : List Fact → ℕ → Option Planned
+list_at facts place = option_and_then listed (slice_get facts place)
+
+abbrev pub repeat_at : (request : List ℕ) → List Fact → ℕ → Option Repeat
+repeat_at request facts place = option_and_then (repeated request) (slice_get facts place)

@@ -1,0 +1,290 @@
+-- What a server does with the bytes of a stream: which frames it answers, and where it stands after them.
+use Rattle.std.specs.Prelude.{◌≡◌, ℕ, ◌==◌, ◌≤◌, ◌<◌, ◌&&◌, not, Bool, true, false, is_err, List, [], ◌∷◌, ◌++◌, length, Ok, Err, Some, None}
+use Rattle.std.specs.List.{filter}
+use Rattle.std.specs.Io.KnownBytes.{Appends, Consumes, IsAtEnd}
+use Rattle.std.specs.declared.result.Result.{Result}
+use Rattle.std.specs.declared.option.Option.{Option}
+use Rattle.mb_wire.specs.Frames.{IsBad, IsFrame, IsOpen, frames, rest, protocol_of, tid_of, unit_of, pdu_of}
+use Rattle.mb_wire.specs.Reader.{Fields, Held}
+use Rattle.mb_wire.specs.declared.limits.TheConstants.{MAX_ADU}
+use Rattle.mb_wire.specs.Links.{is_end}
+use Rattle.mb_wire.specs.declared.link.LastTake.{LastTake}
+use Rattle.mb_wire.specs.declared.link.LinkFailed.{LinkFailed}
+use Rattle.mb_wire.specs.declared.link.Took.{Took}
+use Rattle.mb_device.specs.Maps.{Maps}
+use Rattle.mb_device.specs.Device.{answer_to, maps_after}
+use Rattle.mb_device.specs.Tricks.{Course, Playing, CutOff, answer_of, carried_out, course_after, is_cut, sent}
+use Rattle.mb_device.specs.declared.server.ServeFault.{ServeFault}
+use Rattle.mb_device.specs.declared.server.ServeFault.TheVariants.{Read, Write, Garbled, TurnsUsed}
+use Rattle.mb_device.specs.declared.server.Turned.{Turned}
+
+-- a frame of this protocol; any other is passed over
+abbrev pub is_own : List ℕ → Bool
+is_own frame = protocol_of frame == 0
+
+-- the frames of this protocol that end in the bytes, in order
+abbrev pub own_frames : List ℕ → List (List ℕ)
+own_frames bytes = filter is_own (frames bytes)
+
+-- the answer to a frame: its transaction id and unit, and the device's answer to its PDU
+unfoldable pub answer_to_frame : Maps → List ℕ → Fields
+answer_to_frame maps frame =
+    answer_of (tid_of frame) (unit_of frame) (answer_to maps (pdu_of frame))
+
+-- the true answers to frames in order, each from the maps that those before it left
+abbrev pub answers : Maps → List (List ℕ) → List Fields
+answers maps [] = []
+answers maps (frame ∷ frames) =
+    answer_to_frame maps frame ∷ answers (maps_after maps (pdu_of frame)) frames
+
+-- the maps after frames
+abbrev pub maps_after_all : Maps → List (List ℕ) → Maps
+maps_after_all maps [] = maps
+maps_after_all maps (frame ∷ frames) = maps_after_all (maps_after maps (pdu_of frame)) frames
+
+-- what a server sends for frames on a connection: the true answers, put through its tricks
+abbrev pub sent_to : Course → Maps → List (List ℕ) → List ℕ
+sent_to course maps frames = sent course (answers maps frames)
+
+-- the connection behind frames
+abbrev pub course_behind : Course → Maps → List (List ℕ) → Course
+course_behind course maps frames = course_after course (answers maps frames)
+
+-- The bytes that a server holds since the last frame's end, and how its connection goes on; or its
+-- connection was cut; or it has answered a fault.
+pub data Standing : Type 0 where
+  Holds : List ℕ → Course → Standing
+  Over : Standing
+  Faulted : Standing
+
+abbrev pub standing_on : List ℕ → Course → Standing
+standing_on bytes (Playing tricks number later) = Holds bytes (Playing tricks number later)
+standing_on bytes CutOff = Over
+
+-- the bytes that the peer still has for the server, those given to it, and the device
+pub record Around : Type 0 where
+  pub remaining : Option (List ℕ)
+  pub given : Option (List ℕ)
+  pub maps : Maps
+
+abbrev pub around : Option (List ℕ) → Option (List ℕ) → Maps → Around
+around remaining given maps = record { remaining = remaining; given = given; maps = maps }
+
+-- all of the frames up to one that is cut were carried out, and what is sent for them was given
+pub record AllAnswered (course : Course) (frames : List (List ℕ)) (old new : Around) : Type 0 where
+  pub given : Appends old.given new.given (sent_to course old.maps frames)
+  pub maps : new.maps ≡ maps_after_all old.maps (carried_out course frames)
+
+-- The peer did not take the whole of what is sent for one of the frames: those before it were dealt with,
+-- it was carried out, and those after it were not.
+pub record BrokenOff (course : Course) (frames : List (List ℕ)) (old new : Around) : Type 0 where
+  pub earlier : List (List ℕ)
+  pub frame : List ℕ
+  pub later : List (List ℕ)
+  pub in_order : frames ≡ earlier ++ frame ∷ later
+  pub part : List ℕ
+  pub unsent : List ℕ
+  pub left : 0 < length unsent
+  pub whole : sent_to course old.maps (earlier ++ frame ∷ [])
+      ≡ sent_to course old.maps earlier ++ part ++ unsent
+  pub given : Appends old.given new.given (sent_to course old.maps earlier ++ part)
+  pub maps : new.maps ≡ maps_after_all old.maps (earlier ++ frame ∷ [])
+
+-- only a failed write keeps a frame that ended from its answer
+abbrev pub Answered : {X : Type 0} → Result X ServeFault → Course → List (List ℕ) → Around → Around
+    → Type 0
+Answered (Ok x) course frames old new = AllAnswered course frames old new
+Answered (Err Read) course frames old new = AllAnswered course frames old new
+Answered (Err Write) course frames old new = BrokenOff course frames old new
+Answered (Err Garbled) course frames old new = AllAnswered course frames old new
+Answered (Err TurnsUsed) course frames old new = AllAnswered course frames old new
+
+-- where a server stands that has read these bytes in all, on a connection that goes on so
+abbrev pub standing_after : {X : Type 0} → Result X ServeFault → List ℕ → Course → Standing
+standing_after (Ok x) bytes course = standing_on (rest bytes) course
+standing_after (Err fault) bytes course = Faulted
+
+-- The bytes that came in all on a connection, those held before them included; the connection before
+-- them, and behind the frames that end in them.
+pub record Stretch : Type 0 where
+  pub bytes : List ℕ
+  pub before : Course
+  pub left : Course
+
+abbrev pub stretch : Course → Maps → List ℕ → Stretch
+stretch course maps bytes =
+    record { bytes = bytes; before = course; left = course_behind course maps (own_frames bytes) }
+
+-- so many frames were carried out, and no bad length came before the connection was cut, if it was
+pub record Counts (count : ℕ) (stretch : Stretch) : Type 0 where
+  pub counted : count ≡ length (carried_out stretch.before (own_frames stretch.bytes))
+  pub is_open : is_cut stretch.left ≡ false → IsOpen (rest stretch.bytes)
+
+-- no bad length came, and the connection was not cut
+pub record IsGoing (stretch : Stretch) : Type 0 where
+  pub going : is_cut stretch.left ≡ false
+  pub is_open : IsOpen (rest stretch.bytes)
+
+-- a bad length came, and the connection was not cut before it
+pub record IsGarbled (stretch : Stretch) : Type 0 where
+  pub going : is_cut stretch.left ≡ false
+  pub bad : IsBad (rest stretch.bytes)
+
+-- The end that a turn tells: the connection was cut, or nothing was taken and nothing more will come.
+pub record EndTells (ended : Bool) (left : Course) (taken : List ℕ) (remaining : Option (List ℕ)) :
+    Type 0 where
+  pub cut : is_cut left ≡ true → ended ≡ true
+  pub end : is_cut left ≡ false → ended ≡ true → (taken ≡ []) × IsAtEnd remaining
+
+-- what a turn tells of the bytes that it took
+abbrev pub TurnTells : Result Turned ServeFault → Stretch → List ℕ → Option (List ℕ) → Type 0
+TurnTells (Ok turned) stretch taken remaining =
+    Counts turned.answered stretch × EndTells turned.ended stretch.left taken remaining
+TurnTells (Err Read) stretch taken remaining = taken ≡ []
+TurnTells (Err Write) stretch taken remaining = Unit {0}
+TurnTells (Err Garbled) stretch taken remaining = IsGarbled stretch
+TurnTells (Err TurnsUsed) stretch taken remaining = ⊥
+
+-- what serving tells of the bytes that it took
+abbrev pub ServeTells : Result ℕ ServeFault → Stretch → Option (List ℕ) → Type 0
+ServeTells (Ok count) stretch remaining =
+    Counts count stretch × (is_cut stretch.left ≡ false → IsAtEnd remaining)
+ServeTells (Err Read) stretch remaining = IsGoing stretch
+ServeTells (Err Write) stretch remaining = Unit {0}
+ServeTells (Err Garbled) stretch remaining = IsGarbled stretch
+ServeTells (Err TurnsUsed) stretch remaining = IsGoing stretch
+
+-- the connection was cut
+abbrev pub is_over : Standing → Bool
+is_over (Holds held course) = false
+is_over Over = true
+is_over Faulted = false
+
+-- a turn came to the end of the input; that of a connection that was cut is none of the link's
+abbrev pub came_to_end : Result Turned ServeFault → Standing → Bool
+came_to_end (Ok turned) standing = turned.ended && not (is_over standing)
+came_to_end (Err fault) standing = false
+
+-- and so did serving
+abbrev pub served_to_end : Result ℕ ServeFault → Standing → Bool
+served_to_end (Ok count) standing = not (is_over standing)
+served_to_end (Err fault) standing = false
+
+-- a take failed
+abbrev pub is_read_fault : {X : Type 0} → Result X ServeFault → Bool
+is_read_fault (Ok x) = false
+is_read_fault (Err Read) = true
+is_read_fault (Err Write) = false
+is_read_fault (Err Garbled) = false
+is_read_fault (Err TurnsUsed) = false
+
+-- The last take had room for 260 bytes. It came to the end exactly where that is told, and failed
+-- exactly where that is told.
+pub record TellsTake (ended failed : Bool) (last : Option LastTake) : Type 0 where
+  pub answer : Result Took LinkFailed
+  pub taken : last ≡ Some (record { room = MAX_ADU; answer = answer })
+  pub end : ended ≡ is_end answer
+  pub failure : failed ≡ is_err answer
+
+-- a turn of a server that holds these bytes, on a connection
+pub record Turns (held : List ℕ) (course : Course) (result : Result Turned ServeFault)
+    (old new : Around) (standing : Standing) : Type 0 where
+  pub taken : List ℕ
+  pub few : length taken ≤ MAX_ADU
+  pub consumed : Consumes old.remaining new.remaining taken
+  pub answered : Answered result course (own_frames (held ++ taken)) old new
+  pub stands : standing
+      ≡ standing_after result (held ++ taken)
+      (course_behind course old.maps (own_frames (held ++ taken)))
+  pub tells : TurnTells result (stretch course old.maps (held ++ taken)) taken new.remaining
+
+-- all that was taken so far was answered, in so many frames
+pub record Served (held : List ℕ) (course : Course) (count : ℕ) (old new : Around)
+    (standing : Standing) : Type 0 where
+  pub taken : List ℕ
+  pub consumed : Consumes old.remaining new.remaining taken
+  pub answered : AllAnswered course (own_frames (held ++ taken)) old new
+  pub stands : standing
+      ≡ standing_on (rest (held ++ taken))
+      (course_behind course old.maps (own_frames (held ++ taken)))
+  pub counts : Counts count (stretch course old.maps (held ++ taken))
+
+-- serving by a server that holds these bytes, on a connection
+pub record Serves (held : List ℕ) (course : Course) (result : Result ℕ ServeFault)
+    (old new : Around) (standing : Standing) : Type 0 where
+  pub taken : List ℕ
+  pub consumed : Consumes old.remaining new.remaining taken
+  pub answered : Answered result course (own_frames (held ++ taken)) old new
+  pub stands : standing
+      ≡ standing_after result (held ++ taken)
+      (course_behind course old.maps (own_frames (held ++ taken)))
+  pub tells : ServeTells result (stretch course old.maps (held ++ taken)) new.remaining
+
+-- a part of the bytes was given, and not all of them
+pub record GivesPart (old new : Option (List ℕ)) (bytes : List ℕ) : Type 0 where
+  pub part : List ℕ
+  pub unsent : List ℕ
+  pub left : 0 < length unsent
+  pub whole : bytes ≡ part ++ unsent
+  pub given : Appends old new part
+
+-- bytes are given whole, or a part of them where the peer did not take all
+abbrev pub Gives : {X E : Type 0} → Result X E → Option (List ℕ) → Option (List ℕ) → List ℕ → Type 0
+Gives (Ok x) old new bytes = Appends old new bytes
+Gives (Err failed) old new bytes = GivesPart old new bytes
+
+-- the frame that is held, if one is
+abbrev pub held_frames : Option (List ℕ) → List (List ℕ)
+held_frames None = []
+held_frames (Some frame) = frame ∷ []
+
+abbrev pub HoldsFrame : Option (List ℕ) → Type 0
+HoldsFrame None = Unit {0}
+HoldsFrame (Some frame) = IsFrame frame
+
+-- what answering the frame that is held tells
+abbrev pub HeldTells : Result ℕ ServeFault → Option (List ℕ) → Type 0
+HeldTells (Ok count) frame = count ≡ length (held_frames frame)
+HeldTells (Err Read) frame = ⊥
+HeldTells (Err Write) frame = Unit {0}
+HeldTells (Err Garbled) frame = ⊥
+HeldTells (Err TurnsUsed) frame = ⊥
+
+-- what answering the frames of a piece tells of the bytes up to its end, and of those held from then on
+abbrev pub PieceTells : Result ℕ ServeFault → Stretch → List ℕ → Type 0
+PieceTells (Ok count) stretch held =
+    Counts count stretch × (is_cut stretch.left ≡ false → held ≡ rest stretch.bytes)
+PieceTells (Err Read) stretch held = ⊥
+PieceTells (Err Write) stretch held = Unit {0}
+PieceTells (Err Garbled) stretch held = IsGarbled stretch
+PieceTells (Err TurnsUsed) stretch held = ⊥
+
+-- where a server with this reader and this connection stands after a turn that answered so
+abbrev pub standing_in : {X : Type 0} → Result X ServeFault → Held → Course → Standing
+standing_in (Ok x) reader course = standing_on reader.rest course
+standing_in (Err fault) reader course = Faulted
+
+-- a fault of the link
+abbrev pub is_link_fault : {X : Type 0} → Result X ServeFault → Bool
+is_link_fault (Ok x) = false
+is_link_fault (Err Read) = true
+is_link_fault (Err Write) = true
+is_link_fault (Err Garbled) = false
+is_link_fault (Err TurnsUsed) = false
+
+abbrev pub has_faulted : Standing → Bool
+has_faulted (Holds held course) = false
+has_faulted Over = false
+has_faulted Faulted = true
+
+-- a server that has answered no fault, and whose connection was not cut
+abbrev pub is_serving : Standing → Bool
+is_serving (Holds held course) = true
+is_serving Over = false
+is_serving Faulted = false
+
+abbrev pub serve_fault_number : ServeFault → ℕ
+serve_fault_number Read = 1
+serve_fault_number Write = 2
+serve_fault_number Garbled = 3
+serve_fault_number TurnsUsed = 4

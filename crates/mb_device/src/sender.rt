@@ -1,0 +1,212 @@
+//! The answers of a connection, on their way to the peer.
+ghost use Rattle.std.specs.Prelude.{◌≡◌, ◌≤◌, ◌++◌, ℕ, List, [], length, take, min, false, is_err};
+ghost use Rattle.std.specs.Prelude.{IfOk};
+ghost use Rattle.std.specs.Io.KnownBytes.{Keeps};
+ghost use Rattle.mb_wire.specs.Links.{risen};
+ghost use Rattle.mb_device.specs.Server.{Gives};
+ghost use Rattle.mb_device.specs.Tricks.{answer_of, begun, behind, course_next, first_trick};
+ghost use Rattle.mb_device.specs.Tricks.{is_cut, sent_next, sent_of, spelled_by, trick_at};
+
+use crate::trick::Trick;
+use mb_wire::{Link, LinkFailed, MAX_ADU, MAX_PDU, write_frame};
+use std::marker::Model;
+
+// Gives all of the bytes, in as many gives as it takes.
+fn give_all<L: Link>(link: &mut L, bytes: &[u8]) -> Result<(), LinkFailed>
+    ensures given { Gives result (L.given link.old) (L.given link.new) bytes.now }
+    ensures remaining { Keeps (L.remaining link.old) (L.remaining link.new) }
+    ensures failures { L.failed link.new ≡ risen (is_err result) (L.failed link.old) }
+    ensures takes { L.taken link.new ≡ L.taken link.old }
+    ensures last { L.last link.new ≡ L.last link.old }
+    ensures ends { L.ended link.new ≡ L.ended link.old }
+{
+    if bytes.is_empty() {
+        return Ok(());
+    }
+    let count = link.give(bytes)?;
+    if count == 0 {
+        return Err(LinkFailed);
+    }
+    give_all(link, &bytes[count..])
+}
+
+// Gives all of the bytes, and then all of the others.
+fn give_both<L: Link>(link: &mut L, first: &[u8], next: &[u8]) -> Result<(), LinkFailed>
+    ensures given { Gives result (L.given link.old) (L.given link.new) (first.now ++ next.now) }
+    ensures remaining { Keeps (L.remaining link.old) (L.remaining link.new) }
+    ensures failures { L.failed link.new ≡ risen (is_err result) (L.failed link.old) }
+    ensures takes { L.taken link.new ≡ L.taken link.old }
+    ensures last { L.last link.new ≡ L.last link.old }
+    ensures ends { L.ended link.new ≡ L.ended link.old }
+{
+    give_all(link, first)?;
+    give_all(link, next)
+}
+
+// Gives what a trick sends of a frame, and of the one that was held before it.
+fn give_by<L: Link>(
+    link: &mut L,
+    trick: Option<Trick>,
+    frame: &[u8],
+    later: &[u8],
+) -> Result<(), LinkFailed>
+    ensures given { Gives result (L.given link.old) (L.given link.new)
+        (sent_of trick frame.now later.now) }
+    ensures remaining { Keeps (L.remaining link.old) (L.remaining link.new) }
+    ensures failures { L.failed link.new ≡ risen (is_err result) (L.failed link.old) }
+    ensures takes { L.taken link.new ≡ L.taken link.old }
+    ensures last { L.last link.new ≡ L.last link.old }
+    ensures ends { L.ended link.new ≡ L.ended link.old }
+{
+    match trick {
+        None | Some(Trick::Id | Trick::Unit | Trick::Garble) => give_both(link, frame, later),
+        Some(Trick::Drop | Trick::Later) => give_all(link, later),
+        Some(Trick::Twice) => {
+            give_all(link, frame)?;
+            give_both(link, frame, later)
+        }
+        Some(Trick::Cut(count)) => give_all(link, &frame[..usize::from(count).min(frame.len())]),
+    }
+}
+
+// Writes a frame whose header has length 0, and says how many bytes it has.
+fn write_without_length(tid: u16, unit: u8, pdu: &[u8], out: &mut [u8; MAX_ADU]) -> usize
+    requires low { 1 ≤ length pdu.now }
+    requires high { length pdu.now ≤ MAX_PDU }
+    ensures few { result ≤ MAX_ADU }
+    ensures written { take result out.new ≡
+        spelled_by (Some Trick.Garble) (answer_of tid unit pdu.now) }
+{
+    let end = write_frame(tid, unit, pdu, out);
+    out[4] = 0;
+    out[5] = 0;
+    end
+}
+
+// Writes an answer as a trick has it, and says how many bytes it has.
+fn write_by(trick: Option<Trick>, tid: u16, unit: u8, pdu: &[u8], out: &mut [u8; MAX_ADU]) -> usize
+    requires low { 1 ≤ length pdu.now }
+    requires high { length pdu.now ≤ MAX_PDU }
+    ensures few { result ≤ MAX_ADU }
+    ensures written { take result out.new ≡ spelled_by trick (answer_of tid unit pdu.now) }
+{
+    match trick {
+        None | Some(Trick::Drop | Trick::Twice | Trick::Later | Trick::Cut(_)) => {
+            write_frame(tid, unit, pdu, out)
+        }
+        Some(Trick::Id) => write_frame(tid.wrapping_add(1), unit, pdu, out),
+        Some(Trick::Unit) => write_frame(tid, unit.wrapping_add(1), pdu, out),
+        Some(Trick::Garble) => write_without_length(tid, unit, pdu, out),
+    }
+}
+
+// The first trick with this number.
+fn find_first(tricks: &[(u64, Trick)], number: u64) -> Option<Trick>
+    ensures { result ≡ first_trick tricks.now number }
+{
+    tricks
+        .iter()
+        .find(|trick| trick.0 == number)
+        .map(|trick| trick.1)
+}
+
+// The trick on the frame with this number.
+#[tactic(auto, unfolding(crate::specs::Tricks::trick_at))]
+fn find_trick(tricks: &[(u64, Trick)], number: u64) -> Option<Trick>
+    ensures { result ≡ trick_at tricks.now number }
+{
+    if number == u64::MAX {
+        return None;
+    }
+    find_first(tricks, number)
+}
+
+// Sends the answers of a connection, each by the trick on its frame.
+#[derive(Drop)]
+pub(crate) struct Sender<'t> {
+    tricks: &'t [(u64, Trick)],
+    // The number of the next frame.
+    next: u64,
+    // The answer that is held, in so many bytes; none where that is 0.
+    later: [u8; MAX_ADU],
+    len: usize,
+    is_cut: bool,
+}
+
+impl<'t> Model for Sender<'t> {
+    ghost use Rattle.std.specs.Prelude.{take, ◌≤◌};
+    ghost use Rattle.mb_device.specs.Tricks.{Course, course_in};
+    ghost use Rattle.mb_wire.specs.declared.limits.TheConstants.{MAX_ADU};
+
+    ghost Value = { Course };
+
+    ghost view = { λ s. course_in s.is_cut s.tricks.now s.next (take s.len s.later) };
+
+    ghost invariant = { λ s. s.len ≤ MAX_ADU };
+}
+
+impl<'t> Sender<'t> {
+    pub(crate) fn new(tricks: &'t [(u64, Trick)]) -> Self
+        ensures { result ≡ begun tricks.now }
+    {
+        Sender {
+            tricks,
+            next: 1,
+            later: [0; MAX_ADU],
+            len: 0,
+            is_cut: false,
+        }
+    }
+
+    // The connection is over.
+    pub(crate) fn is_cut(&self) -> bool
+        ensures { result ≡ is_cut self.now }
+    {
+        self.is_cut
+    }
+
+    // Goes on to the next frame, behind one that was spelled so.
+    fn go_on(&mut self, trick: Option<Trick>, frame: [u8; MAX_ADU], end: usize)
+        requires { end ≤ MAX_ADU }
+        ensures { self.new ≡ behind trick (take end frame) self.old }
+    {
+        self.next = self.next.saturating_add(1);
+        match trick {
+            None | Some(Trick::Drop | Trick::Twice | Trick::Id | Trick::Unit | Trick::Garble) =>
+                self.len = 0,
+            Some(Trick::Later) => {
+                self.later = frame;
+                self.len = end;
+            }
+            Some(Trick::Cut(_)) => self.is_cut = true,
+        }
+    }
+
+    // Sends the next answer by the trick on its frame.
+    pub(crate) fn send<L: Link>(
+        &mut self,
+        link: &mut L,
+        tid: u16,
+        unit: u8,
+        pdu: &[u8],
+    ) -> Result<(), LinkFailed>
+        requires going { is_cut self.old ≡ false }
+        requires low { 1 ≤ length pdu.now }
+        requires high { length pdu.now ≤ MAX_PDU }
+        ensures given { Gives result (L.given link.old) (L.given link.new)
+            (sent_next self.old (answer_of tid unit pdu.now)) }
+        ensures after { self.new ≡ course_next self.old (answer_of tid unit pdu.now) }
+        ensures remaining { Keeps (L.remaining link.old) (L.remaining link.new) }
+        ensures failures { L.failed link.new ≡ risen (is_err result) (L.failed link.old) }
+        ensures takes { L.taken link.new ≡ L.taken link.old }
+        ensures last { L.last link.new ≡ L.last link.old }
+        ensures ends { L.ended link.new ≡ L.ended link.old }
+    {
+        let trick = find_trick(self.tricks, self.next);
+        let mut frame = [0; MAX_ADU];
+        let end = write_by(trick, tid, unit, pdu, &mut frame);
+        let given = give_by(link, trick, &frame[..end], &self.later[..self.len]);
+        self.go_on(trick, frame, end);
+        given
+    }
+}

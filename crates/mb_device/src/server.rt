@@ -1,0 +1,344 @@
+//! A server: frames come over a link, and their answers go back.
+ghost use Rattle.std.specs.Prelude.{◌≡◌, ◌≤◌, ◌<◌, ◌+◌, ◌^◌, ◌++◌, ℕ, List, [], length, not, true};
+ghost use Rattle.std.specs.Prelude.{false, is_err, IfOk, Ok, Err};
+ghost use Rattle.std.specs.Io.KnownBytes.{Keeps};
+ghost use Rattle.mb_wire.specs.Frames.{IsOpen};
+ghost use Rattle.mb_wire.specs.Links.{risen};
+ghost use Rattle.mb_device.specs.Device.{answer_to, maps_after};
+ghost use Rattle.mb_device.specs.Tricks.{Course, answer_of, begun, course_next, is_cut, sent_next};
+ghost use Rattle.mb_device.specs.Server.{Answered, Faulted, Gives, HeldTells, Holds, HoldsFrame};
+ghost use Rattle.mb_device.specs.Server.{Over, PieceTells, Serves, TellsTake, Turns, around};
+ghost use Rattle.mb_device.specs.Server.{came_to_end, course_behind, has_faulted, held_frames};
+ghost use Rattle.mb_device.specs.Server.{is_link_fault, is_over, is_read_fault, is_serving};
+ghost use Rattle.mb_device.specs.Server.{own_frames, serve_fault_number, served_to_end};
+ghost use Rattle.mb_device.specs.Server.{standing_in, stretch};
+
+use crate::bank::Bank;
+use crate::sender::Sender;
+use crate::trick::Trick;
+use mb_wire::{Frame, FrameReader, Framing, Link, LinkFailed, MAX_ADU, MAX_PDU, Took};
+use std::marker::Model;
+
+/// Why a server stopped.
+#[derive(Clone, Copy, Debug, PartialEq, Eq)]
+pub enum ServeFault {
+    /// A take failed.
+    Read,
+    /// A give failed, or took nothing.
+    Write,
+    /// The stream is garbled, or a fault came before.
+    Garbled,
+    /// The input had not ended after the last turn.
+    TurnsUsed,
+}
+
+impl ServeFault {
+    /// The number that stands for the fault where it is printed or kept.
+    pub fn number(self) -> u8
+        ensures { result ≡ serve_fault_number self }
+    {
+        match self {
+            ServeFault::Read => 1,
+            ServeFault::Write => 2,
+            ServeFault::Garbled => 3,
+            ServeFault::TurnsUsed => 4,
+        }
+    }
+}
+
+/// What a turn did.
+#[derive(Clone, Copy, Debug, PartialEq, Eq)]
+pub struct Turned {
+    /// How many frames were answered, those included that a trick dropped, held or cut off.
+    pub answered: u64,
+    /// Nothing more will come, or a trick cut the connection.
+    pub ended: bool,
+}
+
+// What each turn tells once the connection was cut.
+const OVER: Turned = Turned {
+    answered: 0,
+    ended: true,
+};
+
+/// Answers the frames of one stream: truly, or by tricks.
+#[derive(Drop)]
+pub struct Server<'t> {
+    reader: FrameReader,
+    sender: Sender<'t>,
+    failed: bool,
+}
+
+impl<'t> Model for Server<'t> {
+    ghost use Rattle.std.specs.Prelude.{◌≡◌, false, if◌then◌else◌};
+    ghost use Rattle.mb_wire.specs.Frames.{IsOpen};
+    ghost use Rattle.mb_device.specs.Server.{Standing, Faulted, standing_on};
+    ghost use Rattle.mb_device.specs.Tricks.{is_cut};
+
+    ghost Value = { Standing };
+
+    ghost view = { λ server.
+        if server.failed then Faulted else standing_on server.reader.rest server.sender };
+
+    ghost invariant = { λ server. server.failed ≡ false → is_cut server.sender ≡ false →
+        IsOpen server.reader.rest };
+}
+
+// Carries out a frame, and sends its answer.
+fn answer_frame<L: Link>(
+    frame: &Frame<'_>,
+    sender: &mut Sender<'_>,
+    link: &mut L,
+    bank: &mut Bank,
+) -> Result<(), LinkFailed>
+    requires some { 1 ≤ length frame.now.pdu.now }
+    requires few { length frame.now.pdu.now ≤ MAX_PDU }
+    requires going { is_cut sender.old ≡ false }
+    ensures given { Gives result (L.given link.old) (L.given link.new) (sent_next sender.old
+        (answer_of frame.now.tid frame.now.unit (answer_to bank.old frame.now.pdu.now))) }
+    ensures after { sender.new ≡ course_next sender.old
+        (answer_of frame.now.tid frame.now.unit (answer_to bank.old frame.now.pdu.now)) }
+    ensures maps { bank.new ≡ maps_after bank.old frame.now.pdu.now }
+    ensures remaining { Keeps (L.remaining link.old) (L.remaining link.new) }
+    ensures failures { L.failed link.new ≡ risen (is_err result) (L.failed link.old) }
+    ensures takes { L.taken link.new ≡ L.taken link.old }
+    ensures last { L.last link.new ≡ L.last link.old }
+    ensures ends { L.ended link.new ≡ L.ended link.old }
+{
+    let mut pdu = [0; MAX_PDU];
+    let length = bank.answer(frame.pdu, &mut pdu);
+    sender.send(link, frame.tid, frame.unit, &pdu[..length])
+}
+
+// Answers the frame that the reader holds, if it holds one, and says how many that are.
+fn answer_held<L: Link>(
+    reader: &FrameReader,
+    sender: &mut Sender<'_>,
+    link: &mut L,
+    bank: &mut Bank,
+) -> Result<u64, ServeFault>
+    requires held { HoldsFrame reader.now.frame }
+    requires going { is_cut sender.old ≡ false }
+    ensures answered { Answered result sender.old (held_frames reader.now.frame)
+        (around (L.remaining link.old) (L.given link.old) bank.old)
+        (around (L.remaining link.new) (L.given link.new) bank.new) }
+    ensures tells { HeldTells result reader.now.frame }
+    ensures after { sender.new ≡
+        course_behind sender.old bank.old (held_frames reader.now.frame) }
+    ensures remaining { Keeps (L.remaining link.old) (L.remaining link.new) }
+    ensures failures { L.failed link.new ≡ risen (is_link_fault result) (L.failed link.old) }
+    ensures takes { L.taken link.new ≡ L.taken link.old }
+    ensures last { L.last link.new ≡ L.last link.old }
+    ensures ends { L.ended link.new ≡ L.ended link.old }
+{
+    match reader.frame() {
+        Some(frame) => match answer_frame(&frame, sender, link, bank) {
+            Ok(()) => Ok(1),
+            Err(_) => Err(ServeFault::Write),
+        },
+        None => Ok(0),
+    }
+}
+
+// Answers the frames that end in a piece, up to one that is cut, and says how many.
+fn answer_piece<L: Link>(
+    reader: &mut FrameReader,
+    sender: &mut Sender<'_>,
+    link: &mut L,
+    bank: &mut Bank,
+    piece: &[u8],
+) -> Result<u64, ServeFault>
+    requires { is_cut sender.old ≡ false }
+    ensures answered { Answered result sender.old (own_frames (reader.old.rest ++ piece.now))
+        (around (L.remaining link.old) (L.given link.old) bank.old)
+        (around (L.remaining link.new) (L.given link.new) bank.new) }
+    ensures tells { PieceTells result
+        (stretch sender.old bank.old (reader.old.rest ++ piece.now)) reader.new.rest }
+    ensures after { IfOk result (λ count. sender.new ≡
+        course_behind sender.old bank.old (own_frames (reader.old.rest ++ piece.now))) }
+    ensures few { IfOk result (λ count. count ≤ length piece.now) }
+    ensures remaining { Keeps (L.remaining link.old) (L.remaining link.new) }
+    ensures failures { L.failed link.new ≡ risen (is_link_fault result) (L.failed link.old) }
+    ensures takes { L.taken link.new ≡ L.taken link.old }
+    ensures last { L.last link.new ≡ L.last link.old }
+    ensures ends { L.ended link.new ≡ L.ended link.old }
+{
+    let fed = reader.feed(piece);
+    let answered = answer_held(reader, sender, link, bank)?;
+    if sender.is_cut() {
+        return Ok(answered);
+    }
+    match fed.what {
+        Framing::Need => Ok(answered),
+        Framing::Garbled => Err(ServeFault::Garbled),
+        Framing::Whole | Framing::Foreign => {
+            let more = answer_piece(reader, sender, link, bank, &piece[fed.taken..])?;
+            Ok(answered + more)
+        }
+    }
+}
+
+// One take, and the answers to the frames that it ended.
+fn take_turn<L: Link>(
+    reader: &mut FrameReader,
+    sender: &mut Sender<'_>,
+    link: &mut L,
+    bank: &mut Bank,
+) -> Result<Turned, ServeFault>
+    requires held { IsOpen reader.old.rest }
+    requires going { is_cut sender.old ≡ false }
+    ensures turns { Turns reader.old.rest sender.old result
+        (around (L.remaining link.old) (L.given link.old) bank.old)
+        (around (L.remaining link.new) (L.given link.new) bank.new)
+        (standing_in result reader.new sender.new) }
+    ensures held { IfOk result (λ turned. is_cut sender.new ≡ false → IsOpen reader.new.rest) }
+    ensures few { IfOk result (λ turned. turned.answered ≤ MAX_ADU) }
+    ensures failures { L.failed link.new ≡ risen (is_link_fault result) (L.failed link.old) }
+    ensures takes { L.taken link.new ≡ risen true (L.taken link.old) }
+    ensures take { TellsTake (came_to_end result (standing_in result reader.new sender.new))
+        (is_read_fault result) (L.last link.new) }
+    ensures ends { L.ended link.new ≡
+        risen (came_to_end result (standing_in result reader.new sender.new)) (L.ended link.old) }
+{
+    let mut piece = [0; MAX_ADU];
+    match link.take(&mut piece) {
+        Ok(Took::Bytes(count)) => {
+            let answered = answer_piece(reader, sender, link, bank, &piece[..count])?;
+            Ok(Turned {
+                answered,
+                ended: sender.is_cut(),
+            })
+        }
+        Ok(Took::End) => Ok(Turned {
+            answered: 0,
+            ended: true,
+        }),
+        Ok(Took::Idle) => Ok(Turned {
+            answered: 0,
+            ended: false,
+        }),
+        Err(LinkFailed) => Err(ServeFault::Read),
+    }
+}
+
+impl<'t> Server<'t> {
+    /// A server that answers truly.
+    pub fn new() -> Self
+        ensures { result ≡ Holds [] (begun []) }
+    {
+        Server::tricked(&[])
+    }
+
+    /// A server that plays tricks. The frames of its stream are counted from 1, those of another protocol
+    /// aside, and each is answered by the first trick with its number: truly where there is none, and from
+    /// frame 2^64 - 1 on.
+    pub fn tricked(tricks: &'t [(u64, Trick)]) -> Self
+        ensures { result ≡ Holds [] (begun tricks.now) }
+    {
+        Server {
+            reader: FrameReader::new(),
+            sender: Sender::new(tricks),
+            failed: false,
+        }
+    }
+
+    // It has answered a fault.
+    fn has_failed(&self) -> bool
+        ensures failed { result ≡ has_faulted self.now }
+        ensures held { (held : List ℕ) (course : Course) → self.now ≡ Holds held course →
+            IsOpen held × (is_cut course ≡ false) }
+    {
+        self.failed
+    }
+
+    // Its connection was cut.
+    fn is_over(&self) -> bool
+        ensures { result ≡ is_over self.now }
+    {
+        !self.failed && self.sender.is_cut()
+    }
+
+    fn fail(&mut self)
+        ensures { self.new ≡ Faulted }
+    {
+        self.failed = true;
+    }
+
+    /// Takes at most 260 bytes, and answers each frame that ends in them, with its transaction id and
+    /// unit or as a trick has it. What was carried out before a fault stands. After a fault each call
+    /// answers Garbled, and takes and gives nothing. Behind an answer that a trick cuts off nothing is
+    /// carried out: that turn and each later one answer that the input ended, and the later ones take and
+    /// give nothing.
+    pub fn turn<L: Link>(&mut self, link: &mut L, bank: &mut Bank) -> Result<Turned, ServeFault>
+        ensures serving { (held : List ℕ) (course : Course) → self.old ≡ Holds held course →
+            Turns held course result (around (L.remaining link.old) (L.given link.old) bank.old)
+            (around (L.remaining link.new) (L.given link.new) bank.new) self.new }
+        ensures over { self.old ≡ Over →
+            (result ≡ Ok (record { answered = 0; ended = true })) × (self.new ≡ Over)
+            × (link.new ≡ link.old) × (bank.new ≡ bank.old) }
+        ensures faulted { self.old ≡ Faulted →
+            (result ≡ Err ServeFault.Garbled) × (self.new ≡ Faulted)
+            × (link.new ≡ link.old) × (bank.new ≡ bank.old) }
+        ensures few { IfOk result (λ turned. turned.answered ≤ MAX_ADU) }
+        ensures failures { L.failed link.new ≡ risen (is_link_fault result) (L.failed link.old) }
+        ensures takes { L.taken link.new ≡ risen (is_serving self.old) (L.taken link.old) }
+        ensures take { is_serving self.old ≡ true →
+            TellsTake (came_to_end result self.new) (is_read_fault result) (L.last link.new) }
+        ensures ends { L.ended link.new ≡ risen (came_to_end result self.new) (L.ended link.old) }
+    {
+        if self.failed {
+            return Err(ServeFault::Garbled);
+        }
+        if self.sender.is_cut() {
+            return Ok(OVER);
+        }
+        let turned = take_turn(&mut self.reader, &mut self.sender, link, bank);
+        self.failed = turned.is_err();
+        turned
+    }
+
+    /// Takes turns to the end of the input, at most `max_turns`, and answers how many frames were
+    /// answered, those included that a trick dropped, held or cut off. What was carried out before a
+    /// fault stands. After a fault each call answers Garbled, and takes and gives nothing. After a cut
+    /// each call answers that no frame was, and takes and gives nothing.
+    pub fn serve<L: Link>(
+        &mut self,
+        link: &mut L,
+        bank: &mut Bank,
+        max_turns: u32,
+    ) -> Result<u64, ServeFault>
+        ensures serving { (held : List ℕ) (course : Course) → self.old ≡ Holds held course →
+            Serves held course result (around (L.remaining link.old) (L.given link.old) bank.old)
+            (around (L.remaining link.new) (L.given link.new) bank.new) self.new }
+        ensures over { self.old ≡ Over → (result ≡ Ok 0) × (self.new ≡ Over)
+            × (link.new ≡ link.old) × (bank.new ≡ bank.old) }
+        ensures faulted { self.old ≡ Faulted →
+            (result ≡ Err ServeFault.Garbled) × (self.new ≡ Faulted)
+            × (link.new ≡ link.old) × (bank.new ≡ bank.old) }
+        ensures failures { L.failed link.new ≡ risen (is_link_fault result) (L.failed link.old) }
+        ensures turns { L.taken link.new ≤ L.taken link.old + max_turns }
+        ensures last_turn { is_serving self.old ≡ true → 1 ≤ max_turns →
+            TellsTake (served_to_end result self.new) (is_read_fault result) (L.last link.new) }
+        ensures ends { L.ended link.new ≡ risen (served_to_end result self.new) (L.ended link.old) }
+        ensures turns_used { result ≡ Err ServeFault.TurnsUsed →
+            L.taken link.old + max_turns < 2 ^ 64 →
+            L.taken link.new ≡ L.taken link.old + max_turns }
+    {
+        if self.has_failed() {
+            return Err(ServeFault::Garbled);
+        }
+        if self.is_over() {
+            return Ok(0);
+        }
+        let mut answered = 0;
+        for _turn in 0..max_turns {
+            let turned = self.turn(link, bank)?;
+            answered += turned.answered;
+            if turned.ended {
+                return Ok(answered);
+            }
+        }
+        self.fail();
+        Err(ServeFault::TurnsUsed)
+    }
+}

@@ -1,0 +1,59 @@
+//! The next entry of an installation.
+ghost use Rattle.std.specs.Prelude.{◌≡◌, ◌+◌, Ok, Err};
+ghost use Rattle.energy_core.specs.Admission.{entered};
+ghost use Rattle.energy_core.specs.declared.entries.Last.{Last};
+ghost use Rattle.energy_core.specs.declared.entries.Step.{Step};
+ghost use Rattle.energy_core.specs.declared.admission.TermFault.{TermFault};
+ghost use Rattle.office_rules.specs.Readings.{judgement};
+ghost use Rattle.office_books.specs.Sound.{IsSound};
+
+use energy_core::{Entry, Ranged, Reading, Terms, Verdict};
+use office_events::Installation;
+
+/// The terms on which the next entry of an installation is judged.
+fn terms_of(row: &Installation) -> Terms
+    ensures ceiling { result.ceiling ≡ row.now.opening.ceiling }
+    ensures total { result.total ≡ row.now.total }
+{
+    Terms {
+        ceiling: row.opening.ceiling,
+        total: row.total,
+    }
+}
+
+/// The verdict on a reading of an installation.
+pub fn judge(row: &Installation, reading: &Reading) -> Verdict
+    requires { IsSound row.now }
+    ensures { result ≡ judgement row.now reading.now }
+{
+    let Some(counter) = Ranged::new(row.opening.range) else {
+        unreachable!()
+    };
+    energy_core::judge(&counter, &terms_of(row), &row.last, reading)
+}
+
+/// The installation after one more entry, where that may be entered; else as it was.
+pub fn enter(row: &Installation, entry: &Entry) -> Installation
+    requires { IsSound row.now }
+    ensures sound { IsSound result }
+    ensures same { (result.opening ≡ row.now.opening) × (result.ended ≡ row.now.ended) }
+    ensures entered { (last : Last) (step : Step)
+        → entered row.now.opening.range row.now.total row.now.last entry.now ≡ Ok (last, step)
+        → (result.last ≡ last) × (result.total ≡ row.now.total + step.mwh) }
+    ensures refused { (fault : TermFault)
+        → entered row.now.opening.range row.now.total row.now.last entry.now ≡ Err fault
+        → result ≡ row.now }
+{
+    let Some(counter) = Ranged::new(row.opening.range) else {
+        unreachable!()
+    };
+    match energy_core::enter(&counter, &terms_of(row), &row.last, entry) {
+        Ok((last, step)) => Installation {
+            opening: row.opening,
+            last,
+            total: row.total + step.mwh,
+            ended: row.ended,
+        },
+        Err(_) => *row,
+    }
+}

@@ -1,0 +1,143 @@
+-- What carrying out an accepted command leaves and answers.
+use Rattle.std.specs.Prelude.{◌≡◌, ◌⊎◌, ℕ, ◌+◌, ◌≤◌, List, [], ◌∷◌, ◌++◌, map, length, Option, Some, None, OnOk, OnErr, Result, IfOk}
+use Rattle.office_rules.specs.Lawful.{AreLawful}
+use Rattle.poll_core.specs.Settling as session
+use Rattle.mb_wire.specs.declared.span.ReadSpan.{ReadSpan}
+use Rattle.office_events.specs.declared.limits.TheConstants.{MAX_POLLS}
+use Rattle.office_events.specs.declared.commands.Command.{Command}
+use Rattle.office_events.specs.declared.events.Event.{Event}
+use Rattle.office_events.specs.declared.events.Event.TheVariants as event
+use Rattle.office_events.specs.declared.answers.Answer.{Answer}
+use Rattle.office_events.specs.declared.answers.Answer.TheVariants as answer
+use Rattle.office_events.specs.declared.facts.Fact.{Fact}
+use Rattle.office_rules.specs.Sessions as sessions
+use Rattle.office_rules.specs.Sessions.{command_in, starts_by, with_happenings, slots_added}
+use Rattle.office_rules.specs.History.{History, Fed, facts_of, slots_of, next_poll, added_by, reply_by, spans_by}
+use Rattle.office_rules.specs.Notes as notes
+use Rattle.office_rules.specs.Notes.{outgoing_of}
+use Rattle.office_starting.specs.Starts as starts
+use Rattle.office_rules.specs.Refusals.{IsAccepted, answer_to, answer_of, reads_in_all}
+use Rattle.office_lines.specs.declared.slots.Slot.{Slot}
+use Rattle.office_lines.specs.Keeping.{KeepsSlot, KeepsSlots}
+use Rattle.office_lawful.specs.Laws.{IsPast}
+use Rattle.office_books.specs.declared.faults.BooksFault.{BooksFault}
+use Rattle.office_books.specs.Ledgers.{Ledger, GoesOn, Moves, with_facts}
+use Rattle.office_commands.specs.declared.effects.Done.{Done}
+
+-- the event asks a command
+abbrev pub AsksCommand : Event → Type 0
+AsksCommand (event.Command c) = Unit {0}
+AsksCommand (event.Asked asked) = Unit {0}
+AsksCommand _ = ⊥
+
+-- what is kept of an event
+abbrev pub replies_by : (at : ℕ) → Event → List Fact
+replies_by at (event.Asked asked) = reply_by at asked
+replies_by at _ = []
+
+-- Facts are booked, all or none, or there was no memory to ask for it.
+pub record Tries (old new : Ledger) (facts : List Fact)
+    (result : Result (Unit {0}) BooksFault) : Type 0 where
+  pub booked : (held : List Fact) → old.holds held → AreLawful (with_facts facts held)
+      → OnOk result (new.holds (with_facts facts held))
+  pub settled : (held : List Fact) (left : List (List Fact)) → old.holds held
+      → AreLawful (with_facts facts held)
+      → old.may_leave left
+      → OnOk result (new.may_leave (with_facts facts held ∷ [])
+      ⊎ ((with_facts facts held ≡ held) × new.may_leave left))
+  pub refused : (held : List Fact) → old.holds held → OnErr result (new.holds held)
+  pub under_way : (held : List Fact) (left : List (List Fact)) → old.holds held
+      → AreLawful (with_facts facts held)
+      → old.may_leave left
+      → OnErr result (new.may_leave left ⊎ new.may_leave (left ++ with_facts facts held ∷ []))
+  pub goes : GoesOn old new result
+
+-- a slot once a command started its reads there, and all of them
+abbrev pub started_on : (number at : ℕ) → List ReadSpan → Command → sessions.Slot
+    → Option (List session.Event) → sessions.Slot
+started_on number at spans c slot None = slot
+started_on number at spans c slot (Some before) =
+    with_happenings slot before (starts_by number at spans (Some c) slot.device before)
+
+abbrev pub slot_obeyed : (number at : ℕ) → List ReadSpan → Command → sessions.Slot → sessions.Slot
+slot_obeyed number at spans c slot = started_on number at spans c slot slot.present
+
+abbrev pub slots_obeyed : (number at : ℕ) → List ReadSpan → Command → List sessions.Slot
+    → List sessions.Slot
+slots_obeyed number at spans c slots =
+    map (slot_obeyed number at spans c) slots ++ slots_added (Some c)
+
+-- the facts that a command adds, and what is kept of the request behind them
+abbrev pub facts_obeyed : (at : ℕ) → List sessions.Slot → List Fact → Command
+    → (replies : List Fact) → List Fact
+facts_obeyed at slots held c replies =
+    with_facts (added_by (next_poll held) at slots held c ++ replies) held
+
+-- A command was carried out over these facts and slots: what it adds is booked, its reads are started, and it is answered.
+pub record Obeys (old new : Ledger) (after : List Slot) (slots : List sessions.Slot)
+    (held : List Fact) (at : ℕ) (c : Command)
+    (replies : List Fact) (result : Result Done BooksFault) : Type 0 where
+  pub books : Moves old new held (facts_obeyed at slots held c replies) result
+  pub stands : old.holds held → new.is_clean
+      → OnOk result (KeepsSlots after (slots_obeyed (next_poll held) at (spans_by held c) c slots))
+  pub answer : old.holds held → new.is_clean
+      → IfOk result (λ done. done.answer ≡ answer_to slots held at c)
+  pub sent : old.holds held → new.is_clean
+      → IfOk result (λ done.
+      done.outgoing ≡ notes.frames_by (next_poll held) at slots held (Some c))
+
+-- The same of an accepted event after what was accepted before it.
+pub record Carries (old new : Ledger) (after : List Slot) (past : History) (at : ℕ) (e : Event)
+    (result : Result Done BooksFault) : Type 0 where
+  pub books : Moves old new (facts_of past) (facts_of (Fed at e ∷ past)) result
+  pub stands : old.holds (facts_of past) → new.is_clean
+      → OnOk result (KeepsSlots after (slots_of (Fed at e ∷ past)))
+  pub answer : old.holds (facts_of past) → new.is_clean
+      → IfOk result (λ done. done.answer ≡ answer_of (slots_of past) (facts_of past) at e)
+  pub sent : old.holds (facts_of past) → new.is_clean
+      → IfOk result (λ done.
+      done.outgoing ≡ outgoing_of (next_poll (facts_of past)) at e (slots_of past) (facts_of past))
+
+-- So it is of every event that asks the command, where these are the slots after what was accepted
+-- before it, and these replies what is kept of it.
+abbrev pub CarriesOut : (old new : Ledger) → (before after : List Slot) → (at : ℕ) → Command
+    → (replies : List Fact) → Result Done BooksFault → Type 0
+CarriesOut old new before after at c replies result =
+    (past : History) (e : Event) → IsPast past → KeepsSlots before (slots_of past)
+    → IsAccepted past at e → command_in e ≡ Some c → replies_by at e ≡ replies
+    → Carries old new after past at e result
+
+-- ... and of the event that asked it
+abbrev pub CarriesEvent : (old new : Ledger) → (before after : List Slot) → (at : ℕ) → Event
+    → Result Done BooksFault → Type 0
+CarriesEvent old new before after at e result =
+    (past : History) → IsPast past → KeepsSlots before (slots_of past) → IsAccepted past at e
+    → Carries old new after past at e result
+
+-- what a command wants started on a slot: the reads, their polls and frames, and the slot then
+abbrev pub sends_by : (at : ℕ) → sessions.Slot → List Fact → Command → List sessions.Send
+sends_by at slot held c = starts.sends_of (next_poll held) at (spans_by held c) slot
+
+abbrev pub polls_by : (at : ℕ) → sessions.Slot → List Fact → Command → List Fact
+polls_by at slot held c = starts.polls_of (next_poll held) at (spans_by held c) slot
+
+abbrev pub frames_by : (at : ℕ) → sessions.Slot → List Fact → Command → List ℕ
+frames_by at slot held c = starts.frames_of (next_poll held) at (spans_by held c) slot
+
+abbrev pub slot_by : (at : ℕ) → sessions.Slot → List Fact → Command → sessions.Slot
+slot_by at slot held c = starts.slot_sent (next_poll held) at (spans_by held c) slot
+
+-- the facts once its polls and what is kept of the request are booked
+abbrev pub facts_started : (at : ℕ) → sessions.Slot → List Fact → Command → (replies : List Fact)
+    → List Fact
+facts_started at slot held c replies = with_facts (polls_by at slot held c ++ replies) held
+
+-- So it is of every slot that is kept so, and all facts after which one poll more has a number.
+abbrev pub WhereStarted : (kept : Slot) → (sessions.Slot → List Fact → Type 0) → Type 0
+WhereStarted kept so = (slot : sessions.Slot) (held : List Fact) → KeepsSlot kept slot
+    → next_poll held ≤ MAX_POLLS + 1 → so slot held
+
+-- It is answered how many polls were started, from which number on, and how many reads there are.
+abbrev pub start_answer : (at : ℕ) → sessions.Slot → List Fact → Command → Answer
+start_answer at slot held c =
+    answer.Started (next_poll held) (length (sends_by at slot held c)) (reads_in_all held c)

@@ -1,0 +1,43 @@
+-- How an event is decided before anything is done.
+use Rattle.std.specs.Prelude.{◌≡◌, ℕ, List, false, Option, Some, None, Result, Ok, Err, IfOk, IfSome, IsOk}
+use Rattle.office_events.specs.declared.answers.Answer.{Answer}
+use Rattle.office_events.specs.declared.answers.Answer.TheVariants as answer
+use Rattle.office_events.specs.declared.events.Event.{Event}
+use Rattle.office_events.specs.declared.refusals.Refusal.{Refusal}
+use Rattle.office_events.specs.declared.refusals.Refusal.TheVariants as refusal
+use Rattle.office_rules.specs.History.{History, facts_of, slots_of, latest_of}
+use Rattle.office_rules.specs.Refusals.{IsAccepted, refusal_of, response_of}
+use Rattle.office_lines.specs.declared.slots.Slot.{Slot}
+use Rattle.office_lines.specs.Keeping.{KeepsSlots}
+use Rattle.office_books.specs.declared.faults.BooksFault.{BooksFault}
+use Rattle.office_books.specs.Ledgers.{Ledger}
+use Rattle.office_refusing.specs.Asking.{IsOfEvent}
+use Rattle.office_core.specs.Failing.{is_failure}
+
+-- What is decided: `None` where the event is accepted, and else what it is answered.
+abbrev pub Decides : History → (at : ℕ) → Event → Option (Result Answer Refusal) → Type 0
+Decides past at e None = IsAccepted past at e
+Decides past at e (Some given) = given ≡ response_of past at e
+
+abbrev pub Decided : (old new : Ledger) → List Slot → (latest at : ℕ) → Event
+    → Result (Option (Result Answer Refusal)) BooksFault → Type 0
+Decided old new kept latest at e result =
+    (past : History) → latest ≡ latest_of past → KeepsSlots kept (slots_of past)
+    → old.holds (facts_of past) → new.is_clean → IfOk result (Decides past at e)
+
+-- An event of a device is decided without the books: it is accepted where nothing speaks against it, whatever they
+-- hold, and what else it is answered is no failure.
+pub record DecidesAlone {B : Type 0} (old new : B) (kept : List Slot) (latest at : ℕ) (e : Event)
+    (result : Result (Option (Result Answer Refusal)) BooksFault) : Type 0 where
+  pub books : new ≡ old
+  pub ok : IsOk result
+  pub accepts : (past : History) → latest ≡ latest_of past → KeepsSlots kept (slots_of past)
+      → IfOk result (λ given. given ≡ None → refusal_of past at e ≡ None)
+  pub answers : IfOk result (λ given. IfSome given (λ r. is_failure r ≡ false))
+
+-- the answer of an event that is not accepted: it was asked before, or is refused
+abbrev pub IsNoChange : Result Answer Refusal → Type 0
+IsNoChange (Ok (answer.Again kind)) = Unit {0}
+IsNoChange (Ok _) = ⊥
+IsNoChange (Err refusal.Reused) = Unit {0}
+IsNoChange (Err why) = IsOfEvent why

@@ -1,0 +1,78 @@
+//! How an event is decided before anything is done.
+ghost use Rattle.std.specs.Prelude.{◌≡◌, None, false, IfOk, IfSome};
+ghost use Rattle.office_rules.specs.Sessions.{command_in};
+ghost use Rattle.office_lines.specs.Places.{AsksOnSlot};
+ghost use Rattle.office_lines.specs.Ranges.{IsInRange};
+ghost use Rattle.office_lawful.specs.Laws.{PutsPlanned};
+ghost use Rattle.office_books.specs.Ledgers.{OnlyReads};
+ghost use Rattle.office_core.specs.Events as events;
+ghost use Rattle.office_core.specs.Failing as failing;
+ghost use Rattle.office_core.specs.Decisions.{Decided, DecidesAlone, IsNoChange};
+
+use office_books::{Books, BooksFault};
+use office_commands::puts_planned;
+use office_events::{Answer, Event, Refusal};
+use office_lines::Slot;
+use office_refusing::{kept, refusal};
+
+/// Whether an event asks a command.
+pub fn is_command(event: &Event) -> bool
+    ensures { result ≡ events.is_command event.now }
+{
+    match event {
+        Event::Connected(_) => false,
+        Event::Bytes(_, _) => false,
+        Event::Tick => false,
+        Event::Gone(_, _) => false,
+        Event::Command(_) => true,
+        Event::Asked(_) => true,
+    }
+}
+
+/// Whether the books or memory failed.
+pub fn is_failure(given: &Result<Answer, Refusal>) -> bool
+    ensures { result ≡ failing.is_failure given.now }
+{
+    matches!(given, Err(Refusal::Store(_)) | Err(Refusal::Memory))
+}
+
+/// That a list that an event puts is planned.
+pub fn asks_planned(event: &Event)
+    ensures { PutsPlanned (command_in event.now) }
+{
+    match event {
+        Event::Connected(_) => {}
+        Event::Bytes(_, _) => {}
+        Event::Tick => {}
+        Event::Gone(_, _) => {}
+        Event::Command(command) => puts_planned(command),
+        Event::Asked(asked) => puts_planned(&asked.command),
+    }
+}
+
+/// What an event is answered that was asked before, or is refused; `None` where it is accepted.
+pub fn decide<B: Books>(
+    books: &mut B,
+    slots: &[Slot],
+    latest: u64,
+    moment: u64,
+    event: &Event,
+) -> Result<Option<Result<Answer, Refusal>>, BooksFault>
+    ensures found { Decided (B.ledger books.old) (B.ledger books.new) slots.now latest moment
+        event.now result }
+    ensures reads { OnlyReads (B.ledger books.old) (B.ledger books.new) result }
+    ensures in_range { IfOk result (λ given. given ≡ None → IsInRange latest moment event.now) }
+    ensures there { IfOk result (λ given. given ≡ None
+        → AsksOnSlot slots.now (command_in event.now)) }
+    ensures unchanged { IfOk result (λ given. IfSome given IsNoChange) }
+    ensures alone { events.is_command event.now ≡ false
+        → DecidesAlone books.old books.new slots.now latest moment event.now result }
+{
+    if let Some(given) = kept(books, event)? {
+        return Ok(Some(given.map(|kind| Answer::Again(kind))));
+    }
+    match refusal(books, slots, latest, moment, event)? {
+        Some(why) => Ok(Some(Err(why))),
+        None => Ok(None),
+    }
+}

@@ -1,0 +1,50 @@
+//! A run of events.
+ghost use Rattle.std.specs.Prelude.{◌∷◌, Err, IfOk, IfErr};
+ghost use Rattle.office_rules.specs.History.{History, Opened};
+ghost use Rattle.office_core.specs.Leaving.{BooksStand};
+ghost use Rattle.office_core.specs.Reopening.{IsNotOpened, Passed};
+ghost use Rattle.office_core.specs.Standing.{books_in};
+ghost use Rattle.office_core.specs.EventRun.{AnswersEach, EndsInTurn, IsRecorded, Ran, StandsAfter};
+ghost use Rattle.office_core.specs.EventRun.{accepted_by};
+
+use crate::office::Office;
+use crate::results::Run;
+use office_books::Books;
+use office_events::{Event, Refusal};
+use office_lawful::books_are_true;
+use std::alloc::Global;
+
+/// Opens an office over books and feeds it events, each at its moment. Whatever events come, each has its answer, what
+/// the books hold in the end is what the accepted ones leave, and of this the headline holds. Room for all answers is
+/// made first, and then the office is opened; where one of these fails, the books are handed back. Moments are seconds
+/// since 1970-01-01 UTC.
+pub fn run<B: Books>(
+    alloc: Global,
+    books: B,
+    opened: u64,
+    events: &[(u64, Event)],
+) -> Result<Run<B>, (B, Refusal)>
+    ensures headline { Ran B.ledger books result (λ past run.
+        IsRecorded (B.ledger (books_in run.office)) (accepted_by past opened events.now run)) }
+    ensures stands { Ran B.ledger books result (λ past run.
+        StandsAfter B.ledger (Opened opened ∷ past) events.now run) }
+    ensures answers { Ran B.ledger books result (λ past run.
+        AnswersEach B.ledger books (Opened opened ∷ past) events.now run) }
+    ensures ends { IfOk result (λ run. EndsInTurn B.ledger books events.now run) }
+    ensures refused { (past : History) → BooksStand (B.ledger books) past
+        → IfErr result (λ e. (B.ledger e.0).is_clean
+        → IsNotOpened past opened (B.ledger books) (B.ledger e.0) e.1) }
+    ensures counted { IfErr result (λ e.
+        Passed {T = B} (B.ledger books) (B.ledger e.0) (Err e.1)) }
+{
+    books_are_true();
+    let Ok(mut results) = Vec::with_capacity(alloc, events.len()) else {
+        return Err((books, Refusal::Memory));
+    };
+    let mut office = Office::open(alloc, books, opened)?;
+    for (moment, event) in events {
+        let result = office.feed(*moment, event);
+        results.push_reserved(result);
+    }
+    Ok(Run { office, results })
+}

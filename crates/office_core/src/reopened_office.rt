@@ -1,0 +1,27 @@
+//! The opening of an office over books.
+ghost use Rattle.office_rules.specs.History.{History};
+ghost use Rattle.office_core.specs.Leaving.{BooksStand};
+ghost use Rattle.office_core.specs.Reopening.{Passed, Reopens};
+
+use office_books::Books;
+use office_events::Refusal;
+use office_lines::Slot;
+use office_opening::{book_opening, opening_refusal};
+use std::alloc::Global;
+
+/// Books the opening of an office, where it is not refused, and answers the slots of its devices.
+pub fn reopen<B: Books>(alloc: Global, books: &mut B, moment: u64) -> Result<Vec<Slot>, Refusal>
+    ensures reopens { (past : History) → BooksStand (B.ledger books.old) past
+        → (B.ledger books.new).is_clean
+        → Reopens past moment (B.ledger books.old) (B.ledger books.new) result }
+    ensures passed { Passed (B.ledger books.old) (B.ledger books.new) result }
+{
+    match opening_refusal(books, moment) {
+        Err(fault) => Err(Refusal::from(fault)),
+        Ok(Some(why)) => Err(why),
+        Ok(None) => match book_opening(alloc, books, moment) {
+            Err(fault) => Err(Refusal::from(fault)),
+            Ok(slots) => Ok(slots),
+        },
+    }
+}

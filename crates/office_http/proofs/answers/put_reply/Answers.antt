@@ -1,0 +1,44 @@
+use Rattle.std.proofs.Common.{refl, subst}
+use Rattle.http_route.specs.Routes.{routes}
+use Rattle.http_answer.specs.Replies.{fault, fault_said, reply_bytes}
+use Rattle.http_wants.specs.Wanting.{IsNoCommand, IsToldOff, Wants}
+use Rattle.office_http.proofs.Served.{lasts_same, no_command_told, told_off}
+use Rattle.office_http.proofs.answers.put_reply.Goals as goal
+
+pub returns-in-Nothing : goal.returns-in-Nothing
+returns-in-Nothing g c =
+    let ledger = g.B.Books.ledger in
+    let old = c.args.office.now in
+    let read = c.args.bytes.now in
+    let wants : IsToldOff routes read (reply_bytes (fault c.in-Nothing.status)) = subst (Wants routes read) c.in-Nothing.is c.requires.wants in
+    record {
+      serves = λ past stands clean. record {
+        put = reply_bytes (fault c.in-Nothing.status);
+        serves = told_off ledger past c.args.moment read old old (reply_bytes (fault c.in-Nothing.status)) refl wants.nothing wants.reply stands;
+        puts = c.put_fault.ensures;
+      };
+      gives = c.put_fault.ensures.link;
+      lasts = lasts_same ledger old;
+    }
+
+pub returns-in-Refused : goal.returns-in-Refused
+returns-in-Refused g c =
+    let ledger = g.B.Books.ledger in
+    let old = c.args.office.now in
+    let read = c.args.bytes.now in
+    let wants : IsNoCommand routes read c.in-Refused.why = subst (Wants routes read) c.in-Refused.is c.requires.wants in
+    record {
+      serves = λ past stands clean. record {
+        put = reply_bytes (fault_said c.in-Refused.why);
+        serves = no_command_told ledger past c.args.moment read old c.in-Refused.why wants stands;
+        puts = c.put_command_fault.ensures;
+      };
+      gives = c.put_command_fault.ensures.link;
+      lasts = lasts_same ledger old;
+    }
+
+pub put_question-requires : goal.put_question-requires
+put_question-requires g c = subst (Wants routes c.args.bytes.now) c.in-Answer.is c.requires.wants
+
+pub put_asked-requires : goal.put_asked-requires
+put_asked-requires g c = subst (Wants routes c.args.bytes.now) c.in-Command.is c.requires.wants

@@ -1,0 +1,33 @@
+use Rattle.std.proofs.Common.{◌≡◌, [], rules, sym, subst}
+use Rattle.std.proofs.KnownBytes.{Keeps-refl}
+use Rattle.http_reply.specs.Giving.{Gives}
+use Rattle.http_answer.specs.Replies.{refused, reply_bytes}
+use Rattle.office_events.specs.declared.refusals.Refusal.TheVariants as refusal
+use Rattle.office_http.proofs.Handled.{IsFinished, bare_replied, finished_last, finished_remaining, put_first}
+use Rattle.office_http.proofs.exchange.refuse.Goals as goal
+
+pub returns-clause-handles : goal.returns-clause-handles
+returns-clause-handles g c =
+    let first = c.new-outlet.result in
+    let put = c.put_refusal.new.outlet in
+    let end = c.finish-sent.new.self in
+    let sent = c.finish-sent.result in
+    let mid = g.L.Link.remaining c.read_head.new.link in
+    let given = g.L.Link.given c.read_head.new.link in
+    let between = g.L.Link.last c.read_head.new.link in
+    let text = reply_bytes (refused refusal.Memory) in
+    let to_remaining : g.L.Link.remaining c.link-1.given.0 ≡ end.remaining = search rules in
+    let to_given : g.L.Link.given c.link-1.given.0 ≡ end.given = search rules in
+    let to_last : g.L.Link.last c.link-1.given.0 ≡ end.last = search rules in
+    let done : IsFinished first put end sent =
+    record { works = c.new-outlet.ensures.works; puts = c.put_refusal.ensures.link; finish = c.finish-sent.ensures.link; failed = c.finish-sent.ensures.failed } in
+    bare_replied c.new-inbox.result c.read_head.new.inbox c.in_ok-read_head.field-0 sent c.ended.result
+    (g.L.Link.remaining c.args.link.now) mid _ (g.L.Link.given c.args.link.now) given _
+    (g.L.Link.last c.args.link.now) between _
+    c.new-inbox.ensures.empty c.in_ok-read_head.ensures.reads c.in_ok-read_head.ensures.stops c.in_ok-read_head.ensures.given
+    (finished_remaining first put end sent mid _ done c.new-outlet.ensures.remaining to_remaining)
+    (finished_last first put end sent between _ done c.new-outlet.ensures.last to_last)
+    c.ended.ensures
+    (subst (λ o. Gives sent given o text) (sym to_given)
+    (c.finish-sent.ensures.given given text
+    (c.put_refusal.ensures.put given [] (put_first given given first c.new-outlet.ensures.given c.new-outlet.ensures.empty (Keeps-refl given)))))

@@ -1,0 +1,47 @@
+use Rattle.std.proofs.Common.{◌≡◌, [], refl, rules, sym, subst}
+use Rattle.std.specs.Io.KnownBytes.{Keeps}
+use Rattle.std.proofs.KnownBytes.{Keeps-refl}
+use Rattle.http_reply.specs.Giving.{Gives}
+use Rattle.office_http.proofs.Handled.{IsFinished, ends_well, finished_failures, finished_last, finished_remaining, put_first}
+use Rattle.office_http.proofs.exchange.reply.Goals as goal
+
+pub returns-clause-gives : goal.returns-clause-gives
+returns-clause-gives g c = λ past stands clean.
+    let puts = c.put_reply-outlet.ensures.serves past stands clean in
+    let given = g.L.Link.given c.args.link.now in
+    let last : g.L.Link.given c.link-1.given.0 ≡ c.finish-sent.new.self.given = search rules in
+    record {
+      cut = c.put_reply-outlet.result.cut;
+      sent = c.finish-sent.result;
+      ends = c.ended.ensures;
+      put = puts.put;
+      serves = puts.serves;
+      gives =
+          subst (λ o. Gives c.finish-sent.result given o puts.put) (sym last)
+          (c.finish-sent.ensures.given given puts.put
+          (puts.puts.put given [] (put_first given given c.new-outlet.result c.new-outlet.ensures.given c.new-outlet.ensures.empty (Keeps-refl given))));
+    }
+
+pub returns-clause-ends : goal.returns-clause-ends
+returns-clause-ends g c = ends_well c.finish-sent.result c.put_reply-outlet.result.cut c.ended.result c.ended.ensures
+
+pub returns-clause-remaining : goal.returns-clause-remaining
+returns-clause-remaining g c =
+    let last : g.L.Link.remaining c.link-1.given.0 ≡ c.finish-sent.new.self.remaining = search rules in
+    finished_remaining c.new-outlet.result c.put_reply-outlet.result.outlet c.finish-sent.new.self c.finish-sent.result _ _
+    (record { works = c.new-outlet.ensures.works; puts = c.put_reply-outlet.ensures.gives; finish = c.finish-sent.ensures.link; failed = c.finish-sent.ensures.failed })
+    c.new-outlet.ensures.remaining last
+
+pub returns-clause-last : goal.returns-clause-last
+returns-clause-last g c =
+    let last : g.L.Link.last c.link-1.given.0 ≡ c.finish-sent.new.self.last = search rules in
+    finished_last c.new-outlet.result c.put_reply-outlet.result.outlet c.finish-sent.new.self c.finish-sent.result _ _
+    (record { works = c.new-outlet.ensures.works; puts = c.put_reply-outlet.ensures.gives; finish = c.finish-sent.ensures.link; failed = c.finish-sent.ensures.failed })
+    c.new-outlet.ensures.last last
+
+pub returns-clause-failures : goal.returns-clause-failures
+returns-clause-failures g c =
+    let last : g.L.Link.failed c.link-1.given.0 ≡ c.finish-sent.new.self.failures = search rules in
+    finished_failures c.new-outlet.result c.put_reply-outlet.result.outlet c.finish-sent.new.self c.finish-sent.result c.put_reply-outlet.result.cut c.ended.result _ _
+    (record { works = c.new-outlet.ensures.works; puts = c.put_reply-outlet.ensures.gives; finish = c.finish-sent.ensures.link; failed = c.finish-sent.ensures.failed })
+    c.new-outlet.ensures.failures c.ended.ensures last

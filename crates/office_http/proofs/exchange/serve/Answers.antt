@@ -1,0 +1,41 @@
+use Rattle.std.proofs.Common.{◌≡◌, ℕ, Bool, List, Result, Err, rules, sym, subst}
+use Rattle.http_read.specs.HeadAndBody.{StopsAtOnce}
+use Rattle.http_read.specs.Taking.{bytes_in}
+use Rattle.http_route.specs.Routes.{Table}
+use Rattle.http_whole.specs.Whole.{GoesOn, ReadsRequest}
+use Rattle.office_http.specs.Exchange.{Handles, as_fault, passage}
+use Rattle.office_http.specs.declared.fault.HandleFault.{HandleFault}
+use Rattle.office_http.proofs.Handled.{head_of, read_failed, replied}
+use Rattle.office_http.proofs.exchange.serve.Goals as goal
+
+pub returns-in_err-look-clause-handles : goal.returns-in_err-look-clause-handles
+returns-in_err-look-clause-handles g c =
+    let ledger = g.B.Books.ledger in
+    let office = c.args.office.now in
+    let fault = c.in_err-look.field-0.0 in
+    let old = bytes_in c.new-inbox.result in
+    let new = bytes_in c.read_request.new.inbox in
+    let remaining = g.L.Link.remaining c.args.link.now in
+    let later = g.L.Link.remaining c.read_request.new.link in
+    let given = g.L.Link.given c.args.link.now in
+    let later_given = g.L.Link.given c.read_request.new.link in
+    let last = g.L.Link.last c.read_request.new.link in
+    let is : c.from_residual.result ≡ Err (as_fault fault) = search rules in
+    let reads = subst (λ (t : Table). ReadsRequest t (Err fault) old new remaining later) c.requires.routes c.in_err-look.ensures.reads in
+    subst (λ (r : Result (Unit {0}) HandleFault). Handles ledger c.args.moment office office (passage remaining later given later_given last) r) (sym is)
+    (read_failed ledger c.args.moment office fault old new remaining later given later_given last c.new-inbox.ensures.empty reads c.in_err-look.ensures.given)
+
+pub returns-clause-handles : goal.returns-clause-handles
+returns-clause-handles g c =
+    let inbox = c.new-inbox.result in
+    let full = c.read_request.new.inbox in
+    let was = g.L.Link.last c.args.link.now in
+    let between = g.L.Link.last c.read_request.new.link in
+    let stops = subst (λ (t : Table). StopsAtOnce (GoesOn t) inbox full was between) c.requires.routes c.in_ok-look.ensures.stops in
+    replied g.B.Books.ledger c.args.moment c.args.office.now c.reply.new.office inbox full c.bytes-2.result.now c.reply.result
+    (g.L.Link.remaining c.args.link.now) (g.L.Link.remaining c.read_request.new.link) (g.L.Link.remaining c.reply.new.link)
+    (g.L.Link.given c.args.link.now) (g.L.Link.given c.read_request.new.link) (g.L.Link.given c.reply.new.link)
+    was between (g.L.Link.last c.reply.new.link)
+    c.new-inbox.ensures.empty c.bytes-2.ensures c.in_ok-look.ensures.reads.0 stops c.in_ok-look.ensures.given
+    c.reply.ensures.remaining c.reply.ensures.last c.reply.ensures.ends
+    (head_of c.args.router.now c.in_ok-look.look (bytes_in full) c.in_ok-look.ensures.reads.1) c.reply.ensures.gives

@@ -1,0 +1,122 @@
+//! One request in, one reply out.
+ghost use Rattle.std.specs.Prelude.{◌≡◌, ◌≤◌, length};
+ghost use Rattle.std.specs.Io.KnownBytes.{Keeps};
+ghost use Rattle.mb_wire.specs.Links.{risen};
+ghost use Rattle.http_route.specs.Routes.{routes};
+ghost use Rattle.http_wants.specs.Wanting.{HasFewFaults, Wants};
+ghost use Rattle.office_core.specs.Standing.{After};
+ghost use Rattle.office_http.specs.Exchange.{CountsLink, GivesReply, Handles, HandlesBare, IsEnd, ended, is_link_fault, passage};
+ghost use Rattle.office_http.specs.Serving.{Lasts};
+
+use crate::answers::put_reply;
+use crate::fault::HandleFault;
+use http_answer::put_refusal;
+use http_read::{Inbox, read_head};
+use http_reply::Outlet;
+use http_route::{Route, router};
+use http_rows::Replied;
+use http_wants::{Want, wanted};
+use http_whole::read_request;
+use matchit::Router;
+use mb_wire::{Link, LinkFailed};
+use office_books::Books;
+use office_core::Office;
+use office_events::Refusal;
+use std::alloc::Global;
+
+// How a request ends to which a reply was put.
+fn ended(sent: Result<(), LinkFailed>, cut: Option<Refusal>) -> Result<(), HandleFault>
+    ensures { result ≡ ended sent cut }
+{
+    sent.map_err(|_| HandleFault::Write)?;
+    match cut {
+        Some(_) => Err(HandleFault::Cut),
+        None => Ok(()),
+    }
+}
+
+// Reads a head, for which there is room, and replies that there is no memory for more.
+fn refuse<L: Link>(link: &mut L) -> Result<(), HandleFault>
+    ensures handles { HandlesBare (passage (L.remaining link.old) (L.remaining link.new)
+        (L.given link.old) (L.given link.new) (L.last link.new)) result }
+    ensures counts { CountsLink result (L.failed link.old) (L.failed link.new)
+        (L.taken link.old) (L.taken link.new) }
+{
+    let mut room = [0; 8192];
+    let mut inbox = Inbox::new(&mut room);
+    read_head(&mut inbox, link)?;
+    let mut outlet = Outlet::new(link);
+    put_refusal(Refusal::Memory, &mut outlet);
+    let sent = outlet.finish();
+    outlet.into_link();
+    ended(sent, None)
+}
+
+// Replies to a request that was read.
+fn reply<L: Link, B: Books>(
+    bytes: &[u8],
+    want: Want<'_>,
+    link: &mut L,
+    office: &mut Office<B>,
+    moment: u64,
+) -> Result<(), HandleFault>
+    requires wants { Wants routes bytes.now want }
+    requires few { HasFewFaults want }
+    ensures gives { After B.ledger office.old office.new (λ past. GivesReply B.ledger past moment
+        office.old office.new (L.given link.old) (L.given link.new) bytes.now result) }
+    ensures ends { IsEnd result }
+    ensures remaining { Keeps (L.remaining link.old) (L.remaining link.new) }
+    ensures last { L.last link.new ≡ L.last link.old }
+    ensures failures { L.failed link.new ≡ risen (is_link_fault result) (L.failed link.old) }
+    ensures lasts { Lasts B.ledger office.old office.new }
+{
+    let outlet = Outlet::new(link);
+    let Replied { mut outlet, cut } = put_reply(bytes, want, office, moment, outlet);
+    let sent = outlet.finish();
+    outlet.into_link();
+    ended(sent, cut)
+}
+
+// Reads a request, and replies to it.
+fn serve<L: Link, B: Books>(
+    alloc: Global,
+    router: &Router<Route>,
+    room: &mut [u8],
+    link: &mut L,
+    office: &mut Office<B>,
+    moment: u64,
+) -> Result<(), HandleFault>
+    requires routes { router.now ≡ routes }
+    requires room { 73728 ≤ length room.old }
+    ensures handles { Handles B.ledger moment office.old office.new (passage (L.remaining link.old)
+        (L.remaining link.new) (L.given link.old) (L.given link.new) (L.last link.new)) result }
+    ensures counts { CountsLink result (L.failed link.old) (L.failed link.new)
+        (L.taken link.old) (L.taken link.new) }
+    ensures lasts { Lasts B.ledger office.old office.new }
+{
+    let mut inbox = Inbox::new(room);
+    let look = read_request(router, &mut inbox, link)?;
+    let want = wanted(alloc, router, inbox.bytes(), &look);
+    reply(inbox.bytes(), want, link, office, moment)
+}
+
+/// Serves one request by HTTP/1.1: reads it from the link, asks the office, and replies. Moments are seconds since
+/// 1970-01-01 UTC. A command that was accepted stands where its reply could not be given, and asked again it gets the
+/// kept answer.
+pub fn handle<L: Link, B: Books>(
+    alloc: Global,
+    link: &mut L,
+    office: &mut Office<B>,
+    moment: u64,
+) -> Result<(), HandleFault>
+    ensures handles { Handles B.ledger moment office.old office.new (passage (L.remaining link.old)
+        (L.remaining link.new) (L.given link.old) (L.given link.new) (L.last link.new)) result }
+    ensures counts { CountsLink result (L.failed link.old) (L.failed link.new)
+        (L.taken link.old) (L.taken link.new) }
+    ensures lasts { Lasts B.ledger office.old office.new }
+{
+    match (router(alloc), vec![in alloc; 0; 73_728]) {
+        (Ok(router), Ok(mut room)) => serve(alloc, &router, &mut room, link, office, moment),
+        _ => refuse(link),
+    }
+}

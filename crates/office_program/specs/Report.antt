@@ -1,0 +1,31 @@
+-- A report over books.
+use Rattle.std.specs.Prelude.{◌≡◌, ◌⊎◌, ℕ, List, Option}
+use Rattle.command_io.specs.declared.status.Status.{Status}
+use Rattle.office_events.specs.Names.{named}
+use Rattle.office_rules.specs.History.{History}
+use Rattle.office_books.specs.Ledgers.{Ledger}
+use Rattle.office_core.specs.Standing.{Stands, books_in}
+use Rattle.office_core.specs.Taking.{failures_of}
+use Rattle.office_core.specs.declared.office.Office.{Office}
+use Rattle.office_text.specs.OpenedOffice.{TellsUnopened}
+use Rattle.office_text.specs.Reports.{ReportPrints}
+use Rattle.office_text.specs.EndTexts.{Tells}
+use Rattle.office_program.specs.Opened.{WithOffice}
+
+-- All days of the register were printed, or why there are none; and the office was only asked.
+pub record Reports {B : Type 0} (ledger : B → Ledger) (register later held holds : Option (List ℕ))
+    (status : Status) (behind : History) (then : Option (List ℕ)) (opened left : Office B)
+    : Type 0 where
+  pub prints : Tells (ReportPrints (ledger (books_in opened)).zone behind register
+      (failures_of ledger opened) (failures_of ledger left)) status held holds
+  pub stands : Stands ledger behind left
+  pub once : then ≡ later
+
+-- The opening was refused, and that alone was printed; or the office was opened, and reported. The clock was asked once.
+abbrev pub TellsReport : {B : Type 0} → (B → Ledger) → (past : History) → (register : List ℕ)
+    → (moments later : Option (List ℕ)) → (books back : B) → (held holds : Option (List ℕ))
+    → Status → Type 0
+TellsReport ledger past register moments later books back held holds status =
+    TellsUnopened past moments later (ledger books) (ledger back) status held holds
+    ⊎ WithOffice ledger past moments back
+    (Reports ledger (named register) later held holds status)

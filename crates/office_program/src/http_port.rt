@@ -1,0 +1,87 @@
+//! HTTP on a port.
+ghost use Rattle.std.specs.Prelude.{◌≡◌};
+ghost use Rattle.office_core.specs.Leaving.{BooksStand};
+ghost use Rattle.office_core.specs.Standing.{After};
+ghost use Rattle.office_http.specs.Serving as http;
+ghost use Rattle.office_rules.specs.History.{History};
+ghost use Rattle.office_text.specs.Passing.{Lasts};
+ghost use Rattle.office_program.specs.HttpPort.{ServesPort, TellsServing};
+
+use crate::command_end::Ended;
+use command_io::Status;
+use office_books::Books;
+use office_core::Office;
+use office_serving::serve_on;
+use office_text::open_office;
+use socket_link::Clock;
+use std::alloc::Global;
+use std::io::Write;
+use std::net::{Net, TcpListener};
+
+/// How serving ended.
+#[derive(Clone, Copy, Debug, PartialEq, Eq)]
+pub enum Serving {
+    /// So many connections came and went.
+    Served,
+    /// The office was not opened, and the command ends so.
+    Unopened(Status),
+    /// The port can't be listened on.
+    NoPort,
+    /// The listener failed.
+    Broken,
+}
+
+// Serves on a port.
+fn serve_port<R: Net, B: Books, C: Clock>(
+    net: &R,
+    alloc: Global,
+    office: &mut Office<B>,
+    place: (&str, u16),
+    connections: u32,
+    clock: &mut C,
+) -> Serving
+    ensures serves { After B.ledger office.old office.new (λ past.
+        ServesPort connections B.ledger past office.old office.new result) }
+    ensures lasts { http.Lasts B.ledger office.old office.new }
+{
+    let Ok(listener) = TcpListener::bind(net, place) else {
+        return Serving::NoPort;
+    };
+    match serve_on(alloc, &listener, u64::from(connections), office, clock) {
+        Ok(()) => Serving::Served,
+        Err(_) => Serving::Broken,
+    }
+}
+
+/// Opens an office over books at the moment that the clock tells, and then serves requests by HTTP/1.1 on so many connections
+/// at a port of a host, as `serve_on` does. Where the opening is refused, `refused N` is printed, and the port stays
+/// untouched; nothing else is printed. The books are handed back.
+pub fn serve_books<R: Net, B: Books, C: Clock, W: Write>(
+    net: &R,
+    alloc: Global,
+    books: B,
+    place: (&str, u16),
+    connections: u32,
+    clock: &mut C,
+    output: &mut W,
+) -> Ended<B, Serving>
+    ensures tells { (past : History) → BooksStand (B.ledger books) past
+        → (B.ledger result.books).is_clean
+        → TellsServing B.ledger past connections (C.moments clock.old) (C.moments clock.new)
+        books result.books (W.contents output.old) (W.contents output.new) result.end }
+    ensures lasts { Lasts (B.ledger books) (B.ledger result.books) }
+{
+    match open_office(alloc, books, clock, output) {
+        Ok(mut office) => {
+            let end = serve_port(net, alloc, &mut office, place, connections, clock);
+            Ended {
+                books: office.into_books(),
+                end,
+            }
+        }
+        Err(unopened) => Ended {
+            books: unopened.books,
+            end: Serving::Unopened(unopened.status),
+        },
+    }
+}

@@ -1,0 +1,45 @@
+//! The report of a register.
+ghost use Rattle.office_core.specs.Leaving.{BooksStand};
+ghost use Rattle.office_rules.specs.History.{History};
+ghost use Rattle.office_text.specs.Passing.{Lasts};
+ghost use Rattle.office_program.specs.Report.{TellsReport};
+
+use crate::command_end::Ended;
+use command_io::Status;
+use office_books::Books;
+use office_events::Name;
+use office_text::{open_office, report_days};
+use socket_link::Clock;
+use std::alloc::Global;
+use std::io::Write;
+
+/// Opens an office over books at the moment that the clock tells, and prints the energy of a register by civil days, a line
+/// a day, and then how many they are. Where the opening or the report is refused, `refused N` alone is printed. A text that
+/// is no name is a register that isn't there. The books are handed back.
+pub fn report_books<B: Books, C: Clock, W: Write>(
+    alloc: Global,
+    books: B,
+    register: &str,
+    clock: &mut C,
+    output: &mut W,
+) -> Ended<B, Status>
+    ensures tells { (past : History) → BooksStand (B.ledger books) past
+        → (B.ledger result.books).is_clean
+        → TellsReport B.ledger past register.now (C.moments clock.old) (C.moments clock.new)
+        books result.books (W.contents output.old) (W.contents output.new) result.end }
+    ensures lasts { Lasts (B.ledger books) (B.ledger result.books) }
+{
+    match open_office(alloc, books, clock, output) {
+        Ok(mut office) => {
+            let end = report_days(&mut office, &Name::new(register.as_bytes()), output);
+            Ended {
+                books: office.into_books(),
+                end,
+            }
+        }
+        Err(unopened) => Ended {
+            books: unopened.books,
+            end: unopened.status,
+        },
+    }
+}

@@ -1,0 +1,119 @@
+//! The end of a round that was broken off.
+ghost use Rattle.std.specs.Prelude.{◌≡◌, ℕ, List, Option};
+ghost use Rattle.office_rules.specs.History.{History};
+ghost use Rattle.office_core.specs.EventRun.{Answered};
+ghost use Rattle.office_core.specs.Standing.{After, books_in};
+ghost use Rattle.office_core.specs.Taking.{failures_of};
+ghost use Rattle.office_rounds.specs.Passing.{Lasts};
+ghost use Rattle.office_rounds.specs.Rounds as rounds;
+ghost use Rattle.office_rounds.specs.Rounds.{Desk, IsToldOf, desk};
+ghost use Rattle.office_rounds.specs.Stepping as stepping;
+ghost use Rattle.office_rounds.specs.Stepping.{Broken, Closes, EndsPrinted, EndsUnprinted};
+
+use crate::fault::RoundFault;
+use crate::fed_events::feed;
+use crate::progress::Progress;
+use office_books::Books;
+use office_core::Office;
+use office_events::Event;
+use poll_core::{Closing, LAST_MOMENT};
+use socket_link::Clock;
+use std::io::Write;
+
+// The moment at which a device is gone: the clock's, or where that was set back, or is past the last moment of all, that
+// of the latest event.
+fn gone_at(latest: u64, moment: u64) -> u64
+    ensures { result ≡ rounds.gone_at latest moment }
+{
+    if moment < latest || LAST_MOMENT < moment {
+        latest
+    } else {
+        moment
+    }
+}
+
+// The fault that is told: that a writing has failed now, or the one that broke the round off.
+fn fault_behind(cause: RoundFault, fault: RoundFault) -> RoundFault
+    ensures { result ≡ stepping.fault_behind cause fault }
+{
+    match fault {
+        RoundFault::Refused(_) => cause,
+        RoundFault::Link => cause,
+        RoundFault::Output => RoundFault::Output,
+        RoundFault::TurnsUsed => cause,
+    }
+}
+
+// Whether a writing failed.
+fn is_output(fault: RoundFault) -> bool
+    ensures { result ≡ stepping.is_output fault }
+{
+    match fault {
+        RoundFault::Refused(_) => false,
+        RoundFault::Link => false,
+        RoundFault::Output => true,
+        RoundFault::TurnsUsed => false,
+    }
+}
+
+// Tells the end, and prints what is told of it.
+fn end_printed<B: Books, W: Write>(
+    at: u64,
+    gone: &Event,
+    cause: RoundFault,
+    office: &mut Office<B>,
+    output: &mut W,
+) -> RoundFault
+    ensures ends { (moments later : Option (List ℕ)) → After B.ledger office.old office.new (λ past.
+        EndsPrinted B.ledger past at gone.now cause
+        (desk (W.contents output.old) moments (failures_of B.ledger office.old))
+        (desk (W.contents output.new) later (failures_of B.ledger office.new))
+        office.old office.new result) }
+    ensures told { IsToldOf cause result }
+    ensures lasts { Lasts B.ledger office.old office.new }
+{
+    match feed(office, at, gone, output) {
+        Ok(_) => cause,
+        Err(fault) => fault_behind(cause, fault),
+    }
+}
+
+// Tells the end, and prints nothing.
+fn end_unprinted<B: Books>(at: u64, gone: &Event, office: &mut Office<B>)
+    ensures ends { (printed moments later : Option (List ℕ))
+        → After B.ledger office.old office.new (λ past. EndsUnprinted B.ledger past at gone.now
+        (desk printed moments (failures_of B.ledger office.old))
+        (desk printed later (failures_of B.ledger office.new)) office.old office.new) }
+    ensures lasts { Lasts B.ledger office.old office.new }
+{
+    let _answer = office.feed(at, gone);
+}
+
+/// Feeds that the device is gone, as by a failed read or write, and prints what is told of it, unless a writing was what
+/// failed. It answers the fault, or that a writing has failed now.
+pub(crate) fn close<B: Books, C: Clock, W: Write>(
+    round: &Progress,
+    cause: RoundFault,
+    office: &mut Office<B>,
+    clock: &mut C,
+    output: &mut W,
+) -> RoundFault
+    ensures closes { (device : Option (List ℕ)) (past : History) (begun : Desk)
+        (fed : List Answered)
+        → Broken B.ledger device past begun (desk (W.contents output.old) (C.moments clock.old)
+        (failures_of B.ledger office.old)) office.old fed round.now cause
+        → (B.ledger (books_in office.new)).is_clean
+        → Closes B.ledger device past begun (desk (W.contents output.new) (C.moments clock.new)
+        (failures_of B.ledger office.new)) office.new fed cause result }
+    ensures told { IsToldOf cause result }
+    ensures lasts { Lasts B.ledger office.old office.new }
+{
+    let moment = clock.now();
+    let at = gone_at(round.latest, moment);
+    let gone = Event::Gone(round.device, Closing::Failed);
+    if is_output(cause) {
+        end_unprinted(at, &gone, office);
+        return RoundFault::Output;
+    }
+    end_printed(at, &gone, cause, office, output)
+}

@@ -1,0 +1,9 @@
+use Rattle.office_running.proofs.Going.{goes_both, goes_none}
+use Rattle.office_running.proofs.event_loop.Running.attend_peers.Goals as goal
+
+pub loop-place-init : goal.loop-place-init
+loop-place-init g c = goes_none g.B.Books.ledger c.args.office.now
+
+pub loop-place-preserved : goal.loop-place-preserved
+loop-place-preserved g c =
+    goes_both g.B.Books.ledger c.args.office.now c.loop-place.office c.attend.new.office c.loop-place.invariant c.attend.ensures

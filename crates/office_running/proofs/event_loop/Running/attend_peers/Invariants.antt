@@ -1,0 +1,5 @@
+use Rattle.office_running.specs.Runs.{Goes}
+use Rattle.office_running.proofs.event_loop.Running.attend_peers.Given as goal
+
+abbrev pub invariant-loop-place : goal.invariant-loop-place
+invariant-loop-place g l = Goes g.B.Books.ledger l.fn.office l.office

@@ -1,5 +1,0 @@
-use Rattle.office_running.specs.Runs.{Goes}
-use Rattle.office_running.proofs.running.Running.attend_devices.Given as goal
-
-abbrev pub invariant-loop-place : goal.invariant-loop-place
-invariant-loop-place g l = Goes g.B.Books.ledger l.fn.office l.office

@@ -1,0 +1,237 @@
+//! The devices of a run.
+ghost use Rattle.office_running.specs.Runs.{Goes};
+
+use crate::devices::{Seen, Slot};
+use crate::settings::Site;
+use crate::voice::{Standing, Voice};
+use hub_rounds::{Round, Stage};
+use hub_schedule::Phase;
+use mio::{Registry, Token};
+use office_books::Books;
+use office_core::Office;
+use office_events::Piece;
+use office_hub::{Happening, turn};
+use poll_core::Closing;
+use std::alloc::{AllocError, Global};
+use std::net::Net;
+
+/// The devices: the connection to each, and how far its round has come.
+#[derive(Drop)]
+pub(crate) struct Polling {
+    every: u64,
+    slots: Vec<Slot>,
+    rounds: Vec<Round>,
+}
+
+impl Polling {
+    /// Each device rests until the first multiple of `every` after now.
+    pub(crate) fn new(
+        alloc: Global,
+        sites: &[Site],
+        every: u64,
+        now: u64,
+    ) -> Result<Polling, AllocError> {
+        let mut slots = Vec::new(alloc);
+        let mut rounds = Vec::new(alloc);
+        for site in sites {
+            slots.push(Slot::new(alloc, *site, every, now))?;
+            rounds.push(Round::new(site.name))?;
+        }
+        Ok(Polling {
+            every,
+            slots,
+            rounds,
+        })
+    }
+
+    /// How many devices there are.
+    pub(crate) fn count(&self) -> usize {
+        self.slots.len()
+    }
+
+    /// Something may have come from the device of a place.
+    pub(crate) fn mark(&mut self, place: usize) {
+        if place < self.slots.len() {
+            self.slots[place].ready = true;
+        }
+    }
+
+    /// Whether something may have come that was not looked at.
+    pub(crate) fn is_ready(&self) -> bool {
+        self.slots.iter().any(|slot| slot.ready)
+    }
+
+    // The connection of a place could not be made.
+    fn fail(&mut self, place: usize, voice: &mut Voice, moment: u64) {
+        if place < self.slots.len() {
+            let every = self.every;
+            let slot = &mut self.slots[place];
+            let before = slot.standing;
+            slot.fail(every, moment);
+            slot.standing = Standing::Unreachable;
+            let name = slot.site.name;
+            voice.tell_standing(moment, &name, before, Standing::Unreachable);
+        }
+    }
+
+    // Begins the connection of a place, where it is due.
+    fn begin<R: Net>(
+        &mut self,
+        rt: &R,
+        registry: &Registry,
+        first: usize,
+        place: usize,
+        voice: &mut Voice,
+        moment: u64,
+    ) {
+        if place < self.slots.len() && self.slots[place].timing.is_due(moment) {
+            let token = Token(first.saturating_add(place));
+            let works = self.slots[place].begin(rt, registry, token, moment);
+            if !works {
+                self.fail(place, voice, moment);
+            }
+        }
+    }
+
+    /// Begins the connections that are due. The token of the first device is `first`.
+    pub(crate) fn begin_all<R: Net>(
+        &mut self,
+        rt: &R,
+        registry: &Registry,
+        first: usize,
+        voice: &mut Voice,
+        moment: u64,
+    ) {
+        for place in 0..self.slots.len() {
+            self.begin(rt, registry, first, place, voice, moment);
+        }
+    }
+
+    // Tells how the round of a place ended, and closes its connection.
+    fn finish(&mut self, place: usize, voice: &mut Voice, moment: u64) {
+        if place < self.slots.len() && place < self.rounds.len() {
+            let sum = self.rounds[place].sum;
+            let every = self.every;
+            let slot = &mut self.slots[place];
+            let name = slot.site.name;
+            slot.standing = voice.tell_round(moment, &name, slot.standing, sum);
+            slot.rest(every, moment);
+        }
+    }
+
+    // Sends what is to be sent to a device, or closes its connection where its round is over.
+    fn settle(&mut self, place: usize, voice: &mut Voice, moment: u64) {
+        if place < self.slots.len() && place < self.rounds.len() {
+            if self.slots[place].timing.phase != Phase::Polling {
+                return;
+            }
+            if self.rounds[place].stage == Stage::Off {
+                self.finish(place, voice, moment);
+            } else {
+                let frames = voice.desk.take_outgoing(place);
+                self.slots[place].send_more(&frames);
+            }
+        }
+    }
+
+    fn settle_all(&mut self, voice: &mut Voice, moment: u64) {
+        for place in 0..self.slots.len() {
+            self.settle(place, voice, moment);
+        }
+    }
+
+    /// Feeds what happens to the office, and what the rounds of the devices wish then.
+    pub(crate) fn feed<B: Books>(
+        &mut self,
+        happening: Happening,
+        office: &mut Office<B>,
+        voice: &mut Voice,
+        moment: u64,
+    )
+        ensures { Goes B.ledger office.old office.new }
+    {
+        turn(&mut self.rounds, happening, office, moment, voice);
+        self.settle_all(voice, moment);
+    }
+
+    // What is seen at the connection of a place that is being made.
+    fn joined(
+        &mut self,
+        place: usize,
+        seen: &Seen,
+        voice: &mut Voice,
+        moment: u64,
+    ) -> Option<Happening> {
+        match seen {
+            Seen::Nothing => None,
+            Seen::Stands => {
+                if place < self.slots.len() {
+                    let every = self.every;
+                    self.slots[place].timing.stand(every, moment);
+                }
+                Some(Happening::Stands(place))
+            }
+            _ => {
+                self.fail(place, voice, moment);
+                None
+            }
+        }
+    }
+
+    // What a look at the connection of a place sees, as it happens to the office.
+    fn look(&mut self, place: usize, voice: &mut Voice, moment: u64) -> Option<Happening> {
+        if place >= self.slots.len() {
+            return None;
+        }
+        let phase = self.slots[place].timing.phase;
+        let seen = self.slots[place].look();
+        if phase == Phase::Connecting {
+            return self.joined(place, &seen, voice, moment);
+        }
+        match seen {
+            Seen::Nothing | Seen::Stands => None,
+            Seen::Bytes(bytes) => Some(Happening::Came(place, Piece::new(bytes))),
+            Seen::Closed => Some(Happening::Ended(place, Closing::Gone)),
+            Seen::Failed => Some(Happening::Ended(place, Closing::Failed)),
+        }
+    }
+
+    // What the device of a place does that takes too long.
+    fn expire(&mut self, place: usize, voice: &mut Voice, moment: u64) -> Option<Happening> {
+        if place < self.slots.len() && self.slots[place].timing.phase == Phase::Connecting {
+            self.fail(place, voice, moment);
+            return None;
+        }
+        Some(Happening::Ended(place, Closing::Failed))
+    }
+
+    // What happens at a place.
+    fn happening(&mut self, place: usize, voice: &mut Voice, moment: u64) -> Option<Happening> {
+        if place >= self.slots.len() {
+            return None;
+        }
+        if self.slots[place].timing.is_over(moment) {
+            return self.expire(place, voice, moment);
+        }
+        if self.slots[place].ready {
+            return self.look(place, voice, moment);
+        }
+        None
+    }
+
+    /// Feeds what happens at a place, a piece of bytes at most.
+    #[tactic(auto, using(crate::proofs::Going::goes_none, crate::proofs::Going::goes_both))]
+    pub(crate) fn attend<B: Books>(
+        &mut self,
+        place: usize,
+        office: &mut Office<B>,
+        voice: &mut Voice,
+        moment: u64,
+    )
+        ensures { Goes B.ledger office.old office.new }
+    {
+        if let Some(happening) = self.happening(place, voice, moment) {
+            self.feed(happening, office, voice, moment);
+        }
+    }
+}

@@ -1,0 +1,104 @@
+//! How books are made in a database, or found in one.
+ghost use Rattle.std.specs.Prelude.{◌≡◌, ◌≢◌, ◌⊎◌, ℕ, List, [], false, Err, IsTrue, IfOk, IfErr};
+ghost use Rattle.sqlite.specs.Held.{state};
+ghost use Rattle.sqlite.specs.State.{HasCleanDisk};
+ghost use Rattle.interval_core.specs.Zone.{HasRule};
+ghost use Rattle.office_events.specs.declared.facts.Fact.{Fact};
+ghost use Rattle.store_tables.specs.Content.{Content, AreTablesIn};
+ghost use Rattle.store_tables.specs.Steps.{TransactsTo};
+ghost use Rattle.store_files.specs.declared.layouts.Layout.{Layout as TheLayout};
+ghost use Rattle.store_files.specs.Upgrade.{IsFile, OpensFile};
+ghost use Rattle.store_files.specs.Layouts.{no_schema, schema_of, version_of, IsNamedAs};
+ghost use Rattle.store_files.specs.NewFile.{Makes};
+ghost use Rattle.store_files.specs.Meta.{Meta, IsMarked};
+ghost use Rattle.store_files.specs.OpenedFile.{Tells};
+ghost use Rattle.store_files.specs.Zones.{IsZone};
+ghost use Rattle.office_store.specs.Made.{connection_in, told_by};
+ghost use Rattle.office_store.specs.Database.{HasFile, HoldsAlone, HoldsYet};
+
+use crate::books::{SqlBooks, Unopened};
+use sqlite::{Alter, Connection};
+use std::alloc::Global;
+use store_files::OpenFault;
+use store_laws::{new_files_have_none, opened_files_keep_theirs};
+
+impl<S: Alter> SqlBooks<S> {
+    /// Makes the tables of new books in a database that has no tables, for the days of a zone. It is one transaction, whose
+    /// commit is the last call of the database. Faults: `NotOurs` where the database has any table, index or view, or a
+    /// transaction is under way; `Zone` where the text is no zone.
+    pub fn create(
+        alloc: Global,
+        connection: Connection<S>,
+        zone: &str,
+    ) -> Result<SqlBooks<S>, Unopened<S>>
+        ensures busy { IsTrue connection.in_transaction → told_by result ≡ Err OpenFault.NotOurs }
+        ensures others { connection.schema ≢ no_schema → told_by result ≡ Err OpenFault.NotOurs }
+        ensures no_zone { connection.in_transaction ≡ false → connection.schema ≡ no_schema
+            → ¬ IsZone zone.now → told_by result ≡ Err OpenFault.Zone }
+        ensures ours { connection.in_transaction ≡ false → connection.schema ≡ no_schema
+            → IsZone zone.now
+            → IfErr result (λ e. (e.fault ≡ OpenFault.Store) ⊎ (e.fault ≡ OpenFault.Memory)) }
+        ensures refused { IfErr result (λ e.
+            (e.fault ≡ OpenFault.NotOurs) ⊎ (e.fault ≡ OpenFault.Zone)
+            → e.connection ≡ connection) }
+        ensures zone { IfOk result (λ books. HasRule zone.now books.zone) }
+        ensures faults { IfOk result (λ books. books.faults ≡ 0) }
+        ensures none { IfOk result (λ books.
+            HoldsAlone S.Store zone.now books.connection []) }
+        ensures does { TransactsTo (state S.Store connection)
+            (state S.Store (connection_in result)) (told_by result) (Makes zone.now) }
+    {
+        new_files_have_none();
+        let mut connection = connection;
+        match store_files::create(&mut connection, zone) {
+            Ok(zone) => Ok(SqlBooks {
+                connection,
+                zone,
+                faults: 0,
+                alloc,
+            }),
+            Err(fault) => Err(Unopened { connection, fault }),
+        }
+    }
+
+    /// Opens the books of a database. A file of version 1 or 2 is brought to version 3 in one transaction, whose commit is
+    /// the last call of the database; each meter of version 1 has a counter that turns over at 2^32. Faults: `NotOurs`
+    /// where a transaction is under way, where the tables aren't those of version 1, 2 or 3 by their names and order, or
+    /// where the file tells another version than its tables'; `Zone` where the file's zone is none.
+    pub fn open(alloc: Global, connection: Connection<S>) -> Result<SqlBooks<S>, Unopened<S>>
+        ensures busy { IsTrue connection.in_transaction
+            → (told_by result ≡ Err OpenFault.NotOurs) × (connection_in result ≡ connection) }
+        ensures foreign { ((layout : TheLayout) → ¬ IsNamedAs connection.schema layout)
+            → (told_by result ≡ Err OpenFault.NotOurs) × (connection_in result ≡ connection) }
+        ensures clean { HasCleanDisk (state S.Store (connection_in result))
+            → HasCleanDisk (state S.Store connection) }
+        ensures faults { IfOk result (λ books. books.faults ≡ 0) }
+        ensures told { HasCleanDisk (state S.Store (connection_in result))
+            → connection.in_transaction ≡ false → IsTrue (state S.Store connection).is_open
+            → (layout : TheLayout) (held : Content)
+            → AreTablesIn (schema_of layout) (state S.Store connection).committed held
+            → (m : Meta) → IsMarked m held → Tells (version_of layout) m (told_by result) }
+        ensures opened { HasCleanDisk (state S.Store (connection_in result))
+            → (layout : TheLayout) (zone : List ℕ) (held : Content)
+            → (IsTrue (state S.Store connection).is_open
+            → IsFile layout zone (state S.Store connection).committed held)
+            → OpensFile layout zone held (state S.Store connection)
+            (state S.Store (connection_in result)) (told_by result) }
+        ensures again { (zone : List ℕ) (facts : List Fact) → HasFile S.Store zone connection facts
+            → IfOk result (λ books. HoldsAlone S.Store zone books.connection facts) }
+        ensures yet { (zone : List ℕ) (facts : List Fact) → HasFile S.Store zone connection facts
+            → IfErr result (λ e. HoldsYet S.Store zone connection e.connection facts) }
+    {
+        opened_files_keep_theirs();
+        let mut connection = connection;
+        match store_files::open(&mut connection) {
+            Ok(zone) => Ok(SqlBooks {
+                connection,
+                zone,
+                faults: 0,
+                alloc,
+            }),
+            Err(fault) => Err(Unopened { connection, fault }),
+        }
+    }
+}

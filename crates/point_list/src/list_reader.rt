@@ -1,0 +1,165 @@
+//! Reading a point list.
+ghost use Rattle.std.specs.Prelude.{◌≡◌, ◌+◌, ◌≤◌, ◌++◌, ◌∷◌, IfOk, IfErr, OnOk, [], length, map};
+ghost use Rattle.std.specs.Option.{option_map};
+ghost use Rattle.csv.specs.Records.{fields_of};
+ghost use Rattle.point_list.specs.Faults.{seen_row};
+ghost use Rattle.point_list.specs.Lists.{ExplainsList, SpellEach, SpellsList, faults_below};
+ghost use Rattle.point_list.specs.Lists.{faulty_rows, is_header, is_header_text, list_faults};
+ghost use Rattle.point_list.specs.Lists.{points_of, row_faults, rows_read, scale_fault};
+ghost use Rattle.point_list.specs.Lists.{scale_faults};
+ghost use Rattle.point_list.specs.Points.{IsPointList};
+
+use crate::fault::{FaultyRow, FaultyRows, ListFault, RowFault};
+use crate::lawful::is_group;
+use crate::list::PointList;
+use crate::point::{ListedPoint, PointScale, find_scale};
+use crate::row::{RowFields, least_row_fault};
+use crate::row_points::points_of_rows;
+use crate::rows::first_rows;
+use csv::ByteRecord;
+use std::alloc::{AllocError, Global};
+
+fn is_header_text(row: RowFields<'_>) -> bool
+    ensures { result ≡ is_header_text (seen_row row.entry) }
+{
+    row.name == b"name".as_slice()
+        && row.function == b"function".as_slice()
+        && row.area == b"area".as_slice()
+        && row.address == b"address".as_slice()
+        && row.kind == b"type".as_slice()
+        && row.scale == b"scale".as_slice()
+}
+
+// Whether a row is `name,function,area,address,type,scale`.
+fn is_header(row: &ByteRecord) -> bool
+    ensures { result ≡ is_header (fields_of row.now) }
+{
+    match RowFields::of_row(row) {
+        Some(fields) => is_header_text(fields),
+        None => false,
+    }
+}
+
+// What a point lacks of its scale point.
+fn scale_fault(points: &[ListedPoint], point: &ListedPoint) -> Option<RowFault>
+    ensures { result ≡ scale_fault points.now point.now point.now.scale }
+{
+    match &point.scale {
+        PointScale::Unscaled | PointScale::Fixed(_) => None,
+        PointScale::Named(name) => match find_scale(points, name.as_bytes()) {
+            Some(scale) if is_group(point, scale) => None,
+            Some(_) => Some(RowFault::GroupTooWide),
+            None => Some(RowFault::NoSuchScale),
+        },
+    }
+}
+
+// Adds the row that stands `place` rows below the first after the header, where it has a fault.
+fn add_fault(
+    place: usize,
+    fault: Option<RowFault>,
+    faults: &mut Vec<FaultyRow>,
+) -> Result<(), AllocError>
+    requires { place ≤ 513 }
+    ensures { OnOk result (faults.new.items
+        ≡ faults.old.items ++ faulty_rows (place + 2) (fault ∷ [])) }
+{
+    if let Some(fault) = fault {
+        faults.push(FaultyRow {
+            row: place + 2,
+            fault,
+        })?;
+    }
+    Ok(())
+}
+
+// The faulty ones of the rows below the header, but for those of their scale points.
+fn faulty_rows(alloc: Global, rows: &[ByteRecord]) -> Result<Vec<FaultyRow>, AllocError>
+    requires { length rows.now ≤ 513 }
+    ensures { IfOk result (λ faults. faults.items
+        ≡ faulty_rows 2 (row_faults (map fields_of rows.now) (length rows.now))) }
+{
+    let mut faults = Vec::new(alloc);
+    for place in 0..rows.len() {
+        let fault = least_row_fault(place, &rows[..place], &rows[place]);
+        add_fault(place, fault, &mut faults)?;
+    }
+    Ok(faults)
+}
+
+// The rows whose points lack something of their scale points.
+fn scale_faults(alloc: Global, points: &[ListedPoint]) -> Result<Vec<FaultyRow>, AllocError>
+    requires { length points.now ≤ 513 }
+    ensures { IfOk result (λ faults. faults.items
+        ≡ faulty_rows 2 (scale_faults points.now points.now)) }
+{
+    let mut faults = Vec::new(alloc);
+    for place in 0..points.len() {
+        let fault = scale_fault(points, &points[place]);
+        add_fault(place, fault, &mut faults)?;
+    }
+    Ok(faults)
+}
+
+// A header that is none.
+fn no_header(alloc: Global) -> ListFault
+    ensures { ExplainsList (list_faults []) result }
+{
+    let mut rows = Vec::new(alloc);
+    let header = FaultyRow {
+        row: 1,
+        fault: RowFault::Header,
+    };
+    match rows.push(header) {
+        Ok(()) => ListFault::Faults(FaultyRows::new(rows)),
+        Err(_) => ListFault::Memory,
+    }
+}
+
+// The list of points of which none lacks anything but of its scale point.
+fn list_of_points(alloc: Global, points: Vec<ListedPoint>) -> Result<PointList, ListFault>
+    requires few { length points.items ≤ 513 }
+    requires lawful { faulty_rows 2 (scale_faults points.items points.items) ≡ []
+        → IsPointList points.items }
+    ensures list { IfOk result (λ list. (list ≡ points.items)
+        × (faulty_rows 2 (scale_faults points.items points.items) ≡ [])) }
+    ensures faults { IfErr result
+        (ExplainsList (faulty_rows 2 (scale_faults points.items points.items))) }
+{
+    let faults = scale_faults(alloc, &points)?;
+    if !faults.is_empty() {
+        return Err(ListFault::Faults(FaultyRows::new(faults)));
+    }
+    Ok(PointList::of_lawful(points))
+}
+
+// The list that rows below the header spell.
+fn list_below(alloc: Global, rows: &[ByteRecord]) -> Result<PointList, ListFault>
+    requires { length rows.now ≤ 513 }
+    ensures list { IfOk result (λ list. (faults_below (map fields_of rows.now) ≡ [])
+        × SpellEach (map fields_of rows.now) list) }
+    ensures faults { IfErr result (ExplainsList (faults_below (map fields_of rows.now))) }
+{
+    let faults = faulty_rows(alloc, rows)?;
+    if !faults.is_empty() {
+        return Err(ListFault::Faults(FaultyRows::new(faults)));
+    }
+    let points = points_of_rows(alloc, rows)?;
+    list_of_points(alloc, points)
+}
+
+/// The list that a text of comma-separated values spells: a header `name,function,area,address,type,scale`, and a row
+/// for each point. One leading byte order mark is skipped, blank lines are no rows. At most 513 rows below the header
+/// are read. The function is 3 or 4, an area number 0 to 255, an address 0 to 65535, and a scale is empty, -10 to 10, or
+/// the name of a sunssf point of the list. An error of the reader of rows, of which the bytes are all there, is told as
+/// want of memory.
+pub fn read_list(alloc: Global, text: &[u8]) -> Result<PointList, ListFault>
+    ensures list { IfOk result (λ list. SpellsList text.now list) }
+    ensures faults { IfErr result (ExplainsList (list_faults (rows_read text.now))) }
+{
+    let rows = first_rows(alloc, text)?;
+    match rows.split_first() {
+        Some((header, rows)) if is_header(header) => list_below(alloc, rows),
+        _ => Err(no_header(alloc)),
+    }
+}

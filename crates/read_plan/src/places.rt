@@ -1,0 +1,92 @@
+//! Plans, and where points stand in them.
+ghost use Rattle.std.specs.Prelude.{◌≡◌, ◌+◌, ◌<◌, length, slice_index, slice_index_or};
+
+use crate::beginnings::ends_by_limit;
+use crate::planned_reads::PlannedRead;
+use crate::run::Run;
+use std::marker::Model;
+
+/// Where a point stands in a plan.
+#[derive(Clone, Copy, Debug, PartialEq, Eq)]
+pub struct Place {
+    /// The number of the read, the first being 0.
+    pub read: usize,
+    /// How many registers of the read stand before the point's.
+    pub offset: u16,
+}
+
+/// The reads of a point list, and where each of its points stands in them.
+#[derive(Drop)]
+pub struct Plan {
+    starts: Vec<u16>,
+    items: Vec<Run>,
+    reads: Vec<PlannedRead>,
+}
+
+impl Model for Plan {
+    ghost use Rattle.read_plan.specs.PlannedReads.{Planned};
+
+    ghost Value = { Planned };
+
+    ghost use Rattle.read_plan.specs.PlannedReads.{IsPlan};
+
+    ghost view = { λ p.
+        record { starts = p.starts.items; items = p.items.items; reads = p.reads.items } };
+
+    ghost invariant = { λ p. IsPlan
+        (record { starts = p.starts.items; items = p.items.items; reads = p.reads.items }) };
+}
+
+impl Plan {
+    ghost use Rattle.read_plan.specs.PlannedReads.{IsFirstHolding, IsPlan, read_runs};
+    ghost use Rattle.read_plan.specs.declared.planned_reads.PlannedRead.{PlannedRead};
+    ghost use Rattle.read_plan.specs.declared.run.Run.{Run};
+
+    pub(crate) fn new(starts: Vec<u16>, items: Vec<Run>, reads: Vec<PlannedRead>) -> Plan
+        requires { IsPlan
+            (record { starts = starts.items; items = items.items; reads = reads.items }) }
+        ensures starts { result.starts ≡ starts.items }
+        ensures items { result.items ≡ items.items }
+        ensures reads { result.reads ≡ reads.items }
+    {
+        Plan {
+            starts,
+            items,
+            reads,
+        }
+    }
+
+    /// The reads by function, area number and address.
+    pub fn reads(&self) -> &[PlannedRead]
+        ensures { result.now ≡ self.now.reads }
+    {
+        self.reads.as_slice()
+    }
+
+    /// How many points the plan places.
+    pub fn point_count(&self) -> usize
+        ensures { result ≡ length self.now.items }
+    {
+        self.items.len()
+    }
+
+    /// Where the point of a number stands, the first of the list being 0: in the first read that holds its item.
+    pub fn place(&self, point: usize) -> Place
+        requires { point < length self.now.items }
+        ensures first { (d : Run) → IsFirstHolding (read_runs self.now.reads)
+            (slice_index_or self.now.items point d) result.read }
+        ensures offset { (d : PlannedRead) →
+            (slice_index_or self.now.reads result.read d).span.address + result.offset
+            ≡ slice_index self.now.starts point }
+    {
+        let item = self.items[point];
+        let read = self
+            .reads
+            .partition_point(|read| !ends_by_limit(&item, &read.run()));
+        let address = self.reads[read].span.address;
+        Place {
+            read,
+            offset: self.starts[point] - address,
+        }
+    }
+}

@@ -1,0 +1,42 @@
+//! The plan of a point list.
+ghost use Rattle.std.specs.Prelude.{◌≡◌, ◌≤◌, IfOk, List, length, map};
+ghost use Rattle.read_plan.specs.Items.{items_of, runs_of};
+ghost use Rattle.read_plan.specs.PlannedReads.{read_runs};
+ghost use Rattle.read_plan.specs.Plans.{FollowsRule, IsLawful};
+ghost use Rattle.read_plan.specs.declared.run.Run.{Run};
+
+use crate::items::items;
+use crate::places::Plan;
+use crate::planned_reads::PlannedRead;
+use crate::reads::rule_reads;
+use point_list::{ListedPoint, PointList};
+use std::alloc::{AllocError, Global};
+
+// The first register of each point.
+fn starts(alloc: Global, points: &[ListedPoint]) -> Result<Vec<u16>, AllocError>
+    ensures { IfOk result (λ v. v.items ≡ map (λ point. point.address) points.now) }
+{
+    points.iter().map(|point| point.address).collect(alloc)
+}
+
+/// The plan of a point list: in each area a read begins at the first register of the first item that no earlier read
+/// holds, and ends at the greatest last register of the items within 125 registers from there. An item is the least
+/// run with a point and its scale point.
+pub fn plan(alloc: Global, list: &PointList) -> Result<Plan, AllocError>
+    ensures starts { IfOk result (λ plan. plan.starts ≡ map (λ point. point.address) list.now) }
+    ensures items { IfOk result (λ plan. plan.items ≡ items_of list.now) }
+    ensures placed { IfOk result (λ plan. length plan.items ≡ length list.now) }
+    ensures rule { IfOk result (λ plan. FollowsRule (items_of list.now) (read_runs plan.reads)) }
+    ensures lawful { IfOk result (λ plan.
+        IsLawful (runs_of list.now) (items_of list.now) (read_runs plan.reads)) }
+    ensures fewest { IfOk result (λ plan. (other : List Run)
+        → IsLawful (runs_of list.now) (items_of list.now) other
+        → length plan.reads ≤ length other) }
+{
+    let points = list.points();
+    let starts = starts(alloc, points)?;
+    let items = items(alloc, points)?;
+    let runs = rule_reads(alloc, &items)?;
+    let reads = PlannedRead::of_runs(alloc, &runs)?;
+    Ok(Plan::new(starts, items, reads))
+}

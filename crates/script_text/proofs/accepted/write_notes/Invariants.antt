@@ -1,8 +1,0 @@
-use Rattle.std.proofs.Common.{take}
-use Rattle.std.specs.List.{flat_map}
-use Rattle.std.specs.Io.KnownBytes.{Appends}
-use Rattle.script_text.specs.AnswerText.{note_line}
-use Rattle.script_text.proofs.accepted.write_notes.Given as goal
-
-abbrev pub invariant-loop-note : goal.invariant-loop-note
-invariant-loop-note g l = Appends (g.W.Write.contents l.fn.output) (g.W.Write.contents l.output) (flat_map note_line (take l.note-index l.notes))

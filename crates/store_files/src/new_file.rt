@@ -1,0 +1,88 @@
+//! How a file is made.
+ghost use Rattle.std.specs.Prelude.{◌≡◌, ◌≢◌, ◌⊎◌, ◌↔◌, false, IsTrue, Err, IfOk, IfErr};
+ghost use Rattle.sqlite.specs.Held.{state};
+ghost use Rattle.store_tables.specs.Steps.{StepsTo, TransactsTo};
+ghost use Rattle.store_files.specs.Layouts.{no_schema};
+ghost use Rattle.interval_core.specs.Zone.{HasRule};
+ghost use Rattle.store_files.specs.Zones.{IsZone};
+ghost use Rattle.store_files.specs.NewFile.{Makes};
+
+use crate::faults::{OpenFault, fault_of};
+use crate::meta::insert_meta;
+use crate::tables::create_tables;
+use crate::zones::zone_of;
+use interval_core::Zone;
+use sqlite::{Alter, Connection, Error, Transaction};
+use sqlite_schema::schema::Schema;
+
+/// Whether a schema has no table, index or view.
+fn is_blank(schema: &Schema) -> bool
+    ensures { IsTrue result ↔ (schema.now ≡ no_schema) }
+{
+    schema.tables.as_slice().is_empty()
+        && schema.indexes.as_slice().is_empty()
+        && schema.views.as_slice().is_empty()
+}
+
+/// All tables, and the row of `meta`.
+fn fill<S: Alter>(tx: &mut Transaction<'_, S>, zone: &str) -> Result<usize, Error>
+    ensures same_reference { tx.new.conn.ghost_name ≡ tx.old.conn.ghost_name }
+    ensures does { StepsTo (state S.Store tx.old.conn.now) (state S.Store tx.new.conn.now) result
+        (Makes zone.now) }
+{
+    create_tables(tx)?;
+    insert_meta(tx, zone)
+}
+
+/// All tables and the row of `meta`, or nothing.
+fn made<S: Alter>(conn: &mut Connection<S>, zone: &str) -> Result<(), Error>
+    requires autocommit { conn.old.in_transaction ≡ false }
+    ensures autocommit { conn.new.in_transaction ≡ false }
+    ensures does { TransactsTo (state S.Store conn.old) (state S.Store conn.new) result
+        (Makes zone.now) }
+{
+    let mut tx = conn.transaction();
+    fill(&mut tx, zone)?;
+    tx.commit()
+}
+
+/// The same, with the fault that its error means.
+fn make<S: Alter>(conn: &mut Connection<S>, zone: &str) -> Result<(), OpenFault>
+    requires autocommit { conn.old.in_transaction ≡ false }
+    ensures autocommit { conn.new.in_transaction ≡ false }
+    ensures does { TransactsTo (state S.Store conn.old) (state S.Store conn.new) result
+        (Makes zone.now) }
+    ensures fault { IfErr result (λ e. (e ≡ OpenFault.Store) ⊎ (e ≡ OpenFault.Memory)) }
+{
+    match made(conn, zone) {
+        Ok(()) => Ok(()),
+        Err(error) => Err(fault_of(error)),
+    }
+}
+
+/// Makes the tables of new books in a database without tables, and answers their zone. It is one transaction, whose
+/// commit is the last call of the database. Faults: `NotOurs` where the database has any table, index or view, or a
+/// transaction is under way; `Zone` where the text is no zone.
+pub fn create<S: Alter>(conn: &mut Connection<S>, zone: &str) -> Result<Zone, OpenFault>
+    ensures busy { IsTrue conn.old.in_transaction → result ≡ Err OpenFault.NotOurs }
+    ensures others { conn.old.schema ≢ no_schema → result ≡ Err OpenFault.NotOurs }
+    ensures blank { result ≢ Err OpenFault.NotOurs
+        → (conn.old.in_transaction ≡ false) × (conn.old.schema ≡ no_schema) }
+    ensures no_zone { conn.old.in_transaction ≡ false → conn.old.schema ≡ no_schema
+        → ¬ IsZone zone.now → result ≡ Err OpenFault.Zone }
+    ensures ours { conn.old.in_transaction ≡ false → conn.old.schema ≡ no_schema → IsZone zone.now
+        → IfErr result (λ e. (e ≡ OpenFault.Store) ⊎ (e ≡ OpenFault.Memory)) }
+    ensures refused { (result ≡ Err OpenFault.NotOurs) ⊎ (result ≡ Err OpenFault.Zone)
+        → conn.new ≡ conn.old }
+    ensures zone { IfOk result (HasRule zone.now) }
+    ensures autocommit { conn.new.in_transaction ≡ conn.old.in_transaction }
+    ensures does { TransactsTo (state S.Store conn.old) (state S.Store conn.new) result
+        (Makes zone.now) }
+{
+    if !conn.is_autocommit() || !is_blank(conn.schema()) {
+        return Err(OpenFault::NotOurs);
+    }
+    let rule = zone_of(zone)?;
+    make(conn, zone)?;
+    Ok(rule)
+}

@@ -1,0 +1,180 @@
+//! How a file is opened.
+ghost use Rattle.std.specs.Prelude.{◌≡◌, ◌≢◌, ◌⊎◌, ◌↔◌, false, [], ◌∷◌, IsTrue, IfOk, IfErr};
+ghost use Rattle.std.specs.Prelude.{IsUtf8, Err};
+ghost use Rattle.sqlite.specs.State.{HasCleanDisk, KeepsCommit, Survives, IsUnchanged};
+ghost use Rattle.sqlite.specs.Held.{state};
+ghost use Rattle.interval_core.specs.Zone.{HasRule};
+ghost use Rattle.store_tables.specs.Content.{Content, AreTablesIn};
+ghost use Rattle.store_files.specs.declared.layouts.Layout.{Layout as TheLayout};
+ghost use Rattle.store_files.specs.Layouts.{version_of, schema_of, IsNamedAs};
+ghost use Rattle.store_files.specs.Meta.{Meta, meta_shown, IsMarked};
+ghost use Rattle.store_files.specs.Zones.{IsZone};
+ghost use Rattle.store_files.specs.Upgrade.{IsFile, OpensFile, IsOpenTo};
+ghost use Rattle.store_files.specs.OpenedFile.{Tells, FindsZone};
+
+use crate::faults::{OpenFault, fault_of};
+use crate::layouts::{Layout, layout_of};
+use crate::upgrade::bring;
+use crate::zones::zone_of;
+use interval_core::Zone;
+use sqlite::{Alter, Connection, Error, Row};
+use store_tables::{RowFault, text, touch, whole};
+
+/// The rows of `meta`.
+fn meta_rows<S: Alter>(conn: &mut Connection<S>) -> Result<Vec<Row>, Error>
+    ensures clean { HasCleanDisk (state S.Store conn.new) → HasCleanDisk (state S.Store conn.old) }
+    ensures mode { conn.old.in_transaction ≡ false → conn.new.in_transaction ≡ false }
+    ensures kept { HasCleanDisk (state S.Store conn.new) → (layout : TheLayout) (held : Content)
+        → AreTablesIn (schema_of layout) (state S.Store conn.old).now held
+        → KeepsCommit (state S.Store conn.old) (state S.Store conn.new) }
+    ensures shows { HasCleanDisk (state S.Store conn.new) → (layout : TheLayout) (held : Content)
+        → AreTablesIn (schema_of layout) (state S.Store conn.old).now held
+        → IfOk result (λ rows. IsUnchanged (state S.Store conn.old) (state S.Store conn.new)
+        × ((m : Meta) → IsMarked m held → rows.items ≡ meta_shown m ∷ [])) }
+    ensures survives { (layout : TheLayout) (held : Content)
+        → AreTablesIn (schema_of layout) (state S.Store conn.old).now held
+        → Survives (state S.Store conn.old) (state S.Store conn.new) (λ _. ⊥) }
+{
+    conn.query_all("SELECT version, zone FROM meta", &[])
+}
+
+/// Whether the row of `meta` tells this version.
+fn has_version(row: &Row, version: u64) -> bool
+    ensures { (m : Meta) → row.now ≡ meta_shown m → IsTrue result ↔ (m.version ≡ version) }
+{
+    whole(row, 0, version, version).is_ok()
+}
+
+/// The zone that the row of `meta` tells.
+fn told_zone(row: &Row) -> Result<Zone, OpenFault>
+    ensures ours { IfErr result (λ e. e ≢ OpenFault.NotOurs) }
+    ensures zone { (m : Meta) → row.now ≡ meta_shown m
+        → IfOk result (λ zone. HasRule m.zone zone × IsZone m.zone) }
+    ensures rule { (m : Meta) → row.now ≡ meta_shown m → IsUtf8 m.zone → IsZone m.zone
+        → IfErr result (λ e. e ≢ OpenFault.Zone) }
+{
+    match text(row, 1) {
+        Ok(zone) => zone_of(&zone),
+        Err(RowFault::Sql(error)) => Err(fault_of(error)),
+        Err(RowFault::Damaged) => Err(OpenFault::Zone),
+    }
+}
+
+/// The zone that the rows of `meta` tell, if they tell this version.
+fn zone_in(rows: &[Row], version: u64) -> Result<Zone, OpenFault>
+    ensures tells { (m : Meta) → rows.now ≡ meta_shown m ∷ [] → Tells version m result }
+{
+    match rows {
+        [row] => {
+            if has_version(row, version) {
+                told_zone(row)
+            } else {
+                Err(OpenFault::NotOurs)
+            }
+        }
+        _ => Err(OpenFault::NotOurs),
+    }
+}
+
+/// The zone that the file tells, if its version is that of its tables.
+fn stored_zone<S: Alter>(conn: &mut Connection<S>, layout: Layout) -> Result<Zone, OpenFault>
+    ensures clean { HasCleanDisk (state S.Store conn.new) → HasCleanDisk (state S.Store conn.old) }
+    ensures mode { conn.old.in_transaction ≡ false → conn.new.in_transaction ≡ false }
+    ensures finds { HasCleanDisk (state S.Store conn.new) → (held : Content)
+        → AreTablesIn (schema_of layout) (state S.Store conn.old).now held
+        → FindsZone layout held (state S.Store conn.old) (state S.Store conn.new) result }
+{
+    match meta_rows(conn) {
+        Ok(rows) => zone_in(&rows, layout.version()),
+        Err(error) => Err(fault_of(error)),
+    }
+}
+
+/// The same as `bring`, with the fault that its error means.
+fn brought<S: Alter>(conn: &mut Connection<S>, layout: Layout) -> Result<(), OpenFault>
+    requires autocommit { conn.old.in_transaction ≡ false }
+    ensures autocommit { conn.new.in_transaction ≡ false }
+    ensures clean { HasCleanDisk (state S.Store conn.new) → HasCleanDisk (state S.Store conn.old) }
+    ensures fault { IfErr result (λ e. (e ≡ OpenFault.Store) ⊎ (e ≡ OpenFault.Memory)) }
+    ensures opened { HasCleanDisk (state S.Store conn.new) → (zone : _) (held : Content)
+        → IsOpenTo layout zone held (state S.Store conn.old)
+        → OpensFile layout zone held (state S.Store conn.old) (state S.Store conn.new) result }
+{
+    match bring(conn, layout) {
+        Ok(()) => Ok(()),
+        Err(error) => Err(fault_of(error)),
+    }
+}
+
+/// Opens a file of a layout, where the store still answers.
+fn open_settled<S: Alter>(conn: &mut Connection<S>, layout: Layout) -> Result<Zone, OpenFault>
+    requires autocommit { conn.old.in_transaction ≡ false }
+    ensures autocommit { conn.new.in_transaction ≡ false }
+    ensures clean { HasCleanDisk (state S.Store conn.new) → HasCleanDisk (state S.Store conn.old) }
+    ensures told { HasCleanDisk (state S.Store conn.new) → (held : Content)
+        → AreTablesIn (schema_of layout) (state S.Store conn.old).now held
+        → (m : Meta) → IsMarked m held → Tells (version_of layout) m result }
+    ensures opened { HasCleanDisk (state S.Store conn.new) → (zone : _) (held : Content)
+        → IsOpenTo layout zone held (state S.Store conn.old)
+        → OpensFile layout zone held (state S.Store conn.old) (state S.Store conn.new) result }
+{
+    let zone = stored_zone(conn, layout)?;
+    brought(conn, layout)?;
+    Ok(zone)
+}
+
+/// Opens a file whose tables have the names of a layout.
+fn open_as<S: Alter>(conn: &mut Connection<S>, found: Layout) -> Result<Zone, OpenFault>
+    requires autocommit { conn.old.in_transaction ≡ false }
+    requires named { IsNamedAs conn.old.schema found }
+    requires settled { IsTrue (state S.Store conn.old).is_open
+        → (state S.Store conn.old).now ≡ (state S.Store conn.old).committed }
+    ensures autocommit { conn.new.in_transaction ≡ false }
+    ensures clean { HasCleanDisk (state S.Store conn.new) → HasCleanDisk (state S.Store conn.old) }
+    ensures told { HasCleanDisk (state S.Store conn.new) → IsTrue (state S.Store conn.old).is_open
+        → (layout : TheLayout) (held : Content)
+        → AreTablesIn (schema_of layout) (state S.Store conn.old).committed held
+        → (m : Meta) → IsMarked m held → Tells (version_of layout) m result }
+    ensures opened { HasCleanDisk (state S.Store conn.new)
+        → (layout : TheLayout) (zone : _) (held : Content)
+        → (IsTrue (state S.Store conn.old).is_open
+        → IsFile layout zone (state S.Store conn.old).committed held)
+        → OpensFile layout zone held (state S.Store conn.old) (state S.Store conn.new) result }
+{
+    match touch(conn) {
+        Ok(()) => open_settled(conn, found),
+        Err(error) => Err(fault_of(error)),
+    }
+}
+
+/// Opens a file, and answers its zone. A file of version 1 or 2 is brought to version 3 in one transaction, whose commit is
+/// the last call of the database; each meter of version 1 has a counter that turns over at 2^32. Faults: `NotOurs` where a
+/// transaction is under way, where the tables aren't those of version 1, 2 or 3 by their names and order, or where the file
+/// tells another version than its tables'; `Zone` where the file's zone is none. After a fault the file is as it was.
+#[tactic(auto, using(crate::proofs::Brought::untouched))]
+pub fn open<S: Alter>(conn: &mut Connection<S>) -> Result<Zone, OpenFault>
+    ensures busy { IsTrue conn.old.in_transaction
+        → (result ≡ Err OpenFault.NotOurs) × (conn.new ≡ conn.old) }
+    ensures foreign { ((layout : TheLayout) → ¬ IsNamedAs conn.old.schema layout)
+        → (result ≡ Err OpenFault.NotOurs) × (conn.new ≡ conn.old) }
+    ensures autocommit { conn.new.in_transaction ≡ conn.old.in_transaction }
+    ensures clean { HasCleanDisk (state S.Store conn.new) → HasCleanDisk (state S.Store conn.old) }
+    ensures told { HasCleanDisk (state S.Store conn.new) → conn.old.in_transaction ≡ false
+        → IsTrue (state S.Store conn.old).is_open
+        → (layout : TheLayout) (held : Content)
+        → AreTablesIn (schema_of layout) (state S.Store conn.old).committed held
+        → (m : Meta) → IsMarked m held → Tells (version_of layout) m result }
+    ensures opened { HasCleanDisk (state S.Store conn.new)
+        → (layout : TheLayout) (zone : _) (held : Content)
+        → (IsTrue (state S.Store conn.old).is_open
+        → IsFile layout zone (state S.Store conn.old).committed held)
+        → OpensFile layout zone held (state S.Store conn.old) (state S.Store conn.new) result }
+{
+    if !conn.is_autocommit() {
+        return Err(OpenFault::NotOurs);
+    }
+    match layout_of(conn.schema()) {
+        None => Err(OpenFault::NotOurs),
+        Some(found) => open_as(conn, found),
+    }
+}

@@ -1,0 +1,133 @@
+//! How a file of an earlier version is brought to version 3.
+ghost use Rattle.std.specs.Prelude.{◌≡◌, ◌≢◌, false, [], ◌∷◌, map, List, IsTrue, IfOk, OnOk};
+ghost use Rattle.std.specs.Prelude.{string_bytes};
+ghost use Rattle.std.specs.List.Sorted.{IsPermutation};
+ghost use Rattle.sqlite.specs.Order.{column};
+ghost use Rattle.sqlite.specs.declared.types.Value.TheVariants.{Text};
+ghost use Rattle.sqlite.specs.State.{HasCleanDisk, KeepsCommit, Survives, IsUnchanged};
+ghost use Rattle.sqlite.specs.Held.{state};
+ghost use Rattle.store_tables.specs.Content.{Content, HasRows, AreTablesIn};
+ghost use Rattle.store_tables.specs.Steps.{Steps, StepsTo, TransactsTo};
+ghost use Rattle.store_meters.specs.Rows.{Installed, installed_columns};
+ghost use Rattle.store_meters.specs.Trees.{installations};
+ghost use Rattle.store_files.specs.declared.layouts.Layout.TheVariants.{First as TheFirst};
+ghost use Rattle.store_files.specs.Layouts.{schema_of};
+ghost use Rattle.store_files.specs.Upgrade.{meter_shown, GivesRanges, BringsFirst, BringsSecond};
+ghost use Rattle.store_files.specs.Upgrade.{OpensFile, IsOpenTo};
+
+use crate::layouts::Layout;
+use crate::meta::set_version;
+use crate::tables::{create_last, create_voids};
+use sqlite::{Alter, Connection, Error, Row, Transaction};
+use store_meters::insert_range;
+
+/// The meters of a file of version 1.
+fn meter_rows<S: Alter>(conn: &mut Connection<S>) -> Result<Vec<Row>, Error>
+    ensures clean { HasCleanDisk (state S.Store conn.new) → HasCleanDisk (state S.Store conn.old) }
+    ensures mode { conn.old.in_transaction ≡ false → conn.new.in_transaction ≡ false }
+    ensures kept { HasCleanDisk (state S.Store conn.new) → (held : Content)
+        → AreTablesIn (schema_of TheFirst) (state S.Store conn.old).now held
+        → KeepsCommit (state S.Store conn.old) (state S.Store conn.new) }
+    ensures shows { HasCleanDisk (state S.Store conn.new) → (held : Content)
+        → AreTablesIn (schema_of TheFirst) (state S.Store conn.old).now held
+        → IfOk result (λ rows. IsUnchanged (state S.Store conn.old) (state S.Store conn.new)
+        × ((is : List Installed) → HasRows installations installed_columns is held
+        → IsPermutation (map meter_shown is) rows.items)) }
+    ensures survives { (held : Content)
+        → AreTablesIn (schema_of TheFirst) (state S.Store conn.old).now held
+        → Survives (state S.Store conn.old) (state S.Store conn.new) (λ _. ⊥) }
+{
+    conn.query_all("SELECT meter FROM installations", &[])
+}
+
+/// The meter of a row.
+fn meter_in(row: &Row) -> Result<String, Error>
+    ensures { IfOk result (λ meter. column row.now 0 ≡ Text (string_bytes meter)) }
+{
+    row.get(0)
+}
+
+/// The range of a counter that turns over at 2^32, for the meter of each row.
+fn give_ranges<S: Alter>(tx: &mut Transaction<'_, S>, meters: &[Row]) -> Result<(), Error>
+    ensures same_reference { tx.new.conn.ghost_name ≡ tx.old.conn.ghost_name }
+    ensures does { Steps (state S.Store tx.old.conn.now) (state S.Store tx.new.conn.now) result
+        (GivesRanges meters.now) }
+{
+    for row in meters {
+        let meter = meter_in(row)?;
+        insert_range(tx, meter.as_str(), 4_294_967_296)?;
+    }
+    Ok(())
+}
+
+fn bring_first<S: Alter>(tx: &mut Transaction<'_, S>, meters: &[Row]) -> Result<usize, Error>
+    ensures same_reference { tx.new.conn.ghost_name ≡ tx.old.conn.ghost_name }
+    ensures does { StepsTo (state S.Store tx.old.conn.now) (state S.Store tx.new.conn.now) result
+        (BringsFirst meters.now) }
+{
+    create_last(tx)?;
+    give_ranges(tx, meters)?;
+    set_version(tx)
+}
+
+fn bring_second<S: Alter>(tx: &mut Transaction<'_, S>) -> Result<usize, Error>
+    ensures same_reference { tx.new.conn.ghost_name ≡ tx.old.conn.ghost_name }
+    ensures does { StepsTo (state S.Store tx.old.conn.now) (state S.Store tx.new.conn.now) result
+        BringsSecond }
+{
+    create_voids(tx)?;
+    set_version(tx)
+}
+
+/// Ranges and voids, and the version, or nothing.
+fn add_ranges<S: Alter>(conn: &mut Connection<S>, meters: &[Row]) -> Result<(), Error>
+    requires autocommit { conn.old.in_transaction ≡ false }
+    ensures autocommit { conn.new.in_transaction ≡ false }
+    ensures does { TransactsTo (state S.Store conn.old) (state S.Store conn.new) result
+        (BringsFirst meters.now) }
+{
+    let mut tx = conn.transaction();
+    bring_first(&mut tx, meters)?;
+    tx.commit()
+}
+
+/// Voids and the version, or nothing.
+fn add_voids<S: Alter>(conn: &mut Connection<S>) -> Result<(), Error>
+    requires autocommit { conn.old.in_transaction ≡ false }
+    ensures autocommit { conn.new.in_transaction ≡ false }
+    ensures does { TransactsTo (state S.Store conn.old) (state S.Store conn.new) result
+        BringsSecond }
+{
+    let mut tx = conn.transaction();
+    bring_second(&mut tx)?;
+    tx.commit()
+}
+
+/// A file of version 1 becomes one of version 3, or stays.
+fn open_first<S: Alter>(conn: &mut Connection<S>) -> Result<(), Error>
+    requires autocommit { conn.old.in_transaction ≡ false }
+    ensures autocommit { conn.new.in_transaction ≡ false }
+    ensures clean { HasCleanDisk (state S.Store conn.new) → HasCleanDisk (state S.Store conn.old) }
+    ensures opened { HasCleanDisk (state S.Store conn.new) → (zone : _) (held : Content)
+        → IsOpenTo TheFirst zone held (state S.Store conn.old)
+        → OpensFile TheFirst zone held (state S.Store conn.old) (state S.Store conn.new) result }
+{
+    let meters = meter_rows(conn)?;
+    add_ranges(conn, &meters)
+}
+
+/// A file of any version becomes one of version 3, or stays. The commit is the last call of the database.
+pub(crate) fn bring<S: Alter>(conn: &mut Connection<S>, layout: Layout) -> Result<(), Error>
+    requires autocommit { conn.old.in_transaction ≡ false }
+    ensures autocommit { conn.new.in_transaction ≡ false }
+    ensures clean { HasCleanDisk (state S.Store conn.new) → HasCleanDisk (state S.Store conn.old) }
+    ensures opened { HasCleanDisk (state S.Store conn.new) → (zone : _) (held : Content)
+        → IsOpenTo layout zone held (state S.Store conn.old)
+        → OpensFile layout zone held (state S.Store conn.old) (state S.Store conn.new) result }
+{
+    match layout {
+        Layout::First => open_first(conn),
+        Layout::Second => add_voids(conn),
+        Layout::Third => Ok(()),
+    }
+}

@@ -1,0 +1,49 @@
+//! What the words of `run` mean to a run: its settings, and where its devices are.
+use command_words::Device;
+use office_events::Name;
+use office_running::{Settings, Site};
+use program_end::Failure;
+use std::net::{SocketAddr, ToSocketAddrs};
+
+/// The settings of a run that answers on a port of this machine alone.
+pub(crate) fn settings_of(listen: u16, every: u32, lasts: Option<u32>, verbose: bool) -> Settings {
+    Settings {
+        listen: SocketAddr::from(([127, 0, 0, 1], listen)),
+        every: u64::from(every),
+        whole: match lasts {
+            Some(seconds) => Some(u64::from(seconds)),
+            None => None,
+        },
+        verbose,
+    }
+}
+
+// The first address of a device.
+fn site_of<'a>(rt: &HostRuntime, device: Device<'a>) -> Result<Site, Failure<'a>> {
+    let Device { name, host, port } = device;
+    let Ok(mut addresses) = (host, port).to_socket_addrs(rt) else {
+        return Err(Failure::Host { host });
+    };
+    match addresses.next() {
+        Some(addr) => Ok(Site {
+            name: Name::new(name.as_bytes()),
+            addr,
+        }),
+        None => Err(Failure::Host { host }),
+    }
+}
+
+/// Where devices are. The names of their hosts are looked up once, before anything else.
+pub(crate) fn sites_of<'a>(
+    rt: &HostRuntime,
+    devices: &[Device<'a>],
+) -> Result<Vec<Site>, Failure<'a>> {
+    let mut sites = Vec::new(rt.alloc());
+    for device in devices {
+        let site = site_of(rt, *device)?;
+        if sites.push(site).is_err() {
+            return Err(Failure::Memory);
+        }
+    }
+    Ok(sites)
+}
