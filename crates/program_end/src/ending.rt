@@ -1,8 +1,9 @@
 //! How a command ended, its exit status, and what is said of it.
 ghost use Rattle.std.specs.Prelude.{◌≡◌, ◌⊎◌};
-ghost use Rattle.program_end.specs.Endings.{IsTold, ending_number};
+ghost use Rattle.program_end.specs.Endings.{IsTold, ending_number, ending_of};
 
 use crate::failure::Failure;
+use command_io::Status;
 use std::io::Write;
 
 /// How a command ended.
@@ -31,6 +32,17 @@ impl<'a> Ending<'a> {
             Ending::Wrong(_) | Ending::NoText | Ending::NoZone(_) => 2,
             Ending::Failed(_) => 3,
         }
+    }
+}
+
+/// The ending of a command that reads standard input and prints.
+pub fn ending_of(status: Status) -> Ending<'static>
+    ensures { result ≡ ending_of status }
+{
+    match status {
+        Status::Fine => Ending::Fine,
+        Status::Refused => Ending::Refused,
+        Status::Failed => Ending::Failed(Failure::Streams),
     }
 }
 

@@ -2,9 +2,7 @@
 #![tactic(auto)]
 
 mod ending;
-mod ends;
 mod failure;
 
-pub use ending::{Ending, say};
-pub use ends::{ending_of, ending_of_done};
+pub use ending::{Ending, ending_of, say};
 pub use failure::Failure;

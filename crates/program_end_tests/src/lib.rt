@@ -7,5 +7,3 @@ mod failures;
 mod said;
 #[cfg(test)]
 mod statuses;
-#[cfg(test)]
-mod task_ends;

@@ -8,13 +8,13 @@ use command_words::Device;
 use interval_core::Zone;
 use office_files::{FileFault, make_file, open_file};
 use office_running::Settings;
-use program_end::{Ending, Failure, ending_of_done};
+use program_end::{Ending, Failure};
 use socket_link::SystemClock;
 use sqlite::{Alter, Connection, FileFrom, FileStore, Unknown};
 use std::io;
 use std::io::Write;
 use stored_office::create_stored;
-use stored_tasks::{Done, Task, carry_out_stored};
+use stored_tasks::{Done, Task, carry_out_stored, ending_of_done};
 
 /// The host on which HTTP is answered.
 const OWN_HOST: &str = "127.0.0.1";

@@ -1,28 +1,15 @@
-//! The endings of commands, by what their work came to.
+//! How a command ends whose task was carried out.
 ghost use Rattle.std.specs.Prelude.{◌≡◌};
 ghost use Rattle.command_io.specs.Statuses.{status_number};
 ghost use Rattle.office_text.specs.Rounds.{round_status};
-ghost use Rattle.program_end.specs.Endings.{done_number, ending_number, ending_of, polling_number};
-ghost use Rattle.program_end.specs.Endings.{run_number, serving_number};
+ghost use Rattle.program_end.specs.Endings.{ending_number};
+ghost use Rattle.stored_tasks.specs.Ends.{done_number, polling_number, run_number, serving_number};
 
-use crate::ending::Ending;
-use crate::failure::Failure;
-use command_io::Status;
+use crate::tasks::Done;
 use office_program::{Polling, Serving};
 use office_rounds::RoundFault;
 use office_running::RunFault;
-use stored_tasks::Done;
-
-/// The ending of a command that reads standard input and prints.
-pub fn ending_of(status: Status) -> Ending<'static>
-    ensures { result ≡ ending_of status }
-{
-    match status {
-        Status::Fine => Ending::Fine,
-        Status::Refused => Ending::Refused,
-        Status::Failed => Ending::Failed(Failure::Streams),
-    }
-}
+use program_end::{Ending, Failure, ending_of};
 
 // The ending of a round that was begun.
 fn ending_of_round<'a>(done: Result<(), RoundFault>, host: &'a str, port: u16) -> Ending<'a>
