@@ -1,6 +1,6 @@
 //! Point lists with the reads of their plans.
-use planned_list::{PlannedList, lists_are_planned_once};
 use point_list::read_list;
+use read_plan::{PlannedList, lists_are_planned_once};
 use std::alloc::Global;
 use std::test::Fail;
 

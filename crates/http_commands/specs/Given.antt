@@ -8,7 +8,7 @@ use Rattle.http_route.specs.declared.routes.Route.{Route}
 use Rattle.http_route.specs.declared.routes.Route.TheVariants as route
 use Rattle.office_events.specs.declared.commands.Command.{Command}
 use Rattle.office_events.specs.declared.commands.Command.TheVariants.{PutList}
-use Rattle.planned_list.specs.Lists.{IsPlanned, Planned}
+use Rattle.read_plan.specs.PlannedLists.{IsPlanned, Planned}
 use Rattle.point_list.specs.Lists.{AreFaults, SpellsList, list_faults, rows_read}
 use Rattle.http_commands.specs.Commands.{command_of}
 use Rattle.http_commands.specs.declared.fault.CommandFault.{CommandFault}

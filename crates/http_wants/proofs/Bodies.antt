@@ -10,8 +10,8 @@ use Rattle.http_route.specs.declared.routes.Route.{Route}
 use Rattle.http_route.specs.declared.routes.Route.TheVariants as route
 use Rattle.office_events.specs.declared.commands.Command.{Command}
 use Rattle.office_events.specs.declared.commands.Command.TheVariants.{PutList}
-use Rattle.planned_list.specs.Laws.{ListsArePlannedOnce}
-use Rattle.planned_list.specs.Lists.{Planned}
+use Rattle.read_plan.specs.PlannedLists.{ListsArePlannedOnce}
+use Rattle.read_plan.specs.PlannedLists.{Planned}
 use Rattle.point_list.specs.Laws.{SpelledListIsOne}
 
 -- a text of JSON has one value

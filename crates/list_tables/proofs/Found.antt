@@ -8,7 +8,7 @@ use Rattle.office_events.specs.declared.facts.DeviceList.{DeviceList}
 use Rattle.office_events.specs.declared.facts.Reply.{Reply}
 use Rattle.office_events.specs.declared.facts.Fact.{Fact}
 use Rattle.office_events.specs.declared.facts.Fact.TheVariants as fact
-use Rattle.planned_list.specs.Lists.{Planned}
+use Rattle.read_plan.specs.PlannedLists.{Planned}
 use Rattle.office_books.specs.Repeats.{as_repeat, repeat_of}
 use Rattle.office_rules.specs.Facts.{same, if_some, as_list, as_register, as_opening, as_reply, register_of, registers_of, installed_at, list_of}
 use Rattle.office_rules.specs.Intervals.{installations_at}

@@ -20,8 +20,8 @@ use Rattle.office_rules.specs.History.{History, facts_of, slots_of, next_poll, s
 use Rattle.office_rules.specs.Notes as notes
 use Rattle.office_rules.specs.Notes.{frames_from}
 use Rattle.office_rules.specs.Refusals.{IsAccepted, refuses, is_start, answer_to, reads_in_all, is_ready, sent_count, asks_busy, asks_past_numbers}
-use Rattle.office_polls.proofs.ApartSlots.{AreApart, NoneNamed, same_eq}
-use Rattle.office_polls.proofs.QuietEvents.{passed}
+use Rattle.office_laws.proofs.ApartSlots.{AreApart, NoneNamed, same_eq}
+use Rattle.office_laws.proofs.QuietEvents.{passed}
 use Rattle.office_lines.specs.declared.slots.Slot.{Slot}
 use Rattle.office_lines.specs.Keeping.{KeepsSlot, KeepsSlots}
 use Rattle.office_lines.specs.Moments.{none_later}

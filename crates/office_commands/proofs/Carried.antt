@@ -25,7 +25,7 @@ use Rattle.office_lines.specs.Keeping.{KeepsPresent, KeepsSlot, KeepsSlots}
 use Rattle.poll_core.specs.Standing.{State}
 use Rattle.office_books.specs.declared.faults.BooksFault.{BooksFault}
 use Rattle.office_books.specs.Ledgers.{Ledger, Moves}
-use Rattle.office_lawful.specs.Laws.{IsPast, FactsAreLawful, PutsPlanned}
+use Rattle.office_laws.specs.Lawfulness.{IsPast, FactsAreLawful, PutsPlanned}
 use Rattle.office_commands.specs.declared.effects.Done.{Done}
 use Rattle.office_commands.specs.Effects.{replies_by, started_on, slot_obeyed, slots_obeyed, facts_obeyed, Obeys, Carries}
 

@@ -19,7 +19,7 @@ use Rattle.office_starting.specs.Starts as starts
 use Rattle.office_rules.specs.Refusals.{IsAccepted, answer_to, answer_of, reads_in_all}
 use Rattle.office_lines.specs.declared.slots.Slot.{Slot}
 use Rattle.office_lines.specs.Keeping.{KeepsSlot, KeepsSlots}
-use Rattle.office_lawful.specs.Laws.{IsPast}
+use Rattle.office_laws.specs.Lawfulness.{IsPast}
 use Rattle.office_books.specs.declared.faults.BooksFault.{BooksFault}
 use Rattle.office_books.specs.Ledgers.{Ledger, GoesOn, Moves, with_facts}
 use Rattle.office_commands.specs.declared.effects.Done.{Done}

@@ -8,7 +8,7 @@ ghost use Rattle.office_rules.specs.Refusals.{is_start};
 ghost use Rattle.office_lines.specs.Keeping.{KeepsSlots};
 ghost use Rattle.office_lines.specs.Places.{AsksOnSlot, StartsOnSlot, has_slot};
 ghost use Rattle.office_lines.specs.Ranges.{IsCommandInRange, AsksInRange};
-ghost use Rattle.office_lawful.specs.Laws.{PutsPlanned};
+ghost use Rattle.office_laws.specs.Lawfulness.{PutsPlanned};
 ghost use Rattle.office_books.specs.Ledgers.{GoesOn};
 ghost use Rattle.office_commands.specs.Effects.{AsksCommand, CarriesEvent, CarriesOut};
 
@@ -18,7 +18,7 @@ use crate::replies::reply_of;
 use crate::starts::start;
 use office_books::{Books, BooksFault};
 use office_events::{AddDevice, Answer, Command, Device, Event, Fact, Name};
-use office_lawful::facts_are_lawful;
+use office_laws::facts_are_lawful;
 use office_lines::{Slot, place_of};
 use office_starting::Outgoing;
 use poll_core::{LAST_MOMENT, each_once, one_event_more};

@@ -5,7 +5,7 @@ use Rattle.std.specs.declared.vec.Vec.{Vec}
 use Rattle.office_events.specs.declared.refusals.Refusal.{Refusal}
 use Rattle.office_rules.specs.History.{History, Opened, facts_of}
 use Rattle.office_rules.specs.Refusals.{opening_refusal_of}
-use Rattle.office_lawful.specs.Laws.{IsPast}
+use Rattle.office_laws.specs.Lawfulness.{IsPast}
 use Rattle.office_lines.specs.declared.slots.Slot.{Slot}
 use Rattle.office_books.specs.declared.faults.BooksFault.{BooksFault}
 use Rattle.office_books.specs.Faults.{as_refusal, faults_after}

@@ -10,7 +10,7 @@ use Rattle.office_events.specs.declared.refusals.Refusal.{Refusal}
 use Rattle.office_rules.specs.Sessions.{Slot, command_in}
 use Rattle.office_rules.specs.History.{History, Fed, facts_of, slots_of, next_poll}
 use Rattle.office_rules.specs.Refusals.{IsAccepted, refusal_of, unless_kept, unless_refused, response_of, answer_of, is_start}
-use Rattle.office_lawful.specs.Laws.{IsPast, PutsPlanned}
+use Rattle.office_laws.specs.Lawfulness.{IsPast, PutsPlanned}
 use Rattle.office_books.specs.declared.faults.BooksFault.{BooksFault}
 use Rattle.office_books.specs.declared.faults.BooksFault.TheVariants.{Store, Memory}
 use Rattle.office_books.specs.declared.faults.StoreFault.TheVariants.{Refused, Damaged}

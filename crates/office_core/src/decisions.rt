@@ -3,7 +3,7 @@ ghost use Rattle.std.specs.Prelude.{◌≡◌, None, false, IfOk, IfSome};
 ghost use Rattle.office_rules.specs.Sessions.{command_in};
 ghost use Rattle.office_lines.specs.Places.{AsksOnSlot};
 ghost use Rattle.office_lines.specs.Ranges.{IsInRange};
-ghost use Rattle.office_lawful.specs.Laws.{PutsPlanned};
+ghost use Rattle.office_laws.specs.Lawfulness.{PutsPlanned};
 ghost use Rattle.office_books.specs.Ledgers.{OnlyReads};
 ghost use Rattle.office_core.specs.Events as events;
 ghost use Rattle.office_core.specs.Failing as failing;

@@ -28,7 +28,7 @@ use interval_core::{DayTotal, Share};
 use office_books::{Books, RowSink};
 use office_commands::carry_out;
 use office_events::{Answer, Event, Installation, Name, Note, PollRow, Refusal};
-use office_lawful::facts_are_lawful;
+use office_laws::facts_are_lawful;
 use office_lines::Slot;
 use office_settling::settle_event;
 use office_starting::Outgoing;

@@ -2,7 +2,7 @@
 //! handed in is no name.
 use crate::names::Name;
 use mb_wire::ReadSpan;
-use planned_list::PlannedList;
+use read_plan::PlannedList;
 
 /// A new device.
 #[derive(Clone, Copy, Debug, PartialEq, Eq)]

@@ -6,8 +6,8 @@ use crate::terms::{Timeout, Window};
 use energy_core::{Cause, Entry};
 use mb_wire::{ReadFunction, ReadSpan};
 use meter_journal::EntryKind;
-use planned_list::PlannedList;
 use poll_core::Outcome;
+use read_plan::PlannedList;
 
 /// A device, and the terms on which it is polled.
 #[derive(Clone, Copy, Debug, PartialEq, Eq)]

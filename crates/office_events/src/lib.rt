@@ -27,7 +27,7 @@ pub use limits::{
 };
 pub use meter_journal::{EntryKind, EntryRow};
 pub use names::Name;
-pub use planned_list::PlannedList;
 pub use questions::{EntryPlace, Installation, PollRow};
+pub use read_plan::PlannedList;
 pub use refusals::{Refusal, StoreCause};
 pub use terms::{Timeout, Window};

@@ -18,7 +18,7 @@ use meter_journal::{interval_rows_are_accounts, rows_lie_within, voids_go_no_fur
 use office_books::Books;
 use office_core::Office;
 use office_events::{Answer, Asked, CommandKind, Event, Name, Refusal, StoreCause};
-use office_lawful::facts_are_lawful;
+use office_laws::facts_are_lawful;
 
 // What a command is told of its answer. No command is answered that it is noted.
 fn told(answer: Result<Answer, Refusal>) -> Result<CommandKind, Refusal>

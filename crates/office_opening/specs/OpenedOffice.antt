@@ -7,7 +7,7 @@ use Rattle.office_events.specs.declared.refusals.Refusal.{Refusal}
 use Rattle.office_events.specs.declared.refusals.Refusal.TheVariants as refusal
 use Rattle.office_rules.specs.History.{History, Opened, facts_of, slots_of}
 use Rattle.office_rules.specs.Refusals.{opening_refusal_of}
-use Rattle.office_lawful.specs.Laws.{IsPast}
+use Rattle.office_laws.specs.Lawfulness.{IsPast}
 use Rattle.office_lines.specs.declared.slots.Slot.{Slot}
 use Rattle.office_lines.specs.Keeping.{KeepsSlots}
 use Rattle.office_books.specs.declared.faults.BooksFault.{BooksFault}

@@ -12,7 +12,7 @@ ghost use Rattle.office_opening.specs.OpenedOffice.{MayOpen, Opens, IsOfOpening}
 
 use office_books::{Books, BooksFault};
 use office_events::{Device, EndedPoll, Fact, Poll, Refusal};
-use office_lawful::facts_are_lawful;
+use office_laws::facts_are_lawful;
 use office_lines::Slot;
 use poll_core::{LAST_MOMENT, LostCause, Outcome};
 use std::alloc::{AllocError, Global};

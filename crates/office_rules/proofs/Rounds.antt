@@ -9,7 +9,7 @@ use Rattle.poll_core.specs.declared.outcome.Outcome.TheVariants as outcome
 use Rattle.poll_core.specs.declared.outcome.LostCause.TheVariants as lost
 use Rattle.point_list.specs.declared.point.PointScale.TheVariants as scale
 use Rattle.sun_points.specs.declared.point_type.PointType.TheVariants as point
-use Rattle.planned_list.specs.Lists.{Planned}
+use Rattle.read_plan.specs.PlannedLists.{Planned}
 use Rattle.office_events.specs.declared.facts.Fact.TheVariants as fact
 use Rattle.office_events.specs.declared.commands.Command.TheVariants as command
 use Rattle.office_events.specs.declared.events.Event.TheVariants as event

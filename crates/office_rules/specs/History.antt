@@ -22,7 +22,7 @@ use Rattle.office_events.specs.declared.answers.CommandKind.{CommandKind}
 use Rattle.office_events.specs.declared.answers.CommandKind.TheVariants as done
 use Rattle.office_events.specs.declared.events.Asked.{Asked}
 use Rattle.office_events.specs.declared.questions.Installation.{Installation}
-use Rattle.planned_list.specs.Lists.{Planned}
+use Rattle.read_plan.specs.PlannedLists.{Planned}
 use Rattle.energy_core.specs.declared.entries.Last.{Last}
 use Rattle.energy_core.specs.declared.entries.Entry.{Entry}
 use Rattle.energy_core.specs.declared.entries.Entry.TheVariants as entry

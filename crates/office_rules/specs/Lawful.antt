@@ -5,7 +5,7 @@ use Rattle.energy_core.specs.declared.limits.TheConstants.{MAX_CEILING, MAX_RANG
 use Rattle.energy_core.specs.Account.{IsScale}
 use Rattle.meter_journal.specs.Journal as journal
 use Rattle.meter_journal.specs.Fitting as journals
-use Rattle.planned_list.specs.Lists.{IsPlanned}
+use Rattle.read_plan.specs.PlannedLists.{IsPlanned}
 use Rattle.office_events.specs.declared.limits.TheConstants.{LAST_UNIT}
 use Rattle.office_events.specs.declared.facts.Device.{Device}
 use Rattle.office_events.specs.declared.facts.DeviceList.{DeviceList}

@@ -12,7 +12,7 @@ use Rattle.office_rules.specs.Sessions.{command_in, slot_after}
 use Rattle.office_rules.specs.History.{History, Fed, facts_of, slots_of, next_poll, settled_on, with_outcomes, with_settled, facts_after}
 use Rattle.office_rules.specs.Lawful.{AreLawful}
 use Rattle.office_rules.specs.Refusals.{kept_of}
-use Rattle.office_lawful.specs.Laws.{FactsAreLawful, PutsPlanned}
+use Rattle.office_laws.specs.Lawfulness.{FactsAreLawful, PutsPlanned}
 use Rattle.office_settling.specs.declared.drafts.Draft.{Draft}
 use Rattle.office_settling.specs.Drafts.{so_far, AreTold, Grows}
 use Rattle.office_rules.specs.Notes.{outcomes_notes, settled_notes, notes_of}

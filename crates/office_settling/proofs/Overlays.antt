@@ -25,7 +25,7 @@ use Rattle.office_rules.specs.Meters.{opened, installed, held_line, journal_of, 
 use Rattle.office_rules.specs.Lawful.{LineFits, AreLawful}
 use Rattle.office_laws.specs.Laws.{IsRecorded, MetersAreKept}
 use Rattle.office_laws.proofs.Lookups.{same_text}
-use Rattle.office_lawful.specs.Laws.{NamesAreDistinct}
+use Rattle.office_laws.specs.Lawfulness.{NamesAreDistinct}
 use Rattle.office_books.specs.Sound.{IsSound}
 use Rattle.office_settling.specs.Drafts.{IsTold, AreTold}
 use Rattle.office_settling.specs.Behind.{with_result, with_entry, installation_with, IsIn, StandsBehind}

@@ -7,7 +7,7 @@ use Rattle.office_events.specs.declared.events.Event.{Event}
 use Rattle.office_rules.specs.History.{History, Fed, facts_of, slots_of, next_poll}
 use Rattle.office_rules.specs.Notes.{notes_of}
 use Rattle.office_rules.specs.Refusals.{refusal_of}
-use Rattle.office_lawful.specs.Laws.{IsPast}
+use Rattle.office_laws.specs.Lawfulness.{IsPast}
 use Rattle.office_lines.specs.declared.slots.Slot.{Slot}
 use Rattle.office_lines.specs.Keeping.{KeepsSlots}
 use Rattle.office_books.specs.declared.faults.BooksFault.{BooksFault}

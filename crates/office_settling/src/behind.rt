@@ -9,8 +9,7 @@ use crate::drafts::Draft;
 use energy_core::{accepted_is_entered, accounts_go_on, entered_is_booked};
 use office_books::{Books, BooksFault, enter};
 use office_events::{Fact, Installation, Name};
-use office_lawful::names_are_distinct;
-use office_laws::meters_are_kept;
+use office_laws::{meters_are_kept, names_are_distinct};
 
 /// An installation after one more fact.
 fn with_fact(row: &Installation, fact: &Fact) -> Installation

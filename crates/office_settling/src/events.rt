@@ -12,7 +12,7 @@ use crate::drafts::Draft;
 use crate::slots::settle_slots;
 use office_books::{Books, BooksFault};
 use office_events::{Event, Fact, Note};
-use office_lawful::facts_are_lawful;
+use office_laws::facts_are_lawful;
 use office_lines::Slot;
 use std::alloc::Global;
 

@@ -8,3 +8,5 @@ pub mod PlaceLemmas
 pub mod PlanLemmas
 pub mod RuleLemmas
 pub mod ScaleLemmas
+mod OneRule
+mod OnePlan

@@ -2,3 +2,4 @@ pub mod Beginnings
 pub mod Items
 pub mod PlannedReads
 pub mod Plans
+pub mod PlannedLists

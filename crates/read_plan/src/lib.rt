@@ -1,17 +1,20 @@
-//! Plans of reads: the fewest lawful Modbus reads for a point list.
+//! Plans of reads: the fewest lawful Modbus reads for a point list, and lists with the reads of their plans.
 #![tactic(auto)]
 
 mod beginnings;
+mod copies;
 mod items;
-mod least;
+mod laws;
 mod order;
 mod places;
+mod planned_list;
 mod planned_reads;
 mod planner;
 mod reads;
 mod run;
 
-pub use least::rule_is_least;
+pub use laws::{lists_are_planned_once, rule_is_least};
 pub use places::{Place, Plan};
+pub use planned_list::PlannedList;
 pub use planned_reads::PlannedRead;
 pub use planner::plan;

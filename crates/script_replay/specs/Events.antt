@@ -2,7 +2,7 @@
 use Rattle.std.specs.Prelude.{◌≡◌, ◌≢◌, ◌⊎◌, ℕ, false, List, [], ◌++◌, flat_map, Result, Ok, Err}
 use Rattle.mb_wire.specs.Spans.{IsSpan, code_of}
 use Rattle.mb_wire.specs.declared.span.ReadSpan.{ReadSpan}
-use Rattle.planned_list.specs.Lists.{IsPlanned, Planned}
+use Rattle.read_plan.specs.PlannedLists.{IsPlanned, Planned}
 use Rattle.point_list.specs.Lists.{SpellsList, list_faults, rows_read}
 use Rattle.point_list.specs.declared.fault.FaultyRow.{FaultyRow}
 use Rattle.office_events.specs.declared.answers.Answer.{Answer}

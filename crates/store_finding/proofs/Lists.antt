@@ -17,8 +17,8 @@ use Rattle.point_list.specs.Names.{is_name}
 use Rattle.point_list.specs.Points.{IsPointList, IsGroup, HasLawfulScale, scale_point, is_sunssf}
 use Rattle.point_list.proofs.SpelledRows.{Suits}
 use Rattle.point_list.proofs.WrittenFields.{type-read, scale-read}
-use Rattle.planned_list.specs.Lists.{Planned, IsPlanned}
-use Rattle.planned_list.specs.Laws.{ListsArePlannedOnce}
+use Rattle.read_plan.specs.PlannedLists.{Planned, IsPlanned}
+use Rattle.read_plan.specs.PlannedLists.{ListsArePlannedOnce}
 use Rattle.office_events.specs.declared.facts.DeviceList.{DeviceList}
 use Rattle.office_events.specs.declared.facts.Fact.{Fact}
 use Rattle.office_events.specs.declared.facts.Fact.TheVariants as fact

@@ -1,7 +1,7 @@
 //! Point lists.
 ghost use Rattle.std.specs.Prelude.{◌≡◌, ◌≢◌, [], false, IfOk, IfErr, IsUtf8};
 ghost use Rattle.office_rules.specs.Facts.{list_of};
-ghost use Rattle.planned_list.specs.Lists.{IsPlanned};
+ghost use Rattle.read_plan.specs.PlannedLists.{IsPlanned};
 ghost use Rattle.point_list.specs.Points.{IsPointList};
 ghost use Rattle.store_tables.specs.declared.faults.RowFault.TheVariants.{Damaged};
 ghost use Rattle.store_facts.specs.Rows.{points_of};
@@ -11,8 +11,8 @@ ghost use Rattle.store_finding.specs.Points.{HasReadablePoints};
 use crate::memory::want_of_memory;
 use crate::point_rows::{points_in, rows_of};
 use office_events::Name;
-use planned_list::{PlannedList, lists_are_planned_once};
 use point_list::{ListedPoint, PointList};
+use read_plan::{PlannedList, lists_are_planned_once};
 use sqlite::{Alter, Connection};
 use std::alloc::Global;
 use store_facts::text;

@@ -9,7 +9,7 @@ use Rattle.meter_journal.specs.Journal as journal
 use Rattle.meter_journal.specs.Lists.{AreNumbered}
 use Rattle.meter_journal.specs.Laws.{RowsStand}
 use Rattle.meter_journal.specs.Standing.{is_voided}
-use Rattle.planned_list.specs.Lists.{IsPlanned}
+use Rattle.read_plan.specs.PlannedLists.{IsPlanned}
 use Rattle.office_events.specs.declared.facts.DeviceList.{DeviceList}
 use Rattle.office_events.specs.declared.facts.Opening.{Opening}
 use Rattle.office_events.specs.declared.facts.Poll.{Poll}

@@ -14,8 +14,8 @@ use Rattle.point_list.specs.Names.{is_name}
 use Rattle.point_list.specs.Points.{is_sunssf, scale_point, IsGroup, HasLawfulScale, IsPointList}
 use Rattle.point_list.specs.RowTexts.{type_text, scale_text}
 use Rattle.point_list.proofs.WrittenFields.{type-read, scale-read}
-use Rattle.planned_list.specs.Laws.{ListsArePlannedOnce}
-use Rattle.planned_list.specs.Lists.{Planned, IsPlanned}
+use Rattle.read_plan.specs.PlannedLists.{ListsArePlannedOnce}
+use Rattle.read_plan.specs.PlannedLists.{Planned, IsPlanned}
 use Rattle.office_events.specs.declared.facts.DeviceList.{DeviceList}
 use Rattle.office_rules.specs.Facts.{if_some}
 use Rattle.office_laws.proofs.Lookups.{find_passes}

@@ -5,7 +5,7 @@ use Rattle.std.proofs.lemmas.Option.{same_Some}
 use Rattle.std.proofs.lemmas.List.Sorted.{list_any-IsPermutation}
 use Rattle.sqlite_keyed.proofs.ListLemmas.{all_both, all_unmap, IsPermutation-same}
 use Rattle.meter_journal.specs.Laws.{RowsStand}
-use Rattle.planned_list.specs.Laws.{ListsArePlannedOnce}
+use Rattle.read_plan.specs.PlannedLists.{ListsArePlannedOnce}
 use Rattle.office_events.specs.declared.facts.Opening.{Opening}
 use Rattle.office_events.specs.declared.facts.Fact.{Fact}
 use Rattle.office_rules.specs.Facts.{devices_in, registers_in, openings_in, opening_of, holds_in, voids_in, polls_in, ended_in, replies_in, list_of}

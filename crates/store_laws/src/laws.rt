@@ -3,7 +3,7 @@ ghost use Rattle.store_laws.specs.Files.{NewFilesHaveNone, OpenedFilesKeepTheirs
 ghost use Rattle.store_laws.specs.Laws.{DatabasesTellTheirFacts, LeftFactsAreFound, TablesTellTheirFacts};
 
 use meter_journal::rows_stand;
-use planned_list::lists_are_planned_once;
+use read_plan::lists_are_planned_once;
 
 /// Tables tell the facts that they are of: any two lists of facts whose tables they are are the same books, and name the
 /// same zone.

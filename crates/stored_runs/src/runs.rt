@@ -2,7 +2,7 @@
 ghost use Rattle.std.specs.Prelude.{ℕ, List, [], IfOk, IfSome};
 ghost use Rattle.office_core.specs.EventRun.{IsRecorded, accepted_by};
 ghost use Rattle.office_core.specs.Standing.{books_in};
-ghost use Rattle.office_lawful.specs.Laws.{IsPast};
+ghost use Rattle.office_laws.specs.Lawfulness.{IsPast};
 ghost use Rattle.office_rules.specs.History.{History, facts_of};
 ghost use Rattle.office_store.specs.Database.{HoldsAlone};
 

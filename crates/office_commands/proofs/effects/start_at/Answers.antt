@@ -1,6 +1,6 @@
 use Rattle.std.specs.Option.{option_to_list}
 use Rattle.office_rules.specs.History.{facts_of, slots_of}
-use Rattle.office_polls.proofs.EndOnce.{all_agree}
+use Rattle.office_laws.proofs.EndOnce.{all_agree}
 use Rattle.office_lines.proofs.Moments.{before_event}
 use Rattle.office_commands.proofs.Carried.{carries, lawful_fed}
 use Rattle.office_commands.proofs.Begun.{begun, starts_on, keeps_at, before_at, polls_lawful, obeys_start}

@@ -1,6 +1,6 @@
 use Rattle.std.proofs.Common.{◌∷◌}
 use Rattle.office_rules.specs.History.{Opened, facts_of, slots_of}
-use Rattle.office_polls.proofs.DeviceSlots.{same_devices}
+use Rattle.office_laws.proofs.DeviceSlots.{same_devices}
 use Rattle.office_books.proofs.Moving.{answered, read_then}
 use Rattle.office_opening.proofs.Opened.{opened_keep, not_opened}
 use Rattle.office_opening.proofs.opened_office.book_opening.Goals as goal

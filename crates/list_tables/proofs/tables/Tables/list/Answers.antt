@@ -1,5 +1,5 @@
 use Rattle.std.proofs.Common.{◌∙◌, Some, None, Option}
-use Rattle.planned_list.specs.Lists.{Planned}
+use Rattle.read_plan.specs.PlannedLists.{Planned}
 use Rattle.list_tables.specs.declared.places.Kind.TheVariants.{DeviceLists}
 use Rattle.list_tables.specs.Keys.{named}
 use Rattle.list_tables.specs.Lookups.{list_at}

@@ -1,2 +1,0 @@
-mod OneRule
-mod OnePlan

@@ -1,0 +1,21 @@
+-- Point lists with the reads of their plans.
+use Rattle.std.specs.Prelude.{◌≡◌, List}
+use Rattle.point_list.specs.declared.point.ListedPoint.{ListedPoint}
+use Rattle.point_list.specs.Points.{IsPointList}
+use Rattle.read_plan.specs.declared.planned_reads.PlannedRead.{PlannedRead}
+use Rattle.read_plan.specs.Items.{items_of}
+use Rattle.read_plan.specs.PlannedReads.{read_runs}
+use Rattle.read_plan.specs.Plans.{FollowsRule}
+
+pub record Planned : Type 0 where
+  pub points : List ListedPoint
+  pub reads : List PlannedRead
+
+-- The points keep what every point list keeps, and the reads are those of the rule.
+pub record IsPlanned (list : Planned) : Type 0 where
+  pub points : IsPointList list.points
+  pub rule : FollowsRule (items_of list.points) (read_runs list.reads)
+
+-- A list has one plan.
+abbrev pub ListsArePlannedOnce : Type 0
+ListsArePlannedOnce = (a b : Planned) → IsPlanned a → IsPlanned b → a.points ≡ b.points → a ≡ b

@@ -1,0 +1,69 @@
+//! A point list, and the reads by which its points are polled.
+ghost use Rattle.std.specs.Prelude.{◌≡◌, IfOk};
+
+use crate::copies::copy_list;
+use crate::planned_reads::PlannedRead;
+use crate::planner::plan;
+use point_list::{ListedPoint, PointList};
+use std::alloc::{AllocError, Global};
+use std::marker::Model;
+
+/// A point list, and the reads of its plan.
+#[derive(Drop)]
+pub struct PlannedList {
+    list: PointList,
+    reads: Vec<PlannedRead>,
+}
+
+impl Model for PlannedList {
+    ghost use Rattle.read_plan.specs.PlannedLists.{IsPlanned, Planned};
+
+    ghost Value = { Planned };
+
+    ghost view = { λ p. record { points = p.list; reads = p.reads.items } };
+
+    ghost invariant = { λ p. IsPlanned (record { points = p.list; reads = p.reads.items }) };
+}
+
+impl PlannedList {
+    ghost use Rattle.read_plan.specs.PlannedLists.{IsPlanned};
+
+    /// Plans the reads of a list.
+    pub fn new(alloc: Global, list: PointList) -> Result<PlannedList, AllocError>
+        ensures points { IfOk result (λ planned. planned.points ≡ list) }
+        ensures planned { IfOk result IsPlanned }
+    {
+        let planned = plan(alloc, &list)?;
+        let reads = planned.reads().to_vec(alloc)?;
+        let _lawful = list.points();
+        Ok(PlannedList { list, reads })
+    }
+
+    pub fn points(&self) -> &[ListedPoint]
+        ensures points { result.now ≡ self.now.points }
+        ensures planned { IsPlanned self.now }
+    {
+        self.list.points()
+    }
+
+    /// The reads of the plan, in their order.
+    pub fn reads(&self) -> &[PlannedRead]
+        ensures reads { result.now ≡ self.now.reads }
+        ensures planned { IsPlanned self.now }
+    {
+        self.reads.as_slice()
+    }
+}
+
+impl Clone for PlannedList {
+    ghost use Rattle.std.specs.Prelude.{◌≡◌};
+
+    ghost is_clone = { λ list copy. copy ≡ list };
+
+    fn clone(&self) -> Result<PlannedList, AllocError> {
+        let alloc = *self.reads.allocator();
+        let list = copy_list(alloc, &self.list)?;
+        let reads = self.reads.as_slice().to_vec(alloc)?;
+        Ok(PlannedList { list, reads })
+    }
+}
