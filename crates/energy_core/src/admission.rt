@@ -2,7 +2,7 @@
 ghost use Rattle.std.specs.Prelude.{◌≡◌, ℕ, ◌≤◌, ◌<◌, ◌+◌, pos, negsuc, ◌≤ℤ◌, List, ◌∷◌};
 ghost use Rattle.std.specs.Prelude.{IfOk};
 ghost use Rattle.energy_core.specs.Admission.{entered, is_beyond, has_bad_scale, fault_number};
-ghost use Rattle.energy_core.specs.Account.{moment_of, reached, after, IsAccount};
+ghost use Rattle.energy_core.specs.Account.{moment_of, reached, after, energy_of, IsAccount};
 ghost use Rattle.energy_core.specs.Account.{intervals_touched};
 ghost use Rattle.energy_core.specs.declared.entries.Last.{Last};
 ghost use Rattle.energy_core.specs.declared.entries.Entry.{Entry};
@@ -65,6 +65,19 @@ fn reach(range: u64, entry: &Entry) -> u64
         Entry::Step { raw, rolls, .. } => u64::from(raw) + u64::from(rolls) * range,
         Entry::Change { before, .. } => u64::from(before),
     }
+}
+
+/// The energy, in mWh, from where the counter stood to an entry that doesn't go back. All energy is computed here.
+pub(crate) fn energy(range: u64, last: &Last, entry: &Entry) -> u64
+    requires range { range ≤ MAX_RANGE }
+    requires scale_low { negsuc 2 ≤ℤ last.now.sf }
+    requires scale_high { last.now.sf ≤ℤ pos 3 }
+    requires rises { last.now.raw ≤ reached range entry.now }
+    ensures value { result ≡ energy_of range last.now entry.now }
+    ensures small { result ≤ 1099511627776000000 }
+{
+    let unit = unit(last.sf);
+    reach(range, entry) * unit - u64::from(last.raw) * unit
 }
 
 /// Whether an entry sets a scale that no register may have.
@@ -132,9 +145,7 @@ pub fn enter<C: Counter>(
     ensures span { IfOk result (λ r. intervals_touched r.1.from r.1.till ≤ MAX_INTERVALS) }
 {
     let range = counter.range();
-    let reached = reach(range, entry);
-    let before = u64::from(last.raw);
-    if reached < before {
+    if reach(range, entry) < u64::from(last.raw) {
         return Err(TermFault::NegativeStep);
     }
     let till = moment(entry);
@@ -144,8 +155,7 @@ pub fn enter<C: Counter>(
     if is_long_span(last.at, till) {
         return Err(TermFault::SpanTooLong);
     }
-    let unit = unit(last.sf);
-    let mwh = reached * unit - before * unit;
+    let mwh = energy(range, last, entry);
     if terms.total + mwh > MAX_TOTAL {
         return Err(TermFault::TotalFull);
     }

@@ -1,9 +1,11 @@
 //! What holds of an installation, and whether a reading is accepted.
-ghost use Rattle.std.specs.Prelude.{◌≡◌, ◌≤◌, ◌<◌, pos, negsuc, ◌≤ℤ◌};
+ghost use Rattle.std.specs.Prelude.{◌≡◌, ◌≤◌, ◌<◌, ◌*◌, pos, negsuc, ◌≤ℤ◌, nat_lt, if◌then◌else◌};
+ghost use Rattle.energy_core.specs.Value.{unit_of};
 ghost use Rattle.energy_core.specs.Verdict.{verdict_of, can_count, distance, cause_number};
 
+use crate::admission::energy;
 use crate::counters::Counter;
-use crate::entries::Last;
+use crate::entries::{Entry, Last};
 use crate::limits::{MAX_CEILING, MAX_RANGE, MAX_TOTAL, MAX_UNIT};
 use crate::measures::{is_long_span, unit};
 
@@ -100,6 +102,25 @@ fn distance_between(range: u64, from: u64, to: u64) -> u64
     }
 }
 
+/// What an accepted reading adds, in mWh, where the counter turned over so often.
+fn energy_to(range: u64, last: &Last, reading: &Reading, rolls: u8) -> u64
+    requires range { range ≤ MAX_RANGE }
+    requires from { last.now.raw < range }
+    requires to { reading.now.raw < range }
+    requires scale_low { negsuc 2 ≤ℤ last.now.sf }
+    requires scale_high { last.now.sf ≤ℤ pos 3 }
+    requires rolls { rolls ≡ (if nat_lt reading.now.raw last.now.raw then 1 else 0) }
+    ensures value { result ≡ distance range last.now.raw reading.now.raw * unit_of last.now.sf }
+    ensures small { result ≤ 1099511627776000000 }
+{
+    let entry = Entry::Step {
+        at: reading.at,
+        raw: reading.raw,
+        rolls,
+    };
+    energy(range, last, &entry)
+}
+
 /// Accepts a reading or holds it for the first cause that applies, in the order 1, 2, 8, 3, 4, 5, 6, 7.
 pub fn judge<C: Counter>(counter: &C, terms: &Terms, last: &Last, reading: &Reading) -> Verdict
     requires ceiling_low { 1 ≤ terms.now.ceiling }
@@ -136,12 +157,10 @@ pub fn judge<C: Counter>(counter: &C, terms: &Terms, last: &Last, reading: &Read
     if !may_count(terms.ceiling, unit, seconds, distance) {
         return Verdict::Held(Cause::TooFast);
     }
-    let step = distance * unit;
+    let rolls = u8::from(reading.raw < last.raw);
+    let step = energy_to(range, last, reading, rolls);
     if terms.total + step > MAX_TOTAL {
         return Verdict::Held(Cause::TotalFull);
     }
-    Verdict::Accepted {
-        rolls: u8::from(reading.raw < last.raw),
-        step,
-    }
+    Verdict::Accepted { rolls, step }
 }

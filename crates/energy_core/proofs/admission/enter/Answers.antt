@@ -1,4 +1,4 @@
-use Rattle.std.proofs.Common.{rules, ◌≡◌, ℕ, ◌-◌, ◌*◌, Ok}
+use Rattle.std.proofs.Common.{rules, ◌≡◌, ℕ, Ok}
 use Rattle.energy_core.specs.declared.entries.Step.{Step}
 use Rattle.energy_core.specs.Admission.{entered}
 use Rattle.energy_core.proofs.Bookings.{account_where_entered}
@@ -11,7 +11,7 @@ returns-clause-account g c opening es h =
     record {
       from = c.args.last.now.at;
       till = c.moment-till.result;
-      mwh = c.reach-reached.result * c.unit-unit.result - c.from-before.result * c.unit-unit.result;
+      mwh = c.energy-mwh.result;
     } in
     let is : entered range c.args.terms.now.total c.args.last.now c.args.entry.now ≡ Ok (c.stand.result, step) = search rules in
     account_where_entered range opening es c.args.last.now c.args.terms.now.total c.args.entry.now c.stand.result step h is
