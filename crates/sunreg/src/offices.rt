@@ -12,7 +12,7 @@ use program_end::{Ending, Failure};
 use socket_link::SystemClock;
 use sqlite::{Alter, Connection, FileFrom, FileStore, Unknown};
 use std::io;
-use std::io::Write;
+use std::io::{LineWriter, Write};
 use stored_office::create_stored;
 use stored_tasks::{Done, Task, carry_out_stored, ending_of_done};
 
@@ -137,6 +137,24 @@ pub(crate) fn serve<'a>(
     ending_of_done(carry_out_at(rt, path, task, &mut output), OWN_HOST, port)
 }
 
+// Carries a task out over the office in a file, and gives out each line that it prints at once.
+fn carry_out_by_lines<'a>(
+    rt: &HostRuntime,
+    path: &'a str,
+    task: Task<'_>,
+    host: &'a str,
+    port: u16,
+) -> Ending<'a> {
+    let Ok(mut output) = LineWriter::new(rt.alloc(), io::writer(rt)) else {
+        return Ending::Failed(Failure::Memory);
+    };
+    let done = carry_out_at(rt, path, task, &mut output);
+    match output.flush() {
+        Ok(()) => ending_of_done(done, host, port),
+        Err(_) => Ending::Failed(Failure::Streams),
+    }
+}
+
 /// Polls the whole plan of a device once.
 pub(crate) fn round<'a>(
     rt: &HostRuntime,
@@ -145,9 +163,7 @@ pub(crate) fn round<'a>(
     host: &'a str,
     port: u16,
 ) -> Ending<'a> {
-    let task = Task::Round { device, host, port };
-    let mut output = io::writer(rt);
-    ending_of_done(carry_out_at(rt, path, task, &mut output), host, port)
+    carry_out_by_lines(rt, path, Task::Round { device, host, port }, host, port)
 }
 
 /// Polls devices on a schedule and answers HTTP, as the settings say.
@@ -165,7 +181,5 @@ pub(crate) fn run<'a>(
         settings,
         sites: sites.as_slice(),
     };
-    let mut output = io::writer(rt);
-    let port = settings.listen.port();
-    ending_of_done(carry_out_at(rt, path, task, &mut output), OWN_HOST, port)
+    carry_out_by_lines(rt, path, task, OWN_HOST, settings.listen.port())
 }
