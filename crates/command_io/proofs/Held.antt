@@ -1,16 +1,16 @@
--- Bytes that were read, and bytes that are held back.
+-- Bytes that were read, and bytes that are buffered.
 use Rattle.std.proofs.Common.{◌≡◌, ◌≤◌, ℕ, List, [], ◌++◌, length, take, Option, IfSome, sym, ap, ◌∙◌, append-nil, arith}
 use Rattle.std.specs.Io.KnownBytes.{Appends, Consumes, IsAtEnd}
 use Rattle.std.proofs.KnownBytes.{Consumes-all, Consumes-trans}
 use Rattle.std.proofs.lemmas.List.{take-take, length-take}
 
 -- what was written of the first bytes is the front of all
-pub front_of : (end filled : ℕ) (held : List ℕ) (n : ℕ) → end ≤ filled → end ≤ length held → n ≤ length (take end held)
-    → (old new : Option (List ℕ)) → Appends old new (take n (take end held)) → Appends old new (take n (take filled held))
-front_of end filled held n within long few old new written =
-    let short : n ≤ end = omega (arith, length-take end held) in
-    let same : take n (take end held) ≡ take n (take filled held) =
-    take-take n end held short ∙ sym (take-take n filled held (omega arith)) in
+pub front_of : (end filled : ℕ) (buffered : List ℕ) (n : ℕ) → end ≤ filled → end ≤ length buffered → n ≤ length (take end buffered)
+    → (old new : Option (List ℕ)) → Appends old new (take n (take end buffered)) → Appends old new (take n (take filled buffered))
+front_of end filled buffered n within long few old new written =
+    let short : n ≤ end = omega (arith, length-take end buffered) in
+    let same : take n (take end buffered) ≡ take n (take filled buffered) =
+    take-take n end buffered short ∙ sym (take-take n filled buffered (omega arith)) in
     rw same at written
 
 -- a reader that gave nothing more had given all

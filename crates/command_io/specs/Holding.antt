@@ -8,9 +8,9 @@ abbrev pub output_of : {W : Type 0} → Buffered W → W
 output_of b = b.output
 
 -- the bytes that it has not given out yet
-abbrev pub held_back : {W : Type 0} → Buffered W → List ℕ
-held_back b = take b.filled b.held
+abbrev pub buffered_in : {W : Type 0} → Buffered W → List ℕ
+buffered_in b = take b.filled b.buffered
 
--- what the writer behind it holds, and then what is held back
+-- what the writer behind it holds, and then what is buffered
 abbrev pub contents_of : {W : Type 0} → (W → Option (List ℕ)) → Buffered W → Option (List ℕ)
-contents_of contents b = append_known (contents b.output) (take b.filled b.held)
+contents_of contents b = append_known (contents b.output) (take b.filled b.buffered)

@@ -3,17 +3,17 @@ ghost use Rattle.std.specs.Prelude.{◌≡◌, ◌≢◌, ◌≤◌, ◌<◌, �
 
 use std::io::{self, ErrorKind, Write};
 
-/// How many bytes are held back at most.
+/// How many bytes are buffered at most.
 const ROOM: usize = 8192;
 
 /// A writer that holds bytes back, at most 8,192, and gives them out once there is no room for more: up to
 /// the last line's end among them, where there is one. `flush` gives out all. No byte is lost by a write
-/// that fails: what was not written is still held back. But for one that was interrupted, no write is made
+/// that fails: what was not written is still buffered. But for one that was interrupted, no write is made
 /// after it.
 #[derive(Drop)]
 pub struct Buffered<W> {
     pub(crate) output: W,
-    pub(crate) held: [u8; 8192],
+    pub(crate) buffered: [u8; 8192],
     pub(crate) filled: usize,
     pub(crate) failed: bool,
     ghost room: { filled ≤ 8192 },
@@ -39,22 +39,22 @@ impl<W: Write> Buffered<W> {
     ghost use Rattle.std.specs.Prelude.{true, IsErr, OnOk, IfErr};
     ghost use Rattle.std.specs.IoError.{error_kind};
     ghost use Rattle.std.specs.Io.KnownBytes.{Keeps};
-    ghost use Rattle.command_io.specs.Holding.{contents_of, held_back, output_of};
+    ghost use Rattle.command_io.specs.Holding.{contents_of, buffered_in, output_of};
 
-    /// Nothing is held back yet.
+    /// Nothing is buffered yet.
     pub fn new(output: W) -> Buffered<W>
         ensures output { output_of result ≡ output }
-        ensures empty { held_back result ≡ [] }
+        ensures empty { buffered_in result ≡ [] }
     {
         Buffered {
             output,
-            held: [0; ROOM],
+            buffered: [0; ROOM],
             filled: 0,
             failed: false,
         }
     }
 
-    /// The writer, without what is still held back.
+    /// The writer, without what is still buffered.
     pub fn into_output(self) -> W
         ensures { result ≡ output_of self }
     {
@@ -62,7 +62,7 @@ impl<W: Write> Buffered<W> {
         output
     }
 
-    // Some of the first so many bytes that are held back are given out, by one write.
+    // Some of the first so many bytes that are buffered are given out, by one write.
     fn give(&mut self, end: usize) -> io::Result<()>
         requires some { 0 < end }
         requires within { end ≤ self.old.filled }
@@ -75,7 +75,7 @@ impl<W: Write> Buffered<W> {
         if self.failed {
             return Err(io::Error::from(ErrorKind::BrokenPipe));
         }
-        match self.output.write(&self.held[..end]) {
+        match self.output.write(&self.buffered[..end]) {
             Ok(0) => {
                 self.failed = true;
                 Err(io::Error::from(ErrorKind::WriteZero))
@@ -95,10 +95,10 @@ impl<W: Write> Buffered<W> {
     fn drop_front(&mut self, count: usize)
         requires { count ≤ self.old.filled }
         ensures output { output_of self.new ≡ output_of self.old }
-        ensures rest { held_back self.new ≡ drop count (held_back self.old) }
+        ensures rest { buffered_in self.new ≡ drop count (buffered_in self.old) }
         ensures filled { self.new.filled ≡ self.old.filled - count }
     {
-        self.held.copy_within(count..self.filled, 0);
+        self.buffered.copy_within(count..self.filled, 0);
         self.filled -= count;
     }
 
@@ -106,10 +106,10 @@ impl<W: Write> Buffered<W> {
     fn hold(&mut self, bytes: &[u8])
         requires { self.old.filled + length bytes.now ≤ 8192 }
         ensures output { output_of self.new ≡ output_of self.old }
-        ensures more { held_back self.new ≡ held_back self.old ++ bytes.now }
+        ensures more { buffered_in self.new ≡ buffered_in self.old ++ bytes.now }
     {
         let end = self.filled + bytes.len();
-        self.held[self.filled..end].copy_from_slice(bytes);
+        self.buffered[self.filled..end].copy_from_slice(bytes);
         self.filled = end;
     }
 
@@ -119,7 +119,7 @@ impl<W: Write> Buffered<W> {
         ensures bytes { Keeps (contents_of W.contents self.old) (contents_of W.contents self.new) }
     {
         if count > ROOM - self.filled && self.filled > 0 {
-            let end = lines_len(&self.held[..self.filled]);
+            let end = lines_len(&self.buffered[..self.filled]);
             self.give(end)?;
         }
         Ok(())
@@ -130,7 +130,7 @@ impl<W: Write> Write for Buffered<W> {
     ghost use Rattle.std.specs.Prelude.{IfOk, OnOk};
     ghost use Rattle.std.specs.Io.{WritesAtMost};
     ghost use Rattle.std.specs.Io.KnownBytes.{Keeps, WriteAppends};
-    ghost use Rattle.command_io.specs.Holding.{contents_of, held_back};
+    ghost use Rattle.command_io.specs.Holding.{contents_of, buffered_in};
 
     ghost contents = { contents_of W.contents };
 
@@ -148,7 +148,7 @@ impl<W: Write> Write for Buffered<W> {
 
     fn flush(&mut self) -> io::Result<()>
         ensures bytes { Keeps (contents_of W.contents self.old) (contents_of W.contents self.new) }
-        ensures given { OnOk result (held_back self.new ≡ []) }
+        ensures given { OnOk result (buffered_in self.new ≡ []) }
     {
         for _ in 0..u64::MAX {
             if self.filled == 0 {

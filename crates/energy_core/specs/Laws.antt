@@ -42,10 +42,14 @@ AcceptedIsPlausible = (range : ℕ) (terms : Terms) (last : Last) (reading : Rea
 
 -- An accepted reading may be entered, with the same step.
 abbrev pub AcceptedIsEntered : Type 0
-AcceptedIsEntered = (range : ℕ) (terms : Terms) (last : Last) (reading : Reading) (rolls step : ℕ) → last.raw < range
+AcceptedIsEntered = (range : ℕ) (terms : Terms) (last : Last) (reading : Reading) (rolls step : ℕ)
+    → last.raw < range
     → verdict_of range terms last reading ≡ Accepted rolls step
     → entered range terms.total last (entry.Step reading.at reading.raw rolls)
-    ≡ Ok (record { at = reading.at; raw = reading.raw; sf = reading.sf }, record { from = last.at; till = reading.at; mwh = step })
+    ≡ Ok (
+      record { at = reading.at; raw = reading.raw; sf = reading.sf },
+      record { from = last.at; till = reading.at; mwh = step },
+    )
 
 -- At opening an installation has an account, with no energy yet.
 abbrev pub AccountsBegin : Type 0
@@ -53,7 +57,8 @@ AccountsBegin = (range : ℕ) (opening : Last) → IsAccount range opening [] op
 
 -- One more entry, and the account is that of the longer list.
 abbrev pub AccountsGoOn : Type 0
-AccountsGoOn = (range : ℕ) (opening : Last) (es : List Entry) (last : Last) (total : ℕ) (e : Entry) (next : Last) (step : Step)
+AccountsGoOn = (range : ℕ) (opening : Last) (es : List Entry) (last : Last) (total : ℕ)
+    (e : Entry) (next : Last) (step : Step)
     → IsAccount range opening es last total → IsBooked range total last e next step
     → IsAccount range opening (e ∷ es) next (total + step.mwh)
 
@@ -65,7 +70,8 @@ pub record IsShareable (step : Step) : Type 0 where
 
 -- The counter stands below its range and at a lawful scale, no entry goes back, and the total is that of the steps,
 -- each of which can be shared out.
-pub record IsSound (range : ℕ) (opening : Last) (es : List Entry) (last : Last) (total : ℕ) : Type 0 where
+pub record IsSound (range : ℕ) (opening : Last) (es : List Entry) (last : Last)
+    (total : ℕ) : Type 0 where
   pub raw : last.raw < range
   pub scale : IsScale last.sf
   pub never_falls : NeverFalls range opening es
@@ -80,6 +86,7 @@ AccountsAreSound = (range : ℕ) (opening : Last) (es : List Entry) (last : Last
 
 -- Whatever readings come, the entries that they leave have an account.
 abbrev pub ReadingsKeepAccounts : Type 0
-ReadingsKeepAccounts = (range ceiling : ℕ) (opening : Last) (rs : List Reading) → opening.raw < range
+ReadingsKeepAccounts = (range ceiling : ℕ) (opening : Last) (rs : List Reading)
+    → opening.raw < range
     → let es = entries_of_readings range ceiling opening rs in
     IsAccount range opening es (last_of opening es) (whole_energy range opening es)

@@ -22,18 +22,18 @@ beneath : (old new : Ledger) (n : ℕ) (facts : List Fact) (result : Result (Uni
     → Books (refusing old n) (refusing new n) facts result
 beneath old new n facts (Ok done) before after books = record {
   booked = books.booked;
-  settled = λ more held holds lawful. (with_facts facts held, books.booked held holds lawful, Contains-push [] (with_facts facts held));
-  refused = λ held holds. tt;
-  under_way = λ held left holds lawful may. tt;
+  settled = λ more known holds lawful. (with_facts facts known, books.booked known holds lawful, Contains-push [] (with_facts facts known));
+  refused = λ known holds. tt;
+  under_way = λ known left holds lawful may. tt;
   nothing = λ none. (refl, keeps old new n (books.nothing none).1);
   goes = record { clean = books.goes.clean; faults = refl; zone = books.goes.zone };
 }
 beneath old new n facts (Err Memory) before after books = record {
-  booked = λ held holds lawful. tt;
-  settled = λ more held holds lawful. tt;
+  booked = λ known holds lawful. tt;
+  settled = λ more known holds lawful. tt;
   refused = books.refused;
-  under_way = λ held left holds lawful may.
-      (may.0, books.refused may.0 may.1, Contains-append_left left (with_facts facts held ∷ []) may.0 may.2);
+  under_way = λ known left holds lawful may.
+      (may.0, books.refused may.0 may.1, Contains-append_left left (with_facts facts known ∷ []) may.0 may.2);
   nothing = λ none. let wrong : false ≡ true = (books.nothing none).0 in absurd (cc);
   goes = record { clean = books.goes.clean; faults = refl; zone = books.goes.zone };
 }
@@ -54,11 +54,11 @@ passed old between new n m facts result same stays books =
 refused_at : (ledger : Ledger) (n : ℕ) (facts : List Fact) → (facts ≡ [] → ⊥)
     → Books (refusing ledger n) (refusing ledger (one_more n)) facts (Err (Store Refused))
 refused_at ledger n facts some = record {
-  booked = λ held holds lawful. tt;
-  settled = λ more held holds lawful. tt;
-  refused = λ held holds. holds;
-  under_way = λ held left holds lawful may.
-      (may.0, may.1, Contains-append_left left (with_facts facts held ∷ []) may.0 may.2);
+  booked = λ known holds lawful. tt;
+  settled = λ more known holds lawful. tt;
+  refused = λ known holds. holds;
+  under_way = λ known left holds lawful may.
+      (may.0, may.1, Contains-append_left left (with_facts facts known ∷ []) may.0 may.2);
   nothing = λ none. absurd (some none);
   goes = record { clean = λ c. c; faults = refl; zone = refl };
 }

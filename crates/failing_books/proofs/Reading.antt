@@ -38,7 +38,7 @@ read_on old between new n m result same stays reads =
 over : (old new : Ledger) (n m : ℕ) → KeepsFacts old new → KeepsFacts (refusing old n) (refusing new m)
 over old new n m k = record {
   facts = k.facts;
-  left = λ left held. (held.0, k.facts held.0 held.1, held.2);
+  left = λ left known. (known.0, k.facts known.0 known.1, known.2);
 }
 
 late : (old new : Ledger) (n m : ℕ) (first result : Result (Unit {0}) BooksFault) → OnlyReads old new first

@@ -7,7 +7,7 @@ use Rattle.office_books.specs.Ledgers.{Ledger}
 abbrev pub refusing : Ledger → (faults : ℕ) → Ledger
 refusing beneath faults = record {
   holds = beneath.holds;
-  may_leave = λ left. (held : List Fact) × beneath.holds held × Contains left held;
+  may_leave = λ left. (known : List Fact) × beneath.holds known × Contains left known;
   is_clean = beneath.is_clean;
   is_open = beneath.is_open;
   fault_count = faults;

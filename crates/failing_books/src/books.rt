@@ -29,8 +29,8 @@ impl FailingBooks {
 
     /// Nothing was called yet. Calls are counted from 1, but for those that can't fail and for the booking of no facts.
     pub fn new(books: ListBooks, failing: u64) -> FailingBooks
-        ensures holds { (held : List Fact) → (ledger_of books).holds held
-            → (⟦<FailingBooks as Books>⟧.ledger result).holds held }
+        ensures holds { (known : List Fact) → (ledger_of books).holds known
+            → (⟦<FailingBooks as Books>⟧.ledger result).holds known }
         ensures zone { (⟦<FailingBooks as Books>⟧.ledger result).zone ≡ (ledger_of books).zone }
         ensures faults { (⟦<FailingBooks as Books>⟧.ledger result).fault_count ≡ 0 }
     {
@@ -46,8 +46,8 @@ impl FailingBooks {
     /// Counts a call, and refuses it where it is the one that fails.
     fn called(&mut self) -> Result<(), BooksFault>
         ensures books { self.new.books ≡ self.old.books }
-        ensures holds { (held : List Fact) → (ledger_of self.old.books).holds held
-            → (ledger_of self.new.books).holds held }
+        ensures holds { (known : List Fact) → (ledger_of self.old.books).holds known
+            → (ledger_of self.new.books).holds known }
         ensures zone { (ledger_of self.new.books).zone ≡ (ledger_of self.old.books).zone }
         ensures ok { OnOk result (self.new.faults ≡ self.old.faults) }
         ensures refused { IfErr result (λ fault.
@@ -76,8 +76,8 @@ impl Books for FailingBooks {
         self.books.zone()
     }
 
-    fn tables_are_held(&self) {
-        self.books.tables_are_held();
+    fn tables_are_known(&self) {
+        self.books.tables_are_known();
     }
 
     fn devices(&mut self) -> Result<Vec<Device>, BooksFault> {

@@ -12,8 +12,8 @@ impl FailingBooks {
 
     /// As `new`, but where the call that fails hands rows on, it does so before it is refused.
     pub fn after_rows(books: ListBooks, failing: u64) -> FailingBooks
-        ensures holds { (held : List Fact) → (ledger_of books).holds held
-            → (⟦<FailingBooks as Books>⟧.ledger result).holds held }
+        ensures holds { (known : List Fact) → (ledger_of books).holds known
+            → (⟦<FailingBooks as Books>⟧.ledger result).holds known }
         ensures zone { (⟦<FailingBooks as Books>⟧.ledger result).zone ≡ (ledger_of books).zone }
         ensures faults { (⟦<FailingBooks as Books>⟧.ledger result).fault_count ≡ 0 }
     {

@@ -18,7 +18,7 @@ use Rattle.http_route.specs.declared.targets.Found.{Found}
 use Rattle.http_status.specs.declared.Status.{Status}
 use Rattle.http_status.specs.declared.Status.TheVariants.{BadRequest, FieldsTooLarge}
 use Rattle.http_whole.specs.Whole.{Holds, HoldsRequest, IsWhole, TestsRequest, body_of}
-use Rattle.http_whole.proofs.Unique.{held}
+use Rattle.http_whole.proofs.Unique.{request_of_whole}
 use Rattle.office_events.specs.declared.commands.Command.{Command}
 use Rattle.http_answer.specs.Offices.{Office}
 use Rattle.http_answer.specs.Replies.{ask, command_reply, fault, found_reply, question_reply, reply_bytes, reply_of, route_reply, unless_failed}
@@ -86,7 +86,7 @@ to_fault office table bytes (look.Whole at) status holds tests =
     inr record {
       start = start;
       body = body;
-      holds = held table bytes at holds;
+      holds = request_of_whole table bytes at holds;
       given = Err Malformed;
       gives = none;
       is = ap reply_bytes (fails office table start body (Err Malformed) status tests);
@@ -104,7 +104,7 @@ to_question office table bytes (look.Whole at) found holds tests =
     inr record {
       start = start;
       body = body;
-      holds = held table bytes at holds;
+      holds = request_of_whole table bytes at holds;
       given = Err Malformed;
       gives = none;
       is = ap reply_bytes (question_is office start body (Err Malformed) found.route (name_of found) tests.1.1 ∙ passes office table start body (Err Malformed) found.route (name_of found) tests.0 tests.1.0.route tests.1.0.name);
@@ -125,7 +125,7 @@ to_command office table bytes at found posted given holds tests gives memory =
     inr record {
       start = start;
       body = body;
-      holds = held table bytes at holds;
+      holds = request_of_whole table bytes at holds;
       given = given;
       gives = all;
       is = ap reply_bytes (command_is office start body given found.route (name_of found) tests.1.1 ∙ passes office table start body given found.route (name_of found) tests.0 tests.1.0.route tests.1.0.name);

@@ -25,9 +25,9 @@ Gives-then (Err e) a b c bytes n first next = (
 )
 
 -- what was left is given, and then more, in one give
-pub Sends-given : {X E : Type 0} (result : Result X E) (base a b : Option (List ℕ)) (held kept : List ℕ) (old new : Bool) (all more : List ℕ) → old ≡ false → new ≡ is_err result → kept ≡ []
-    → Sends base a held old all → (left : List ℕ) → held ++ more ≡ left → Gives result a b left → Sends base b kept new (all ++ more)
-Sends-given (Ok x) base a b held kept old new all more works failed none so_far left is gives =
+pub Sends-given : {X E : Type 0} (result : Result X E) (base a b : Option (List ℕ)) (buffered kept : List ℕ) (old new : Bool) (all more : List ℕ) → old ≡ false → new ≡ is_err result → kept ≡ []
+    → Sends base a buffered old all → (left : List ℕ) → buffered ++ more ≡ left → Gives result a b left → Sends base b kept new (all ++ more)
+Sends-given (Ok x) base a b buffered kept old new all more works failed none so_far left is gives =
     let rest = so_far.whole works in
     let order : all ++ more ≡ so_far.sent ++ left = ap (λ t. t ++ more) so_far.in_order ∙ append_assoc so_far.sent so_far.left more ∙ ap (λ t. so_far.sent ++ (t ++ more)) rest ∙ ap (λ t. so_far.sent ++ t) is in
     record {
@@ -37,7 +37,7 @@ Sends-given (Ok x) base a b held kept old new all more works failed none so_far 
       came = Appends-trans base a b _ _ so_far.came gives;
       whole = λ _. sym none;
     }
-Sends-given (Err e) base a b held kept old new all more works failed none so_far left is gives =
+Sends-given (Err e) base a b buffered kept old new all more works failed none so_far left is gives =
     let rest = so_far.whole works in
     let order : all ++ more ≡ so_far.sent ++ left = ap (λ t. t ++ more) so_far.in_order ∙ append_assoc so_far.sent so_far.left more ∙ ap (λ t. so_far.sent ++ (t ++ more)) rest ∙ ap (λ t. so_far.sent ++ t) is in
     record {
@@ -48,9 +48,9 @@ Sends-given (Err e) base a b held kept old new all more works failed none so_far
       whole = λ w. absurd cc;
     }
 
--- bytes that are held back
-pub Sends-held : (base a : Option (List ℕ)) (held kept : List ℕ) (old new : Bool) (all more : List ℕ) → new ≡ old → kept ≡ held ++ more → Sends base a held old all → Sends base a kept new (all ++ more)
-Sends-held base a held kept old new all more same is so_far = record {
+-- bytes that are buffered
+pub Sends-buffered : (base a : Option (List ℕ)) (buffered kept : List ℕ) (old new : Bool) (all more : List ℕ) → new ≡ old → kept ≡ buffered ++ more → Sends base a buffered old all → Sends base a kept new (all ++ more)
+Sends-buffered base a buffered kept old new all more same is so_far = record {
   sent = so_far.sent;
   left = so_far.left ++ more;
   in_order = ap (λ t. t ++ more) so_far.in_order ∙ append_assoc so_far.sent so_far.left more;
@@ -59,8 +59,8 @@ Sends-held base a held kept old new all more same is so_far = record {
 }
 
 -- bytes that are lost
-pub Sends-lost : (base a : Option (List ℕ)) (held : List ℕ) (old : Bool) (all more : List ℕ) → old ≡ true → Sends base a held old all → Sends base a held old (all ++ more)
-Sends-lost base a held old all more failed so_far = record {
+pub Sends-lost : (base a : Option (List ℕ)) (buffered : List ℕ) (old : Bool) (all more : List ℕ) → old ≡ true → Sends base a buffered old all → Sends base a buffered old (all ++ more)
+Sends-lost base a buffered old all more failed so_far = record {
   sent = so_far.sent;
   left = so_far.left ++ more;
   in_order = ap (λ t. t ++ more) so_far.in_order ∙ append_assoc so_far.sent so_far.left more;
@@ -68,12 +68,12 @@ Sends-lost base a held old all more failed so_far = record {
   whole = λ w. absurd cc;
 }
 
--- what was held back is given
-pub Sends-flushed : {X E : Type 0} (result : Result X E) (base a b : Option (List ℕ)) (held kept : List ℕ) (old new : Bool) (all : List ℕ) → old ≡ false → new ≡ is_err result → kept ≡ []
-    → Sends base a held old all → Gives result a b held → Sends base b kept new all
-Sends-flushed result base a b held kept old new all works failed none so_far gives =
+-- what was buffered is given
+pub Sends-flushed : {X E : Type 0} (result : Result X E) (base a b : Option (List ℕ)) (buffered kept : List ℕ) (old new : Bool) (all : List ℕ) → old ≡ false → new ≡ is_err result → kept ≡ []
+    → Sends base a buffered old all → Gives result a b buffered → Sends base b kept new all
+Sends-flushed result base a b buffered kept old new all works failed none so_far gives =
     subst (Sends base b kept new) (append-nil all)
-    (Sends-given result base a b held kept old new all [] works failed none so_far held (append-nil held) gives)
+    (Sends-given result base a b buffered kept old new all [] works failed none so_far buffered (append-nil buffered) gives)
 
 -- a failure of two steps in turn is one of both
 risen_twice : (a b c : Bool) (count : ℕ) → (a ≡ true → b ≡ true) → (b ≡ true → c ≡ true) → risen (c && not b) (risen (b && not a) count) ≡ risen (c && not a) count
@@ -101,19 +101,19 @@ OnlyGives-then {x = x} {y = y} {z = z} first next = record {
 -- bytes are put, and then more
 pub Puts-then : {x y z : Outgoing} {s t : List ℕ} → Puts x y s → Puts y z t → Puts x z (s ++ t)
 Puts-then {x = x} {y = y} {z = z} {s = s} {t = t} first next = record {
-  put = λ base all so_far. subst (Sends base z.given z.held z.failed) (append_assoc all s t) (next.put base (all ++ s) (first.put base all so_far));
+  put = λ base all so_far. subst (Sends base z.given z.buffered z.failed) (append_assoc all s t) (next.put base (all ++ s) (first.put base all so_far));
   link = OnlyGives-then first.link next.link;
 }
 
 -- all that was put has come
-pub Sends-all : (base given : Option (List ℕ)) (held : List ℕ) (failed : Bool) (all : List ℕ) → failed ≡ false → held ≡ [] → Sends base given held failed all → Appends base given all
-Sends-all base given held failed all works none sends =
+pub Sends-all : (base given : Option (List ℕ)) (buffered : List ℕ) (failed : Bool) (all : List ℕ) → failed ≡ false → buffered ≡ [] → Sends base given buffered failed all → Appends base given all
+Sends-all base given buffered failed all works none sends =
     let order : all ≡ sends.sent = sends.in_order ∙ ap (λ l. sends.sent ++ l) (sends.whole works ∙ none) ∙ append-nil sends.sent in
     subst (Appends base given) (sym order) sends.came
 
 -- nothing was put yet
-pub HasPut-none : (base given : Option (List ℕ)) (held : List ℕ) (failed : Bool) → given ≡ base → held ≡ [] → Sends base given held failed []
-HasPut-none base given held failed same none = record {
+pub HasPut-none : (base given : Option (List ℕ)) (buffered : List ℕ) (failed : Bool) → given ≡ base → buffered ≡ [] → Sends base given buffered failed []
+HasPut-none base given buffered failed same none = record {
   sent = [];
   left = [];
   in_order = refl;
@@ -134,6 +134,6 @@ OnlyGives-none x = record {
 
 pub Puts-none : (x : Outgoing) → Puts x x []
 Puts-none x = record {
-  put = λ base all so_far. subst (Sends base x.given x.held x.failed) (sym (append-nil all)) so_far;
+  put = λ base all so_far. subst (Sends base x.given x.buffered x.failed) (sym (append-nil all)) so_far;
   link = OnlyGives-none x;
 }

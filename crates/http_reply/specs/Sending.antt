@@ -5,17 +5,17 @@ use base.Fml.{GName}
 use Rattle.mb_wire.specs.Links.{risen}
 use Rattle.mb_wire.specs.declared.link.LastTake.{LastTake}
 
--- All that was put so far begins with what was given since `base`. The rest is what is held back or, once a
+-- All that was put so far begins with what was given since `base`. The rest is what is buffered or, once a
 -- give has failed, is lost.
-pub record Sends (base given : Option (List ℕ)) (held : List ℕ) (failed : Bool) (all : List ℕ) :
+pub record Sends (base given : Option (List ℕ)) (buffered : List ℕ) (failed : Bool) (all : List ℕ) :
     Type 0 where
   pub sent : List ℕ
   pub left : List ℕ
   pub in_order : all ≡ sent ++ left
   pub came : Appends base given sent
-  pub whole : failed ≡ false → left ≡ held
+  pub whole : failed ≡ false → left ≡ buffered
 
--- What a contract sees of an outlet: which link it is to, what that tells of itself, which bytes are held back, and
+-- What a contract sees of an outlet: which link it is to, what that tells of itself, which bytes are buffered, and
 -- whether a give has failed.
 pub record Outgoing : Type 0 where
   pub link : GName
@@ -24,12 +24,12 @@ pub record Outgoing : Type 0 where
   pub failures : ℕ
   pub takes : ℕ
   pub last : Option LastTake
-  pub held : List ℕ
+  pub buffered : List ℕ
   pub failed : Bool
 
 -- all that was put to an outlet since its link had given `base`
 abbrev pub HasPut : Option (List ℕ) → Outgoing → List ℕ → Type 0
-HasPut base out all = Sends base out.given out.held out.failed all
+HasPut base out all = Sends base out.given out.buffered out.failed all
 
 -- The outlet is to the same link. Nothing was taken from it, and its count of failures rises exactly where a give
 -- fails; once one has failed no more is given.

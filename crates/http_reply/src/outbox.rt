@@ -1,4 +1,4 @@
-//! Bytes that are held back until there are enough of them to give.
+//! Bytes that are buffered until there are enough of them to give.
 ghost use Rattle.std.specs.Prelude.{◌≡◌, ◌≤◌, ◌<◌, ◌+◌, ℕ, ◌++◌, List, [], Bool, Option, length};
 ghost use Rattle.std.specs.Prelude.{take, true, false, is_err, not, ◌&&◌, IfOk};
 ghost use Rattle.std.specs.Io.KnownBytes.{Keeps};
@@ -7,16 +7,16 @@ ghost use Rattle.http_reply.specs.Giving.{Gives};
 
 use mb_wire::{Link, LinkFailed};
 
-// How many bytes are held back at most.
+// How many bytes are buffered at most.
 const ROOM: usize = 512;
 
 // Bytes on their way to a link. It keeps the first give that failed, and drops what is put after it.
 #[derive(Drop)]
 pub(crate) struct Outbox {
-    pub(crate) held: [u8; 512],
+    pub(crate) buffered: [u8; 512],
     pub(crate) filled: usize,
     pub(crate) failed: bool,
-    ghost room: { filled ≤ length held },
+    ghost room: { filled ≤ length buffered },
 }
 
 // Gives all of the bytes, in as many gives as it takes.
@@ -39,15 +39,15 @@ fn give_all<L: Link>(link: &mut L, bytes: &[u8]) -> Result<(), LinkFailed>
 
 impl Outbox {
     ghost use Rattle.http_reply.specs.Sending.{Sends};
-    ghost use Rattle.http_reply.specs.Holding.{held_back};
+    ghost use Rattle.http_reply.specs.Holding.{buffered_in};
 
     // Holds nothing.
     pub(crate) fn new() -> Outbox
         ensures works { result.failed ≡ false }
-        ensures empty { held_back result ≡ [] }
+        ensures empty { buffered_in result ≡ [] }
     {
         Outbox {
-            held: [0; 512],
+            buffered: [0; 512],
             filled: 0,
             failed: false,
         }
@@ -60,12 +60,12 @@ impl Outbox {
         self.failed
     }
 
-    // Gives what is held back.
+    // Gives what is buffered.
     pub(crate) fn flush<L: Link>(&mut self, link: &mut L)
         ensures sends { (base : Option (List ℕ)) (all : List ℕ)
-            → Sends base (L.given link.old) (held_back self.old) self.old.failed all
-            → Sends base (L.given link.new) (held_back self.new) self.new.failed all }
-        ensures empty { self.new.failed ≡ false → held_back self.new ≡ [] }
+            → Sends base (L.given link.old) (buffered_in self.old) self.old.failed all
+            → Sends base (L.given link.new) (buffered_in self.new) self.new.failed all }
+        ensures empty { self.new.failed ≡ false → buffered_in self.new ≡ [] }
         ensures stays { self.old.failed ≡ true → self.new.failed ≡ true }
         ensures failures { L.failed link.new
             ≡ risen (self.new.failed && not self.old.failed) (L.failed link.old) }
@@ -76,18 +76,18 @@ impl Outbox {
         if self.failed {
             return;
         }
-        let whole = give_all(link, &self.held[..self.filled]);
+        let whole = give_all(link, &self.buffered[..self.filled]);
         self.failed = whole.is_err();
         self.filled = 0;
     }
 
-    // Gives what is held back, where there is no room for so many bytes more.
+    // Gives what is buffered, where there is no room for so many bytes more.
     fn make_room<L: Link>(&mut self, link: &mut L, count: usize)
         ensures sends { (base : Option (List ℕ)) (all : List ℕ)
-            → Sends base (L.given link.old) (held_back self.old) self.old.failed all
-            → Sends base (L.given link.new) (held_back self.new) self.new.failed all }
+            → Sends base (L.given link.old) (buffered_in self.old) self.old.failed all
+            → Sends base (L.given link.new) (buffered_in self.new) self.new.failed all }
         ensures room { self.new.failed ≡ false → 512 < self.new.filled + count
-            → held_back self.new ≡ [] }
+            → buffered_in self.new ≡ [] }
         ensures stays { self.old.failed ≡ true → self.new.failed ≡ true }
         ensures failures { L.failed link.new
             ≡ risen (self.new.failed && not self.old.failed) (L.failed link.old) }
@@ -103,21 +103,21 @@ impl Outbox {
     // Holds bytes back, for which there is room.
     fn hold(&mut self, bytes: &[u8])
         requires { self.old.filled + length bytes.now ≤ 512 }
-        ensures held { held_back self.new ≡ held_back self.old ++ bytes.now }
+        ensures buffered { buffered_in self.new ≡ buffered_in self.old ++ bytes.now }
         ensures failed { self.new.failed ≡ self.old.failed }
     {
         let end = self.filled + bytes.len();
-        self.held[self.filled..end].copy_from_slice(bytes);
+        self.buffered[self.filled..end].copy_from_slice(bytes);
         self.filled = end;
     }
 
-    // Gives bytes at once, where nothing is held back.
+    // Gives bytes at once, where nothing is buffered.
     fn pass<L: Link>(&mut self, link: &mut L, bytes: &[u8])
         requires works { self.old.failed ≡ false }
-        requires empty { held_back self.old ≡ [] }
+        requires empty { buffered_in self.old ≡ [] }
         ensures sends { (base : Option (List ℕ)) (all : List ℕ)
-            → Sends base (L.given link.old) (held_back self.old) self.old.failed all
-            → Sends base (L.given link.new) (held_back self.new) self.new.failed
+            → Sends base (L.given link.old) (buffered_in self.old) self.old.failed all
+            → Sends base (L.given link.new) (buffered_in self.new) self.new.failed
             (all ++ bytes.now) }
         ensures failures { L.failed link.new ≡ risen self.new.failed (L.failed link.old) }
         ensures remaining { Keeps (L.remaining link.old) (L.remaining link.new) }
@@ -130,8 +130,8 @@ impl Outbox {
     // Puts bytes behind those put before.
     pub(crate) fn put<L: Link>(&mut self, link: &mut L, bytes: &[u8])
         ensures sends { (base : Option (List ℕ)) (all : List ℕ)
-            → Sends base (L.given link.old) (held_back self.old) self.old.failed all
-            → Sends base (L.given link.new) (held_back self.new) self.new.failed
+            → Sends base (L.given link.old) (buffered_in self.old) self.old.failed all
+            → Sends base (L.given link.new) (buffered_in self.new) self.new.failed
             (all ++ bytes.now) }
         ensures stays { self.old.failed ≡ true → self.new.failed ≡ true }
         ensures failures { L.failed link.new

@@ -24,7 +24,7 @@ impl<'l, L: Link> Model for Outlet<'l, L> {
       failures = L.failed outlet.link.now;
       takes = L.taken outlet.link.now;
       last = L.last outlet.link.now;
-      held = take outlet.outbox.filled outlet.outbox.held;
+      buffered = take outlet.outbox.filled outlet.outbox.buffered;
       failed = outlet.outbox.failed;
     } };
 }
@@ -38,7 +38,7 @@ impl<'l, L: Link> Outlet<'l, L> {
         ensures takes { result.takes ≡ L.taken link.entry.now }
         ensures last { result.last ≡ L.last link.entry.now }
         ensures remaining { result.remaining ≡ L.remaining link.entry.now }
-        ensures empty { result.held ≡ [] }
+        ensures empty { result.buffered ≡ [] }
         ensures works { result.failed ≡ false }
     {
         Outlet {
@@ -54,7 +54,7 @@ impl<'l, L: Link> Outlet<'l, L> {
         self.outbox.put(self.link, bytes);
     }
 
-    /// Gives what is held back, and says whether all that was put has come to the peer.
+    /// Gives what is buffered, and says whether all that was put has come to the peer.
     pub fn finish(&mut self) -> Result<(), LinkFailed>
         ensures given { (base : Option (List ℕ)) (all : List ℕ) → HasPut base self.old all
             → Gives result base self.new.given all }

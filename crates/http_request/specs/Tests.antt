@@ -72,8 +72,11 @@ is_over most (Some size) = nat_lt most size
 
 -- the tests of a POST's headers
 abbrev pub post_tests : PostHeaders → List (Bool × Status)
-post_tests headers =
-    (not (is_missing headers.transfer) || is_repeated headers.size || is_repeated headers.caller || is_repeated headers.number, BadRequest)
+post_tests headers = (
+  not (is_missing headers.transfer) || is_repeated headers.size || is_repeated headers.caller
+      || is_repeated headers.number,
+  BadRequest,
+)
     ∷ (is_missing headers.size, LengthRequired)
     ∷ (is_none (size_in headers), BadRequest)
     ∷ (is_over 65536 (size_in headers), ContentTooLarge)

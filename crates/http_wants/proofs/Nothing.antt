@@ -16,7 +16,7 @@ use Rattle.http_route.specs.Targets.{is_question, name_in, name_of, route_in}
 use Rattle.http_route.specs.declared.routes.Route.{Route}
 use Rattle.http_route.specs.declared.targets.Found.{Found}
 use Rattle.http_status.specs.declared.Status.{Status}
-use Rattle.http_whole.proofs.Unique.{held, one_held}
+use Rattle.http_whole.proofs.Unique.{request_of_whole, one_request}
 use Rattle.http_whole.specs.Whole.{Holds, HoldsRequest, IsWhole, TestsRequest, body_of}
 use Rattle.office_events.specs.declared.commands.Command.{Command}
 use Rattle.office_events.specs.declared.events.Asked.{Asked}
@@ -31,10 +31,10 @@ in_bad_head table bytes bad asked asks = bad.none asks.holds.len asks.holds.head
 
 -- what is asked is asked by the request that a look finds
 start_is : (table : Table) (bytes : List ℕ) (at : Head) (asked : Asked) → IsWhole table bytes at → (asks : AsksOffice table bytes asked) → asks.start ≡ start_at bytes at
-start_is table bytes at asked whole asks = (one_held table bytes asks.start (start_at bytes at) asks.body (body_of table bytes at) asks.holds (held table bytes at whole)).one_start
+start_is table bytes at asked whole asks = (one_request table bytes asks.start (start_at bytes at) asks.body (body_of table bytes at) asks.holds (request_of_whole table bytes at whole)).one_start
 
 body_is : (table : Table) (bytes : List ℕ) (at : Head) (asked : Asked) → IsWhole table bytes at → (asks : AsksOffice table bytes asked) → asks.body ≡ body_of table bytes at
-body_is table bytes at asked whole asks = (one_held table bytes asks.start (start_at bytes at) asks.body (body_of table bytes at) asks.holds (held table bytes at whole)).one_body
+body_is table bytes at asked whole asks = (one_request table bytes asks.start (start_at bytes at) asks.body (body_of table bytes at) asks.holds (request_of_whole table bytes at whole)).one_body
 
 pub where_a_test_fails : (table : Table) (bytes : List ℕ) (seen : Look) (status : Status) → Holds table bytes seen → TestsRequest table bytes seen (Err status) → AsksNothing table bytes
 where_a_test_fails table bytes look.Open status holds tests = absurd holds
@@ -94,7 +94,7 @@ pub by_a_command : (table : Table) (bytes : List ℕ) (at : Head) (found : Found
 by_a_command table bytes at found posted command asked whole tests gives is = record {
   start = start_at bytes at;
   body = body_of table bytes at;
-  holds = held table bytes at whole;
+  holds = request_of_whole table bytes at whole;
   route = found.route;
   leads = record { passes = tests.0; leads = tests.1.0.route; changes = tests.1.1 };
   command = command;

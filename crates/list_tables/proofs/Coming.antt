@@ -7,9 +7,9 @@ use Rattle.office_laws.proofs.Lists.{reverse_more}
 use Rattle.list_tables.specs.declared.table.Kept.{Kept}
 use Rattle.list_tables.specs.Growing.{HasCome, latest_first}
 
-lawful_before : (later held : List Fact) → AreLawful (later ++ held) → AreLawful held
-lawful_before [] held h = h
-lawful_before (f ∷ later) held h = lawful_before later held h.1
+lawful_before : (later known : List Fact) → AreLawful (later ++ known) → AreLawful known
+lawful_before [] known h = h
+lawful_before (f ∷ later) known h = lawful_before later known h.1
 
 -- the first of lawful facts are lawful
 pub first_lawful : (facts : List Fact) (k : ℕ) → AreLawful (latest_first facts) → AreLawful (latest_first (take k facts))
@@ -20,7 +20,7 @@ first_lawful facts k h =
 -- with one fact more, the table has come further
 pub come_on : {T : Type 0} (says : T → List Fact → Type 0) (old new : Kept T) (facts : List Fact) (f : Fact) → AreLawful (latest_first facts)
     → HasCome says old facts → old.count < length facts → f ≡ get_or facts old.count f → new.count ≡ old.count + 1
-    → ((held : List Fact) → AreLawful (f ∷ held) → length held ≡ old.count → says old.table held → says new.table (f ∷ held))
+    → ((known : List Fact) → AreLawful (f ∷ known) → length known ≡ old.count → says old.table known → says new.table (f ∷ known))
     → HasCome says new facts
 come_on says old new facts f lawful come less is counted put =
     let more : reverse (take (old.count + 1) facts) ≡ f ∷ reverse (take old.count facts) = reverse_more facts old.count f less is in

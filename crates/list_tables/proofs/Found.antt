@@ -86,37 +86,37 @@ by_caller name number (fact.Outcome e) = refl
 by_caller name number (fact.Reply r) = refl
 
 -- what is found by a place that a table has
-pub looked_up : {Y : Type 0} (at : List Fact → ℕ → Option Y) (facts held : List Fact) (place : Option ℕ) (key own : Key) (kind : Kind) → facts ≡ reverse held
-    → place ≡ latest_place (has_key kind key) held → key ≡ own
-    → option_and_then (at facts) place ≡ option_and_then (at (reverse held)) (latest_place (has_key kind own) held)
-looked_up at facts held place key own kind is found same =
+pub looked_up : {Y : Type 0} (at : List Fact → ℕ → Option Y) (facts known : List Fact) (place : Option ℕ) (key own : Key) (kind : Kind) → facts ≡ reverse known
+    → place ≡ latest_place (has_key kind key) known → key ≡ own
+    → option_and_then (at facts) place ≡ option_and_then (at (reverse known)) (latest_place (has_key kind own) known)
+looked_up at facts known place key own kind is found same =
     ap (λ (fs : List Fact). option_and_then (at fs) place) is
-    ∙ ap (option_and_then (at (reverse held))) (found ∙ ap (λ (k : Key). latest_place (has_key kind k) held) same)
+    ∙ ap (option_and_then (at (reverse known))) (found ∙ ap (λ (k : Key). latest_place (has_key kind k) known) same)
 
 pub if_ok_then : {T E : Type 0} {P Q : T → Type 0} (r : Result T E) → ((x : T) → P x → Q x) → IfOk r P → IfOk r Q
 if_ok_then (Ok x) f h = f x h
 if_ok_then (Err e) f h = tt
 
-pub register_found : (held : List Fact) (name : List ℕ)
-    → option_and_then (register_at (reverse held)) (latest_place (has_key Registers (named name)) held) ≡ register_of held name
-register_found held name = latest_at as_register (has_key Registers (named name)) (λ (r : Register). same r.name name) (by_register name) held
+pub register_found : (known : List Fact) (name : List ℕ)
+    → option_and_then (register_at (reverse known)) (latest_place (has_key Registers (named name)) known) ≡ register_of known name
+register_found known name = latest_at as_register (has_key Registers (named name)) (λ (r : Register). same r.name name) (by_register name) known
 
-pub registers_found : (held : List Fact) (device : List ℕ)
-    → filter_map (register_at (reverse held)) (reverse (places_of (has_key DeviceRegisters (named device)) held)) ≡ registers_of held device
-registers_found held device = all_at as_register (has_key DeviceRegisters (named device)) (λ (r : Register). same r.device device) (by_device device) held
+pub registers_found : (known : List Fact) (device : List ℕ)
+    → filter_map (register_at (reverse known)) (reverse (places_of (has_key DeviceRegisters (named device)) known)) ≡ registers_of known device
+registers_found known device = all_at as_register (has_key DeviceRegisters (named device)) (λ (r : Register). same r.device device) (by_device device) known
 
-pub registers_counted : (held : List Fact) (device : List ℕ)
-    → length (reverse (places_of (has_key DeviceRegisters (named device)) held)) ≡ length (registers_of held device)
-registers_counted held device = counted_at as_register (has_key DeviceRegisters (named device)) (λ (r : Register). same r.device device) (by_device device) held
+pub registers_counted : (known : List Fact) (device : List ℕ)
+    → length (reverse (places_of (has_key DeviceRegisters (named device)) known)) ≡ length (registers_of known device)
+registers_counted known device = counted_at as_register (has_key DeviceRegisters (named device)) (λ (r : Register). same r.device device) (by_device device) known
 
-pub opening_found : (held : List Fact) (register : List ℕ)
-    → option_and_then (opening_at (reverse held)) (latest_place (has_key RegisterOpenings (named register)) held) ≡ installed_at held register
-opening_found held register = latest_at as_opening (has_key RegisterOpenings (named register)) (λ (o : Opening). same o.register register) (at_register register) held
+pub opening_found : (known : List Fact) (register : List ℕ)
+    → option_and_then (opening_at (reverse known)) (latest_place (has_key RegisterOpenings (named register)) known) ≡ installed_at known register
+opening_found known register = latest_at as_opening (has_key RegisterOpenings (named register)) (λ (o : Opening). same o.register register) (at_register register) known
 
-pub openings_found : (held : List Fact) (register : List ℕ)
-    → filter_map (opening_at (reverse held)) (reverse (places_of (has_key RegisterOpenings (named register)) held)) ≡ installations_at held register
-openings_found held register =
-    all_at as_opening (has_key RegisterOpenings (named register)) (λ (o : Opening). same o.register register) (at_register register) held
+pub openings_found : (known : List Fact) (register : List ℕ)
+    → filter_map (opening_at (reverse known)) (reverse (places_of (has_key RegisterOpenings (named register)) known)) ≡ installations_at known register
+openings_found known register =
+    all_at as_opening (has_key RegisterOpenings (named register)) (λ (o : Opening). same o.register register) (at_register register) known
 
 and_then_both : {X Y Z : Type 0} (g : X → Option Y) (h : Y → Option Z) (o : Option X)
     → option_and_then (λ x. option_and_then h (g x)) o ≡ option_and_then h (option_and_then g o)
@@ -135,24 +135,24 @@ and_then_same : {X Y : Type 0} (g k : X → Option Y) → ((x : X) → g x ≡ k
 and_then_same g k is None = refl
 and_then_same g k is (Some x) = is x
 
-pub list_found : (held : List Fact) (device : List ℕ)
-    → option_and_then (list_at (reverse held)) (latest_place (has_key DeviceLists (named device)) held) ≡ list_of held device
-list_found held device =
+pub list_found : (known : List Fact) (device : List ℕ)
+    → option_and_then (list_at (reverse known)) (latest_place (has_key DeviceLists (named device)) known) ≡ list_of known device
+list_found known device =
     let chosen : DeviceList → Option Planned = λ put. if_some put.list.points put.list in
-    let put_at : ℕ → Option DeviceList = λ i. option_and_then as_list (slice_get (reverse held) i) in
-    and_then_same (list_at (reverse held)) (λ (i : ℕ). option_and_then chosen (put_at i)) (lists_at (reverse held)) (latest_place (has_key DeviceLists (named device)) held)
-    ∙ and_then_both put_at chosen (latest_place (has_key DeviceLists (named device)) held)
-    ∙ ap (option_and_then chosen) (latest_at as_list (has_key DeviceLists (named device)) (λ (put : DeviceList). same put.device device) (of_device device) held)
+    let put_at : ℕ → Option DeviceList = λ i. option_and_then as_list (slice_get (reverse known) i) in
+    and_then_same (list_at (reverse known)) (λ (i : ℕ). option_and_then chosen (put_at i)) (lists_at (reverse known)) (latest_place (has_key DeviceLists (named device)) known)
+    ∙ and_then_both put_at chosen (latest_place (has_key DeviceLists (named device)) known)
+    ∙ ap (option_and_then chosen) (latest_at as_list (has_key DeviceLists (named device)) (λ (put : DeviceList). same put.device device) (of_device device) known)
 
 repeats_at : (request : List ℕ) (facts : List Fact) (i : ℕ) → repeat_at request facts i ≡ option_map (as_repeat request) (option_and_then as_reply (slice_get facts i))
 repeats_at request facts i = map_and_then as_reply (as_repeat request) (slice_get facts i)
 
-pub repeat_found : (held : List Fact) (caller : List ℕ) (number : ℕ) (request : List ℕ)
-    → option_and_then (repeat_at request (reverse held)) (latest_place (has_key Replies (numbered caller number)) held) ≡ repeat_of held caller number request
-repeat_found held caller number request =
+pub repeat_found : (known : List Fact) (caller : List ℕ) (number : ℕ) (request : List ℕ)
+    → option_and_then (repeat_at request (reverse known)) (latest_place (has_key Replies (numbered caller number)) known) ≡ repeat_of known caller number request
+repeat_found known caller number request =
     let p : Fact → Bool = has_key Replies (numbered caller number) in
-    let reply_at : ℕ → Option Reply = λ i. option_and_then as_reply (slice_get (reverse held) i) in
-    and_then_same (repeat_at request (reverse held)) (λ (i : ℕ). option_map (as_repeat request) (reply_at i)) (repeats_at request (reverse held)) (latest_place p held)
-    ∙ map_and_then reply_at (as_repeat request) (latest_place p held)
+    let reply_at : ℕ → Option Reply = λ i. option_and_then as_reply (slice_get (reverse known) i) in
+    and_then_same (repeat_at request (reverse known)) (λ (i : ℕ). option_map (as_repeat request) (reply_at i)) (repeats_at request (reverse known)) (latest_place p known)
+    ∙ map_and_then reply_at (as_repeat request) (latest_place p known)
     ∙ ap (option_map (as_repeat request))
-    (latest_at as_reply p (λ (reply : Reply). same reply.caller caller && (reply.number == number)) (by_caller caller number) held)
+    (latest_at as_reply p (λ (reply : Reply). same reply.caller caller && (reply.number == number)) (by_caller caller number) known)

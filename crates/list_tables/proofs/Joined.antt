@@ -44,26 +44,26 @@ opening_there (f ∷ facts) zero o is =
     subst (λ (found : Option Opening). Contains (cons_option found (openings_in facts)) o) (sym is) (is_head o (openings_in facts) o refl)
 opening_there (f ∷ facts) (suc i) o is = behind_option (as_opening f) (openings_in facts) o (opening_there facts i o is)
 
-pub recorded_at : (held facts : List Fact) (place : ℕ) (o : Opening) → facts ≡ reverse held → opening_at facts place ≡ Some o → Contains (openings_in held) o
-recorded_at held facts place o is found =
-    of_turned (openings_in held) o
-    (subst (λ (os : List Opening). Contains os o) (filter_map_reverse as_opening held)
-    (opening_there (reverse held) place o (ap (λ (fs : List Fact). opening_at fs place) (sym is) ∙ found)))
+pub recorded_at : (known facts : List Fact) (place : ℕ) (o : Opening) → facts ≡ reverse known → opening_at facts place ≡ Some o → Contains (openings_in known) o
+recorded_at known facts place o is found =
+    of_turned (openings_in known) o
+    (subst (λ (os : List Opening). Contains os o) (filter_map_reverse as_opening known)
+    (opening_there (reverse known) place o (ap (λ (fs : List Fact). opening_at fs place) (sym is) ∙ found)))
 
 -- one place more
-pub next_place : (held facts : List Fact) (places : List ℕ) (i d : ℕ) → i < length places
-    → rows_at held facts (take (i + 1) places) ≡ rows_at held facts (take i places) ++ rows_at held facts (get_or places i d ∷ [])
-next_place held facts places i d less =
-    let rows : List Opening → List Share = flat_map (rows_of_opening held) in
+pub next_place : (known facts : List Fact) (places : List ℕ) (i d : ℕ) → i < length places
+    → rows_at known facts (take (i + 1) places) ≡ rows_at known facts (take i places) ++ rows_at known facts (get_or places i d ∷ [])
+next_place known facts places i d less =
+    let rows : List Opening → List Share = flat_map (rows_of_opening known) in
     let opened : List ℕ → List Opening = filter_map (opening_at facts) in
     ap (λ (ps : List ℕ). rows (opened ps)) (take_more places i d less)
     ∙ ap rows (filter_map-append (opening_at facts) (take i places) (get_or places i d ∷ []))
-    ∙ flat_map-append (rows_of_opening held) (opened (take i places)) (opened (get_or places i d ∷ []))
+    ∙ flat_map-append (rows_of_opening known) (opened (take i places)) (opened (get_or places i d ∷ []))
 
 -- the rows of an installation that is found at its place
-pub rows_there : (held facts : List Fact) (place : ℕ) (o : Opening) → AreLawful held → facts ≡ reverse held → opening_at facts place ≡ Some o
-    → rows_of_meter held o.meter ≡ rows_at held facts (place ∷ [])
-rows_there held facts place o lawful is there =
-    ap (rows_of_installed held) (found held o lawful (recorded_at held facts place o is there))
-    ∙ sym (append-nil (rows_of_opening held o))
-    ∙ ap (λ (found : Option Opening). flat_map (rows_of_opening held) (cons_option found [])) (sym there)
+pub rows_there : (known facts : List Fact) (place : ℕ) (o : Opening) → AreLawful known → facts ≡ reverse known → opening_at facts place ≡ Some o
+    → rows_of_meter known o.meter ≡ rows_at known facts (place ∷ [])
+rows_there known facts place o lawful is there =
+    ap (rows_of_installed known) (found known o lawful (recorded_at known facts place o is there))
+    ∙ sym (append-nil (rows_of_opening known o))
+    ∙ ap (λ (found : Option Opening). flat_map (rows_of_opening known) (cons_option found [])) (sym there)

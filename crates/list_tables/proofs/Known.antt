@@ -17,23 +17,23 @@ use Rattle.office_laws.specs.Ranges.{InstallationsAreInRange}
 use Rattle.office_laws.proofs.Journals.{found, well as well_installed}
 use Rattle.list_tables.specs.Accounts.{HasNumbers}
 
-pub record IsKnown (held : List Fact) (o : Opening) : Type 0 where
+pub record IsKnown (facts : List Fact) (o : Opening) : Type 0 where
   pub numbers : HasNumbers o
   pub well : IsWellInstalled (installed o)
-  pub fits : AreFitting (installed o) (journal_of held o.meter)
-  pub account : (rows : List EntryRow) → rows ≡ rows_of held o → HasAccount (installed o) (entries_in rows)
+  pub fits : AreFitting (installed o) (journal_of facts o.meter)
+  pub account : (rows : List EntryRow) → rows ≡ rows_of facts o → HasAccount (installed o) (entries_in rows)
 
-pub known : JournalsFit → JournalsAreKept → InstallationsAreInRange → (held : List Fact) (o : Opening) → AreLawful held → IsRecorded held o
-    → IsKnown held o
-known journals kept ranges held o lawful there =
-    let own = well_installed held o lawful (found held o lawful there) in
-    let range = (ranges held lawful).recorded o there in
-    let fits = journals held o lawful there in
+pub known : JournalsFit → JournalsAreKept → InstallationsAreInRange → (facts : List Fact) (o : Opening) → AreLawful facts → IsRecorded facts o
+    → IsKnown facts o
+known journals kept ranges facts o lawful there =
+    let own = well_installed facts o lawful (found facts o lawful there) in
+    let range = (ranges facts lawful).recorded o there in
+    let fits = journals facts o lawful there in
     record {
       numbers = record { range = range.range; ceiling = range.ceiling; raw = own.raw; scale = own.scale };
       well = own;
       fits = fits;
-      account = λ rows is. subst (λ (rs : List EntryRow). HasAccount (installed o) (entries_in rs)) (sym is) (kept (installed o) (journal_of held o.meter) own fits).account;
+      account = λ rows is. subst (λ (rs : List EntryRow). HasAccount (installed o) (entries_in rs)) (sym is) (kept (installed o) (journal_of facts o.meter) own fits).account;
     }
 
 -- what is found is there

@@ -87,43 +87,43 @@ begun old new opening key n is updates so = record {
 }
 
 -- a fact that changes nothing of an installation
-stays_so : (f : Fact) (held : List Fact) (meter : Option Meter) (found : Option Opening) → ((o : Opening) → found ≡ Some o → Stays f held o)
-    → IsMeter held meter found → IsMeter (f ∷ held) meter found
-stays_so f held None found law is = is
-stays_so f held (Some m) found law is =
+stays_so : (f : Fact) (facts : List Fact) (meter : Option Meter) (found : Option Opening) → ((o : Opening) → found ≡ Some o → Stays f facts o)
+    → IsMeter facts meter found → IsMeter (f ∷ facts) meter found
+stays_so f facts None found law is = is
+stays_so f facts (Some m) found law is =
     let s = law is.opening is.there in
     record { opening = is.opening; there = is.there; row = is.row ∙ sym s.installation; rows = is.rows ∙ sym s.rows }
 
 -- a reading that was held
-pub hold_comes : HoldsChangeNothing → (b : HeldReading) (held : List Fact) (meters : Meters) → AreMeters meters held → AreMeters meters (fact.Hold b ∷ held)
-hold_comes law b held meters are name =
-    stays_so (fact.Hold b) held (meter_at meters name) (opening_of held name) (λ o there. law b held o) (are name)
+pub hold_comes : HoldsChangeNothing → (b : HeldReading) (facts : List Fact) (meters : Meters) → AreMeters meters facts → AreMeters meters (fact.Hold b ∷ facts)
+hold_comes law b facts meters are name =
+    stays_so (fact.Hold b) facts (meter_at meters name) (opening_of facts name) (λ o there. law b facts o) (are name)
 
 -- meters that stand as they stood
-same_one : (held : List Fact) (found : Option Opening) (before after : Option Meter) → IfThere IsSame before after → IsMeter held before found → IsMeter held after found
-same_one held found None after gone is = subst (λ (m : Option Meter). IsMeter held m found) (sym gone) is
-same_one held found (Some m) after (n, there, so) is =
-    subst (λ (x : Option Meter). IsMeter held x found) (sym there)
+same_one : (facts : List Fact) (found : Option Opening) (before after : Option Meter) → IfThere IsSame before after → IsMeter facts before found → IsMeter facts after found
+same_one facts found None after gone is = subst (λ (m : Option Meter). IsMeter facts m found) (sym gone) is
+same_one facts found (Some m) after (n, there, so) is =
+    subst (λ (x : Option Meter). IsMeter facts x found) (sym there)
     (record { opening = is.opening; there = is.there; row = so.row ∙ is.row; rows = ap reverse so.rows ∙ is.rows })
 
-pub same_meters : (held : List Fact) (old new : Meters) (meter : List ℕ) → Changes meter (IfThere IsSame) old new → AreMeters old held → AreMeters new held
-same_meters held old new meter changes are name =
+pub same_meters : (facts : List Fact) (old new : Meters) (meter : List ℕ) → Changes meter (IfThere IsSame) old new → AreMeters old facts → AreMeters new facts
+same_meters facts old new meter changes are name =
     by_name meter name
-    (λ e is. subst (λ (nm : List ℕ). IsMeter held (meter_at new nm) (opening_of held nm)) is
-    (same_one held (opening_of held meter) (meter_at old meter) (meter_at new meter) changes.own (are meter)))
-    (λ apart. subst (λ (m : Option Meter). IsMeter held m (opening_of held name)) (sym (changes.others name apart)) (are name))
+    (λ e is. subst (λ (nm : List ℕ). IsMeter facts (meter_at new nm) (opening_of facts nm)) is
+    (same_one facts (opening_of facts meter) (meter_at old meter) (meter_at new meter) changes.own (are meter)))
+    (λ apart. subst (λ (m : Option Meter). IsMeter facts m (opening_of facts name)) (sym (changes.others name apart)) (are name))
 
 -- a line of a meter's journal, of which this becomes of its meter
-line_comes : OtherMetersStay → (f : Fact) (held : List Fact) (old new : Meters) (meter : List ℕ) (became : Option Meter → Option Meter → Type 0)
-    → ((name : List ℕ) → opening_of (f ∷ held) name ≡ opening_of held name) → ((name : List ℕ) → same meter name ≡ false → line_of name f ≡ None)
-    → Changes meter became old new → IsMeter (f ∷ held) (meter_at new meter) (opening_of held meter) → AreMeters old held → AreMeters new (f ∷ held)
-line_comes law f held old new meter became openings none changes own are name =
-    subst (IsMeter (f ∷ held) (meter_at new name)) (sym (openings name))
+line_comes : OtherMetersStay → (f : Fact) (facts : List Fact) (old new : Meters) (meter : List ℕ) (became : Option Meter → Option Meter → Type 0)
+    → ((name : List ℕ) → opening_of (f ∷ facts) name ≡ opening_of facts name) → ((name : List ℕ) → same meter name ≡ false → line_of name f ≡ None)
+    → Changes meter became old new → IsMeter (f ∷ facts) (meter_at new meter) (opening_of facts meter) → AreMeters old facts → AreMeters new (f ∷ facts)
+line_comes law f facts old new meter became openings none changes own are name =
+    subst (IsMeter (f ∷ facts) (meter_at new name)) (sym (openings name))
     (by_name meter name
-    (λ e is. subst (λ (nm : List ℕ). IsMeter (f ∷ held) (meter_at new nm) (opening_of held nm)) is own)
-    (λ apart. subst (λ (m : Option Meter). IsMeter (f ∷ held) m (opening_of held name)) (sym (changes.others name apart))
-    (stays_so f held (meter_at old name) (opening_of held name)
-    (λ o there. law f held o (none o.meter (ap (same meter) (named_so held name o there) ∙ apart))) (are name))))
+    (λ e is. subst (λ (nm : List ℕ). IsMeter (f ∷ facts) (meter_at new nm) (opening_of facts nm)) is own)
+    (λ apart. subst (λ (m : Option Meter). IsMeter (f ∷ facts) m (opening_of facts name)) (sym (changes.others name apart))
+    (stays_so f facts (meter_at old name) (opening_of facts name)
+    (λ o there. law f facts o (none o.meter (ap (same meter) (named_so facts name o there) ∙ apart))) (are name))))
 
 no_line : (line : journal.Line) (b : Bool) → b ≡ false → let o : Option journal.Line = cond b (Some line) None in o ≡ None
 no_line line b is = cond-false _ _ _ is
@@ -135,53 +135,53 @@ sound_so row h = record { range = h.range; ceiling = h.ceiling; raw = h.raw; sca
 booked_so : Last → Step → Result (Last × Step) TermFault
 booked_so last step = Ok (last, step)
 
-entered_one : EntriesMoveOn → InstallationsAreInRange → (held : List Fact) (b : BookedEntry) → AreLawful (fact.Entry b ∷ held) → (before after : Option Meter)
-    → IfThere (HasEntered b) before after → IsMeter held before (opening_of held b.meter) → IsMeter (fact.Entry b ∷ held) after (opening_of held b.meter)
+entered_one : EntriesMoveOn → InstallationsAreInRange → (facts : List Fact) (b : BookedEntry) → AreLawful (fact.Entry b ∷ facts) → (before after : Option Meter)
+    → IfThere (HasEntered b) before after → IsMeter facts before (opening_of facts b.meter) → IsMeter (fact.Entry b ∷ facts) after (opening_of facts b.meter)
 unfolding booked_so
-entered_one law ranges held b lawful None after gone is =
-    let fits : LineFits held b.meter (journal.Entered b.kind b.entry) = lawful.0.0 in
-    none_and_some (opening_of held b.meter) fits.opening is fits.there
-entered_one law ranges held b lawful (Some m) after (n, there, has) is =
+entered_one law ranges facts b lawful None after gone is =
+    let fits : LineFits facts b.meter (journal.Entered b.kind b.entry) = lawful.0.0 in
+    none_and_some (opening_of facts b.meter) fits.opening is fits.there
+entered_one law ranges facts b lawful (Some m) after (n, there, has) is =
     let o : Opening = is.opening in
-    let row : Installation = installation_of held o in
-    let moves = law b held o lawful is.there in
+    let row : Installation = installation_of facts o in
+    let moves = law b facts o lawful is.there in
     let sound : IsSound m.row =
-    subst IsSound (sym is.row) (sound_so row ((ranges held lawful.1).by_name b.meter row (ap (option_map (installation_of held)) is.there))) in
+    subst IsSound (sym is.row) (sound_so row ((ranges facts lawful.1).by_name b.meter row (ap (option_map (installation_of facts)) is.there))) in
     let may : MayEnter m.row b.entry =
     subst (λ (r : Installation). MayEnter r b.entry) (sym is.row)
     (moves.goes_on.booked ∙ ap (λ (l : Last). booked_so l (step_to o.range row.last b.entry)) moves.goes_on.last) in
-    let rows : List EntryRow = rows_of held o in
-    let stands : Stands (fact.Entry b ∷ held) n (opening_of held b.meter) = record {
+    let rows : List EntryRow = rows_of facts o in
+    let stands : Stands (fact.Entry b ∷ facts) n (opening_of facts b.meter) = record {
       opening = o;
       there = is.there;
       row = has.row sound may ∙ ap (moved_by b.kind b.entry) is.row ∙ sym moves.installation;
       rows = ap reverse has.rows ∙ reverse-append m.rows.items (journal.new_row (lists.latest_first m.rows.items) b.kind b.entry ∷ [])
           ∙ ap (λ (rs : List EntryRow). journal.new_row rs b.kind b.entry ∷ rs) is.rows ∙ sym moves.rows;
     } in
-    subst (λ (x : Option Meter). IsMeter (fact.Entry b ∷ held) x (opening_of held b.meter)) (sym there) stands
+    subst (λ (x : Option Meter). IsMeter (fact.Entry b ∷ facts) x (opening_of facts b.meter)) (sym there) stands
 
-pub entry_comes : EntriesMoveOn → OtherMetersStay → InstallationsAreInRange → (held : List Fact) (b : BookedEntry) (old new : Meters)
-    → AreLawful (fact.Entry b ∷ held) → Changes b.meter (IfThere (HasEntered b)) old new → AreMeters old held → AreMeters new (fact.Entry b ∷ held)
-entry_comes law others ranges held b old new lawful changes are =
-    line_comes others (fact.Entry b) held old new b.meter (IfThere (HasEntered b)) (λ name. refl)
+pub entry_comes : EntriesMoveOn → OtherMetersStay → InstallationsAreInRange → (facts : List Fact) (b : BookedEntry) (old new : Meters)
+    → AreLawful (fact.Entry b ∷ facts) → Changes b.meter (IfThere (HasEntered b)) old new → AreMeters old facts → AreMeters new (fact.Entry b ∷ facts)
+entry_comes law others ranges facts b old new lawful changes are =
+    line_comes others (fact.Entry b) facts old new b.meter (IfThere (HasEntered b)) (λ name. refl)
     (λ name apart. no_line (journal.Entered b.kind b.entry) (same b.meter name) apart) changes
-    (entered_one law ranges held b lawful (meter_at old b.meter) (meter_at new b.meter) changes.own (are b.meter)) are
+    (entered_one law ranges facts b lawful (meter_at old b.meter) (meter_at new b.meter) changes.own (are b.meter)) are
 
 -- a void
-struck_one : JournalsFit → JournalsAreKept → InstallationsAreInRange → (held : List Fact) (v : VoidedEntry) → AreLawful (fact.Void v ∷ held) → (before after : Option Meter)
-    → IfThere (HasStruck v.place) before after → IsMeter held before (opening_of held v.meter) → IsMeter (fact.Void v ∷ held) after (opening_of held v.meter)
-struck_one fit kept ranges held v lawful None after gone is =
-    let fits : LineFits held v.meter (journal.Voided v.place) = lawful.0.0 in
-    none_and_some (opening_of held v.meter) fits.opening is fits.there
-struck_one fit kept ranges held v lawful (Some m) after (n, there, has) is =
+struck_one : JournalsFit → JournalsAreKept → InstallationsAreInRange → (facts : List Fact) (v : VoidedEntry) → AreLawful (fact.Void v ∷ facts) → (before after : Option Meter)
+    → IfThere (HasStruck v.place) before after → IsMeter facts before (opening_of facts v.meter) → IsMeter (fact.Void v ∷ facts) after (opening_of facts v.meter)
+struck_one fit kept ranges facts v lawful None after gone is =
+    let fits : LineFits facts v.meter (journal.Voided v.place) = lawful.0.0 in
+    none_and_some (opening_of facts v.meter) fits.opening is fits.there
+struck_one fit kept ranges facts v lawful (Some m) after (n, there, has) is =
     let o : Opening = is.opening in
-    let later : List Fact = fact.Void v ∷ held in
+    let later : List Fact = fact.Void v ∷ facts in
     let line : journal.Line = journal.Voided v.place in
-    let lines : journal.Journal = journal_of held o.meter in
-    let behind : journal_of later o.meter ≡ line ∷ lines = line_behind held v.meter line o (named_so held v.meter o is.there) in
-    let fits : VoidFits (installed o) (rows_of held o) v.place = own_line held v.meter line o lawful.0.0 is.there in
-    let numbered : lists.AreNumbered (rows_of held o) = rows_numbered (opened o) lines in
-    let inside = row_inside v.place (rows_of held o) fits.around numbered fits.there in
+    let lines : journal.Journal = journal_of facts o.meter in
+    let behind : journal_of later o.meter ≡ line ∷ lines = line_behind facts v.meter line o (named_so facts v.meter o is.there) in
+    let fits : VoidFits (installed o) (rows_of facts o) v.place = own_line facts v.meter line o lawful.0.0 is.there in
+    let numbered : lists.AreNumbered (rows_of facts o) = rows_numbered (opened o) lines in
+    let inside = row_inside v.place (rows_of facts o) fits.around numbered fits.there in
     let opening_is : m.row.opening ≡ o = ap (λ (r : Installation). r.opening) is.row in
     let ended_is : m.row.ended ≡ is_ended later o = ap (λ (r : Installation). r.ended) is.row ∙ sym (ap journal.is_ended behind) in
     let low : 2 ≤ v.place = inside.0 in
@@ -191,12 +191,12 @@ struck_one fit kept ranges held v lawful (Some m) after (n, there, has) is =
     has.rows (subst lists.AreNumbered (sym is.rows) numbered) low high
     ∙ ap (λ (p : Opening). journal.with_void (opened p) v.place (lists.latest_first m.rows.items)) opening_is
     ∙ ap (journal.with_void (opened o) v.place) is.rows ∙ sym (ap (journal.rows_of (opened o)) behind) in
-    let recorded : IsRecorded later o = found_is_there (λ (x : Opening). same x.meter v.meter) (openings_in held) o is.there in
+    let recorded : IsRecorded later o = found_is_there (λ (x : Opening). same x.meter v.meter) (openings_in facts) o is.there in
     let all = known fit kept ranges later o lawful recorded in
     let numbers : HasNumbers m.row.opening = subst HasNumbers (sym opening_is) all.numbers in
     let account : HasAccount (installed m.row.opening) (journal.entries_in (lists.latest_first n.rows.items)) =
     subst (λ (p : Opening). HasAccount (installed p) (journal.entries_in (lists.latest_first n.rows.items))) (sym opening_is) (all.account (lists.latest_first n.rows.items) rows_are) in
-    let stands : Stands later n (opening_of held v.meter) = record {
+    let stands : Stands later n (opening_of facts v.meter) = record {
       opening = o;
       there = is.there;
       row = has.row numbers account
@@ -205,21 +205,21 @@ struck_one fit kept ranges held v lawful (Some m) after (n, there, has) is =
           ∙ ap (standing o (journal.entries_in (rows_of later o))) ended_is;
       rows = rows_are;
     } in
-    subst (λ (x : Option Meter). IsMeter later x (opening_of held v.meter)) (sym there) stands
+    subst (λ (x : Option Meter). IsMeter later x (opening_of facts v.meter)) (sym there) stands
 
-pub void_comes : OtherMetersStay → JournalsFit → JournalsAreKept → InstallationsAreInRange → (held : List Fact) (v : VoidedEntry) (old new : Meters)
-    → AreLawful (fact.Void v ∷ held) → Changes v.meter (IfThere (HasStruck v.place)) old new → AreMeters old held → AreMeters new (fact.Void v ∷ held)
-void_comes others fit kept ranges held v old new lawful changes are =
-    line_comes others (fact.Void v) held old new v.meter (IfThere (HasStruck v.place)) (λ name. refl)
+pub void_comes : OtherMetersStay → JournalsFit → JournalsAreKept → InstallationsAreInRange → (facts : List Fact) (v : VoidedEntry) (old new : Meters)
+    → AreLawful (fact.Void v ∷ facts) → Changes v.meter (IfThere (HasStruck v.place)) old new → AreMeters old facts → AreMeters new (fact.Void v ∷ facts)
+void_comes others fit kept ranges facts v old new lawful changes are =
+    line_comes others (fact.Void v) facts old new v.meter (IfThere (HasStruck v.place)) (λ name. refl)
     (λ name apart. no_line (journal.Voided v.place) (same v.meter name) apart) changes
-    (struck_one fit kept ranges held v lawful (meter_at old v.meter) (meter_at new v.meter) changes.own (are v.meter)) are
+    (struck_one fit kept ranges facts v lawful (meter_at old v.meter) (meter_at new v.meter) changes.own (are v.meter)) are
 
 -- an opening
-pub opening_comes : OpeningsBegin → OtherMetersStay → (held : List Fact) (o : Opening) (old new : Meters) → AreLawful (fact.Opening o ∷ held)
-    → Changes o.meter (Begins o) old new → AreMeters old held → AreMeters new (fact.Opening o ∷ held)
-opening_comes law others held o old new lawful changes are name =
-    let later : List Fact = fact.Opening o ∷ held in
-    let begins = law o held lawful in
+pub opening_comes : OpeningsBegin → OtherMetersStay → (facts : List Fact) (o : Opening) (old new : Meters) → AreLawful (fact.Opening o ∷ facts)
+    → Changes o.meter (Begins o) old new → AreMeters old facts → AreMeters new (fact.Opening o ∷ facts)
+opening_comes law others facts o old new lawful changes are name =
+    let later : List Fact = fact.Opening o ∷ facts in
+    let begins = law o facts lawful in
     by_name o.meter name
     (λ e is.
     let n : Meter = changes.own.0 in
@@ -230,16 +230,16 @@ opening_comes law others held o old new lawful changes are name =
     (subst (λ (x : Option Meter). IsMeter later x (opening_of later o.meter)) (sym changes.own.1) stands))
     (λ apart.
     subst (IsMeter later (meter_at new name)) (sym (cond-false _ _ _ apart))
-    (subst (λ (x : Option Meter). IsMeter later x (opening_of held name)) (sym (changes.others name apart))
-    (stays_so (fact.Opening o) held (meter_at old name) (opening_of held name) (λ p there. others (fact.Opening o) held p refl) (are name))))
+    (subst (λ (x : Option Meter). IsMeter later x (opening_of facts name)) (sym (changes.others name apart))
+    (stays_so (fact.Opening o) facts (meter_at old name) (opening_of facts name) (λ p there. others (fact.Opening o) facts p refl) (are name))))
 
 -- the meter that is found under a name
-pub stands_at : (held : List Fact) (meters : Meters) (name : List ℕ) (key : Key) (m : Meter) → key ≡ named name → Some m ≡ get_by (key_cmp key) meters.meters
-    → AreMeters meters held → Stands held m (opening_of held name)
-stands_at held meters name key m is there are =
-    subst (λ (o : Option Meter). IsMeter held o (opening_of held name)) (at_key meters name key is ∙ sym there) (are name)
+pub stands_at : (facts : List Fact) (meters : Meters) (name : List ℕ) (key : Key) (m : Meter) → key ≡ named name → Some m ≡ get_by (key_cmp key) meters.meters
+    → AreMeters meters facts → Stands facts m (opening_of facts name)
+stands_at facts meters name key m is there are =
+    subst (λ (o : Option Meter). IsMeter facts o (opening_of facts name)) (at_key meters name key is ∙ sym there) (are name)
 
-pub none_at : (held : List Fact) (meters : Meters) (name : List ℕ) (key : Key) → key ≡ named name → None ≡ get_by (key_cmp key) meters.meters
-    → AreMeters meters held → opening_of held name ≡ None
-none_at held meters name key is there are =
-    subst (λ (o : Option Meter). IsMeter held o (opening_of held name)) (at_key meters name key is ∙ sym there) (are name)
+pub none_at : (facts : List Fact) (meters : Meters) (name : List ℕ) (key : Key) → key ≡ named name → None ≡ get_by (key_cmp key) meters.meters
+    → AreMeters meters facts → opening_of facts name ≡ None
+none_at facts meters name key is there are =
+    subst (λ (o : Option Meter). IsMeter facts o (opening_of facts name)) (at_key meters name key is ∙ sym there) (are name)

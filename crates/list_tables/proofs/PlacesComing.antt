@@ -13,12 +13,12 @@ use Rattle.list_tables.specs.Places.{key_in, is_key, has_key, places_of, under}
 use Rattle.list_tables.proofs.SameKeys.{is_eq-key_cmp, one_key}
 
 -- a fact that is looked up by a key stands under it and no other
-pub place_comes : (kind : Kind) (held : List Fact) (f : Fact) (key : Key) (place : ℕ) (before after : Key → List ℕ) → length held ≡ place → key_in kind f ≡ Some key
-    → ((other : Key) → before other ≡ reverse (places_of (has_key kind other) held))
+pub place_comes : (kind : Kind) (known : List Fact) (f : Fact) (key : Key) (place : ℕ) (before after : Key → List ℕ) → length known ≡ place → key_in kind f ≡ Some key
+    → ((other : Key) → before other ≡ reverse (places_of (has_key kind other) known))
     → ((other : Key) → after other ≡ cond (is_eq (key_cmp key other)) (before key ++ place ∷ []) (before other))
-    → (other : Key) → after other ≡ reverse (places_of (has_key kind other) (f ∷ held))
-place_comes kind held f key place before after long own says adds other =
-    let places : List ℕ = places_of (has_key kind other) held in
+    → (other : Key) → after other ≡ reverse (places_of (has_key kind other) (f ∷ known))
+place_comes kind known f key place before after long own says adds other =
+    let places : List ℕ = places_of (has_key kind other) known in
     let has : has_key kind other f ≡ is_same_key key other = ap (is_key other) own in
     let test : is_eq (key_cmp key other) ≡ is_same_key key other = is_eq-key_cmp key other in
     elim (cases_Bool (is_same_key key other)) [
@@ -26,7 +26,7 @@ place_comes kind held f key place before after long own says adds other =
           adds other ∙ cond-true _ _ _ (test ∙ e)
           ∙ ap (λ (ns : List ℕ). ns ++ place ∷ []) (ap before (one_key key other e) ∙ says other)
           ∙ ap (λ (n : ℕ). reverse places ++ n ∷ []) (sym long)
-          ∙ sym (ap reverse (cond-true _ _ _ (has ∙ e)) ∙ reverse_cons (length held) places)
+          ∙ sym (ap reverse (cond-true _ _ _ (has ∙ e)) ∙ reverse_cons (length known) places)
       | inr e ↦
           adds other ∙ cond-false _ _ _ (test ∙ e) ∙ says other
           ∙ sym (ap reverse (cond-false _ _ _ (has ∙ e)))

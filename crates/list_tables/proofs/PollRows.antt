@@ -22,18 +22,18 @@ use Rattle.office_laws.proofs.Lists.{reverse_cons, get_last, get_others}
 use Rattle.list_tables.specs.Polls.{row_with_end, polls_but}
 
 -- polls are numbered from 1 on
-pub numbered : (held : List Fact) → AreLawful held → AreNumbered (polls_in held)
+pub numbered : (known : List Fact) → AreLawful known → AreNumbered (polls_in known)
 numbered [] h = tt
-numbered (fact.Device d ∷ held) h = numbered held h.1
-numbered (fact.List l ∷ held) h = numbered held h.1
-numbered (fact.Register r ∷ held) h = numbered held h.1
-numbered (fact.Opening o ∷ held) h = numbered held h.1
-numbered (fact.Entry b ∷ held) h = numbered held h.1
-numbered (fact.Hold b ∷ held) h = numbered held h.1
-numbered (fact.Void v ∷ held) h = numbered held h.1
-numbered (fact.Poll p ∷ held) h = let fits : PollFits held p = h.0.0 in (fits.number, numbered held h.1)
-numbered (fact.Outcome e ∷ held) h = numbered held h.1
-numbered (fact.Reply r ∷ held) h = numbered held h.1
+numbered (fact.Device d ∷ known) h = numbered known h.1
+numbered (fact.List l ∷ known) h = numbered known h.1
+numbered (fact.Register r ∷ known) h = numbered known h.1
+numbered (fact.Opening o ∷ known) h = numbered known h.1
+numbered (fact.Entry b ∷ known) h = numbered known h.1
+numbered (fact.Hold b ∷ known) h = numbered known h.1
+numbered (fact.Void v ∷ known) h = numbered known h.1
+numbered (fact.Poll p ∷ known) h = let fits : PollFits known p = h.0.0 in (fits.number, numbered known h.1)
+numbered (fact.Outcome e ∷ known) h = numbered known h.1
+numbered (fact.Reply r ∷ known) h = numbered known h.1
 
 differ : (a b : ℕ) → a ≡ b → (a == b) ≡ false → ⊥
 differ a b is apart = grind (arith, nat_tests)
@@ -51,56 +51,56 @@ number_within n (p ∷ polls) h there =
 
 -- no outcome is there for a poll that isn't
 abbrev pub NoEnd : List Fact → ℕ → Type 0
-NoEnd held n = (ends_of held n ≡ []) × (end_of held n ≡ None)
+NoEnd known n = (ends_of known n ≡ []) × (end_of known n ≡ None)
 
-no_end_past : (held : List Fact) (e : EndedPoll) (n : ℕ) → (e.poll == n) ≡ false → NoEnd held n → NoEnd (fact.Outcome e ∷ held) n
-no_end_past held e n other none = (cond-false _ _ _ other ∙ none.0, cond-false _ _ _ other ∙ none.1)
+no_end_past : (known : List Fact) (e : EndedPoll) (n : ℕ) → (e.poll == n) ≡ false → NoEnd known n → NoEnd (fact.Outcome e ∷ known) n
+no_end_past known e n other none = (cond-false _ _ _ other ∙ none.0, cond-false _ _ _ other ∙ none.1)
 
-pub no_end_beyond : (held : List Fact) (n : ℕ) → AreLawful held → length (polls_in held) < n → NoEnd held n
+pub no_end_beyond : (known : List Fact) (n : ℕ) → AreLawful known → length (polls_in known) < n → NoEnd known n
 no_end_beyond [] n h beyond = (refl, refl)
-no_end_beyond (fact.Device d ∷ held) n h beyond = no_end_beyond held n h.1 beyond
-no_end_beyond (fact.List l ∷ held) n h beyond = no_end_beyond held n h.1 beyond
-no_end_beyond (fact.Register r ∷ held) n h beyond = no_end_beyond held n h.1 beyond
-no_end_beyond (fact.Opening o ∷ held) n h beyond = no_end_beyond held n h.1 beyond
-no_end_beyond (fact.Entry b ∷ held) n h beyond = no_end_beyond held n h.1 beyond
-no_end_beyond (fact.Hold b ∷ held) n h beyond = no_end_beyond held n h.1 beyond
-no_end_beyond (fact.Void v ∷ held) n h beyond = no_end_beyond held n h.1 beyond
-no_end_beyond (fact.Poll p ∷ held) n h beyond = no_end_beyond held n h.1 (omega (arith, beyond))
-no_end_beyond (fact.Outcome e ∷ held) n h beyond =
-    let fits : EndFits held e = h.0.0 in
-    let within = number_within e.poll (polls_in held) (numbered held h.1) fits.started in
-    no_end_past held e n (ne_eqb e.poll n (λ is. omega (arith, within.1))) (no_end_beyond held n h.1 beyond)
-no_end_beyond (fact.Reply r ∷ held) n h beyond = no_end_beyond held n h.1 beyond
+no_end_beyond (fact.Device d ∷ known) n h beyond = no_end_beyond known n h.1 beyond
+no_end_beyond (fact.List l ∷ known) n h beyond = no_end_beyond known n h.1 beyond
+no_end_beyond (fact.Register r ∷ known) n h beyond = no_end_beyond known n h.1 beyond
+no_end_beyond (fact.Opening o ∷ known) n h beyond = no_end_beyond known n h.1 beyond
+no_end_beyond (fact.Entry b ∷ known) n h beyond = no_end_beyond known n h.1 beyond
+no_end_beyond (fact.Hold b ∷ known) n h beyond = no_end_beyond known n h.1 beyond
+no_end_beyond (fact.Void v ∷ known) n h beyond = no_end_beyond known n h.1 beyond
+no_end_beyond (fact.Poll p ∷ known) n h beyond = no_end_beyond known n h.1 (omega (arith, beyond))
+no_end_beyond (fact.Outcome e ∷ known) n h beyond =
+    let fits : EndFits known e = h.0.0 in
+    let within = number_within e.poll (polls_in known) (numbered known h.1) fits.started in
+    no_end_past known e n (ne_eqb e.poll n (λ is. omega (arith, within.1))) (no_end_beyond known n h.1 beyond)
+no_end_beyond (fact.Reply r ∷ known) n h beyond = no_end_beyond known n h.1 beyond
 
 abbrev pub row_so : Poll → Option EndedPoll → PollRow
 row_so poll ended = record { poll = poll; ended = ended }
 
 -- the next poll
-pub poll_comes : (held : List Fact) (p : Poll) → AreLawful (fact.Poll p ∷ held)
-    → map (poll_row held) (reverse (polls_in held)) ++ row_so p None ∷ [] ≡ map (poll_row (fact.Poll p ∷ held)) (reverse (p ∷ polls_in held))
-poll_comes held p h =
-    let fits : PollFits held p = h.0.0 in
-    let none = no_end_beyond held p.number h.1 (omega (arith, fits.number)) in
-    ap (λ (o : Option EndedPoll). map (poll_row held) (reverse (polls_in held)) ++ row_so p o ∷ []) (sym none.1)
-    ∙ sym (ap (map (poll_row held)) (reverse_cons p (polls_in held)) ∙ map-append (poll_row held) (reverse (polls_in held)) (p ∷ []))
+pub poll_comes : (known : List Fact) (p : Poll) → AreLawful (fact.Poll p ∷ known)
+    → map (poll_row known) (reverse (polls_in known)) ++ row_so p None ∷ [] ≡ map (poll_row (fact.Poll p ∷ known)) (reverse (p ∷ polls_in known))
+poll_comes known p h =
+    let fits : PollFits known p = h.0.0 in
+    let none = no_end_beyond known p.number h.1 (omega (arith, fits.number)) in
+    ap (λ (o : Option EndedPoll). map (poll_row known) (reverse (polls_in known)) ++ row_so p o ∷ []) (sym none.1)
+    ∙ sym (ap (map (poll_row known)) (reverse_cons p (polls_in known)) ∙ map-append (poll_row known) (reverse (polls_in known)) (p ∷ []))
 
 -- how a poll ended
-row_past : (held : List Fact) (e : EndedPoll) (p : Poll) → (e.poll == p.number) ≡ false → poll_row (fact.Outcome e ∷ held) p ≡ poll_row held p
-row_past held e p other = ap (row_so p) (cond-false _ _ _ other)
+row_past : (known : List Fact) (e : EndedPoll) (p : Poll) → (e.poll == p.number) ≡ false → poll_row (fact.Outcome e ∷ known) p ≡ poll_row known p
+row_past known e p other = ap (row_so p) (cond-false _ _ _ other)
 
-row_there : (held : List Fact) (e : EndedPoll) (p : Poll) → (e.poll == p.number) ≡ true → poll_row (fact.Outcome e ∷ held) p ≡ row_with_end e (poll_row held p)
-row_there held e p own = ap (row_so p) (cond-true _ _ _ own)
+row_there : (known : List Fact) (e : EndedPoll) (p : Poll) → (e.poll == p.number) ≡ true → poll_row (fact.Outcome e ∷ known) p ≡ row_with_end e (poll_row known p)
+row_there known e p own = ap (row_so p) (cond-true _ _ _ own)
 
-rows_past : (held : List Fact) (e : EndedPoll) (polls : List Poll) → AreNumbered polls → length polls < e.poll
-    → map (poll_row (fact.Outcome e ∷ held)) (reverse polls) ≡ map (poll_row held) (reverse polls)
-rows_past held e [] h beyond = refl
-rows_past held e (p ∷ polls) h beyond =
-    let one = row_past held e p (ne_eqb e.poll p.number (λ is. omega (arith, h.0))) in
-    ap (map (poll_row (fact.Outcome e ∷ held))) (reverse_cons p polls)
-    ∙ map-append (poll_row (fact.Outcome e ∷ held)) (reverse polls) (p ∷ [])
-    ∙ ap (λ (rows : List PollRow). rows ++ poll_row (fact.Outcome e ∷ held) p ∷ []) (rows_past held e polls h.1 (omega (arith, h.0)))
-    ∙ ap (λ (row : PollRow). map (poll_row held) (reverse polls) ++ row ∷ []) one
-    ∙ sym (ap (map (poll_row held)) (reverse_cons p polls) ∙ map-append (poll_row held) (reverse polls) (p ∷ []))
+rows_past : (known : List Fact) (e : EndedPoll) (polls : List Poll) → AreNumbered polls → length polls < e.poll
+    → map (poll_row (fact.Outcome e ∷ known)) (reverse polls) ≡ map (poll_row known) (reverse polls)
+rows_past known e [] h beyond = refl
+rows_past known e (p ∷ polls) h beyond =
+    let one = row_past known e p (ne_eqb e.poll p.number (λ is. omega (arith, h.0))) in
+    ap (map (poll_row (fact.Outcome e ∷ known))) (reverse_cons p polls)
+    ∙ map-append (poll_row (fact.Outcome e ∷ known)) (reverse polls) (p ∷ [])
+    ∙ ap (λ (rows : List PollRow). rows ++ poll_row (fact.Outcome e ∷ known) p ∷ []) (rows_past known e polls h.1 (omega (arith, h.0)))
+    ∙ ap (λ (row : PollRow). map (poll_row known) (reverse polls) ++ row ∷ []) one
+    ∙ sym (ap (map (poll_row known)) (reverse_cons p polls) ∙ map-append (poll_row known) (reverse polls) (p ∷ []))
 
 -- where the last of some rows ends, and where another
 abbrev ended_in_place : EndedPoll → PollRow → List PollRow → ℕ → List PollRow
@@ -119,76 +119,76 @@ earlier_ends e d rows row i less =
     ap (λ (r : PollRow). slice_set (rows ++ row ∷ []) i (row_with_end e r)) (get_or_append_left rows (row ∷ []) d i less)
     ∙ set-append_left rows (row ∷ []) i _ less
 
-rows_length : (held : List Fact) (polls : List Poll) → length (map (poll_row held) (reverse polls)) ≡ length polls
-rows_length held polls = length-map (reverse polls) (poll_row held) ∙ length-reverse polls
+rows_length : (known : List Fact) (polls : List Poll) → length (map (poll_row known) (reverse polls)) ≡ length polls
+rows_length known polls = length-map (reverse polls) (poll_row known) ∙ length-reverse polls
 
-rows_cons : (held : List Fact) (p : Poll) (polls : List Poll)
-    → map (poll_row held) (reverse (p ∷ polls)) ≡ map (poll_row held) (reverse polls) ++ poll_row held p ∷ []
-rows_cons held p polls = ap (map (poll_row held)) (reverse_cons p polls) ∙ map-append (poll_row held) (reverse polls) (p ∷ [])
+rows_cons : (known : List Fact) (p : Poll) (polls : List Poll)
+    → map (poll_row known) (reverse (p ∷ polls)) ≡ map (poll_row known) (reverse polls) ++ poll_row known p ∷ []
+rows_cons known p polls = ap (map (poll_row known)) (reverse_cons p polls) ∙ map-append (poll_row known) (reverse polls) (p ∷ [])
 
-end_comes_to : (held : List Fact) (e : EndedPoll) (polls : List Poll) (d : PollRow) → AreNumbered polls → 1 ≤ e.poll → e.poll ≤ length polls
-    → ended_in_place e d (map (poll_row held) (reverse polls)) (e.poll - 1) ≡ map (poll_row (fact.Outcome e ∷ held)) (reverse polls)
-end_comes_to held e [] d h low high = absurd (omega (arith, low, high))
-end_comes_to held e (p ∷ polls) d h low high =
-    let rows : List PollRow = map (poll_row held) (reverse polls) in
-    let long : length rows ≡ length polls = rows_length held polls in
-    ap (λ (rs : List PollRow). ended_in_place e d rs (e.poll - 1)) (rows_cons held p polls)
+end_comes_to : (known : List Fact) (e : EndedPoll) (polls : List Poll) (d : PollRow) → AreNumbered polls → 1 ≤ e.poll → e.poll ≤ length polls
+    → ended_in_place e d (map (poll_row known) (reverse polls)) (e.poll - 1) ≡ map (poll_row (fact.Outcome e ∷ known)) (reverse polls)
+end_comes_to known e [] d h low high = absurd (omega (arith, low, high))
+end_comes_to known e (p ∷ polls) d h low high =
+    let rows : List PollRow = map (poll_row known) (reverse polls) in
+    let long : length rows ≡ length polls = rows_length known polls in
+    ap (λ (rs : List PollRow). ended_in_place e d rs (e.poll - 1)) (rows_cons known p polls)
     ∙ elim (cases_Bool (e.poll == p.number)) [
       | inl own ↦
           let is : e.poll ≡ p.number = eqb-true _ _ own in
-          last_ends e d rows (poll_row held p) (e.poll - 1) (omega (arith, long, h.0, is))
-          ∙ ap (λ (rs : List PollRow). rs ++ row_with_end e (poll_row held p) ∷ []) (sym (rows_past held e polls h.1 (omega (arith, h.0, is))))
-          ∙ ap (λ (row : PollRow). map (poll_row (fact.Outcome e ∷ held)) (reverse polls) ++ row ∷ []) (sym (row_there held e p own))
+          last_ends e d rows (poll_row known p) (e.poll - 1) (omega (arith, long, h.0, is))
+          ∙ ap (λ (rs : List PollRow). rs ++ row_with_end e (poll_row known p) ∷ []) (sym (rows_past known e polls h.1 (omega (arith, h.0, is))))
+          ∙ ap (λ (row : PollRow). map (poll_row (fact.Outcome e ∷ known)) (reverse polls) ++ row ∷ []) (sym (row_there known e p own))
       | inr other ↦
           let ne : e.poll ≡ p.number → ⊥ = λ is. differ e.poll p.number is other in
-          earlier_ends e d rows (poll_row held p) (e.poll - 1) (omega (arith, long, h.0, low, high, ne))
-          ∙ ap (λ (rs : List PollRow). rs ++ poll_row held p ∷ []) (end_comes_to held e polls d h.1 low (omega (arith, h.0, high, ne)))
-          ∙ ap (λ (row : PollRow). map (poll_row (fact.Outcome e ∷ held)) (reverse polls) ++ row ∷ []) (sym (row_past held e p other))
+          earlier_ends e d rows (poll_row known p) (e.poll - 1) (omega (arith, long, h.0, low, high, ne))
+          ∙ ap (λ (rs : List PollRow). rs ++ poll_row known p ∷ []) (end_comes_to known e polls d h.1 low (omega (arith, h.0, high, ne)))
+          ∙ ap (λ (row : PollRow). map (poll_row (fact.Outcome e ∷ known)) (reverse polls) ++ row ∷ []) (sym (row_past known e p other))
     ]
-    ∙ sym (rows_cons (fact.Outcome e ∷ held) p polls)
+    ∙ sym (rows_cons (fact.Outcome e ∷ known) p polls)
 
 first_of : {X : Type 0} (xs : List X) → 0 < length xs → X
 first_of [] h = absurd (omega arith)
 first_of (x ∷ xs) h = x
 
-pub end_comes : (held : List Fact) (e : EndedPoll) (rows after : List PollRow) → AreLawful (fact.Outcome e ∷ held)
-    → rows ≡ map (poll_row held) (reverse (polls_in held))
+pub end_comes : (known : List Fact) (e : EndedPoll) (rows after : List PollRow) → AreLawful (fact.Outcome e ∷ known)
+    → rows ≡ map (poll_row known) (reverse (polls_in known))
     → (1 ≤ e.poll → e.poll ≤ length rows → (d : PollRow) → after ≡ slice_set rows (e.poll - 1) (row_with_end e (get_or rows (e.poll - 1) d)))
-    → after ≡ map (poll_row (fact.Outcome e ∷ held)) (reverse (polls_in held))
-end_comes held e rows after h is ends =
-    let fits : EndFits held e = h.0.0 in
-    let within = number_within e.poll (polls_in held) (numbered held h.1) fits.started in
-    let d : PollRow = poll_row held (first_of (polls_in held) (omega (arith, within.0, within.1))) in
-    ends within.0 (omega (arith, within.1, ap length is, rows_length held (polls_in held))) d
+    → after ≡ map (poll_row (fact.Outcome e ∷ known)) (reverse (polls_in known))
+end_comes known e rows after h is ends =
+    let fits : EndFits known e = h.0.0 in
+    let within = number_within e.poll (polls_in known) (numbered known h.1) fits.started in
+    let d : PollRow = poll_row known (first_of (polls_in known) (omega (arith, within.0, within.1))) in
+    ends within.0 (omega (arith, within.1, ap length is, rows_length known (polls_in known))) d
     ∙ ap (λ (rs : List PollRow). ended_in_place e d rs (e.poll - 1)) is
-    ∙ end_comes_to held e (polls_in held) d (numbered held h.1) within.0 within.1
+    ∙ end_comes_to known e (polls_in known) d (numbered known h.1) within.0 within.1
 
 -- the row at a number
-pub row_at_number : (held : List Fact) (polls : List Poll) (n : ℕ) → AreNumbered polls → 1 ≤ n
-    → slice_get (map (poll_row held) (reverse polls)) (n - 1) ≡ option_map (poll_row held) (find (λ (poll : Poll). poll.number == n) polls)
-row_at_number held [] n h low = refl
-row_at_number held (p ∷ polls) n h low =
-    let rows : List PollRow = map (poll_row held) (reverse polls) in
-    let long : length rows ≡ length polls = rows_length held polls in
-    ap (λ (rs : List PollRow). slice_get rs (n - 1)) (rows_cons held p polls)
+pub row_at_number : (known : List Fact) (polls : List Poll) (n : ℕ) → AreNumbered polls → 1 ≤ n
+    → slice_get (map (poll_row known) (reverse polls)) (n - 1) ≡ option_map (poll_row known) (find (λ (poll : Poll). poll.number == n) polls)
+row_at_number known [] n h low = refl
+row_at_number known (p ∷ polls) n h low =
+    let rows : List PollRow = map (poll_row known) (reverse polls) in
+    let long : length rows ≡ length polls = rows_length known polls in
+    ap (λ (rs : List PollRow). slice_get rs (n - 1)) (rows_cons known p polls)
     ∙ elim (cases_Bool (p.number == n)) [
       | inl own ↦
           let is : p.number ≡ n = eqb-true _ _ own in
-          get_last rows (poll_row held p) (n - 1) (omega (arith, long, h.0, is))
-          ∙ ap (option_map (poll_row held)) (sym (cond-true _ _ _ own))
+          get_last rows (poll_row known p) (n - 1) (omega (arith, long, h.0, is))
+          ∙ ap (option_map (poll_row known)) (sym (cond-true _ _ _ own))
       | inr other ↦
-          get_others rows (poll_row held p) (n - 1) (λ at. differ p.number n (omega (arith, long, h.0, low, at)) other)
-          ∙ row_at_number held polls n h.1 low
-          ∙ ap (option_map (poll_row held)) (sym (cond-false _ _ _ other))
+          get_others rows (poll_row known p) (n - 1) (λ at. differ p.number n (omega (arith, long, h.0, low, at)) other)
+          ∙ row_at_number known polls n h.1 low
+          ∙ ap (option_map (poll_row known)) (sym (cond-false _ _ _ other))
     ]
 
-pub no_row_at_zero : (held : List Fact) → AreLawful held → poll_row_of held 0 ≡ None
-no_row_at_zero held h = zero_at (polls_in held) (numbered held h)
+pub no_row_at_zero : (known : List Fact) → AreLawful known → poll_row_of known 0 ≡ None
+no_row_at_zero known h = zero_at (polls_in known) (numbered known h)
   where
-    zero_at : (polls : List Poll) → AreNumbered polls → option_map (poll_row held) (find (λ (poll : Poll). poll.number == 0) polls) ≡ None
+    zero_at : (polls : List Poll) → AreNumbered polls → option_map (poll_row known) (find (λ (poll : Poll). poll.number == 0) polls) ≡ None
     zero_at [] so = refl
     zero_at (p ∷ polls) so =
-        ap (option_map (poll_row held)) (cond-false _ _ _ (ne_eqb p.number 0 (λ is. omega (arith, so.0)))) ∙ zero_at polls so.1
+        ap (option_map (poll_row known)) (cond-false _ _ _ (ne_eqb p.number 0 (λ is. omega (arith, so.0)))) ∙ zero_at polls so.1
 
 -- the polls that wait
 and_false : (b : Bool) → (b && false) ≡ false
@@ -215,32 +215,32 @@ filtered_twice p q r both [] = refl
 filtered_twice p q r both (x ∷ xs) =
     filtered_step q x (filter p xs) (filter r xs) (p x) (q x) (r x) (both x) refl (filtered_twice p q r both xs)
 
-pub ends_pending : (held : List Fact) (e : EndedPoll) → polls_but e.poll (pending_in held) ≡ pending_in (fact.Outcome e ∷ held)
-ends_pending held e =
-    filtered_twice (λ (poll : Poll). length (ends_of held poll.number) == 0) (λ (poll : Poll). not (e.poll == poll.number))
-    (λ (poll : Poll). length (ends_of (fact.Outcome e ∷ held) poll.number) == 0)
-    (λ (poll : Poll). still_waits (e.poll == poll.number) e (ends_of held poll.number)) (reverse (polls_in held))
+pub ends_pending : (known : List Fact) (e : EndedPoll) → polls_but e.poll (pending_in known) ≡ pending_in (fact.Outcome e ∷ known)
+ends_pending known e =
+    filtered_twice (λ (poll : Poll). length (ends_of known poll.number) == 0) (λ (poll : Poll). not (e.poll == poll.number))
+    (λ (poll : Poll). length (ends_of (fact.Outcome e ∷ known) poll.number) == 0)
+    (λ (poll : Poll). still_waits (e.poll == poll.number) e (ends_of known poll.number)) (reverse (polls_in known))
 
-pub polls_wait : (held : List Fact) (p : Poll) → AreLawful (fact.Poll p ∷ held) → pending_in held ++ p ∷ [] ≡ pending_in (fact.Poll p ∷ held)
-polls_wait held p h =
-    let fits : PollFits held p = h.0.0 in
-    let none = no_end_beyond held p.number h.1 (omega (arith, fits.number)) in
-    let waits : Poll → Bool = λ poll. length (ends_of held poll.number) == 0 in
+pub polls_wait : (known : List Fact) (p : Poll) → AreLawful (fact.Poll p ∷ known) → pending_in known ++ p ∷ [] ≡ pending_in (fact.Poll p ∷ known)
+polls_wait known p h =
+    let fits : PollFits known p = h.0.0 in
+    let none = no_end_beyond known p.number h.1 (omega (arith, fits.number)) in
+    let waits : Poll → Bool = λ poll. length (ends_of known poll.number) == 0 in
     let passes : waits p ≡ true = ap (λ (es : List EndedPoll). length es == 0) none.0 in
     sym (
-    ap (filter waits) (reverse_cons p (polls_in held)) ∙ filter-append waits (reverse (polls_in held)) (p ∷ [])
-    ∙ ap (λ (ps : List Poll). filter waits (reverse (polls_in held)) ++ ps) (cond-true _ _ _ passes)
+    ap (filter waits) (reverse_cons p (polls_in known)) ∙ filter-append waits (reverse (polls_in known)) (p ∷ [])
+    ∙ ap (λ (ps : List Poll). filter waits (reverse (polls_in known)) ++ ps) (cond-true _ _ _ passes)
     )
 
 -- what is looked up by number
-pub row_found : (held : List Fact) (rows : List PollRow) (n : ℕ) → AreLawful held → rows ≡ map (poll_row held) (reverse (polls_in held)) → 1 ≤ n
-    → slice_get rows (n - 1) ≡ poll_row_of held n
-row_found held rows n h is low =
-    ap (λ (rs : List PollRow). slice_get rs (n - 1)) is ∙ row_at_number held (polls_in held) n (numbered held h) low
+pub row_found : (known : List Fact) (rows : List PollRow) (n : ℕ) → AreLawful known → rows ≡ map (poll_row known) (reverse (polls_in known)) → 1 ≤ n
+    → slice_get rows (n - 1) ≡ poll_row_of known n
+row_found known rows n h is low =
+    ap (λ (rs : List PollRow). slice_get rs (n - 1)) is ∙ row_at_number known (polls_in known) n (numbered known h) low
 
-pub row_absent : (held : List Fact) (rows : List PollRow) (n : ℕ) → AreLawful held → rows ≡ map (poll_row held) (reverse (polls_in held))
-    → (n < 1) ⊎ (length rows < n) → poll_row_of held n ≡ None
-row_absent held rows n h is (inl none) =
-    let zero_it : n ≡ 0 = omega (arith, none) in ap (poll_row_of held) zero_it ∙ no_row_at_zero held h
-row_absent held rows n h is (inr past) =
-    sym (row_found held rows n h is (omega (arith, past))) ∙ slice_get_past rows (n - 1) (omega (arith, past))
+pub row_absent : (known : List Fact) (rows : List PollRow) (n : ℕ) → AreLawful known → rows ≡ map (poll_row known) (reverse (polls_in known))
+    → (n < 1) ⊎ (length rows < n) → poll_row_of known n ≡ None
+row_absent known rows n h is (inl none) =
+    let zero_it : n ≡ 0 = omega (arith, none) in ap (poll_row_of known) zero_it ∙ no_row_at_zero known h
+row_absent known rows n h is (inr past) =
+    sym (row_found known rows n h is (omega (arith, past))) ∙ slice_get_past rows (n - 1) (omega (arith, past))

@@ -14,11 +14,11 @@ abbrev Below : ℕ → List ℕ → Type 0
 Below n [] = Unit {0}
 Below n (x ∷ xs) = (x < n) × Below n xs
 
-places_below : (p : Fact → Bool) (held : List Fact) (n : ℕ) → length held ≤ n → Below n (places_of p held)
+places_below : (p : Fact → Bool) (known : List Fact) (n : ℕ) → length known ≤ n → Below n (places_of p known)
 places_below p [] n h = tt
-places_below p (f ∷ held) n h =
-    let rest : Below n (places_of p held) = places_below p held n (omega (arith, h)) in
-    elim (p f) as (λ b. Below n (cond b (length held ∷ places_of p held) (places_of p held))) [ true ↦ (omega (arith, h), rest) | false ↦ rest ]
+places_below p (f ∷ known) n h =
+    let rest : Below n (places_of p known) = places_below p known n (omega (arith, h)) in
+    elim (p f) as (λ b. Below n (cond b (length known ∷ places_of p known) (places_of p known))) [ true ↦ (omega (arith, h), rest) | false ↦ rest ]
 
 agree : {X : Type 0} (g k : ℕ → Option X) (n : ℕ) (xs : List ℕ) → ((i : ℕ) → i < n → k i ≡ g i) → Below n xs → filter_map k xs ≡ filter_map g xs
 agree g k n [] same h = refl
@@ -31,40 +31,40 @@ agree_first g k n [] same h = refl
 agree_first g k n (x ∷ xs) same h = same x h.0
 
 -- with one fact more, the earlier ones stand where they stood, and it is behind them
-earlier_stand : (f : Fact) (held : List Fact) (i : ℕ) → i < length held → slice_get (reverse (f ∷ held)) i ≡ slice_get (reverse held) i
-earlier_stand f held i h =
-    ap (λ (fs : List Fact). slice_get fs i) (reverse_cons f held)
-    ∙ get_others (reverse held) f i (λ e. omega (arith, h, e, length-reverse held))
+earlier_stand : (f : Fact) (known : List Fact) (i : ℕ) → i < length known → slice_get (reverse (f ∷ known)) i ≡ slice_get (reverse known) i
+earlier_stand f known i h =
+    ap (λ (fs : List Fact). slice_get fs i) (reverse_cons f known)
+    ∙ get_others (reverse known) f i (λ e. omega (arith, h, e, length-reverse known))
 
-last_stands : (f : Fact) (held : List Fact) → slice_get (reverse (f ∷ held)) (length held) ≡ Some f
-last_stands f held =
-    ap (λ (fs : List Fact). slice_get fs (length held)) (reverse_cons f held) ∙ get_last (reverse held) f (length held) (sym (length-reverse held))
+last_stands : (f : Fact) (known : List Fact) → slice_get (reverse (f ∷ known)) (length known) ≡ Some f
+last_stands f known =
+    ap (λ (fs : List Fact). slice_get fs (length known)) (reverse_cons f known) ∙ get_last (reverse known) f (length known) (sym (length-reverse known))
 
 -- the facts at the places of those that pass
-facts_at : (p : Fact → Bool) (held : List Fact) → filter_map (slice_get (reverse held)) (places_of p held) ≡ filter p held
+facts_at : (p : Fact → Bool) (known : List Fact) → filter_map (slice_get (reverse known)) (places_of p known) ≡ filter p known
 facts_at p [] = refl
-facts_at p (f ∷ held) =
-    let now : ℕ → Option Fact = slice_get (reverse (f ∷ held)) in
-    let rest : filter_map now (places_of p held) ≡ filter p held =
-    agree (slice_get (reverse held)) now (length held) (places_of p held) (earlier_stand f held) (places_below p held (length held) (omega arith))
-    ∙ facts_at p held in
+facts_at p (f ∷ known) =
+    let now : ℕ → Option Fact = slice_get (reverse (f ∷ known)) in
+    let rest : filter_map now (places_of p known) ≡ filter p known =
+    agree (slice_get (reverse known)) now (length known) (places_of p known) (earlier_stand f known) (places_below p known (length known) (omega arith))
+    ∙ facts_at p known in
     elim (cases_Bool (p f)) [
       | inl e ↦
-          ap (filter_map now) (cond-true _ _ _ e) ∙ ap (λ o. cons_option o (filter_map now (places_of p held))) (last_stands f held)
+          ap (filter_map now) (cond-true _ _ _ e) ∙ ap (λ o. cons_option o (filter_map now (places_of p known))) (last_stands f known)
           ∙ ap (λ (fs : List Fact). f ∷ fs) rest ∙ sym (cond-true _ _ _ e)
       | inr e ↦ ap (filter_map now) (cond-false _ _ _ e) ∙ rest ∙ sym (cond-false _ _ _ e)
     ]
 
-first_at : (p : Fact → Bool) (held : List Fact) → option_and_then (slice_get (reverse held)) (slice_get (places_of p held) 0) ≡ find p held
+first_at : (p : Fact → Bool) (known : List Fact) → option_and_then (slice_get (reverse known)) (slice_get (places_of p known) 0) ≡ find p known
 first_at p [] = refl
-first_at p (f ∷ held) =
-    let now : ℕ → Option Fact = slice_get (reverse (f ∷ held)) in
+first_at p (f ∷ known) =
+    let now : ℕ → Option Fact = slice_get (reverse (f ∷ known)) in
     elim (cases_Bool (p f)) [
-      | inl e ↦ ap (λ ns. option_and_then now (slice_get ns 0)) (cond-true _ _ _ e) ∙ last_stands f held ∙ sym (cond-true _ _ _ e)
+      | inl e ↦ ap (λ ns. option_and_then now (slice_get ns 0)) (cond-true _ _ _ e) ∙ last_stands f known ∙ sym (cond-true _ _ _ e)
       | inr e ↦
           ap (λ ns. option_and_then now (slice_get ns 0)) (cond-false _ _ _ e)
-          ∙ agree_first (slice_get (reverse held)) now (length held) (places_of p held) (earlier_stand f held) (places_below p held (length held) (omega arith))
-          ∙ first_at p held ∙ sym (cond-false _ _ _ e)
+          ∙ agree_first (slice_get (reverse known)) now (length known) (places_of p known) (earlier_stand f known) (places_below p known (length known) (omega arith))
+          ∙ first_at p known ∙ sym (cond-false _ _ _ e)
     ]
 
 -- a kind of fact
@@ -127,19 +127,19 @@ filter_map_twice g h [] = refl
 filter_map_twice g h (x ∷ xs) = cons_twice h (g x) (filter_map (λ y. option_and_then h (g y)) xs) (filter_map g xs) (filter_map_twice g h xs)
 
 -- all of a kind that pass, by their places, in their order
-pub all_at : {Y : Type 0} (h : Fact → Option Y) (p : Fact → Bool) (q : Y → Bool) → ((f : Fact) → p f ≡ passes q (h f)) → (held : List Fact)
-    → filter_map (λ i. option_and_then h (slice_get (reverse held) i)) (reverse (places_of p held)) ≡ reverse (filter q (filter_map h held))
-all_at h p q is held =
-    filter_map_twice (slice_get (reverse held)) h (reverse (places_of p held))
-    ∙ ap (filter_map h) (filter_map_reverse (slice_get (reverse held)) (places_of p held) ∙ ap reverse (facts_at p held))
-    ∙ filter_map_reverse h (filter p held) ∙ ap reverse (of_kind h p q is held)
+pub all_at : {Y : Type 0} (h : Fact → Option Y) (p : Fact → Bool) (q : Y → Bool) → ((f : Fact) → p f ≡ passes q (h f)) → (known : List Fact)
+    → filter_map (λ i. option_and_then h (slice_get (reverse known) i)) (reverse (places_of p known)) ≡ reverse (filter q (filter_map h known))
+all_at h p q is known =
+    filter_map_twice (slice_get (reverse known)) h (reverse (places_of p known))
+    ∙ ap (filter_map h) (filter_map_reverse (slice_get (reverse known)) (places_of p known) ∙ ap reverse (facts_at p known))
+    ∙ filter_map_reverse h (filter p known) ∙ ap reverse (of_kind h p q is known)
 
 -- the latest of a kind that passes, by its place
-pub latest_at : {Y : Type 0} (h : Fact → Option Y) (p : Fact → Bool) (q : Y → Bool) → ((f : Fact) → p f ≡ passes q (h f)) → (held : List Fact)
-    → option_and_then (λ i. option_and_then h (slice_get (reverse held) i)) (slice_get (places_of p held) 0) ≡ find q (filter_map h held)
-latest_at h p q is held =
-    and_then_twice (slice_get (reverse held)) h (slice_get (places_of p held) 0)
-    ∙ ap (option_and_then h) (first_at p held) ∙ first_of_kind h p q is held
+pub latest_at : {Y : Type 0} (h : Fact → Option Y) (p : Fact → Bool) (q : Y → Bool) → ((f : Fact) → p f ≡ passes q (h f)) → (known : List Fact)
+    → option_and_then (λ i. option_and_then h (slice_get (reverse known) i)) (slice_get (places_of p known) 0) ≡ find q (filter_map h known)
+latest_at h p q is known =
+    and_then_twice (slice_get (reverse known)) h (slice_get (places_of p known) 0)
+    ∙ ap (option_and_then h) (first_at p known) ∙ first_of_kind h p q is known
 
 count_step : {Y : Type 0} (q : Y → Bool) (o : Option Y) (b : Bool) (n : ℕ) (ns : List ℕ) (ys : List Y) → b ≡ passes q o → length ns ≡ length (filter q ys)
     → length (cond b (n ∷ ns) ns) ≡ length (filter q (cons_option o ys))
@@ -150,16 +150,16 @@ count_step q (Some y) b n ns ys is so = ap (λ (c : Bool). length (cond c (n ∷
     both true = ap suc so
     both false = so
 
-count_at : {Y : Type 0} (h : Fact → Option Y) (p : Fact → Bool) (q : Y → Bool) → ((f : Fact) → p f ≡ passes q (h f)) → (held : List Fact)
-    → length (places_of p held) ≡ length (filter q (filter_map h held))
+count_at : {Y : Type 0} (h : Fact → Option Y) (p : Fact → Bool) (q : Y → Bool) → ((f : Fact) → p f ≡ passes q (h f)) → (known : List Fact)
+    → length (places_of p known) ≡ length (filter q (filter_map h known))
 count_at h p q is [] = refl
-count_at h p q is (f ∷ held) = count_step q (h f) (p f) (length held) (places_of p held) (filter_map h held) (is f) (count_at h p q is held)
+count_at h p q is (f ∷ known) = count_step q (h f) (p f) (length known) (places_of p known) (filter_map h known) (is f) (count_at h p q is known)
 
 -- how many of a kind pass, by their places
-pub counted_at : {Y : Type 0} (h : Fact → Option Y) (p : Fact → Bool) (q : Y → Bool) → ((f : Fact) → p f ≡ passes q (h f)) → (held : List Fact)
-    → length (reverse (places_of p held)) ≡ length (reverse (filter q (filter_map h held)))
-counted_at h p q is held =
-    length-reverse (places_of p held) ∙ count_at h p q is held ∙ sym (length-reverse (filter q (filter_map h held)))
+pub counted_at : {Y : Type 0} (h : Fact → Option Y) (p : Fact → Bool) (q : Y → Bool) → ((f : Fact) → p f ≡ passes q (h f)) → (known : List Fact)
+    → length (reverse (places_of p known)) ≡ length (reverse (filter q (filter_map h known)))
+counted_at h p q is known =
+    length-reverse (places_of p known) ∙ count_at h p q is known ∙ sym (length-reverse (filter q (filter_map h known)))
 
 -- the last in order is the first in reverse
 pub last_in_turn : {X : Type 0} (xs ys : List X) → ys ≡ reverse xs → slice_get ys (length ys - 1) ≡ slice_get xs 0

@@ -26,8 +26,8 @@ pub record Passes {S : Type 0} (takes : S → Share → S → Type 0) (before af
   pub none : waits ≡ None → (waited ≡ None) × (shares ≡ [])
 
 -- the rows of the installations that were opened at these places of the facts, one after the other
-abbrev pub rows_at : (held facts : List Fact) → (places : List ℕ) → List Share
-rows_at held facts places = flat_map (rows_of_opening held) (filter_map (opening_at facts) places)
+abbrev pub rows_at : (known facts : List Fact) → (places : List ℕ) → List Share
+rows_at known facts places = flat_map (rows_of_opening known) (filter_map (opening_at facts) places)
 
 -- the sink took some rows
 abbrev pub TakesSome : {S : Type 0} → (takes : S → Share → S → Type 0) → (before after : S) → Type 0

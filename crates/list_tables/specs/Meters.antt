@@ -16,19 +16,20 @@ abbrev pub meter_at : Meters → List ℕ → Option Meter
 meter_at meters name = get key_cmp meters.meters (named name)
 
 -- the meter stands as the facts say of an installation that was found
-pub record Stands (held : List Fact) (meter : Meter) (found : Option Opening) : Type 0 where
+pub record Stands (known : List Fact) (meter : Meter) (found : Option Opening) : Type 0 where
   pub opening : Opening
   pub there : found ≡ Some opening
-  pub row : meter.row ≡ installation_of held opening
-  pub rows : lists.latest_first meter.rows.items ≡ rows_of held opening
+  pub row : meter.row ≡ installation_of known opening
+  pub rows : lists.latest_first meter.rows.items ≡ rows_of known opening
 
 abbrev pub IsMeter : List Fact → Option Meter → Option Opening → Type 0
-IsMeter held None found = found ≡ None
-IsMeter held (Some meter) found = Stands held meter found
+IsMeter known None found = found ≡ None
+IsMeter known (Some meter) found = Stands known meter found
 
 -- Each meter that was installed is there under its name, and stands as the facts say.
 abbrev pub AreMeters : Meters → List Fact → Type 0
-AreMeters meters held = (name : List ℕ) → IsMeter held (meter_at meters name) (opening_of held name)
+AreMeters meters known =
+    (name : List ℕ) → IsMeter known (meter_at meters name) (opening_of known name)
 
 -- this became of the meter of a name, and the others are as they were
 pub record Changes (meter : List ℕ) (became : Option Meter → Option Meter → Type 0)

@@ -59,6 +59,6 @@ pub record HasStruck (place : ℕ) (old new : Meter) : Type 0 where
       old.row.ended
 
 -- it stands as the facts say of its installation
-pub record IsAsSaid (held : List Fact) (opening : Opening) (meter : Meter) : Type 0 where
-  pub row : meter.row ≡ installation_of held opening
-  pub rows : lists.latest_first meter.rows.items ≡ rows_of held opening
+pub record IsAsSaid (known : List Fact) (opening : Opening) (meter : Meter) : Type 0 where
+  pub row : meter.row ≡ installation_of known opening
+  pub rows : lists.latest_first meter.rows.items ≡ rows_of known opening

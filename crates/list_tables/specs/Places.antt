@@ -76,13 +76,13 @@ under (Some places) = places.items
 
 -- the place of the latest that passes
 abbrev pub latest_place : (Fact → Bool) → List Fact → Option ℕ
-latest_place p held = slice_get (places_of p held) 0
+latest_place p known = slice_get (places_of p known) 0
 
 -- Under each key are the places of its facts, in the order in which they came.
 abbrev pub ArePlacesOf : Kind → Places → List Fact → Type 0
-ArePlacesOf kind places held =
+ArePlacesOf kind places known =
     (key : Key) → under (get key_cmp places.places key)
-    ≡ reverse (places_of (has_key kind key) held)
+    ≡ reverse (places_of (has_key kind key) known)
 
 abbrev pub ArePlaces : Places → List Fact → Type 0
-ArePlaces places held = ArePlacesOf places.kind places held
+ArePlaces places known = ArePlacesOf places.kind places known

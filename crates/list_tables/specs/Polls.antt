@@ -12,11 +12,11 @@ use Rattle.list_tables.specs.declared.polls.Pending.{Pending}
 
 -- Each poll with its end, in the order in which they were started.
 abbrev pub ArePolls : Polls → List Fact → Type 0
-ArePolls polls held = polls.rows.items ≡ map (poll_row held) (reverse (polls_in held))
+ArePolls polls known = polls.rows.items ≡ map (poll_row known) (reverse (polls_in known))
 
 -- The polls that have no outcome, in that order.
 abbrev pub ArePending : Pending → List Fact → Type 0
-ArePending pending held = pending.polls.items ≡ pending_in held
+ArePending pending known = pending.polls.items ≡ pending_in known
 
 -- a poll that ended so
 abbrev pub row_with_end : EndedPoll → PollRow → PollRow

@@ -28,12 +28,12 @@ pub record HaveCome (tables : Tables) (facts : List Fact) : Type 0 where
   pub meters : HasCome AreMeters tables.meters facts
 
 -- Each says what all of these say, the latest first.
-pub record AreWhole (tables : Tables) (held : List Fact) : Type 0 where
-  pub polls : ArePolls tables.polls.table held
-  pub pending : ArePending tables.pending.table held
-  pub lists : ArePlacesOf DeviceLists tables.lists.table held
-  pub registers : ArePlacesOf Registers tables.registers.table held
-  pub device_registers : ArePlacesOf DeviceRegisters tables.device_registers.table held
-  pub openings : ArePlacesOf RegisterOpenings tables.openings.table held
-  pub replies : ArePlacesOf Replies tables.replies.table held
-  pub meters : AreMeters tables.meters.table held
+pub record AreWhole (tables : Tables) (known : List Fact) : Type 0 where
+  pub polls : ArePolls tables.polls.table known
+  pub pending : ArePending tables.pending.table known
+  pub lists : ArePlacesOf DeviceLists tables.lists.table known
+  pub registers : ArePlacesOf Registers tables.registers.table known
+  pub device_registers : ArePlacesOf DeviceRegisters tables.device_registers.table known
+  pub openings : ArePlacesOf RegisterOpenings tables.openings.table known
+  pub replies : ArePlacesOf Replies tables.replies.table known
+  pub meters : AreMeters tables.meters.table known

@@ -170,10 +170,10 @@ impl Meter {
 
     /// Where the meter stood before its entry at a place, and the next that stands.
     pub(crate) fn placed(&self, place: u64) -> Option<EntryPlace>
-        ensures found { (held : List Fact) (opening : Opening) → AreLawful held
-            → IsRecorded held opening
-            → IsAsSaid held opening self.now
-            → result ≡ option_map (place_in held opening) (row_at place (rows_of held opening)) }
+        ensures found { (known : List Fact) (opening : Opening) → AreLawful known
+            → IsRecorded known opening
+            → IsAsSaid known opening self.now
+            → result ≡ option_map (place_in known opening) (row_at place (rows_of known opening)) }
         ensures sound { IfSome result (λ found. IsSound found.before) }
     {
         journals_fit();
@@ -202,9 +202,9 @@ impl Meter {
 
     /// Hands on its energy by quarter hours.
     pub(crate) fn hand_on<K: RowSink<Share>>(&self, sink: &mut K)
-        ensures whole { (held : List Fact) (opening : Opening) → AreLawful held
-            → IsRecorded held opening → IsAsSaid held opening self.now
-            → TakesAll K.takes sink.old (rows_of_opening held opening) sink.new }
+        ensures whole { (known : List Fact) (opening : Opening) → AreLawful known
+            → IsRecorded known opening → IsAsSaid known opening self.now
+            → TakesAll K.takes sink.old (rows_of_opening known opening) sink.new }
         ensures some { TakesSome K.takes sink.old sink.new }
     {
         journals_fit();

@@ -79,8 +79,8 @@ impl Meters {
 
     /// The installation of a meter, as it stands.
     pub(crate) fn row(&self, name: &Name) -> Option<Installation>
-        ensures found { (held : List Fact) → AreLawful held → AreMeters self.now held
-            → result ≡ meter_of held name.now }
+        ensures found { (known : List Fact) → AreLawful known → AreMeters self.now known
+            → result ≡ meter_of known name.now }
         ensures sound { IfSome result IsSound }
     {
         installations_are_in_range();
@@ -97,8 +97,8 @@ impl Meters {
 
     /// Where a meter stood before its entry at a place, and the next that stands.
     pub(crate) fn entry(&self, name: &Name, place: u64) -> Option<EntryPlace>
-        ensures found { (held : List Fact) → AreLawful held → AreMeters self.now held
-            → result ≡ entry_at held name.now place }
+        ensures found { (known : List Fact) → AreLawful known → AreMeters self.now known
+            → result ≡ entry_at known name.now place }
         ensures sound { IfSome result (λ found. IsSound found.before) }
     {
         let key = named(name);
@@ -110,8 +110,8 @@ impl Meters {
 
     /// Hands on the energy of a meter by quarter hours.
     pub(crate) fn hand_on<K: RowSink<Share>>(&self, name: &Name, sink: &mut K)
-        ensures whole { (held : List Fact) → AreLawful held → AreMeters self.now held
-            → TakesAll K.takes sink.old (rows_of_meter held name.now) sink.new }
+        ensures whole { (known : List Fact) → AreLawful known → AreMeters self.now known
+            → TakesAll K.takes sink.old (rows_of_meter known name.now) sink.new }
         ensures some { TakesSome K.takes sink.old sink.new }
     {
         let key = named(name);

@@ -144,8 +144,8 @@ impl Places {
 
     /// The places of the facts under a key, in their order.
     pub(crate) fn all(&self, key: Key) -> &[usize]
-        ensures { (kind : Kind) (held : List Fact) → ArePlacesOf kind self.now held
-            → result.now ≡ reverse (places_of (has_key kind key) held) }
+        ensures { (kind : Kind) (known : List Fact) → ArePlacesOf kind self.now known
+            → result.now ≡ reverse (places_of (has_key kind key) known) }
     {
         match self.places.get(&key) {
             Some(places) => places.as_slice(),
@@ -155,8 +155,8 @@ impl Places {
 
     /// The place of the latest fact under a key.
     pub(crate) fn latest(&self, key: Key) -> Option<usize>
-        ensures { (kind : Kind) (held : List Fact) → ArePlacesOf kind self.now held
-            → result ≡ latest_place (has_key kind key) held }
+        ensures { (kind : Kind) (known : List Fact) → ArePlacesOf kind self.now known
+            → result ≡ latest_place (has_key kind key) known }
     {
         self.all(key).last().copied()
     }

@@ -41,8 +41,8 @@ impl Polls {
 
     /// The poll of a number, and how it ended.
     pub fn row(&self, number: u64) -> Option<PollRow>
-        ensures { (held : List Fact) → AreLawful held → ArePolls self.now held
-            → result ≡ poll_row_of held number }
+        ensures { (known : List Fact) → AreLawful known → ArePolls self.now known
+            → result ≡ poll_row_of known number }
     {
         if number >= 1 && number - 1 < self.rows.len() as u64 {
             Some(self.rows[(number - 1) as usize])
@@ -53,7 +53,7 @@ impl Polls {
 
     /// How many there are.
     pub fn count(&self) -> u64
-        ensures { (held : List Fact) → ArePolls self.now held → result ≡ length (polls_in held) }
+        ensures { (known : List Fact) → ArePolls self.now known → result ≡ length (polls_in known) }
     {
         self.rows.len() as u64
     }
@@ -116,8 +116,8 @@ impl Pending {
 
     /// The polls, in the order in which they were started.
     pub fn all(&self, alloc: Global) -> Result<Vec<Poll>, AllocError>
-        ensures { (held : List Fact) → ArePending self.now held
-            → IfOk result (λ v. v.items ≡ pending_in held) }
+        ensures { (known : List Fact) → ArePending self.now known
+            → IfOk result (λ v. v.items ≡ pending_in known) }
     {
         self.polls.as_slice().to_vec(alloc)
     }

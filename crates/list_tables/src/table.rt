@@ -22,10 +22,11 @@ pub(crate) trait Table: Drop {
 
     /// Adds the fact at this place, from 0 on, behind those before it. For want of memory nothing changes.
     fn put(&mut self, place: usize, fact: &Fact) -> Result<(), AllocError>
-        ensures ok { (held : List Fact) → AreLawful (fact.now ∷ held) → length held ≡ place
-            → says self.old held
-            → OnOk result (says self.new (fact.now ∷ held)) }
-        ensures err { (held : List Fact) → says self.old held → OnErr result (says self.new held) }
+        ensures ok { (known : List Fact) → AreLawful (fact.now ∷ known) → length known ≡ place
+            → says self.old known
+            → OnOk result (says self.new (fact.now ∷ known)) }
+        ensures err { (known : List Fact) → says self.old known
+            → OnErr result (says self.new known) }
         ensures kind { kind self.new ≡ kind self.old };
 }
 

@@ -77,31 +77,31 @@ impl Tables {
 
     /// The poll of a number, and how it ended.
     pub fn poll(&self, number: u64) -> Option<PollRow>
-        ensures { (held : List Fact) → AreLawful held → AreWhole self.now held
-            → result ≡ poll_row_of held number }
+        ensures { (known : List Fact) → AreLawful known → AreWhole self.now known
+            → result ≡ poll_row_of known number }
     {
         self.polls.table.row(number)
     }
 
     /// How many polls were started.
     pub fn poll_count(&self) -> u64
-        ensures { (held : List Fact) → AreWhole self.now held → result ≡ length (polls_in held) }
+        ensures { (known : List Fact) → AreWhole self.now known → result ≡ length (polls_in known) }
     {
         self.polls.table.count()
     }
 
     /// The polls that have no outcome, in the order in which they were started.
     pub fn pending(&self, alloc: Global) -> Result<Vec<Poll>, AllocError>
-        ensures { (held : List Fact) → AreWhole self.now held
-            → IfOk result (λ v. v.items ≡ pending_in held) }
+        ensures { (known : List Fact) → AreWhole self.now known
+            → IfOk result (λ v. v.items ≡ pending_in known) }
     {
         self.pending.table.all(alloc)
     }
 
     /// The point list of a device, among the facts that the tables are of.
     pub fn list(&self, facts: &[Fact], device: &Name) -> Result<Option<PlannedList>, AllocError>
-        ensures { (held : List Fact) → facts.now ≡ reverse held → AreWhole self.now held
-            → IfOk result (λ list. list ≡ list_of held device.now) }
+        ensures { (known : List Fact) → facts.now ≡ reverse known → AreWhole self.now known
+            → IfOk result (λ list. list ≡ list_of known device.now) }
     {
         match self.lists.table.latest(named(device)) {
             Some(place) => list_at(facts, place),
@@ -111,8 +111,8 @@ impl Tables {
 
     /// The register of a name, among those facts.
     pub fn register(&self, facts: &[Fact], name: &Name) -> Option<Register>
-        ensures { (held : List Fact) → facts.now ≡ reverse held → AreWhole self.now held
-            → result ≡ register_of held name.now }
+        ensures { (known : List Fact) → facts.now ≡ reverse known → AreWhole self.now known
+            → result ≡ register_of known name.now }
     {
         match self.registers.table.latest(named(name)) {
             Some(place) => register_at(facts, place),
@@ -127,24 +127,24 @@ impl Tables {
         facts: &[Fact],
         device: &Name,
     ) -> Result<Vec<Register>, AllocError>
-        ensures { (held : List Fact) → facts.now ≡ reverse held → AreWhole self.now held
-            → IfOk result (λ v. v.items ≡ registers_of held device.now) }
+        ensures { (known : List Fact) → facts.now ≡ reverse known → AreWhole self.now known
+            → IfOk result (λ v. v.items ≡ registers_of known device.now) }
     {
         registers_at(alloc, facts, self.device_registers.table.all(named(device)))
     }
 
     /// How many registers a device has. This takes no memory.
     pub fn register_count(&self, device: &Name) -> usize
-        ensures { (held : List Fact) → AreWhole self.now held
-            → result ≡ length (registers_of held device.now) }
+        ensures { (known : List Fact) → AreWhole self.now known
+            → result ≡ length (registers_of known device.now) }
     {
         self.device_registers.table.all(named(device)).len()
     }
 
     /// The latest opening at a register.
     pub fn installed(&self, facts: &[Fact], register: &Name) -> Option<Opening>
-        ensures { (held : List Fact) → facts.now ≡ reverse held → AreWhole self.now held
-            → result ≡ installed_at held register.now }
+        ensures { (known : List Fact) → facts.now ≡ reverse known → AreWhole self.now known
+            → result ≡ installed_at known register.now }
     {
         match self.openings.table.latest(named(register)) {
             Some(place) => opening_at(facts, place),
@@ -160,8 +160,8 @@ impl Tables {
         number: u64,
         request: &[u8],
     ) -> Option<Repeat>
-        ensures { (held : List Fact) → facts.now ≡ reverse held → AreWhole self.now held
-            → result ≡ repeat_of held caller.now number request.now }
+        ensures { (known : List Fact) → facts.now ≡ reverse known → AreWhole self.now known
+            → result ≡ repeat_of known caller.now number request.now }
     {
         let key = Key {
             name: *caller,
@@ -175,8 +175,8 @@ impl Tables {
 
     /// The installation of a meter, as it stands.
     pub fn meter(&self, name: &Name) -> Option<Installation>
-        ensures found { (held : List Fact) → AreLawful held → AreWhole self.now held
-            → result ≡ meter_of held name.now }
+        ensures found { (known : List Fact) → AreLawful known → AreWhole self.now known
+            → result ≡ meter_of known name.now }
         ensures sound { IfSome result IsSound }
     {
         self.meters.table.row(name)
@@ -184,9 +184,9 @@ impl Tables {
 
     /// The latest installation at a register, as it stands.
     pub fn installation(&self, facts: &[Fact], register: &Name) -> Option<Installation>
-        ensures found { (held : List Fact) → facts.now ≡ reverse held → AreLawful held
-            → AreWhole self.now held
-            → result ≡ installation_at held register.now }
+        ensures found { (known : List Fact) → facts.now ≡ reverse known → AreLawful known
+            → AreWhole self.now known
+            → result ≡ installation_at known register.now }
         ensures sound { IfSome result IsSound }
     {
         match self.installed(facts, register) {
@@ -197,8 +197,8 @@ impl Tables {
 
     /// Where a meter stood before its entry at a place, and the next that stands.
     pub fn entry(&self, meter: &Name, place: u64) -> Option<EntryPlace>
-        ensures found { (held : List Fact) → AreLawful held → AreWhole self.now held
-            → result ≡ entry_at held meter.now place }
+        ensures found { (known : List Fact) → AreLawful known → AreWhole self.now known
+            → result ≡ entry_at known meter.now place }
         ensures sound { IfSome result (λ found. IsSound found.before) }
     {
         self.meters.table.entry(meter, place)
@@ -206,8 +206,8 @@ impl Tables {
 
     /// Hands on the energy of a meter by quarter hours, in order of their starts. This takes no memory.
     pub fn intervals<K: RowSink<Share>>(&self, meter: &Name, sink: &mut K)
-        ensures whole { (held : List Fact) → AreLawful held → AreWhole self.now held
-            → TakesAll K.takes sink.old (rows_of_meter held meter.now) sink.new }
+        ensures whole { (known : List Fact) → AreLawful known → AreWhole self.now known
+            → TakesAll K.takes sink.old (rows_of_meter known meter.now) sink.new }
         ensures some { TakesSome K.takes sink.old sink.new }
     {
         self.meters.table.hand_on(meter, sink);
@@ -215,9 +215,9 @@ impl Tables {
 
     /// Hands on the energy of the installation that was opened at a place of the facts, if one was.
     fn hand_on_at<K: RowSink<Share>>(&self, facts: &[Fact], place: usize, sink: &mut K)
-        ensures whole { (held : List Fact) → facts.now ≡ reverse held → AreLawful held
-            → AreWhole self.now held
-            → TakesAll K.takes sink.old (rows_at held facts.now (place ∷ [])) sink.new }
+        ensures whole { (known : List Fact) → facts.now ≡ reverse known → AreLawful known
+            → AreWhole self.now known
+            → TakesAll K.takes sink.old (rows_at known facts.now (place ∷ [])) sink.new }
         ensures some { TakesSome K.takes sink.old sink.new }
     {
         match opening_at(facts, place) {
@@ -228,9 +228,9 @@ impl Tables {
 
     /// Hands on the energy of the installations that were opened at these places, one after the other.
     fn hand_on_all<K: RowSink<Share>>(&self, facts: &[Fact], places: &[usize], sink: &mut K)
-        ensures whole { (held : List Fact) → facts.now ≡ reverse held → AreLawful held
-            → AreWhole self.now held
-            → TakesAll K.takes sink.old (rows_at held facts.now places.now) sink.new }
+        ensures whole { (known : List Fact) → facts.now ≡ reverse known → AreLawful known
+            → AreWhole self.now known
+            → TakesAll K.takes sink.old (rows_at known facts.now places.now) sink.new }
         ensures some { TakesSome K.takes sink.old sink.new }
     {
         for place in places {
@@ -245,9 +245,9 @@ impl Tables {
         register: &Name,
         sink: &mut K,
     )
-        ensures whole { (held : List Fact) → facts.now ≡ reverse held → AreLawful held
-            → AreWhole self.now held
-            → TakesAll K.takes sink.old (rows_of_register held register.now) sink.new }
+        ensures whole { (known : List Fact) → facts.now ≡ reverse known → AreLawful known
+            → AreWhole self.now known
+            → TakesAll K.takes sink.old (rows_of_register known register.now) sink.new }
         ensures some { TakesSome K.takes sink.old sink.new }
     {
         self.hand_on_all(facts, self.openings.table.all(named(register)), sink);

@@ -56,7 +56,7 @@ a_later_answer : sent_to (on_first play.Later) maps (own_frames all) ≡ five ++
 unfolding maps answer_to_frame sent_next course_next trick_at frames frames_in
 a_later_answer = refl
 
--- two later answers: the first is sent once the second is held
+-- two later answers: the first is sent once the second is buffered
 two_later_answers : sent_to (begun ((2, play.Later) ∷ (1, play.Later) ∷ [])) maps (own_frames all) ≡ write
 unfolding maps answer_to_frame sent_next course_next trick_at frames frames_in
 two_later_answers = refl

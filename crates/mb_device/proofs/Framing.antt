@@ -6,12 +6,12 @@ use Rattle.std.proofs.lemmas.List.Concat.{flat_map-append}
 use Rattle.std.proofs.lemmas.List.Elements.{filter-append}
 use Rattle.std.proofs.lemmas.Bool.{cond-true, cond-false, eq-eqb, ne_eqb}
 use Rattle.mb_wire.specs.Frames.{span_of, IsFrame, IsOpen, IsBad, frames, rest}
-use Rattle.mb_wire.specs.Reader.{Held, Tells, held_after}
+use Rattle.mb_wire.specs.Reader.{Buffered, Tells, buffered_after}
 use Rattle.mb_wire.specs.declared.frames.Framing.{Framing}
 use Rattle.mb_wire.specs.declared.frames.Framing.TheVariants.{Need, Whole, Foreign, Garbled}
 use Rattle.mb_wire.proofs.Readings.{AllByRecursion-append, Reads-is, Reads-only, span_of-append}
 use Rattle.mb_device.proofs.Giving.{from, whole_again}
-use Rattle.mb_device.specs.Server.{held_frames, is_own, own_frames}
+use Rattle.mb_device.specs.Server.{buffered_frames, is_own, own_frames}
 
 abbrev concat : List (List ℕ) → List ℕ
 concat frames = flat_map (λ frame. frame) frames
@@ -62,7 +62,7 @@ bad_alone b left bad =
     (ap (filter is_own) alone.0, subst IsBad (sym alone.1) still)
 
 -- the frame that a feed ended is the one that the reader next holds, if it is of this protocol
-told_frames : (what : Framing) (b : List ℕ) → Tells what b → (own_frames b ≡ held_frames (held_after what b).frame) × (rest b ≡ (held_after what b).rest)
+told_frames : (what : Framing) (b : List ℕ) → Tells what b → (own_frames b ≡ buffered_frames (buffered_after what b).frame) × (rest b ≡ (buffered_after what b).rest)
 told_frames Need b tells = open_alone b tells
 told_frames Whole b tells =
     let alone = frame_alone b tells.0 in
@@ -73,55 +73,55 @@ told_frames Foreign b tells =
 told_frames Garbled b tells = let alone = rest_alone b (inr tells.0) in (ap (filter is_own) alone.0, alone.1)
 
 -- a feed of a piece leaves the frames of what it did not take
-pub piece_frames : (what : Framing) (r piece : List ℕ) (taken : ℕ) (held : Held) → Tells what (r ++ take taken piece) → held ≡ held_after what (r ++ take taken piece)
-    → (own_frames (r ++ piece) ≡ held_frames held.frame ++ own_frames (held.rest ++ from taken piece)) × (rest (r ++ piece) ≡ rest (held.rest ++ from taken piece))
-piece_frames what r piece taken held tells is =
+pub piece_frames : (what : Framing) (r piece : List ℕ) (taken : ℕ) (buffered : Buffered) → Tells what (r ++ take taken piece) → buffered ≡ buffered_after what (r ++ take taken piece)
+    → (own_frames (r ++ piece) ≡ buffered_frames buffered.frame ++ own_frames (buffered.rest ++ from taken piece)) × (rest (r ++ piece) ≡ rest (buffered.rest ++ from taken piece))
+piece_frames what r piece taken buffered tells is =
     let b = r ++ take taken piece in
     let left = from taken piece in
     let told = told_frames what b tells in
     let whole : r ++ piece ≡ b ++ left = ap (λ y. r ++ y) (sym (whole_again taken piece)) ∙ sym (append_assoc r (take taken piece) left) in
-    let frame : held_frames (held_after what b).frame ≡ held_frames held.frame = ap (λ (h : Held). held_frames h.frame) (sym is) in
-    let stays : rest b ≡ held.rest = told.1 ∙ ap (λ (h : Held). h.rest) (sym is) in (
-      ap own_frames whole ∙ own_frames-then b left ∙ ap (λ y. y ++ own_frames (rest b ++ left)) (told.0 ∙ frame) ∙ ap (λ y. held_frames held.frame ++ own_frames (y ++ left)) stays,
+    let frame : buffered_frames (buffered_after what b).frame ≡ buffered_frames buffered.frame = ap (λ (h : Buffered). buffered_frames h.frame) (sym is) in
+    let stays : rest b ≡ buffered.rest = told.1 ∙ ap (λ (h : Buffered). h.rest) (sym is) in (
+      ap own_frames whole ∙ own_frames-then b left ∙ ap (λ y. y ++ own_frames (rest b ++ left)) (told.0 ∙ frame) ∙ ap (λ y. buffered_frames buffered.frame ++ own_frames (y ++ left)) stays,
       ap rest whole ∙ (frames-then b left).1 ∙ ap (λ y. rest (y ++ left)) stays,
     )
 
 -- the last feed of a piece
-pub need_piece : (what : Framing) (r piece : List ℕ) (taken : ℕ) (held : Held) → Tells what (r ++ take taken piece) → held ≡ held_after what (r ++ take taken piece) → what ≡ Need → taken ≡ length piece
-    → (own_frames (r ++ piece) ≡ held_frames held.frame) × IsOpen (rest (r ++ piece)) × (held.rest ≡ rest (r ++ piece))
-need_piece what r piece taken held tells is need all =
+pub need_piece : (what : Framing) (r piece : List ℕ) (taken : ℕ) (buffered : Buffered) → Tells what (r ++ take taken piece) → buffered ≡ buffered_after what (r ++ take taken piece) → what ≡ Need → taken ≡ length piece
+    → (own_frames (r ++ piece) ≡ buffered_frames buffered.frame) × IsOpen (rest (r ++ piece)) × (buffered.rest ≡ rest (r ++ piece))
+need_piece what r piece taken buffered tells is need all =
     let b = r ++ take taken piece in
     let whole : b ≡ r ++ piece = ap (λ y. r ++ y) (take_all taken piece (omega arith)) in
     let told : Tells Need b = subst (λ w. Tells w b) need tells in
-    let is_need : held ≡ held_after Need b = is ∙ ap (λ w. held_after w b) need in
+    let is_need : buffered ≡ buffered_after Need b = is ∙ ap (λ w. buffered_after w b) need in
     let alone = open_alone b told in
-    let nothing : held_frames held.frame ≡ [] = ap (λ (h : Held). held_frames h.frame) is_need in
-    let stays : held.rest ≡ b = ap (λ (h : Held). h.rest) is_need in (
+    let nothing : buffered_frames buffered.frame ≡ [] = ap (λ (h : Buffered). buffered_frames h.frame) is_need in
+    let stays : buffered.rest ≡ b = ap (λ (h : Buffered). h.rest) is_need in (
       ap own_frames (sym whole) ∙ alone.0 ∙ sym nothing,
       subst (λ y. IsOpen (rest y)) whole (subst IsOpen (sym alone.1) told),
       stays ∙ sym alone.1 ∙ ap rest whole,
     )
 
 -- a feed that ends at a bad length
-pub garbled_piece : (what : Framing) (r piece : List ℕ) (taken : ℕ) (held : Held) → Tells what (r ++ take taken piece) → held ≡ held_after what (r ++ take taken piece) → what ≡ Garbled
-    → (own_frames (r ++ piece) ≡ held_frames held.frame) × IsBad (rest (r ++ piece))
-garbled_piece what r piece taken held tells is garbled =
+pub garbled_piece : (what : Framing) (r piece : List ℕ) (taken : ℕ) (buffered : Buffered) → Tells what (r ++ take taken piece) → buffered ≡ buffered_after what (r ++ take taken piece) → what ≡ Garbled
+    → (own_frames (r ++ piece) ≡ buffered_frames buffered.frame) × IsBad (rest (r ++ piece))
+garbled_piece what r piece taken buffered tells is garbled =
     let b = r ++ take taken piece in
     let whole : b ++ from taken piece ≡ r ++ piece = append_assoc r (take taken piece) (from taken piece) ∙ ap (λ y. r ++ y) (whole_again taken piece) in
     let told : Tells Garbled b = subst (λ w. Tells w b) garbled tells in
-    let is_garbled : held ≡ held_after Garbled b = is ∙ ap (λ w. held_after w b) garbled in
+    let is_garbled : buffered ≡ buffered_after Garbled b = is ∙ ap (λ w. buffered_after w b) garbled in
     let alone = bad_alone b (from taken piece) told.0 in
-    let nothing : held_frames held.frame ≡ [] = ap (λ (h : Held). held_frames h.frame) is_garbled in (
+    let nothing : buffered_frames buffered.frame ≡ [] = ap (λ (h : Buffered). buffered_frames h.frame) is_garbled in (
       ap own_frames (sym whole) ∙ alone.0 ∙ sym nothing,
       subst (λ y. IsBad (rest y)) whole alone.1,
     )
 
 -- open bytes and nothing behind them
-pub nothing_taken : (held : List ℕ) → IsOpen held → (own_frames (held ++ []) ≡ []) × (rest (held ++ []) ≡ held)
-nothing_taken held is_open = let alone = open_alone held is_open in (ap own_frames (append-nil held) ∙ alone.0, ap rest (append-nil held) ∙ alone.1)
+pub nothing_taken : (buffered : List ℕ) → IsOpen buffered → (own_frames (buffered ++ []) ≡ []) × (rest (buffered ++ []) ≡ buffered)
+nothing_taken buffered is_open = let alone = open_alone buffered is_open in (ap own_frames (append-nil buffered) ∙ alone.0, ap rest (append-nil buffered) ∙ alone.1)
 
 -- bytes behind those that were taken
-pub taken_more : (held taken more : List ℕ) → (own_frames (held ++ (taken ++ more)) ≡ own_frames (held ++ taken) ++ own_frames (rest (held ++ taken) ++ more)) × (rest (held ++ (taken ++ more)) ≡ rest (rest (held ++ taken) ++ more))
-taken_more held taken more =
-    let joined : held ++ (taken ++ more) ≡ (held ++ taken) ++ more = sym (append_assoc held taken more) in
-    (ap own_frames joined ∙ own_frames-then (held ++ taken) more, ap rest joined ∙ (frames-then (held ++ taken) more).1)
+pub taken_more : (buffered taken more : List ℕ) → (own_frames (buffered ++ (taken ++ more)) ≡ own_frames (buffered ++ taken) ++ own_frames (rest (buffered ++ taken) ++ more)) × (rest (buffered ++ (taken ++ more)) ≡ rest (rest (buffered ++ taken) ++ more))
+taken_more buffered taken more =
+    let joined : buffered ++ (taken ++ more) ≡ (buffered ++ taken) ++ more = sym (append_assoc buffered taken more) in
+    (ap own_frames joined ∙ own_frames-then (buffered ++ taken) more, ap rest joined ∙ (frames-then (buffered ++ taken) more).1)

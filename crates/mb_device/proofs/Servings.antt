@@ -19,67 +19,67 @@ serving_on : (bytes : List ℕ) (course : Course) → is_serving (standing_on by
 serving_on bytes (Playing tricks number later) serving = refl
 serving_on bytes CutOff serving = absurd cc
 
-pub Served-none : (held : List ℕ) (course : Course) (around : Around) (standing : Standing) → IsOpen held → is_cut course ≡ false → standing ≡ Holds held course → Served held course 0 around around standing
-Served-none held course around standing is_open going stands =
-    let none = nothing_taken held is_open in
-    let stays : course_behind course around.maps (own_frames (held ++ [])) ≡ course = ap (course_behind course around.maps) none.0 in
-    let nothing : carried_out course (own_frames (held ++ [])) ≡ [] = ap (carried_out course) none.0 ∙ carried_out-none course in
+pub Served-none : (buffered : List ℕ) (course : Course) (around : Around) (standing : Standing) → IsOpen buffered → is_cut course ≡ false → standing ≡ Holds buffered course → Served buffered course 0 around around standing
+Served-none buffered course around standing is_open going stands =
+    let none = nothing_taken buffered is_open in
+    let stays : course_behind course around.maps (own_frames (buffered ++ [])) ≡ course = ap (course_behind course around.maps) none.0 in
+    let nothing : carried_out course (own_frames (buffered ++ [])) ≡ [] = ap (carried_out course) none.0 ∙ carried_out-none course in
     record {
       taken = [];
       consumed = Consumes-none _ _ (Keeps-refl around.remaining);
       answered = AllAnswered-none course _ around around none.0 (Keeps-refl around.given) refl;
-      stands = stands ∙ sym (standing-going held course going) ∙ ap (λ b. standing_on b course) (sym none.1) ∙ ap (standing_on (rest (held ++ []))) (sym stays);
+      stands = stands ∙ sym (standing-going buffered course going) ∙ ap (λ b. standing_on b course) (sym none.1) ∙ ap (standing_on (rest (buffered ++ []))) (sym stays);
       counts = record { counted = sym (ap length nothing); is_open = λ _. subst IsOpen (sym none.1) is_open };
     }
 
 -- frames were served so far on a connection that was not cut
-reached : (held : List ℕ) (course : Course) (count : ℕ) (a b : Around) (before : Standing) → (so_far : Served held course count a b before) → is_serving before ≡ true
-    → Dealt course a.maps (own_frames (held ++ so_far.taken)) (course_behind course a.maps (own_frames (held ++ so_far.taken))) b.maps
-reached held course count a b before so_far serving =
-    let left = course_behind course a.maps (own_frames (held ++ so_far.taken)) in
-    let going : is_cut left ≡ false = serving_on (rest (held ++ so_far.taken)) left (ap is_serving (sym so_far.stands) ∙ serving) in
-    dealt_with course left (own_frames (held ++ so_far.taken)) a b so_far.answered refl going
+reached : (buffered : List ℕ) (course : Course) (count : ℕ) (a b : Around) (before : Standing) → (so_far : Served buffered course count a b before) → is_serving before ≡ true
+    → Dealt course a.maps (own_frames (buffered ++ so_far.taken)) (course_behind course a.maps (own_frames (buffered ++ so_far.taken))) b.maps
+reached buffered course count a b before so_far serving =
+    let left = course_behind course a.maps (own_frames (buffered ++ so_far.taken)) in
+    let going : is_cut left ≡ false = serving_on (rest (buffered ++ so_far.taken)) left (ap is_serving (sym so_far.stands) ∙ serving) in
+    dealt_with course left (own_frames (buffered ++ so_far.taken)) a b so_far.answered refl going
 
-turn_next : (result : Result Turned ServeFault) (held : List ℕ) (course : Course) (count : ℕ) (a b c : Around) (before after : Standing) → (so_far : Served held course count a b before) → is_serving before ≡ true
+turn_next : (result : Result Turned ServeFault) (buffered : List ℕ) (course : Course) (count : ℕ) (a b c : Around) (before after : Standing) → (so_far : Served buffered course count a b before) → is_serving before ≡ true
     → ((later : List ℕ) (mid : Course) → before ≡ Holds later mid → Turns later mid result b c after)
-    → Turns (rest (held ++ so_far.taken)) (course_behind course a.maps (own_frames (held ++ so_far.taken))) result b c after
-turn_next result held course count a b c before after so_far serving turns =
-    let left = course_behind course a.maps (own_frames (held ++ so_far.taken)) in
-    let dealt = reached held course count a b before so_far serving in
-    turns (rest (held ++ so_far.taken)) left (so_far.stands ∙ standing-going _ left dealt.going)
+    → Turns (rest (buffered ++ so_far.taken)) (course_behind course a.maps (own_frames (buffered ++ so_far.taken))) result b c after
+turn_next result buffered course count a b c before after so_far serving turns =
+    let left = course_behind course a.maps (own_frames (buffered ++ so_far.taken)) in
+    let dealt = reached buffered course count a b before so_far serving in
+    turns (rest (buffered ++ so_far.taken)) left (so_far.stands ∙ standing-going _ left dealt.going)
 
-pub Served-more : (held : List ℕ) (course : Course) (count : ℕ) (turned : Turned) (a b c : Around) (before after : Standing) → Served held course count a b before → is_serving before ≡ true
-    → ((later : List ℕ) (mid : Course) → before ≡ Holds later mid → Turns later mid (Ok turned) b c after) → Served held course (count + turned.answered) a c after
-Served-more held course count turned a b c before after so_far serving turns =
-    let bytes = held ++ so_far.taken in
+pub Served-more : (buffered : List ℕ) (course : Course) (count : ℕ) (turned : Turned) (a b c : Around) (before after : Standing) → Served buffered course count a b before → is_serving before ≡ true
+    → ((later : List ℕ) (mid : Course) → before ≡ Holds later mid → Turns later mid (Ok turned) b c after) → Served buffered course (count + turned.answered) a c after
+Served-more buffered course count turned a b c before after so_far serving turns =
+    let bytes = buffered ++ so_far.taken in
     let left = course_behind course a.maps (own_frames bytes) in
-    let dealt = reached held course count a b before so_far serving in
-    let turn = turn_next (Ok turned) held course count a b c before after so_far serving turns in
-    let more = taken_more held so_far.taken turn.taken in
-    let same : course_behind course a.maps (own_frames (held ++ (so_far.taken ++ turn.taken))) ≡ course_behind left b.maps (own_frames (rest bytes ++ turn.taken)) =
+    let dealt = reached buffered course count a b before so_far serving in
+    let turn = turn_next (Ok turned) buffered course count a b c before after so_far serving turns in
+    let more = taken_more buffered so_far.taken turn.taken in
+    let same : course_behind course a.maps (own_frames (buffered ++ (so_far.taken ++ turn.taken))) ≡ course_behind left b.maps (own_frames (rest bytes ++ turn.taken)) =
     ap (course_behind course a.maps) more.0 ∙ course_then course left a.maps b.maps (own_frames bytes) (own_frames (rest bytes ++ turn.taken)) dealt in
     let counted : count ≡ length (own_frames bytes) = so_far.counts.counted ∙ ap length dealt.carried in
     record {
       taken = so_far.taken ++ turn.taken;
       consumed = Consumes-trans _ _ _ _ _ so_far.consumed turn.consumed;
       answered = AllAnswered-same course _ _ a c more.0 (all_then_all course left _ _ a b c so_far.answered dealt turn.answered);
-      stands = turn.stands ∙ ap (λ r. standing_on r (course_behind left b.maps (own_frames (rest bytes ++ turn.taken)))) (sym more.1) ∙ ap (standing_on (rest (held ++ (so_far.taken ++ turn.taken)))) (sym same);
-      counts = subst (λ n. Counts (n + turned.answered) (stretch course a.maps (held ++ (so_far.taken ++ turn.taken)))) (sym counted)
-          (counts_then course left a.maps b.maps (own_frames bytes) (held ++ (so_far.taken ++ turn.taken)) (rest bytes ++ turn.taken) turned.answered dealt more.0 more.1 turn.tells.0);
+      stands = turn.stands ∙ ap (λ r. standing_on r (course_behind left b.maps (own_frames (rest bytes ++ turn.taken)))) (sym more.1) ∙ ap (standing_on (rest (buffered ++ (so_far.taken ++ turn.taken)))) (sym same);
+      counts = subst (λ n. Counts (n + turned.answered) (stretch course a.maps (buffered ++ (so_far.taken ++ turn.taken)))) (sym counted)
+          (counts_then course left a.maps b.maps (own_frames bytes) (buffered ++ (so_far.taken ++ turn.taken)) (rest bytes ++ turn.taken) turned.answered dealt more.0 more.1 turn.tells.0);
     }
 
 -- the last turn came to the end of the input, or to a cut
-pub Serves-end : (held : List ℕ) (course : Course) (count : ℕ) (turned : Turned) (a b c : Around) (before after : Standing) → Served held course count a b before → is_serving before ≡ true
-    → ((later : List ℕ) (mid : Course) → before ≡ Holds later mid → Turns later mid (Ok turned) b c after) → turned.ended ≡ true → Serves held course (Ok (count + turned.answered)) a c after
+pub Serves-end : (buffered : List ℕ) (course : Course) (count : ℕ) (turned : Turned) (a b c : Around) (before after : Standing) → Served buffered course count a b before → is_serving before ≡ true
+    → ((later : List ℕ) (mid : Course) → before ≡ Holds later mid → Turns later mid (Ok turned) b c after) → turned.ended ≡ true → Serves buffered course (Ok (count + turned.answered)) a c after
 unfolding Served-more
-Serves-end held course count turned a b c before after so_far serving turns ended =
-    let all = Served-more held course count turned a b c before after so_far serving turns in
-    let bytes = held ++ so_far.taken in
+Serves-end buffered course count turned a b c before after so_far serving turns ended =
+    let all = Served-more buffered course count turned a b c before after so_far serving turns in
+    let bytes = buffered ++ so_far.taken in
     let left = course_behind course a.maps (own_frames bytes) in
-    let dealt = reached held course count a b before so_far serving in
-    let turn = turn_next (Ok turned) held course count a b c before after so_far serving turns in
-    let more = taken_more held so_far.taken turn.taken in
-    let same : course_behind course a.maps (own_frames (held ++ (so_far.taken ++ turn.taken))) ≡ course_behind left b.maps (own_frames (rest bytes ++ turn.taken)) =
+    let dealt = reached buffered course count a b before so_far serving in
+    let turn = turn_next (Ok turned) buffered course count a b c before after so_far serving turns in
+    let more = taken_more buffered so_far.taken turn.taken in
+    let same : course_behind course a.maps (own_frames (buffered ++ (so_far.taken ++ turn.taken))) ≡ course_behind left b.maps (own_frames (rest bytes ++ turn.taken)) =
     ap (course_behind course a.maps) more.0 ∙ course_then course left a.maps b.maps (own_frames bytes) (own_frames (rest bytes ++ turn.taken)) dealt in
     record {
       taken = all.taken;
@@ -90,56 +90,56 @@ Serves-end held course count turned a b c before after so_far serving turns ende
     }
 
 -- no turn is left
-pub Serves-used : (held : List ℕ) (course : Course) (count : ℕ) (a b : Around) (before : Standing) → Served held course count a b before → is_serving before ≡ true → Serves held course (Err fault.TurnsUsed) a b Faulted
-Serves-used held course count a b before so_far serving =
-    let dealt = reached held course count a b before so_far serving in
+pub Serves-used : (buffered : List ℕ) (course : Course) (count : ℕ) (a b : Around) (before : Standing) → Served buffered course count a b before → is_serving before ≡ true → Serves buffered course (Err fault.TurnsUsed) a b Faulted
+Serves-used buffered course count a b before so_far serving =
+    let dealt = reached buffered course count a b before so_far serving in
     record { taken = so_far.taken; consumed = so_far.consumed; answered = so_far.answered; stands = refl; tells = record { going = dealt.going; is_open = so_far.counts.is_open dealt.going } }
 
-serve_tells_fault : (e : ServeFault) (held taken more : List ℕ) (course left : Course) (maps after : Maps) (remaining : Option (List ℕ)) → IsOpen (rest (held ++ taken)) → Dealt course maps (own_frames (held ++ taken)) left after
-    → TurnTells (Err e) (stretch left after (rest (held ++ taken) ++ more)) more remaining → ServeTells (Err e) (stretch course maps (held ++ (taken ++ more))) remaining
-serve_tells_fault fault.Read held taken more course left maps after remaining is_open dealt tells =
-    let none = nothing_taken (rest (held ++ taken)) is_open in
-    let same = taken_more held taken more in
-    let nothing : own_frames (rest (held ++ taken) ++ more) ≡ [] = ap (λ m. own_frames (rest (held ++ taken) ++ m)) tells ∙ none.0 in
-    let stays : course_behind course maps (own_frames (held ++ (taken ++ more))) ≡ left =
-    ap (course_behind course maps) same.0 ∙ course_then course left maps after _ (own_frames (rest (held ++ taken) ++ more)) dealt ∙ ap (course_behind left after) nothing in
-    let rests : rest (held ++ (taken ++ more)) ≡ rest (held ++ taken) = same.1 ∙ ap (λ m. rest (rest (held ++ taken) ++ m)) tells ∙ none.1 in
+serve_tells_fault : (e : ServeFault) (buffered taken more : List ℕ) (course left : Course) (maps after : Maps) (remaining : Option (List ℕ)) → IsOpen (rest (buffered ++ taken)) → Dealt course maps (own_frames (buffered ++ taken)) left after
+    → TurnTells (Err e) (stretch left after (rest (buffered ++ taken) ++ more)) more remaining → ServeTells (Err e) (stretch course maps (buffered ++ (taken ++ more))) remaining
+serve_tells_fault fault.Read buffered taken more course left maps after remaining is_open dealt tells =
+    let none = nothing_taken (rest (buffered ++ taken)) is_open in
+    let same = taken_more buffered taken more in
+    let nothing : own_frames (rest (buffered ++ taken) ++ more) ≡ [] = ap (λ m. own_frames (rest (buffered ++ taken) ++ m)) tells ∙ none.0 in
+    let stays : course_behind course maps (own_frames (buffered ++ (taken ++ more))) ≡ left =
+    ap (course_behind course maps) same.0 ∙ course_then course left maps after _ (own_frames (rest (buffered ++ taken) ++ more)) dealt ∙ ap (course_behind left after) nothing in
+    let rests : rest (buffered ++ (taken ++ more)) ≡ rest (buffered ++ taken) = same.1 ∙ ap (λ m. rest (rest (buffered ++ taken) ++ m)) tells ∙ none.1 in
     record { going = ap is_cut stays ∙ dealt.going; is_open = subst IsOpen (sym rests) is_open }
-serve_tells_fault fault.Write held taken more course left maps after remaining is_open dealt tells = tells
-serve_tells_fault fault.Garbled held taken more course left maps after remaining is_open dealt tells =
-    let same = taken_more held taken more in
-    garbled_then course left maps after (own_frames (held ++ taken)) (held ++ (taken ++ more)) (rest (held ++ taken) ++ more) dealt same.0 same.1 tells
-serve_tells_fault fault.TurnsUsed held taken more course left maps after remaining is_open dealt tells = absurd tells
+serve_tells_fault fault.Write buffered taken more course left maps after remaining is_open dealt tells = tells
+serve_tells_fault fault.Garbled buffered taken more course left maps after remaining is_open dealt tells =
+    let same = taken_more buffered taken more in
+    garbled_then course left maps after (own_frames (buffered ++ taken)) (buffered ++ (taken ++ more)) (rest (buffered ++ taken) ++ more) dealt same.0 same.1 tells
+serve_tells_fault fault.TurnsUsed buffered taken more course left maps after remaining is_open dealt tells = absurd tells
 
 -- the last turn answered a fault
-pub Serves-fault : (e : ServeFault) (held : List ℕ) (course : Course) (count : ℕ) (a b c : Around) (before after : Standing) → Served held course count a b before → is_serving before ≡ true
-    → ((later : List ℕ) (mid : Course) → before ≡ Holds later mid → Turns later mid (Err e) b c after) → Serves held course (Err e) a c after
-Serves-fault e held course count a b c before after so_far serving turns =
-    let bytes = held ++ so_far.taken in
+pub Serves-fault : (e : ServeFault) (buffered : List ℕ) (course : Course) (count : ℕ) (a b c : Around) (before after : Standing) → Served buffered course count a b before → is_serving before ≡ true
+    → ((later : List ℕ) (mid : Course) → before ≡ Holds later mid → Turns later mid (Err e) b c after) → Serves buffered course (Err e) a c after
+Serves-fault e buffered course count a b c before after so_far serving turns =
+    let bytes = buffered ++ so_far.taken in
     let left = course_behind course a.maps (own_frames bytes) in
-    let dealt = reached held course count a b before so_far serving in
-    let turn = turn_next (Err e) held course count a b c before after so_far serving turns in
-    let more = taken_more held so_far.taken turn.taken in
+    let dealt = reached buffered course count a b before so_far serving in
+    let turn = turn_next (Err e) buffered course count a b c before after so_far serving turns in
+    let more = taken_more buffered so_far.taken turn.taken in
     let all = Answered-then {X = ℕ} (Err e) course left (own_frames bytes) (own_frames (rest bytes ++ turn.taken)) a b c so_far.answered dealt (answered_fault Turned ℕ e left _ b c turn.answered) in
     record {
       taken = so_far.taken ++ turn.taken;
       consumed = Consumes-trans _ _ _ _ _ so_far.consumed turn.consumed;
       answered = subst (λ fs. Answered {X = ℕ} (Err e) course fs a c) (sym more.0) all;
       stands = turn.stands;
-      tells = serve_tells_fault e held so_far.taken turn.taken course left a.maps b.maps c.remaining (so_far.counts.is_open dealt.going) dealt turn.tells;
+      tells = serve_tells_fault e buffered so_far.taken turn.taken course left a.maps b.maps c.remaining (so_far.counts.is_open dealt.going) dealt turn.tells;
     }
 
 -- ---- a server that goes on
 
 pub has_not_failed : (standing : Standing) (failed over : Bool) → failed ≡ has_faulted standing → failed ≡ false → over ≡ is_over standing → over ≡ false → is_serving standing ≡ true
-has_not_failed (Holds held course) failed over is none was going = refl
+has_not_failed (Holds buffered course) failed over is none was going = refl
 has_not_failed Over failed over is none was going = let both : true ≡ false = sym was ∙ going in absurd cc
 has_not_failed Faulted failed over is none was going = let both : true ≡ false = sym is ∙ none in absurd cc
 
-pub held_by : (standing : Standing) → is_serving standing ≡ true → (held : List ℕ) × (course : Course) × (standing ≡ Holds held course)
-held_by (Holds held course) serving = (held, course, refl)
-held_by Over serving = absurd cc
-held_by Faulted serving = absurd cc
+pub buffered_by : (standing : Standing) → is_serving standing ≡ true → (buffered : List ℕ) × (course : Course) × (standing ≡ Holds buffered course)
+buffered_by (Holds buffered course) serving = (buffered, course, refl)
+buffered_by Over serving = absurd cc
+buffered_by Faulted serving = absurd cc
 
 standing_serves : (bytes : List ℕ) (course : Course) → is_cut course ≡ false → is_serving (standing_on bytes course) ≡ true
 standing_serves bytes (Playing tricks number later) going = refl
@@ -150,9 +150,9 @@ cut_or_not true ended ends going = absurd (both_ways ended (ends refl) going)
 cut_or_not false ended ends going = refl
 
 -- a turn that did not end leaves a server that goes on
-pub turn_serves : (turned : Turned) (old new : Around) (before after : Standing) → is_serving before ≡ true → ((held : List ℕ) (course : Course) → before ≡ Holds held course → Turns held course (Ok turned) old new after) → turned.ended ≡ false → is_serving after ≡ true
+pub turn_serves : (turned : Turned) (old new : Around) (before after : Standing) → is_serving before ≡ true → ((buffered : List ℕ) (course : Course) → before ≡ Holds buffered course → Turns buffered course (Ok turned) old new after) → turned.ended ≡ false → is_serving after ≡ true
 turn_serves turned old new before after serving turns no_end =
-    let holds = held_by before serving in
+    let holds = buffered_by before serving in
     let turn = turns holds.0 holds.1 holds.2 in
     let going = cut_or_not _ turned.ended turn.tells.1.cut no_end in
     ap is_serving turn.stands ∙ standing_serves _ _ going
@@ -176,8 +176,8 @@ pub same_end : (result : Result Turned ServeFault) (turned : Turned) (count : �
 same_end result turned count after is ended = ap (λ r. came_to_end r after) is ∙ ap (λ b. b && not (is_over after)) ended
 
 -- a turn does not use up turns
-pub turn_is_no_end : (e : ServeFault) (old new : Around) (before after : Standing) → is_serving before ≡ true → ((held : List ℕ) (course : Course) → before ≡ Holds held course → Turns held course (Err e) old new after) → e ≡ fault.TurnsUsed → ⊥
+pub turn_is_no_end : (e : ServeFault) (old new : Around) (before after : Standing) → is_serving before ≡ true → ((buffered : List ℕ) (course : Course) → before ≡ Holds buffered course → Turns buffered course (Err e) old new after) → e ≡ fault.TurnsUsed → ⊥
 turn_is_no_end e old new before after serving turns is =
-    let holds = held_by before serving in
+    let holds = buffered_by before serving in
     let turn = turns holds.0 holds.1 holds.2 in
     subst (λ x. TurnTells (Err x) (stretch holds.1 old.maps (holds.0 ++ turn.taken)) turn.taken new.remaining) is turn.tells

@@ -13,7 +13,7 @@ use Rattle.mb_wire.specs.declared.link.Took.TheVariants as took
 use Rattle.mb_device.specs.Maps.{Maps}
 use Rattle.mb_device.specs.Device.{answer_to, maps_after}
 use Rattle.mb_device.specs.Tricks.{Course, Playing, CutOff, answer_of, carried_out, course_after, course_next, is_cut, sent, sent_next}
-use Rattle.mb_device.specs.Server.{AllAnswered, Answered, Around, BrokenOff, Counts, GivesPart, HeldTells, IsGarbled, Holds, PieceTells, Faulted, TurnTells, Turns, answer_to_frame, answers, course_behind, held_frames, maps_after_all, own_frames, sent_to, standing_on, stretch}
+use Rattle.mb_device.specs.Server.{AllAnswered, Answered, Around, BrokenOff, Counts, GivesPart, BufferedTells, IsGarbled, Holds, PieceTells, Faulted, TurnTells, Turns, answer_to_frame, answers, course_behind, buffered_frames, maps_after_all, own_frames, sent_to, standing_on, stretch}
 use Rattle.mb_device.specs.declared.server.ServeFault.{ServeFault}
 use Rattle.mb_device.specs.declared.server.ServeFault.TheVariants as fault
 use Rattle.mb_device.specs.declared.server.Turned.{Turned}
@@ -189,18 +189,18 @@ garbled_then course mid maps after xs bytes left dealt frames rests garbled =
     let same = ap (course_behind course maps) frames ∙ course_then course mid maps after xs (own_frames left) dealt in
     record { going = ap is_cut same ∙ garbled.going; bad = subst IsBad (sym rests) garbled.bad }
 
-pub piece_then : (course mid : Course) (maps after : Maps) (xs : List (List ℕ)) (bytes left held : List ℕ) (first count : ℕ) → Dealt course maps xs mid after → own_frames bytes ≡ xs ++ own_frames left → rest bytes ≡ rest left → first ≡ length xs → PieceTells (Ok count) (stretch mid after left) held → PieceTells (Ok (first + count)) (stretch course maps bytes) held
-piece_then course mid maps after xs bytes left held first count dealt frames rests is tells =
+pub piece_then : (course mid : Course) (maps after : Maps) (xs : List (List ℕ)) (bytes left buffered : List ℕ) (first count : ℕ) → Dealt course maps xs mid after → own_frames bytes ≡ xs ++ own_frames left → rest bytes ≡ rest left → first ≡ length xs → PieceTells (Ok count) (stretch mid after left) buffered → PieceTells (Ok (first + count)) (stretch course maps bytes) buffered
+piece_then course mid maps after xs bytes left buffered first count dealt frames rests is tells =
     let same = ap (course_behind course maps) frames ∙ course_then course mid maps after xs (own_frames left) dealt in (
       subst (λ n. Counts (n + count) (stretch course maps bytes)) (sym is) (counts_then course mid maps after xs bytes left count dealt frames rests tells.0),
       λ going. tells.1 (ap is_cut (sym same) ∙ going) ∙ sym rests,
     )
 
-pub piece_fault : (e : ServeFault) (course mid : Course) (maps after : Maps) (xs : List (List ℕ)) (bytes left held new : List ℕ) → Dealt course maps xs mid after → own_frames bytes ≡ xs ++ own_frames left → rest bytes ≡ rest left → PieceTells (Err e) (stretch mid after left) held → PieceTells (Err e) (stretch course maps bytes) new
-piece_fault fault.Read course mid maps after xs bytes left held new dealt frames rests tells = tells
-piece_fault fault.Write course mid maps after xs bytes left held new dealt frames rests tells = tells
-piece_fault fault.Garbled course mid maps after xs bytes left held new dealt frames rests tells = garbled_then course mid maps after xs bytes left dealt frames rests tells
-piece_fault fault.TurnsUsed course mid maps after xs bytes left held new dealt frames rests tells = tells
+pub piece_fault : (e : ServeFault) (course mid : Course) (maps after : Maps) (xs : List (List ℕ)) (bytes left buffered new : List ℕ) → Dealt course maps xs mid after → own_frames bytes ≡ xs ++ own_frames left → rest bytes ≡ rest left → PieceTells (Err e) (stretch mid after left) buffered → PieceTells (Err e) (stretch course maps bytes) new
+piece_fault fault.Read course mid maps after xs bytes left buffered new dealt frames rests tells = tells
+piece_fault fault.Write course mid maps after xs bytes left buffered new dealt frames rests tells = tells
+piece_fault fault.Garbled course mid maps after xs bytes left buffered new dealt frames rests tells = garbled_then course mid maps after xs bytes left dealt frames rests tells
+piece_fault fault.TurnsUsed course mid maps after xs bytes left buffered new dealt frames rests tells = tells
 
 -- ---- a connection that was cut
 
@@ -231,8 +231,8 @@ AllAnswered-cut course xs ys a b cut h =
       maps = h.maps ∙ ap (maps_after_all a.maps) (sym (carried_cut course a.maps xs ys cut));
     }
 
-pub cut_tells : (count : ℕ) (course : Course) (maps : Maps) (xs ys : List (List ℕ)) (bytes held : List ℕ) → own_frames bytes ≡ xs ++ ys → is_cut (course_behind course maps xs) ≡ true → count ≡ length (carried_out course xs) → PieceTells (Ok count) (stretch course maps bytes) held
-cut_tells count course maps xs ys bytes held frames cut counted =
+pub cut_tells : (count : ℕ) (course : Course) (maps : Maps) (xs ys : List (List ℕ)) (bytes buffered : List ℕ) → own_frames bytes ≡ xs ++ ys → is_cut (course_behind course maps xs) ≡ true → count ≡ length (carried_out course xs) → PieceTells (Ok count) (stretch course maps bytes) buffered
+cut_tells count course maps xs ys bytes buffered frames cut counted =
     let same = ap (course_behind course maps) frames ∙ sym (course_cut course maps xs ys cut) in
     let all = ap (carried_out course) frames ∙ carried_cut course maps xs ys cut in
     let still : is_cut (course_behind course maps (own_frames bytes)) ≡ true = ap is_cut same ∙ cut in
@@ -241,8 +241,8 @@ cut_tells count course maps xs ys bytes held frames cut counted =
 -- ---- the frame that a reader holds
 
 -- the frame that a reader lends is the one that it holds
-lent_frame : (shown : Option Frame) (held : Option (List ℕ)) (frame : Frame) → option_map spelled shown ≡ option_map fields_of held → shown ≡ Some frame
-    → (f : List ℕ) × (held ≡ Some f) × (spelled frame ≡ fields_of f)
+lent_frame : (shown : Option Frame) (buffered : Option (List ℕ)) (frame : Frame) → option_map spelled shown ≡ option_map fields_of buffered → shown ≡ Some frame
+    → (f : List ℕ) × (buffered ≡ Some f) × (spelled frame ≡ fields_of f)
 lent_frame shown None frame same is = absurd cc
 lent_frame shown (Some f) frame same is = (f, refl, cc)
 
@@ -250,27 +250,27 @@ answer_is : (maps : Maps) (frame : Frame) (f : List ℕ) → spelled frame ≡ f
 unfolding answer_to_frame
 answer_is maps frame f same = ap (λ (x : Fields). answer_of x.tid x.unit (answer_to maps x.pdu)) same
 
-pub held_carried : (course : Course) (maps : Maps) (frame : Option (List ℕ)) → is_cut course ≡ false → carried_out course (held_frames frame) ≡ held_frames frame
-held_carried course maps None going = carried_out-none course
-held_carried course maps (Some f) going = carried_out-one course (answer_to_frame maps f) f going
+pub buffered_carried : (course : Course) (maps : Maps) (frame : Option (List ℕ)) → is_cut course ≡ false → carried_out course (buffered_frames frame) ≡ buffered_frames frame
+buffered_carried course maps None going = carried_out-none course
+buffered_carried course maps (Some f) going = carried_out-one course (answer_to_frame maps f) f going
 
-pub held_answered : (course : Course) (shown : Option Frame) (held : Option (List ℕ)) (frame : Frame) (old new : Around) → is_cut course ≡ false → option_map spelled shown ≡ option_map fields_of held → shown ≡ Some frame
-    → Appends old.given new.given (sent_next course (answer_of frame.tid frame.unit (answer_to old.maps frame.pdu.now))) → new.maps ≡ maps_after old.maps frame.pdu.now → AllAnswered course (held_frames held) old new
-held_answered course shown held frame old new going same is given maps =
-    let lent = lent_frame shown held frame same is in
+pub buffered_answered : (course : Course) (shown : Option Frame) (buffered : Option (List ℕ)) (frame : Frame) (old new : Around) → is_cut course ≡ false → option_map spelled shown ≡ option_map fields_of buffered → shown ≡ Some frame
+    → Appends old.given new.given (sent_next course (answer_of frame.tid frame.unit (answer_to old.maps frame.pdu.now))) → new.maps ≡ maps_after old.maps frame.pdu.now → AllAnswered course (buffered_frames buffered) old new
+buffered_answered course shown buffered frame old new going same is given maps =
+    let lent = lent_frame shown buffered frame same is in
     let f = lent.0 in
     let answer = ap (sent_next course) (answer_is old.maps frame f lent.2) ∙ sym (append-nil _) in
-    subst (λ h. AllAnswered course (held_frames h) old new) (sym lent.1) record {
+    subst (λ h. AllAnswered course (buffered_frames h) old new) (sym lent.1) record {
       given = subst (Appends old.given new.given) answer given;
-      maps = maps ∙ ap (λ (x : Fields). maps_after old.maps x.pdu) lent.2 ∙ ap (maps_after_all old.maps) (sym (held_carried course old.maps (Some f) going));
+      maps = maps ∙ ap (λ (x : Fields). maps_after old.maps x.pdu) lent.2 ∙ ap (maps_after_all old.maps) (sym (buffered_carried course old.maps (Some f) going));
     }
 
-pub held_broken_off : (course : Course) (shown : Option Frame) (held : Option (List ℕ)) (frame : Frame) (old new : Around) → option_map spelled shown ≡ option_map fields_of held → shown ≡ Some frame
-    → GivesPart old.given new.given (sent_next course (answer_of frame.tid frame.unit (answer_to old.maps frame.pdu.now))) → new.maps ≡ maps_after old.maps frame.pdu.now → BrokenOff course (held_frames held) old new
-held_broken_off course shown held frame old new same is gives maps =
-    let lent = lent_frame shown held frame same is in
+pub buffered_broken_off : (course : Course) (shown : Option Frame) (buffered : Option (List ℕ)) (frame : Frame) (old new : Around) → option_map spelled shown ≡ option_map fields_of buffered → shown ≡ Some frame
+    → GivesPart old.given new.given (sent_next course (answer_of frame.tid frame.unit (answer_to old.maps frame.pdu.now))) → new.maps ≡ maps_after old.maps frame.pdu.now → BrokenOff course (buffered_frames buffered) old new
+buffered_broken_off course shown buffered frame old new same is gives maps =
+    let lent = lent_frame shown buffered frame same is in
     let f = lent.0 in
-    subst (λ h. BrokenOff course (held_frames h) old new) (sym lent.1) record {
+    subst (λ h. BrokenOff course (buffered_frames h) old new) (sym lent.1) record {
       earlier = [];
       frame = f;
       later = [];
@@ -283,18 +283,18 @@ held_broken_off course shown held frame old new same is gives maps =
       maps = maps ∙ ap (λ (x : Fields). maps_after old.maps x.pdu) lent.2;
     }
 
-pub held_course : (course new : Course) (shown : Option Frame) (held : Option (List ℕ)) (frame : Frame) (maps : Maps) → option_map spelled shown ≡ option_map fields_of held → shown ≡ Some frame
-    → new ≡ course_next course (answer_of frame.tid frame.unit (answer_to maps frame.pdu.now)) → new ≡ course_behind course maps (held_frames held)
-held_course course new shown held frame maps same is next =
-    let lent = lent_frame shown held frame same is in
-    next ∙ ap (course_next course) (answer_is maps frame lent.0 lent.2) ∙ ap (λ h. course_behind course maps (held_frames h)) (sym lent.1)
+pub buffered_course : (course new : Course) (shown : Option Frame) (buffered : Option (List ℕ)) (frame : Frame) (maps : Maps) → option_map spelled shown ≡ option_map fields_of buffered → shown ≡ Some frame
+    → new ≡ course_next course (answer_of frame.tid frame.unit (answer_to maps frame.pdu.now)) → new ≡ course_behind course maps (buffered_frames buffered)
+buffered_course course new shown buffered frame maps same is next =
+    let lent = lent_frame shown buffered frame same is in
+    next ∙ ap (course_next course) (answer_is maps frame lent.0 lent.2) ∙ ap (λ h. course_behind course maps (buffered_frames h)) (sym lent.1)
 
--- the answer to the frame that is held was broken off
-pub held_fault : (e : ServeFault) (course : Course) (frame : Option (List ℕ)) (xs ys : List (List ℕ)) (a b : Around) → HeldTells (Err e) frame → Answered {X = ℕ} (Err e) course xs a b → Answered {X = ℕ} (Err e) course (xs ++ ys) a b
-held_fault fault.Read course frame xs ys a b tells h = absurd tells
-held_fault fault.Write course frame xs ys a b tells h = BrokenOff-before course xs ys a b h
-held_fault fault.Garbled course frame xs ys a b tells h = absurd tells
-held_fault fault.TurnsUsed course frame xs ys a b tells h = absurd tells
+-- the answer to the frame that is buffered was broken off
+pub buffered_fault : (e : ServeFault) (course : Course) (frame : Option (List ℕ)) (xs ys : List (List ℕ)) (a b : Around) → BufferedTells (Err e) frame → Answered {X = ℕ} (Err e) course xs a b → Answered {X = ℕ} (Err e) course (xs ++ ys) a b
+buffered_fault fault.Read course frame xs ys a b tells h = absurd tells
+buffered_fault fault.Write course frame xs ys a b tells h = BrokenOff-before course xs ys a b h
+buffered_fault fault.Garbled course frame xs ys a b tells h = absurd tells
+buffered_fault fault.TurnsUsed course frame xs ys a b tells h = absurd tells
 
 -- ---- one turn
 
@@ -312,39 +312,39 @@ standing-same : (one other : List ℕ) (course : Course) → (is_cut course ≡ 
 standing-same one other (Playing tricks number later) same = ap (λ b. Holds b (Playing tricks number later)) (same refl)
 standing-same one other CutOff same = refl
 
-turn_over : (held : List ℕ) (course : Course) (ended : Bool) (old new : Around) → IsOpen held → is_cut course ≡ false → Keeps old.remaining new.remaining → (ended ≡ true → IsAtEnd new.remaining) → Keeps old.given new.given → new.maps ≡ old.maps
-    → Turns held course (Ok record { answered = 0; ended = ended }) old new (standing_on held course)
-turn_over held course ended old new is_open going left at_end given maps =
-    let none = nothing_taken held is_open in
-    let stays : course_behind course old.maps (own_frames (held ++ [])) ≡ course = ap (course_behind course old.maps) none.0 in
-    let nothing : carried_out course (own_frames (held ++ [])) ≡ [] = ap (carried_out course) none.0 ∙ carried_out-none course in
+turn_over : (buffered : List ℕ) (course : Course) (ended : Bool) (old new : Around) → IsOpen buffered → is_cut course ≡ false → Keeps old.remaining new.remaining → (ended ≡ true → IsAtEnd new.remaining) → Keeps old.given new.given → new.maps ≡ old.maps
+    → Turns buffered course (Ok record { answered = 0; ended = ended }) old new (standing_on buffered course)
+turn_over buffered course ended old new is_open going left at_end given maps =
+    let none = nothing_taken buffered is_open in
+    let stays : course_behind course old.maps (own_frames (buffered ++ [])) ≡ course = ap (course_behind course old.maps) none.0 in
+    let nothing : carried_out course (own_frames (buffered ++ [])) ≡ [] = ap (carried_out course) none.0 ∙ carried_out-none course in
     record {
       taken = [];
       few = omega arith;
       consumed = Consumes-none _ _ left;
       answered = AllAnswered-none course _ old new none.0 given maps;
-      stands = ap (λ b. standing_on b course) (sym none.1) ∙ ap (standing_on (rest (held ++ []))) (sym stays);
+      stands = ap (λ b. standing_on b course) (sym none.1) ∙ ap (standing_on (rest (buffered ++ []))) (sym stays);
       tells = (
         record { counted = sym (ap length nothing); is_open = λ _. subst IsOpen (sym none.1) is_open },
         record { cut = λ cut. absurd (both_ways _ cut (ap is_cut stays ∙ going)); end = λ _ e. (refl, at_end e) },
       );
     }
 
-pub turn_end : (held : List ℕ) (course : Course) (piece : List ℕ) (came_as : Took) (old new : Around) → IsOpen held → is_cut course ≡ false → TakeConsumes old.remaining new.remaining (Ok came_as) piece → came_as ≡ took.End → Keeps old.given new.given → new.maps ≡ old.maps
-    → Turns held course (Ok record { answered = 0; ended = true }) old new (standing_on held course)
-turn_end held course piece came_as old new is_open going bytes is given maps =
+pub turn_end : (buffered : List ℕ) (course : Course) (piece : List ℕ) (came_as : Took) (old new : Around) → IsOpen buffered → is_cut course ≡ false → TakeConsumes old.remaining new.remaining (Ok came_as) piece → came_as ≡ took.End → Keeps old.given new.given → new.maps ≡ old.maps
+    → Turns buffered course (Ok record { answered = 0; ended = true }) old new (standing_on buffered course)
+turn_end buffered course piece came_as old new is_open going bytes is given maps =
     let left = subst (λ t. TakeConsumes old.remaining new.remaining (Ok t) piece) is bytes in
-    turn_over held course true old new is_open going left.0 (λ _. left.1) given maps
+    turn_over buffered course true old new is_open going left.0 (λ _. left.1) given maps
 
-pub turn_idle : (held : List ℕ) (course : Course) (piece : List ℕ) (came_as : Took) (old new : Around) → IsOpen held → is_cut course ≡ false → TakeConsumes old.remaining new.remaining (Ok came_as) piece → came_as ≡ took.Idle → Keeps old.given new.given → new.maps ≡ old.maps
-    → Turns held course (Ok record { answered = 0; ended = false }) old new (standing_on held course)
-turn_idle held course piece came_as old new is_open going bytes is given maps =
+pub turn_idle : (buffered : List ℕ) (course : Course) (piece : List ℕ) (came_as : Took) (old new : Around) → IsOpen buffered → is_cut course ≡ false → TakeConsumes old.remaining new.remaining (Ok came_as) piece → came_as ≡ took.Idle → Keeps old.given new.given → new.maps ≡ old.maps
+    → Turns buffered course (Ok record { answered = 0; ended = false }) old new (standing_on buffered course)
+turn_idle buffered course piece came_as old new is_open going bytes is given maps =
     let left = subst (λ t. TakeConsumes old.remaining new.remaining (Ok t) piece) is bytes in
-    turn_over held course false old new is_open going left (λ e. absurd cc) given maps
+    turn_over buffered course false old new is_open going left (λ e. absurd cc) given maps
 
-pub turn_failed : (held : List ℕ) (course : Course) (old new : Around) → IsOpen held → Keeps old.remaining new.remaining → Keeps old.given new.given → new.maps ≡ old.maps → Turns held course (Err fault.Read) old new Faulted
-turn_failed held course old new is_open left given maps =
-    let none = nothing_taken held is_open in
+pub turn_failed : (buffered : List ℕ) (course : Course) (old new : Around) → IsOpen buffered → Keeps old.remaining new.remaining → Keeps old.given new.given → new.maps ≡ old.maps → Turns buffered course (Err fault.Read) old new Faulted
+turn_failed buffered course old new is_open left given maps =
+    let none = nothing_taken buffered is_open in
     record {
       taken = [];
       few = omega arith;
@@ -373,10 +373,10 @@ turn_tells_fault fault.Write course maps old bytes taken left remaining same h =
 turn_tells_fault fault.Garbled course maps old bytes taken left remaining same h = subst (λ m. IsGarbled (stretch course m bytes)) same h
 turn_tells_fault fault.TurnsUsed course maps old bytes taken left remaining same h = absurd h
 
-pub turn_fault : (e : ServeFault) (course : Course) (held piece left : List ℕ) (came_as : Took) (n : ℕ) (old mid new : Around) → is_cut course ≡ false → TakeConsumes old.remaining mid.remaining (Ok came_as) piece → came_as ≡ took.Bytes n → length piece ≤ 260
+pub turn_fault : (e : ServeFault) (course : Course) (buffered piece left : List ℕ) (came_as : Took) (n : ℕ) (old mid new : Around) → is_cut course ≡ false → TakeConsumes old.remaining mid.remaining (Ok came_as) piece → came_as ≡ took.Bytes n → length piece ≤ 260
     → Keeps mid.remaining new.remaining → Keeps old.given mid.given → mid.maps ≡ old.maps
-    → Answered {X = ℕ} (Err e) course (own_frames (held ++ take n piece)) mid new → PieceTells (Err e) (stretch course mid.maps (held ++ take n piece)) left → Turns held course (Err e) old new Faulted
-turn_fault e course held piece left came_as n old mid new going bytes is few kept given maps answered tells =
+    → Answered {X = ℕ} (Err e) course (own_frames (buffered ++ take n piece)) mid new → PieceTells (Err e) (stretch course mid.maps (buffered ++ take n piece)) left → Turns buffered course (Err e) old new Faulted
+turn_fault e course buffered piece left came_as n old mid new going bytes is few kept given maps answered tells =
     let came = subst (λ t. TakeConsumes old.remaining mid.remaining (Ok t) piece) is bytes in
     record {
       taken = take n piece;
@@ -387,14 +387,14 @@ turn_fault e course held piece left came_as n old mid new going bytes is few kep
       tells = turn_tells_fault e course mid.maps old.maps _ (take n piece) left _ maps tells;
     }
 
-pub turn_bytes : (count : ℕ) (course after : Course) (held piece left : List ℕ) (came_as : Took) (n : ℕ) (ended : Bool) (old mid new : Around) → is_cut course ≡ false → TakeConsumes old.remaining mid.remaining (Ok came_as) piece → came_as ≡ took.Bytes n → length piece ≤ 260
+pub turn_bytes : (count : ℕ) (course after : Course) (buffered piece left : List ℕ) (came_as : Took) (n : ℕ) (ended : Bool) (old mid new : Around) → is_cut course ≡ false → TakeConsumes old.remaining mid.remaining (Ok came_as) piece → came_as ≡ took.Bytes n → length piece ≤ 260
     → Keeps mid.remaining new.remaining → Keeps old.given mid.given → mid.maps ≡ old.maps
-    → AllAnswered course (own_frames (held ++ take n piece)) mid new → PieceTells (Ok count) (stretch course mid.maps (held ++ take n piece)) left
-    → after ≡ course_behind course mid.maps (own_frames (held ++ take n piece)) → ended ≡ is_cut after
-    → Turns held course (Ok record { answered = count; ended = ended }) old new (standing_on left after)
-turn_bytes count course after held piece left came_as n ended old mid new going bytes is few kept given maps answered tells same ends =
+    → AllAnswered course (own_frames (buffered ++ take n piece)) mid new → PieceTells (Ok count) (stretch course mid.maps (buffered ++ take n piece)) left
+    → after ≡ course_behind course mid.maps (own_frames (buffered ++ take n piece)) → ended ≡ is_cut after
+    → Turns buffered course (Ok record { answered = count; ended = ended }) old new (standing_on left after)
+turn_bytes count course after buffered piece left came_as n ended old mid new going bytes is few kept given maps answered tells same ends =
     let came = subst (λ t. TakeConsumes old.remaining mid.remaining (Ok t) piece) is bytes in
-    let bytes = held ++ take n piece in
+    let bytes = buffered ++ take n piece in
     let course_is : after ≡ course_behind course old.maps (own_frames bytes) = same ∙ ap (λ m. course_behind course m (own_frames bytes)) maps in
     let told = subst (λ m. PieceTells (Ok count) (stretch course m bytes) left) maps tells in
     record {

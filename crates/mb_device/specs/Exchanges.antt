@@ -25,31 +25,31 @@ in_all exchanges =
     }
 
 -- Given is what the server sends for the frames of this protocol that end in what was taken behind the
--- bytes held; and so the device and the server stand.
-pub record Exchanges (held : List ℕ) (course : Course) (exchange : Exchange) (old new : Maps)
+-- bytes buffered; and so the device and the server stand.
+pub record Exchanges (buffered : List ℕ) (course : Course) (exchange : Exchange) (old new : Maps)
     (standing : Standing) : Type 0 where
-  pub given : exchange.given ≡ sent_to course old (own_frames (held ++ exchange.taken))
-  pub maps : new ≡ maps_after_all old (carried_out course (own_frames (held ++ exchange.taken)))
+  pub given : exchange.given ≡ sent_to course old (own_frames (buffered ++ exchange.taken))
+  pub maps : new ≡ maps_after_all old (carried_out course (own_frames (buffered ++ exchange.taken)))
   pub stands : standing
-      ≡ standing_on (rest (held ++ exchange.taken))
-      (course_behind course old (own_frames (held ++ exchange.taken)))
-  pub is_open : is_cut (course_behind course old (own_frames (held ++ exchange.taken))) ≡ false
-      → IsOpen (rest (held ++ exchange.taken))
+      ≡ standing_on (rest (buffered ++ exchange.taken))
+      (course_behind course old (own_frames (buffered ++ exchange.taken)))
+  pub is_open : is_cut (course_behind course old (own_frames (buffered ++ exchange.taken))) ≡ false
+      → IsOpen (rest (buffered ++ exchange.taken))
 
 -- an exchange over a link
-pub record ExchangesOver (held : List ℕ) (course : Course) (old new : Around)
+pub record ExchangesOver (buffered : List ℕ) (course : Course) (old new : Around)
     (standing : Standing) : Type 0 where
   pub exchange : Exchange
   pub consumed : Consumes old.remaining new.remaining exchange.taken
   pub given : Appends old.given new.given exchange.given
-  pub exchanges : Exchanges held course exchange old.maps new.maps standing
+  pub exchanges : Exchanges buffered course exchange old.maps new.maps standing
 
 -- Exchanges one after another: at each the device and the server stand as the one before left them. What
 -- lies on the link may change between them.
 abbrev pub InOrder : List ℕ → Course → List Exchange → Maps → Maps → Standing → Type 0
-InOrder held course [] old new standing =
-    (new ≡ old) × (standing ≡ standing_on held course) × IsOpen held
-InOrder held course (first ∷ later) old new standing =
+InOrder buffered course [] old new standing =
+    (new ≡ old) × (standing ≡ standing_on buffered course) × IsOpen buffered
+InOrder buffered course (first ∷ later) old new standing =
     (mid : Maps) × (left : List ℕ) × (next : Course)
-    × Exchanges held course first old mid (Holds left next)
+    × Exchanges buffered course first old mid (Holds left next)
     × InOrder left next later mid new standing

@@ -5,7 +5,7 @@ use Rattle.std.specs.Io.KnownBytes.{Appends, Consumes, IsAtEnd}
 use Rattle.std.specs.declared.result.Result.{Result}
 use Rattle.std.specs.declared.option.Option.{Option}
 use Rattle.mb_wire.specs.Frames.{IsBad, IsFrame, IsOpen, frames, rest, protocol_of, tid_of, unit_of, pdu_of}
-use Rattle.mb_wire.specs.Reader.{Fields, Held}
+use Rattle.mb_wire.specs.Reader.{Fields, Buffered}
 use Rattle.mb_wire.specs.declared.limits.TheConstants.{MAX_ADU}
 use Rattle.mb_wire.specs.Links.{is_end}
 use Rattle.mb_wire.specs.declared.link.LastTake.{LastTake}
@@ -104,7 +104,7 @@ abbrev pub standing_after : {X : Type 0} → Result X ServeFault → List ℕ �
 standing_after (Ok x) bytes course = standing_on (rest bytes) course
 standing_after (Err fault) bytes course = Faulted
 
--- The bytes that came in all on a connection, those held before them included; the connection before
+-- The bytes that came in all on a connection, those buffered before them included; the connection before
 -- them, and behind the frames that end in them.
 pub record Stretch : Type 0 where
   pub bytes : List ℕ
@@ -156,7 +156,7 @@ ServeTells (Err TurnsUsed) stretch remaining = IsGoing stretch
 
 -- the connection was cut
 abbrev pub is_over : Standing → Bool
-is_over (Holds held course) = false
+is_over (Holds buffered course) = false
 is_over Over = true
 is_over Faulted = false
 
@@ -187,38 +187,38 @@ pub record TellsTake (ended failed : Bool) (last : Option LastTake) : Type 0 whe
   pub failure : failed ≡ is_err answer
 
 -- a turn of a server that holds these bytes, on a connection
-pub record Turns (held : List ℕ) (course : Course) (result : Result Turned ServeFault)
+pub record Turns (buffered : List ℕ) (course : Course) (result : Result Turned ServeFault)
     (old new : Around) (standing : Standing) : Type 0 where
   pub taken : List ℕ
   pub few : length taken ≤ MAX_ADU
   pub consumed : Consumes old.remaining new.remaining taken
-  pub answered : Answered result course (own_frames (held ++ taken)) old new
+  pub answered : Answered result course (own_frames (buffered ++ taken)) old new
   pub stands : standing
-      ≡ standing_after result (held ++ taken)
-      (course_behind course old.maps (own_frames (held ++ taken)))
-  pub tells : TurnTells result (stretch course old.maps (held ++ taken)) taken new.remaining
+      ≡ standing_after result (buffered ++ taken)
+      (course_behind course old.maps (own_frames (buffered ++ taken)))
+  pub tells : TurnTells result (stretch course old.maps (buffered ++ taken)) taken new.remaining
 
 -- all that was taken so far was answered, in so many frames
-pub record Served (held : List ℕ) (course : Course) (count : ℕ) (old new : Around)
+pub record Served (buffered : List ℕ) (course : Course) (count : ℕ) (old new : Around)
     (standing : Standing) : Type 0 where
   pub taken : List ℕ
   pub consumed : Consumes old.remaining new.remaining taken
-  pub answered : AllAnswered course (own_frames (held ++ taken)) old new
+  pub answered : AllAnswered course (own_frames (buffered ++ taken)) old new
   pub stands : standing
-      ≡ standing_on (rest (held ++ taken))
-      (course_behind course old.maps (own_frames (held ++ taken)))
-  pub counts : Counts count (stretch course old.maps (held ++ taken))
+      ≡ standing_on (rest (buffered ++ taken))
+      (course_behind course old.maps (own_frames (buffered ++ taken)))
+  pub counts : Counts count (stretch course old.maps (buffered ++ taken))
 
 -- serving by a server that holds these bytes, on a connection
-pub record Serves (held : List ℕ) (course : Course) (result : Result ℕ ServeFault)
+pub record Serves (buffered : List ℕ) (course : Course) (result : Result ℕ ServeFault)
     (old new : Around) (standing : Standing) : Type 0 where
   pub taken : List ℕ
   pub consumed : Consumes old.remaining new.remaining taken
-  pub answered : Answered result course (own_frames (held ++ taken)) old new
+  pub answered : Answered result course (own_frames (buffered ++ taken)) old new
   pub stands : standing
-      ≡ standing_after result (held ++ taken)
-      (course_behind course old.maps (own_frames (held ++ taken)))
-  pub tells : ServeTells result (stretch course old.maps (held ++ taken)) new.remaining
+      ≡ standing_after result (buffered ++ taken)
+      (course_behind course old.maps (own_frames (buffered ++ taken)))
+  pub tells : ServeTells result (stretch course old.maps (buffered ++ taken)) new.remaining
 
 -- a part of the bytes was given, and not all of them
 pub record GivesPart (old new : Option (List ℕ)) (bytes : List ℕ) : Type 0 where
@@ -233,34 +233,34 @@ abbrev pub Gives : {X E : Type 0} → Result X E → Option (List ℕ) → Optio
 Gives (Ok x) old new bytes = Appends old new bytes
 Gives (Err failed) old new bytes = GivesPart old new bytes
 
--- the frame that is held, if one is
-abbrev pub held_frames : Option (List ℕ) → List (List ℕ)
-held_frames None = []
-held_frames (Some frame) = frame ∷ []
+-- the frame that is buffered, if one is
+abbrev pub buffered_frames : Option (List ℕ) → List (List ℕ)
+buffered_frames None = []
+buffered_frames (Some frame) = frame ∷ []
 
 abbrev pub HoldsFrame : Option (List ℕ) → Type 0
 HoldsFrame None = Unit {0}
 HoldsFrame (Some frame) = IsFrame frame
 
--- what answering the frame that is held tells
-abbrev pub HeldTells : Result ℕ ServeFault → Option (List ℕ) → Type 0
-HeldTells (Ok count) frame = count ≡ length (held_frames frame)
-HeldTells (Err Read) frame = ⊥
-HeldTells (Err Write) frame = Unit {0}
-HeldTells (Err Garbled) frame = ⊥
-HeldTells (Err TurnsUsed) frame = ⊥
+-- what answering the frame that is buffered tells
+abbrev pub BufferedTells : Result ℕ ServeFault → Option (List ℕ) → Type 0
+BufferedTells (Ok count) frame = count ≡ length (buffered_frames frame)
+BufferedTells (Err Read) frame = ⊥
+BufferedTells (Err Write) frame = Unit {0}
+BufferedTells (Err Garbled) frame = ⊥
+BufferedTells (Err TurnsUsed) frame = ⊥
 
--- what answering the frames of a piece tells of the bytes up to its end, and of those held from then on
+-- what answering the frames of a piece tells of the bytes up to its end, and of those buffered from then on
 abbrev pub PieceTells : Result ℕ ServeFault → Stretch → List ℕ → Type 0
-PieceTells (Ok count) stretch held =
-    Counts count stretch × (is_cut stretch.left ≡ false → held ≡ rest stretch.bytes)
-PieceTells (Err Read) stretch held = ⊥
-PieceTells (Err Write) stretch held = Unit {0}
-PieceTells (Err Garbled) stretch held = IsGarbled stretch
-PieceTells (Err TurnsUsed) stretch held = ⊥
+PieceTells (Ok count) stretch buffered =
+    Counts count stretch × (is_cut stretch.left ≡ false → buffered ≡ rest stretch.bytes)
+PieceTells (Err Read) stretch buffered = ⊥
+PieceTells (Err Write) stretch buffered = Unit {0}
+PieceTells (Err Garbled) stretch buffered = IsGarbled stretch
+PieceTells (Err TurnsUsed) stretch buffered = ⊥
 
 -- where a server with this reader and this connection stands after a turn that answered so
-abbrev pub standing_in : {X : Type 0} → Result X ServeFault → Held → Course → Standing
+abbrev pub standing_in : {X : Type 0} → Result X ServeFault → Buffered → Course → Standing
 standing_in (Ok x) reader course = standing_on reader.rest course
 standing_in (Err fault) reader course = Faulted
 
@@ -273,13 +273,13 @@ is_link_fault (Err Garbled) = false
 is_link_fault (Err TurnsUsed) = false
 
 abbrev pub has_faulted : Standing → Bool
-has_faulted (Holds held course) = false
+has_faulted (Holds buffered course) = false
 has_faulted Over = false
 has_faulted Faulted = true
 
 -- a server that has answered no fault, and whose connection was not cut
 abbrev pub is_serving : Standing → Bool
-is_serving (Holds held course) = true
+is_serving (Holds buffered course) = true
 is_serving Over = false
 is_serving Faulted = false
 

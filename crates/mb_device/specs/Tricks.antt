@@ -36,7 +36,7 @@ spelled_by (Some play.Garble) answer =
     word answer.tid ++ word 0 ++ word 0 ++ answer.unit ∷ answer.pdu
 spelled_by (Some (play.Cut count)) answer = frame_of answer
 
--- What is sent once a frame has been dealt with: of that frame, and then the one that was held before it.
+-- What is sent once a frame has been dealt with: of that frame, and then the one that was buffered before it.
 abbrev pub sent_of : Option Trick → List ℕ → List ℕ → List ℕ
 sent_of None frame later = frame ++ later
 sent_of (Some play.Drop) frame later = later
@@ -48,7 +48,7 @@ sent_of (Some play.Garble) frame later = frame ++ later
 sent_of (Some (play.Cut count)) frame later = take count frame
 
 -- A connection: its tricks, the number of its next frame (2^64 - 1 for all from there on), and the frame
--- that is held, empty where none is; or it was cut.
+-- that is buffered, empty where none is; or it was cut.
 pub data Course : Type 0 where
   Playing : List (ℕ × Trick) → ℕ → List ℕ → Course
   CutOff : Course
@@ -76,7 +76,7 @@ cuts (Some play.Unit) = false
 cuts (Some play.Garble) = false
 cuts (Some (play.Cut count)) = true
 
--- the frame that is held behind a frame with this trick
+-- the frame that is buffered behind a frame with this trick
 abbrev pub later_of : Option Trick → List ℕ → List ℕ
 later_of None frame = []
 later_of (Some play.Drop) frame = []

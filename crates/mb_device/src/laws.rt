@@ -14,20 +14,20 @@ ghost use Rattle.mb_device.specs.declared.trick.Trick.{Trick};
 /// A turn that answers Ok exchanges bytes, and so does a serving; exchanges one after another are one
 /// exchange, whatever came to the link or left it between them.
 pub fn turns_compose()
-    ensures turn { (held : List ℕ) (course : Course) (turned : Turned) (old new : Around)
-        (standing : Standing) → Turns held course (Ok turned) old new standing →
-        ExchangesOver held course old new standing }
-    ensures serving { (held : List ℕ) (course : Course) (count : ℕ) (old new : Around)
-        (standing : Standing) → Serves held course (Ok count) old new standing →
-        ExchangesOver held course old new standing }
-    ensures two { (held left : List ℕ) (course mid_course : Course) (first next : Exchange)
+    ensures turn { (buffered : List ℕ) (course : Course) (turned : Turned) (old new : Around)
+        (standing : Standing) → Turns buffered course (Ok turned) old new standing →
+        ExchangesOver buffered course old new standing }
+    ensures serving { (buffered : List ℕ) (course : Course) (count : ℕ) (old new : Around)
+        (standing : Standing) → Serves buffered course (Ok count) old new standing →
+        ExchangesOver buffered course old new standing }
+    ensures two { (buffered left : List ℕ) (course mid_course : Course) (first next : Exchange)
         (old mid new : Maps) (standing : Standing) →
-        Exchanges held course first old mid (Holds left mid_course) →
+        Exchanges buffered course first old mid (Holds left mid_course) →
         Exchanges left mid_course next mid new standing →
-        Exchanges held course (joined first next) old new standing }
-    ensures all { (held : List ℕ) (course : Course) (exchanges : List Exchange) (old new : Maps)
-        (standing : Standing) → InOrder held course exchanges old new standing →
-        Exchanges held course (in_all exchanges) old new standing }
+        Exchanges buffered course (joined first next) old new standing }
+    ensures all { (buffered : List ℕ) (course : Course) (exchanges : List Exchange) (old new : Maps)
+        (standing : Standing) → InOrder buffered course exchanges old new standing →
+        Exchanges buffered course (in_all exchanges) old new standing }
 {}
 
 /// Where no frame has a trick, as without tricks and from frame 2^64 - 1 on, what is sent is the true

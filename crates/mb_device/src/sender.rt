@@ -43,7 +43,7 @@ fn give_both<L: Link>(link: &mut L, first: &[u8], next: &[u8]) -> Result<(), Lin
     give_all(link, next)
 }
 
-// Gives what a trick sends of a frame, and of the one that was held before it.
+// Gives what a trick sends of a frame, and of the one that was buffered before it.
 fn give_by<L: Link>(
     link: &mut L,
     trick: Option<Trick>,
@@ -127,7 +127,7 @@ pub(crate) struct Sender<'t> {
     tricks: &'t [(u64, Trick)],
     // The number of the next frame.
     next: u64,
-    // The answer that is held, in so many bytes; none where that is 0.
+    // The answer that is buffered, in so many bytes; none where that is 0.
     later: [u8; MAX_ADU],
     len: usize,
     is_cut: bool,

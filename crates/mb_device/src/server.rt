@@ -6,9 +6,9 @@ ghost use Rattle.mb_wire.specs.Frames.{IsOpen};
 ghost use Rattle.mb_wire.specs.Links.{risen};
 ghost use Rattle.mb_device.specs.Device.{answer_to, maps_after};
 ghost use Rattle.mb_device.specs.Tricks.{Course, answer_of, begun, course_next, is_cut, sent_next};
-ghost use Rattle.mb_device.specs.Server.{Answered, Faulted, Gives, HeldTells, Holds, HoldsFrame};
+ghost use Rattle.mb_device.specs.Server.{Answered, Faulted, Gives, BufferedTells, Holds, HoldsFrame};
 ghost use Rattle.mb_device.specs.Server.{Over, PieceTells, Serves, TellsTake, Turns, around};
-ghost use Rattle.mb_device.specs.Server.{came_to_end, course_behind, has_faulted, held_frames};
+ghost use Rattle.mb_device.specs.Server.{came_to_end, course_behind, has_faulted, buffered_frames};
 ghost use Rattle.mb_device.specs.Server.{is_link_fault, is_over, is_read_fault, is_serving};
 ghost use Rattle.mb_device.specs.Server.{own_frames, serve_fault_number, served_to_end};
 ghost use Rattle.mb_device.specs.Server.{standing_in, stretch};
@@ -49,7 +49,7 @@ impl ServeFault {
 /// What a turn did.
 #[derive(Clone, Copy, Debug, PartialEq, Eq)]
 pub struct Turned {
-    /// How many frames were answered, those included that a trick dropped, held or cut off.
+    /// How many frames were answered, those included that a trick dropped, buffered or cut off.
     pub answered: u64,
     /// Nothing more will come, or a trick cut the connection.
     pub ended: bool,
@@ -111,20 +111,20 @@ fn answer_frame<L: Link>(
 }
 
 // Answers the frame that the reader holds, if it holds one, and says how many that are.
-fn answer_held<L: Link>(
+fn answer_buffered<L: Link>(
     reader: &FrameReader,
     sender: &mut Sender<'_>,
     link: &mut L,
     bank: &mut Bank,
 ) -> Result<u64, ServeFault>
-    requires held { HoldsFrame reader.now.frame }
+    requires buffered { HoldsFrame reader.now.frame }
     requires going { is_cut sender.old ≡ false }
-    ensures answered { Answered result sender.old (held_frames reader.now.frame)
+    ensures answered { Answered result sender.old (buffered_frames reader.now.frame)
         (around (L.remaining link.old) (L.given link.old) bank.old)
         (around (L.remaining link.new) (L.given link.new) bank.new) }
-    ensures tells { HeldTells result reader.now.frame }
+    ensures tells { BufferedTells result reader.now.frame }
     ensures after { sender.new ≡
-        course_behind sender.old bank.old (held_frames reader.now.frame) }
+        course_behind sender.old bank.old (buffered_frames reader.now.frame) }
     ensures remaining { Keeps (L.remaining link.old) (L.remaining link.new) }
     ensures failures { L.failed link.new ≡ risen (is_link_fault result) (L.failed link.old) }
     ensures takes { L.taken link.new ≡ L.taken link.old }
@@ -164,7 +164,7 @@ fn answer_piece<L: Link>(
     ensures ends { L.ended link.new ≡ L.ended link.old }
 {
     let fed = reader.feed(piece);
-    let answered = answer_held(reader, sender, link, bank)?;
+    let answered = answer_buffered(reader, sender, link, bank)?;
     if sender.is_cut() {
         return Ok(answered);
     }
@@ -185,13 +185,13 @@ fn take_turn<L: Link>(
     link: &mut L,
     bank: &mut Bank,
 ) -> Result<Turned, ServeFault>
-    requires held { IsOpen reader.old.rest }
+    requires buffered { IsOpen reader.old.rest }
     requires going { is_cut sender.old ≡ false }
     ensures turns { Turns reader.old.rest sender.old result
         (around (L.remaining link.old) (L.given link.old) bank.old)
         (around (L.remaining link.new) (L.given link.new) bank.new)
         (standing_in result reader.new sender.new) }
-    ensures held { IfOk result (λ turned. is_cut sender.new ≡ false → IsOpen reader.new.rest) }
+    ensures buffered { IfOk result (λ turned. is_cut sender.new ≡ false → IsOpen reader.new.rest) }
     ensures few { IfOk result (λ turned. turned.answered ≤ MAX_ADU) }
     ensures failures { L.failed link.new ≡ risen (is_link_fault result) (L.failed link.old) }
     ensures takes { L.taken link.new ≡ risen true (L.taken link.old) }
@@ -245,8 +245,8 @@ impl<'t> Server<'t> {
     // It has answered a fault.
     fn has_failed(&self) -> bool
         ensures failed { result ≡ has_faulted self.now }
-        ensures held { (held : List ℕ) (course : Course) → self.now ≡ Holds held course →
-            IsOpen held × (is_cut course ≡ false) }
+        ensures buffered { (buffered : List ℕ) (course : Course) → self.now ≡ Holds buffered course
+            → IsOpen buffered × (is_cut course ≡ false) }
     {
         self.failed
     }
@@ -270,8 +270,8 @@ impl<'t> Server<'t> {
     /// carried out: that turn and each later one answer that the input ended, and the later ones take and
     /// give nothing.
     pub fn turn<L: Link>(&mut self, link: &mut L, bank: &mut Bank) -> Result<Turned, ServeFault>
-        ensures serving { (held : List ℕ) (course : Course) → self.old ≡ Holds held course →
-            Turns held course result (around (L.remaining link.old) (L.given link.old) bank.old)
+        ensures serving { (buffered : List ℕ) (course : Course) → self.old ≡ Holds buffered course →
+            Turns buffered course result (around (L.remaining link.old) (L.given link.old) bank.old)
             (around (L.remaining link.new) (L.given link.new) bank.new) self.new }
         ensures over { self.old ≡ Over →
             (result ≡ Ok (record { answered = 0; ended = true })) × (self.new ≡ Over)
@@ -298,7 +298,7 @@ impl<'t> Server<'t> {
     }
 
     /// Takes turns to the end of the input, at most `max_turns`, and answers how many frames were
-    /// answered, those included that a trick dropped, held or cut off. What was carried out before a
+    /// answered, those included that a trick dropped, buffered or cut off. What was carried out before a
     /// fault stands. After a fault each call answers Garbled, and takes and gives nothing. After a cut
     /// each call answers that no frame was, and takes and gives nothing.
     pub fn serve<L: Link>(
@@ -307,8 +307,9 @@ impl<'t> Server<'t> {
         bank: &mut Bank,
         max_turns: u32,
     ) -> Result<u64, ServeFault>
-        ensures serving { (held : List ℕ) (course : Course) → self.old ≡ Holds held course →
-            Serves held course result (around (L.remaining link.old) (L.given link.old) bank.old)
+        ensures serving { (buffered : List ℕ) (course : Course) → self.old ≡ Holds buffered course
+            → Serves buffered course result
+            (around (L.remaining link.old) (L.given link.old) bank.old)
             (around (L.remaining link.new) (L.given link.new) bank.new) self.new }
         ensures over { self.old ≡ Over → (result ≡ Ok 0) × (self.new ≡ Over)
             × (link.new ≡ link.old) × (bank.new ≡ bank.old) }

@@ -7,8 +7,8 @@ pub enum Trick {
     Drop,
     /// The answer is sent twice.
     Twice,
-    /// The answer is held. It is sent once the next frame has been dealt with: behind what is sent for
-    /// that frame, or in its place where that answer is held too.
+    /// The answer is buffered. It is sent once the next frame has been dealt with: behind what is sent for
+    /// that frame, or in its place where that answer is buffered too.
     Later,
     /// The transaction identifier is one more, modulo 65536.
     Id,
@@ -17,6 +17,6 @@ pub enum Trick {
     /// The length in the header is 0.
     Garble,
     /// So many bytes of the answer are sent, or all where it has no more, and then the connection is over.
-    /// An answer that is held is not sent.
+    /// An answer that is buffered is not sent.
     Cut(u16),
 }

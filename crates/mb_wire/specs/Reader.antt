@@ -10,14 +10,14 @@ use Rattle.mb_wire.specs.declared.frames.State.{State}
 use Rattle.mb_wire.specs.declared.frames.State.TheVariants.{Reading, Ended, Stuck}
 
 -- the bytes since the last frame's end, and the frame of this protocol that the last feed ended
-pub record Held : Type 0 where
+pub record Buffered : Type 0 where
   pub rest : List ℕ
   pub frame : Option (List ℕ)
 
-abbrev pub held_in : State → List ℕ → Held
-held_in Reading bytes = record { rest = bytes; frame = None }
-held_in Ended bytes = record { rest = []; frame = Some bytes }
-held_in Stuck bytes = record { rest = bytes; frame = None }
+abbrev pub buffered_in : State → List ℕ → Buffered
+buffered_in Reading bytes = record { rest = bytes; frame = None }
+buffered_in Ended bytes = record { rest = []; frame = Some bytes }
+buffered_in Stuck bytes = record { rest = bytes; frame = None }
 
 abbrev pub FitsState : State → List ℕ → Type 0
 FitsState Reading bytes = IsOpen bytes
@@ -38,12 +38,12 @@ IsEnd Whole = Unit {0}
 IsEnd Foreign = Unit {0}
 IsEnd Garbled = ⊥
 
--- what is held when these bytes since the last frame's end were told so
-abbrev pub held_after : Framing → List ℕ → Held
-held_after Need bytes = record { rest = bytes; frame = None }
-held_after Whole bytes = record { rest = []; frame = Some bytes }
-held_after Foreign bytes = record { rest = []; frame = None }
-held_after Garbled bytes = record { rest = bytes; frame = None }
+-- what is buffered when these bytes since the last frame's end were told so
+abbrev pub buffered_after : Framing → List ℕ → Buffered
+buffered_after Need bytes = record { rest = bytes; frame = None }
+buffered_after Whole bytes = record { rest = []; frame = Some bytes }
+buffered_after Foreign bytes = record { rest = []; frame = None }
+buffered_after Garbled bytes = record { rest = bytes; frame = None }
 
 -- the frame that ended, if one did
 abbrev pub ended : Framing → List ℕ → List (List ℕ)

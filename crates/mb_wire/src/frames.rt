@@ -4,7 +4,7 @@ ghost use Rattle.std.specs.Prelude.{take, drop, slice_index, IfSome, IsSome, Mat
 ghost use Rattle.std.specs.Option.{option_map};
 ghost use Rattle.mb_wire.specs.Frames.{IsOpen, IsBad, IsGoodSpan, span_of, tid_of, unit_of, pdu_of};
 ghost use Rattle.mb_wire.specs.Frames.{protocol_of, IsFrame, IsOwn, Reads, frames, rest};
-ghost use Rattle.mb_wire.specs.Reader.{Held, Tells, IsEnd, held_after, ended, fields_of, spelled};
+ghost use Rattle.mb_wire.specs.Reader.{Buffered, Tells, IsEnd, buffered_after, ended, fields_of, spelled};
 ghost use Rattle.mb_wire.specs.Reader.{spelling};
 ghost use Rattle.mb_wire.specs.Bytes.{AreBytes, word};
 
@@ -56,17 +56,17 @@ pub struct FrameReader {
 
 impl Model for FrameReader {
     ghost use Rattle.std.specs.Prelude.{take, ◌≤◌};
-    ghost use Rattle.mb_wire.specs.Reader.{Held, held_in, FitsState};
+    ghost use Rattle.mb_wire.specs.Reader.{Buffered, buffered_in, FitsState};
     ghost use Rattle.mb_wire.specs.declared.limits.TheConstants.{MAX_ADU};
 
-    ghost Value = { Held };
+    ghost Value = { Buffered };
 
-    ghost view = { λ r. held_in r.state (take r.len r.buf) };
+    ghost view = { λ r. buffered_in r.state (take r.len r.buf) };
 
     ghost invariant = { λ r. (r.len ≤ MAX_ADU) × FitsState r.state (take r.len r.buf) };
 }
 
-// How far a step came: `len` bytes are held.
+// How far a step came: `len` bytes are buffered.
 #[derive(Drop)]
 struct Step {
     len: usize,
@@ -81,7 +81,7 @@ fn top_up(buf: &mut [u8; MAX_ADU], len: usize, piece: &[u8], limit: usize) -> us
     ensures count { result ≤ length piece.now }
     ensures limited { len + result ≤ limit }
     ensures stops { (len + result ≡ limit) ⊎ (result ≡ length piece.now) }
-    ensures held { take (len + result) buf.new ≡ take len buf.old ++ take result piece.now }
+    ensures buffered { take (len + result) buf.new ≡ take len buf.old ++ take result piece.now }
     ensures kept { take len buf.new ≡ take len buf.old }
 {
     let count = (limit - len).min(piece.len());
@@ -105,7 +105,7 @@ fn top_up_header(buf: &mut [u8; MAX_ADU], len: usize, piece: &[u8]) -> usize
     ensures limited { len + result ≤ MAX_ADU }
     ensures stops { (6 ≤ len + result) ⊎ (result ≡ length piece.now) }
     ensures header { 6 < len + result → result ≡ 0 }
-    ensures held { take (len + result) buf.new ≡ take len buf.old ++ take result piece.now }
+    ensures buffered { take (len + result) buf.new ≡ take len buf.old ++ take result piece.now }
     ensures kept { take len buf.new ≡ take len buf.old }
 {
     if len < 6 {
@@ -141,7 +141,8 @@ fn take_in(buf: &mut [u8; MAX_ADU], len: usize, piece: &[u8]) -> Step
     ensures len { result.len ≤ MAX_ADU }
     ensures taken { result.fed.taken ≤ length piece.now }
     ensures need { result.fed.what ≡ Framing.Need → result.fed.taken ≡ length piece.now }
-    ensures held { take result.len buf.new ≡ take len buf.old ++ take result.fed.taken piece.now }
+    ensures buffered { take result.len buf.new ≡
+        take len buf.old ++ take result.fed.taken piece.now }
     ensures tells { Tells result.fed.what (take result.len buf.new) }
     ensures moves { IsEnd result.fed.what → 0 < result.fed.taken }
 {
@@ -196,9 +197,9 @@ impl FrameReader {
         ensures moves { IsEnd result.what → 0 < result.taken }
         ensures tells { Tells result.what (self.old.rest ++ take result.taken piece.now) }
         ensures after { self.new ≡
-            held_after result.what (self.old.rest ++ take result.taken piece.now) }
+            buffered_after result.what (self.old.rest ++ take result.taken piece.now) }
         // Whatever bytes came before, they and those taken now read as the frames so far, the one that
-        // ended, and what is held.
+        // ended, and what is buffered.
         ensures reads { (bytes : List ℕ) (before : List (List ℕ)) →
             Reads bytes before self.old.rest → Reads (bytes ++ take result.taken piece.now)
             (before ++ ended result.what (self.old.rest ++ take result.taken piece.now))
@@ -214,7 +215,7 @@ impl FrameReader {
         ensures moves { IsEnd result.what → 0 < result.taken }
         ensures tells { Tells result.what (self.old.rest ++ take result.taken piece.now) }
         ensures after { self.new ≡
-            held_after result.what (self.old.rest ++ take result.taken piece.now) }
+            buffered_after result.what (self.old.rest ++ take result.taken piece.now) }
         ensures stuck { IsBad self.old.rest → (result.what ≡ Framing.Garbled) × (result.taken ≡ 0) }
     {
         match self.state {

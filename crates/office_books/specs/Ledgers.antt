@@ -25,7 +25,7 @@ pub record GoesOn {T : Type 0} (old new : Ledger) (result : Result T BooksFault)
 
 -- The books hold what they held, and a stop leaves no more than it left.
 pub record KeepsFacts (old new : Ledger) : Type 0 where
-  pub facts : (held : List Fact) → old.holds held → new.holds held
+  pub facts : (known : List Fact) → old.holds known → new.holds known
   pub left : (left : List (List Fact)) → old.may_leave left → new.may_leave left
 
 -- A look-up changes nothing.
@@ -36,37 +36,38 @@ pub record OnlyReads {T : Type 0} (old new : Ledger) (result : Result T BooksFau
 -- What is answered is what the facts say.
 abbrev pub Finds : {T : Type 0} → (old new : Ledger) → Result T BooksFault
     → (List Fact → T → Type 0) → Type 0
-Finds old new result says = (held : List Fact) → old.holds held → new.is_clean
-    → IfOk result (says held)
+Finds old new result says = (known : List Fact) → old.holds known → new.is_clean
+    → IfOk result (says known)
 
 -- the facts after these, the latest first
-abbrev pub with_facts : (facts : List Fact) → (held : List Fact) → List Fact
-with_facts facts held = reverse facts ++ held
+abbrev pub with_facts : (facts : List Fact) → (known : List Fact) → List Fact
+with_facts facts known = reverse facts ++ known
 
 -- Facts that may follow are booked at Ok, all of them, and nothing else can be left by a stop from then on. Where the
--- books fail, none of them is held, and a stop may yet leave all of them. To book no facts changes nothing and succeeds.
+-- books fail, none of them is known, and a stop may yet leave all of them. To book no facts changes nothing and succeeds.
 pub record Books (old new : Ledger) (facts : List Fact) (result : Result (Unit {0}) BooksFault) :
     Type 0 where
-  pub booked : (held : List Fact) → old.holds held → AreLawful (with_facts facts held)
-      → OnOk result (new.holds (with_facts facts held))
-  pub settled : facts ≢ [] → (held : List Fact) → old.holds held → AreLawful (with_facts facts held)
-      → OnOk result (new.may_leave (with_facts facts held ∷ []))
-  pub refused : (held : List Fact) → old.holds held → OnErr result (new.holds held)
-  pub under_way : (held : List Fact) (left : List (List Fact)) → old.holds held
-      → AreLawful (with_facts facts held)
-      → old.may_leave left → OnErr result (new.may_leave (left ++ with_facts facts held ∷ []))
+  pub booked : (known : List Fact) → old.holds known → AreLawful (with_facts facts known)
+      → OnOk result (new.holds (with_facts facts known))
+  pub settled : facts ≢ [] → (known : List Fact) → old.holds known
+      → AreLawful (with_facts facts known)
+      → OnOk result (new.may_leave (with_facts facts known ∷ []))
+  pub refused : (known : List Fact) → old.holds known → OnErr result (new.holds known)
+  pub under_way : (known : List Fact) (left : List (List Fact)) → old.holds known
+      → AreLawful (with_facts facts known)
+      → old.may_leave left → OnErr result (new.may_leave (left ++ with_facts facts known ∷ []))
   pub nothing : facts ≡ [] → IsOk result × KeepsFacts old new
   pub goes : GoesOn old new result
 
 -- A call takes the books from these facts to later ones. At Ok they hold the later ones, and a stop leaves nothing else, or
 -- nothing was recorded and it leaves what it left. Where the call fails they hold what they held, and a stop may yet leave
 -- the later ones.
-pub record Moves {T : Type 0} (old new : Ledger) (held later : List Fact)
+pub record Moves {T : Type 0} (old new : Ledger) (known later : List Fact)
     (result : Result T BooksFault) : Type 0 where
-  pub holds : old.holds held → new.is_clean → OnOk result (new.holds later)
-  pub refused : old.holds held → OnErr result (new.holds held)
-  pub settled : (left : List (List Fact)) → old.holds held → new.is_clean → old.may_leave left
-      → OnOk result (new.may_leave (later ∷ []) ⊎ ((later ≡ held) × new.may_leave left))
-  pub under_way : (left : List (List Fact)) → old.holds held → new.is_clean → old.may_leave left
+  pub holds : old.holds known → new.is_clean → OnOk result (new.holds later)
+  pub refused : old.holds known → OnErr result (new.holds known)
+  pub settled : (left : List (List Fact)) → old.holds known → new.is_clean → old.may_leave left
+      → OnOk result (new.may_leave (later ∷ []) ⊎ ((later ≡ known) × new.may_leave left))
+  pub under_way : (left : List (List Fact)) → old.holds known → new.is_clean → old.may_leave left
       → OnErr result (new.may_leave left ⊎ new.may_leave (left ++ later ∷ []))
   pub goes : GoesOn old new result

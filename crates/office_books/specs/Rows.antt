@@ -22,8 +22,8 @@ TakesFirst takes before rows after = (n : ℕ) × TakesAll takes before (take n 
 pub record HandsOn {S : Type 0} (takes : S → Share → S → Type 0) (old new : Ledger)
     (before after : S)
     (result : Result (Unit {0}) BooksFault) (rows : List Fact → List Share) : Type 0 where
-  pub begun : (held : List Fact) → old.holds held → new.is_clean
-      → TakesFirst takes before (rows held) after
-  pub whole : (held : List Fact) → old.holds held → new.is_clean
-      → OnOk result (TakesAll takes before (rows held) after)
+  pub begun : (known : List Fact) → old.holds known → new.is_clean
+      → TakesFirst takes before (rows known) after
+  pub whole : (known : List Fact) → old.holds known → new.is_clean
+      → OnOk result (TakesAll takes before (rows known) after)
   pub some : (rows : List Share) × TakesAll takes before rows after

@@ -55,88 +55,88 @@ pub trait Books: Drop {
         ensures { result ≡ (ledger self.now).zone };
 
     /// By this law what they hold are all tables: two lists of facts that they hold differ in no row, while they are open.
-    fn tables_are_held(&self)
-        ensures { (held others : List Fact) → (ledger self.now).is_clean
+    fn tables_are_known(&self)
+        ensures { (known others : List Fact) → (ledger self.now).is_clean
             → (ledger self.now).is_open
-            → (ledger self.now).holds held
-            → (ledger self.now).holds others → AreSame held others };
+            → (ledger self.now).holds known
+            → (ledger self.now).holds others → AreSame known others };
 
     /// The devices, in the order in which they were added.
     fn devices(&mut self) -> Result<Vec<Device>, BooksFault>
         ensures found { Finds (ledger self.old) (ledger self.new) result
-            (λ held v. v.items ≡ reverse (devices_in held)) }
+            (λ known v. v.items ≡ reverse (devices_in known)) }
         ensures reads { OnlyReads (ledger self.old) (ledger self.new) result };
 
     /// The point list of a device, with the reads of its plan.
     fn list(&mut self, device: &Name) -> Result<Option<PlannedList>, BooksFault>
         ensures found { Finds (ledger self.old) (ledger self.new) result
-            (λ held list. list ≡ list_of held device.now) }
+            (λ known list. list ≡ list_of known device.now) }
         ensures reads { OnlyReads (ledger self.old) (ledger self.new) result };
 
     /// The register of a name.
     fn register(&mut self, name: &Name) -> Result<Option<Register>, BooksFault>
         ensures found { Finds (ledger self.old) (ledger self.new) result
-            (λ held row. row ≡ register_of held name.now) }
+            (λ known row. row ≡ register_of known name.now) }
         ensures reads { OnlyReads (ledger self.old) (ledger self.new) result };
 
     /// The registers of a device, in the order in which they were added.
     fn registers(&mut self, device: &Name) -> Result<Vec<Register>, BooksFault>
         ensures found { Finds (ledger self.old) (ledger self.new) result
-            (λ held v. v.items ≡ registers_of held device.now) }
+            (λ known v. v.items ≡ registers_of known device.now) }
         ensures reads { OnlyReads (ledger self.old) (ledger self.new) result };
 
     /// How many registers a device has.
     fn register_count(&mut self, device: &Name) -> Result<usize, BooksFault>
         ensures found { Finds (ledger self.old) (ledger self.new) result
-            (λ held n. n ≡ length (registers_of held device.now)) }
+            (λ known n. n ≡ length (registers_of known device.now)) }
         ensures reads { OnlyReads (ledger self.old) (ledger self.new) result };
 
     /// The installation of a meter, as it stands.
     fn meter(&mut self, name: &Name) -> Result<Option<Installation>, BooksFault>
         ensures found { Finds (ledger self.old) (ledger self.new) result
-            (λ held row. row ≡ meter_of held name.now) }
+            (λ known row. row ≡ meter_of known name.now) }
         ensures reads { ReadsInstallation (ledger self.old) (ledger self.new) result };
 
     /// The latest installation at a register, as it stands.
     fn installation(&mut self, register: &Name) -> Result<Option<Installation>, BooksFault>
         ensures found { Finds (ledger self.old) (ledger self.new) result
-            (λ held row. row ≡ installation_at held register.now) }
+            (λ known row. row ≡ installation_at known register.now) }
         ensures reads { ReadsInstallation (ledger self.old) (ledger self.new) result };
 
     /// How many meters were installed.
     fn installation_count(&mut self) -> Result<usize, BooksFault>
         ensures found { Finds (ledger self.old) (ledger self.new) result
-            (λ held n. n ≡ length (openings_in held)) }
+            (λ known n. n ≡ length (openings_in known)) }
         ensures reads { OnlyReads (ledger self.old) (ledger self.new) result };
 
     /// The entry of a meter at a place from 2 on: where the meter stood before it, and the next that stands.
     fn entry(&mut self, meter: &Name, place: u64) -> Result<Option<EntryPlace>, BooksFault>
         ensures found { Finds (ledger self.old) (ledger self.new) result
-            (λ held row. row ≡ entry_at held meter.now place) }
+            (λ known row. row ≡ entry_at known meter.now place) }
         ensures reads { ReadsPlace (ledger self.old) (ledger self.new) result };
 
     /// The poll of a number, and how it ended.
     fn poll(&mut self, number: u64) -> Result<Option<PollRow>, BooksFault>
         ensures found { Finds (ledger self.old) (ledger self.new) result
-            (λ held row. row ≡ poll_row_of held number) }
+            (λ known row. row ≡ poll_row_of known number) }
         ensures reads { OnlyReads (ledger self.old) (ledger self.new) result };
 
     /// How many polls were started.
     fn poll_count(&mut self) -> Result<u64, BooksFault>
         ensures found { Finds (ledger self.old) (ledger self.new) result
-            (λ held n. n ≡ length (polls_in held)) }
+            (λ known n. n ≡ length (polls_in known)) }
         ensures reads { OnlyReads (ledger self.old) (ledger self.new) result };
 
     /// The polls that have no outcome, in the order in which they were started.
     fn pending(&mut self) -> Result<Vec<Poll>, BooksFault>
         ensures found { Finds (ledger self.old) (ledger self.new) result
-            (λ held v. v.items ≡ pending_in held) }
+            (λ known v. v.items ≡ pending_in known) }
         ensures reads { OnlyReads (ledger self.old) (ledger self.new) result };
 
     /// The greatest moment that is recorded, in seconds since 1970-01-01 UTC.
     fn latest(&mut self) -> Result<u64, BooksFault>
         ensures found { Finds (ledger self.old) (ledger self.new) result
-            (λ held n. n ≡ latest_in held) }
+            (λ known n. n ≡ latest_in known) }
         ensures reads { OnlyReads (ledger self.old) (ledger self.new) result };
 
     /// What a request is to the one that is kept under its caller and number, if one is.
@@ -147,13 +147,13 @@ pub trait Books: Drop {
         request: &[u8],
     ) -> Result<Option<Repeat>, BooksFault>
         ensures found { Finds (ledger self.old) (ledger self.new) result
-            (λ held kept. kept ≡ repeat_of held caller.now number request.now) }
+            (λ known kept. kept ≡ repeat_of known caller.now number request.now) }
         ensures reads { OnlyReads (ledger self.old) (ledger self.new) result };
 
     /// Hands on the energy of a meter by quarter hours, in order of their starts.
     fn intervals<K: RowSink<Share>>(&mut self, meter: &Name, sink: &mut K) -> Result<(), BooksFault>
         ensures rows { HandsOn K.takes (ledger self.old) (ledger self.new) sink.old sink.new result
-            (λ held. rows_of_meter held meter.now) }
+            (λ known. rows_of_meter known meter.now) }
         ensures reads { OnlyReads (ledger self.old) (ledger self.new) result };
 
     /// Hands on the energy of a register by quarter hours: meter after meter, in the order in which they were installed.
@@ -163,10 +163,10 @@ pub trait Books: Drop {
         sink: &mut K,
     ) -> Result<(), BooksFault>
         ensures rows { HandsOn K.takes (ledger self.old) (ledger self.new) sink.old sink.new result
-            (λ held. rows_of_register held register.now) }
+            (λ known. rows_of_register known register.now) }
         ensures reads { OnlyReads (ledger self.old) (ledger self.new) result };
 
-    /// Adds facts that may follow those that are held: all of them, or none.
+    /// Adds facts that may follow those that are known: all of them, or none.
     fn book(&mut self, facts: Vec<Fact>) -> Result<(), BooksFault>
         ensures books { ledgers.Books (ledger self.old) (ledger self.new) facts.items result };
 }

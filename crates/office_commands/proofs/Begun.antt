@@ -111,31 +111,31 @@ before_at at (l ∷ slots) zero slot all there = let e : l ≡ slot = cc in subs
 before_at at (l ∷ slots) (suc i) slot all there = before_at at slots i slot all.1 there
 
 -- what is recorded, sent and answered there
-pub added_there : (number at : ℕ) (slots : List sessions.Slot) (held : List Fact) (c : Command) (slot : sessions.Slot) → is_start c ≡ true
-    → slot_of slots (sessions.started_on c) ≡ Some slot → added_by number at slots held c ≡ polls_of number at (spans_by held c) slot
-added_there number at slots held (command.AddDevice c) slot h found = absurd (cc)
-added_there number at slots held (command.PutList c) slot h found = absurd (cc)
-added_there number at slots held (command.AddRegister c) slot h found = absurd (cc)
-added_there number at slots held (command.Install c) slot h found = absurd (cc)
-added_there number at slots held (command.Exchange c) slot h found = absurd (cc)
-added_there number at slots held (command.Reset c) slot h found = absurd (cc)
-added_there number at slots held (command.Rescale c) slot h found = absurd (cc)
-added_there number at slots held (command.Manual c) slot h found = absurd (cc)
-added_there number at slots held (command.Close c) slot h found = absurd (cc)
-added_there number at slots held (command.Void c) slot h found = absurd (cc)
-added_there number at slots held (command.StartPoll c) slot h found = ap (polls_from number at (c.span ∷ [])) found
-added_there number at slots held (command.StartRound c) slot h found = ap (polls_from number at (spans_by held (command.StartRound c))) found
+pub added_there : (number at : ℕ) (slots : List sessions.Slot) (known : List Fact) (c : Command) (slot : sessions.Slot) → is_start c ≡ true
+    → slot_of slots (sessions.started_on c) ≡ Some slot → added_by number at slots known c ≡ polls_of number at (spans_by known c) slot
+added_there number at slots known (command.AddDevice c) slot h found = absurd (cc)
+added_there number at slots known (command.PutList c) slot h found = absurd (cc)
+added_there number at slots known (command.AddRegister c) slot h found = absurd (cc)
+added_there number at slots known (command.Install c) slot h found = absurd (cc)
+added_there number at slots known (command.Exchange c) slot h found = absurd (cc)
+added_there number at slots known (command.Reset c) slot h found = absurd (cc)
+added_there number at slots known (command.Rescale c) slot h found = absurd (cc)
+added_there number at slots known (command.Manual c) slot h found = absurd (cc)
+added_there number at slots known (command.Close c) slot h found = absurd (cc)
+added_there number at slots known (command.Void c) slot h found = absurd (cc)
+added_there number at slots known (command.StartPoll c) slot h found = ap (polls_from number at (c.span ∷ [])) found
+added_there number at slots known (command.StartRound c) slot h found = ap (polls_from number at (spans_by known (command.StartRound c))) found
 
-pub sent_there : (number at : ℕ) (slots : List sessions.Slot) (held : List Fact) (c : Command) (slot : sessions.Slot)
-    → slot_of slots (sessions.started_on c) ≡ Some slot → notes.frames_by number at slots held (Some c) ≡ frames_of number at (spans_by held c) slot
-sent_there number at slots held c slot found = ap (frames_from number at (spans_by held c)) found
+pub sent_there : (number at : ℕ) (slots : List sessions.Slot) (known : List Fact) (c : Command) (slot : sessions.Slot)
+    → slot_of slots (sessions.started_on c) ≡ Some slot → notes.frames_by number at slots known (Some c) ≡ frames_of number at (spans_by known c) slot
+sent_there number at slots known c slot found = ap (frames_from number at (spans_by known c)) found
 
-pub answered_there : (at : ℕ) (slots : List sessions.Slot) (held : List Fact) (c : Command) (slot : sessions.Slot) → is_start c ≡ true
+pub answered_there : (at : ℕ) (slots : List sessions.Slot) (known : List Fact) (c : Command) (slot : sessions.Slot) → is_start c ≡ true
     → slot_of slots (sessions.started_on c) ≡ Some slot
-    → answers.Started (next_poll held) (length (sends_of (next_poll held) at (spans_by held c) slot)) (reads_in_all held c) ≡ answer_to slots held at c
-answered_there at slots held c slot h found =
+    → answers.Started (next_poll known) (length (sends_of (next_poll known) at (spans_by known c) slot)) (reads_in_all known c) ≡ answer_to slots known at c
+answered_there at slots known c slot h found =
     sym (cond-true (is_start c) _ _ h
-    ∙ ap (λ (o : Option sessions.Slot). answers.Started (next_poll held) (length (sends_from (next_poll held) at (spans_by held c) o)) (reads_in_all held c)) found)
+    ∙ ap (λ (o : Option sessions.Slot). answers.Started (next_poll known) (length (sends_from (next_poll known) at (spans_by known c) o)) (reads_in_all known c)) found)
 
 -- the slots then
 named_slot : (number at : ℕ) (spans : List ReadSpan) (c : Command) (slot : sessions.Slot) (present : Option (List session.Event))
@@ -222,26 +222,26 @@ pub found_named : (slots : List sessions.Slot) (given : Option (List ℕ)) (slot
 found_named slots given slot found = find_passes (λ (l : sessions.Slot). is_named given l.device.name) slots slot found
 
 -- its polls may follow
-pub polls_lawful : (at : ℕ) (slots : List sessions.Slot) (held : List Fact) (c : Command) (replies : List Fact) (slot : sessions.Slot) → is_start c ≡ true
-    → slot_of slots (sessions.started_on c) ≡ Some slot → AreLawful (facts_obeyed at slots held c replies)
-    → AreLawful (with_facts (polls_of (next_poll held) at (spans_by held c) slot ++ replies) held)
-polls_lawful at slots held c replies slot h found lawful =
-    subst (λ (fs : List Fact). AreLawful (with_facts (fs ++ replies) held)) (added_there (next_poll held) at slots held c slot h found) lawful
+pub polls_lawful : (at : ℕ) (slots : List sessions.Slot) (known : List Fact) (c : Command) (replies : List Fact) (slot : sessions.Slot) → is_start c ≡ true
+    → slot_of slots (sessions.started_on c) ≡ Some slot → AreLawful (facts_obeyed at slots known c replies)
+    → AreLawful (with_facts (polls_of (next_poll known) at (spans_by known c) slot ++ replies) known)
+polls_lawful at slots known c replies slot h found lawful =
+    subst (λ (fs : List Fact). AreLawful (with_facts (fs ++ replies) known)) (added_there (next_poll known) at slots known c slot h found) lawful
 
-pub obeys_start : (old new : Ledger) (now : List Slot) (after : Slot) (slots : List sessions.Slot) (held : List Fact) (at : ℕ) (c : Command) (replies : List Fact)
+pub obeys_start : (old new : Ledger) (now : List Slot) (after : Slot) (slots : List sessions.Slot) (known : List Fact) (at : ℕ) (c : Command) (replies : List Fact)
     (result : Result Done BooksFault) (i : ℕ) (on : StartsOn slots c i) → is_start c ≡ true → AreApart slots → KeepsSlots now slots
-    → Moves old new held (with_facts (polls_of (next_poll held) at (spans_by held c) on.slot ++ replies) held) result
-    → (old.holds held → new.is_clean → OnOk result (KeepsSlot after (slot_sent (next_poll held) at (spans_by held c) on.slot)))
-    → (old.holds held → new.is_clean → IfOk result (λ done. done.answer
-    ≡ answers.Started (next_poll held) (length (sends_of (next_poll held) at (spans_by held c) on.slot)) (reads_in_all held c)))
-    → (old.holds held → new.is_clean → IfOk result (λ done. done.outgoing ≡ frames_of (next_poll held) at (spans_by held c) on.slot))
-    → Obeys old new (slice_set now i after) slots held at c replies result
-obeys_start old new now after slots held at c replies result i on h apart keeps books stands answer sent = record {
-  books = subst (λ (fs : List Fact). Moves old new held (with_facts (fs ++ replies) held) result) (sym (added_there (next_poll held) at slots held c on.slot h on.found)) books;
-  stands = λ held_so clean. on_ok _ _ result
-      (λ own. nothing_added (next_poll held) at (spans_by held c) c (slice_set now i after) slots h
-      (start_keeps (next_poll held) at (spans_by held c) c now slots i on.slot after apart on.there (found_named slots (sessions.started_on c) on.slot on.found) keeps own))
-      (stands held_so clean);
-  answer = λ held_so clean. if_ok _ _ result (λ done own. own ∙ answered_there at slots held c on.slot h on.found) (answer held_so clean);
-  sent = λ held_so clean. if_ok _ _ result (λ done own. own ∙ sym (sent_there (next_poll held) at slots held c on.slot on.found)) (sent held_so clean);
+    → Moves old new known (with_facts (polls_of (next_poll known) at (spans_by known c) on.slot ++ replies) known) result
+    → (old.holds known → new.is_clean → OnOk result (KeepsSlot after (slot_sent (next_poll known) at (spans_by known c) on.slot)))
+    → (old.holds known → new.is_clean → IfOk result (λ done. done.answer
+    ≡ answers.Started (next_poll known) (length (sends_of (next_poll known) at (spans_by known c) on.slot)) (reads_in_all known c)))
+    → (old.holds known → new.is_clean → IfOk result (λ done. done.outgoing ≡ frames_of (next_poll known) at (spans_by known c) on.slot))
+    → Obeys old new (slice_set now i after) slots known at c replies result
+obeys_start old new now after slots known at c replies result i on h apart keeps books stands answer sent = record {
+  books = subst (λ (fs : List Fact). Moves old new known (with_facts (fs ++ replies) known) result) (sym (added_there (next_poll known) at slots known c on.slot h on.found)) books;
+  stands = λ known_so clean. on_ok _ _ result
+      (λ own. nothing_added (next_poll known) at (spans_by known c) c (slice_set now i after) slots h
+      (start_keeps (next_poll known) at (spans_by known c) c now slots i on.slot after apart on.there (found_named slots (sessions.started_on c) on.slot on.found) keeps own))
+      (stands known_so clean);
+  answer = λ known_so clean. if_ok _ _ result (λ done own. own ∙ answered_there at slots known c on.slot h on.found) (answer known_so clean);
+  sent = λ known_so clean. if_ok _ _ result (λ done own. own ∙ sym (sent_there (next_poll known) at slots known c on.slot on.found)) (sent known_so clean);
 }

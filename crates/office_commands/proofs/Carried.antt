@@ -191,15 +191,15 @@ ok_any P (Ok x) p = p
 ok_any P (Err why) p = tt
 
 -- what a command leaves that starts nothing
-pub obeys_idle : (old new : Ledger) (after : List Slot) (slots more : List sessions.Slot) (held : List Fact) (at : ℕ) (c : Command) (replies : List Fact)
+pub obeys_idle : (old new : Ledger) (after : List Slot) (slots more : List sessions.Slot) (known : List Fact) (at : ℕ) (c : Command) (replies : List Fact)
     (result : Result Done BooksFault) → is_start c ≡ false → slots_added (Some c) ≡ more → OnOk result (KeepsSlots after (slots ++ more))
-    → Moves old new held (facts_obeyed at slots held c replies) result → IfOk result (λ done. done.answer ≡ answers.Done (kind_of c))
-    → IfOk result (λ done. done.outgoing ≡ []) → Obeys old new after slots held at c replies result
-obeys_idle old new after slots more held at c replies result none is keeps books answer sent = record {
+    → Moves old new known (facts_obeyed at slots known c replies) result → IfOk result (λ done. done.answer ≡ answers.Done (kind_of c))
+    → IfOk result (λ done. done.outgoing ≡ []) → Obeys old new after slots known at c replies result
+obeys_idle old new after slots more known at c replies result none is keeps books answer sent = record {
   books = books;
-  stands = λ h clean. on_ok _ _ result (keeps_idle after (next_poll held) at (spans_by held c) c slots more none is) keeps;
-  answer = λ h clean. if_ok _ _ result (λ done own. own ∙ idle_answer slots held at c none) answer;
-  sent = λ h clean. if_ok _ _ result (λ done own. own ∙ idle_sent slots held (next_poll held) at c none) sent;
+  stands = λ h clean. on_ok _ _ result (keeps_idle after (next_poll known) at (spans_by known c) c slots more none is) keeps;
+  answer = λ h clean. if_ok _ _ result (λ done own. own ∙ idle_answer slots known at c none) answer;
+  sent = λ h clean. if_ok _ _ result (λ done own. own ∙ idle_sent slots known (next_poll known) at c none) sent;
 }
 
 pub keeps_all : (after : List Slot) (slots : List sessions.Slot) (result : Result Done BooksFault) → KeepsSlots after slots → OnOk result (KeepsSlots after (slots ++ []))

@@ -11,9 +11,9 @@ use Rattle.office_rules.specs.Sessions as sessions
 use Rattle.office_rules.specs.History as history
 
 -- These are the facts that a command adds, whatever the slots and the number of the next poll.
-abbrev pub AreAdded : (at : ℕ) → Command → (held facts : List Fact) → Type 0
-AreAdded at c held facts =
-    (number : ℕ) (slots : List sessions.Slot) → facts ≡ history.added_by number at slots held c
+abbrev pub AreAdded : (at : ℕ) → Command → (known facts : List Fact) → Type 0
+AreAdded at c known facts =
+    (number : ℕ) (slots : List sessions.Slot) → facts ≡ history.added_by number at slots known c
 
 -- the void that a command makes, and the list and the register that one adds, where their names are names
 abbrev pub void_by : (at : ℕ) → VoidEntry → Option Fact

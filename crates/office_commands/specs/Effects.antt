@@ -38,18 +38,18 @@ replies_by at _ = []
 -- Facts are booked, all or none, or there was no memory to ask for it.
 pub record Tries (old new : Ledger) (facts : List Fact)
     (result : Result (Unit {0}) BooksFault) : Type 0 where
-  pub booked : (held : List Fact) → old.holds held → AreLawful (with_facts facts held)
-      → OnOk result (new.holds (with_facts facts held))
-  pub settled : (held : List Fact) (left : List (List Fact)) → old.holds held
-      → AreLawful (with_facts facts held)
+  pub booked : (known : List Fact) → old.holds known → AreLawful (with_facts facts known)
+      → OnOk result (new.holds (with_facts facts known))
+  pub settled : (known : List Fact) (left : List (List Fact)) → old.holds known
+      → AreLawful (with_facts facts known)
       → old.may_leave left
-      → OnOk result (new.may_leave (with_facts facts held ∷ [])
-      ⊎ ((with_facts facts held ≡ held) × new.may_leave left))
-  pub refused : (held : List Fact) → old.holds held → OnErr result (new.holds held)
-  pub under_way : (held : List Fact) (left : List (List Fact)) → old.holds held
-      → AreLawful (with_facts facts held)
+      → OnOk result (new.may_leave (with_facts facts known ∷ [])
+      ⊎ ((with_facts facts known ≡ known) × new.may_leave left))
+  pub refused : (known : List Fact) → old.holds known → OnErr result (new.holds known)
+  pub under_way : (known : List Fact) (left : List (List Fact)) → old.holds known
+      → AreLawful (with_facts facts known)
       → old.may_leave left
-      → OnErr result (new.may_leave left ⊎ new.may_leave (left ++ with_facts facts held ∷ []))
+      → OnErr result (new.may_leave left ⊎ new.may_leave (left ++ with_facts facts known ∷ []))
   pub goes : GoesOn old new result
 
 -- a slot once a command started its reads there, and all of them
@@ -70,21 +70,22 @@ slots_obeyed number at spans c slots =
 -- the facts that a command adds, and what is kept of the request behind them
 abbrev pub facts_obeyed : (at : ℕ) → List sessions.Slot → List Fact → Command
     → (replies : List Fact) → List Fact
-facts_obeyed at slots held c replies =
-    with_facts (added_by (next_poll held) at slots held c ++ replies) held
+facts_obeyed at slots known c replies =
+    with_facts (added_by (next_poll known) at slots known c ++ replies) known
 
 -- A command was carried out over these facts and slots: what it adds is booked, its reads are started, and it is answered.
 pub record Obeys (old new : Ledger) (after : List Slot) (slots : List sessions.Slot)
-    (held : List Fact) (at : ℕ) (c : Command)
+    (known : List Fact) (at : ℕ) (c : Command)
     (replies : List Fact) (result : Result Done BooksFault) : Type 0 where
-  pub books : Moves old new held (facts_obeyed at slots held c replies) result
-  pub stands : old.holds held → new.is_clean
-      → OnOk result (KeepsSlots after (slots_obeyed (next_poll held) at (spans_by held c) c slots))
-  pub answer : old.holds held → new.is_clean
-      → IfOk result (λ done. done.answer ≡ answer_to slots held at c)
-  pub sent : old.holds held → new.is_clean
+  pub books : Moves old new known (facts_obeyed at slots known c replies) result
+  pub stands : old.holds known → new.is_clean
+      → OnOk result (KeepsSlots after
+      (slots_obeyed (next_poll known) at (spans_by known c) c slots))
+  pub answer : old.holds known → new.is_clean
+      → IfOk result (λ done. done.answer ≡ answer_to slots known at c)
+  pub sent : old.holds known → new.is_clean
       → IfOk result (λ done.
-      done.outgoing ≡ notes.frames_by (next_poll held) at slots held (Some c))
+      done.outgoing ≡ notes.frames_by (next_poll known) at slots known (Some c))
 
 -- The same of an accepted event after what was accepted before it.
 pub record Carries (old new : Ledger) (after : List Slot) (past : History) (at : ℕ) (e : Event)
@@ -116,28 +117,28 @@ CarriesEvent old new before after at e result =
 
 -- what a command wants started on a slot: the reads, their polls and frames, and the slot then
 abbrev pub sends_by : (at : ℕ) → sessions.Slot → List Fact → Command → List sessions.Send
-sends_by at slot held c = starts.sends_of (next_poll held) at (spans_by held c) slot
+sends_by at slot known c = starts.sends_of (next_poll known) at (spans_by known c) slot
 
 abbrev pub polls_by : (at : ℕ) → sessions.Slot → List Fact → Command → List Fact
-polls_by at slot held c = starts.polls_of (next_poll held) at (spans_by held c) slot
+polls_by at slot known c = starts.polls_of (next_poll known) at (spans_by known c) slot
 
 abbrev pub frames_by : (at : ℕ) → sessions.Slot → List Fact → Command → List ℕ
-frames_by at slot held c = starts.frames_of (next_poll held) at (spans_by held c) slot
+frames_by at slot known c = starts.frames_of (next_poll known) at (spans_by known c) slot
 
 abbrev pub slot_by : (at : ℕ) → sessions.Slot → List Fact → Command → sessions.Slot
-slot_by at slot held c = starts.slot_sent (next_poll held) at (spans_by held c) slot
+slot_by at slot known c = starts.slot_sent (next_poll known) at (spans_by known c) slot
 
 -- the facts once its polls and what is kept of the request are booked
 abbrev pub facts_started : (at : ℕ) → sessions.Slot → List Fact → Command → (replies : List Fact)
     → List Fact
-facts_started at slot held c replies = with_facts (polls_by at slot held c ++ replies) held
+facts_started at slot known c replies = with_facts (polls_by at slot known c ++ replies) known
 
 -- So it is of every slot that is kept so, and all facts after which one poll more has a number.
 abbrev pub WhereStarted : (kept : Slot) → (sessions.Slot → List Fact → Type 0) → Type 0
-WhereStarted kept so = (slot : sessions.Slot) (held : List Fact) → KeepsSlot kept slot
-    → next_poll held ≤ MAX_POLLS + 1 → so slot held
+WhereStarted kept so = (slot : sessions.Slot) (known : List Fact) → KeepsSlot kept slot
+    → next_poll known ≤ MAX_POLLS + 1 → so slot known
 
 -- It is answered how many polls were started, from which number on, and how many reads there are.
 abbrev pub start_answer : (at : ℕ) → sessions.Slot → List Fact → Command → Answer
-start_answer at slot held c =
-    answer.Started (next_poll held) (length (sends_by at slot held c)) (reads_in_all held c)
+start_answer at slot known c =
+    answer.Started (next_poll known) (length (sends_by at slot known c)) (reads_in_all known c)

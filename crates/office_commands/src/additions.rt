@@ -38,7 +38,7 @@ fn exchanged<B: Books>(
 ) -> Result<Vec<Fact>, BooksFault>
     requires range { IsCommandInRange moment (command.Exchange exchange.now) }
     ensures found { Finds (B.ledger books.old) (B.ledger books.new) result
-        (λ held facts. AreAdded moment (command.Exchange exchange.now) held facts.items) }
+        (λ known facts. AreAdded moment (command.Exchange exchange.now) known facts.items) }
     ensures reads { OnlyReads (B.ledger books.old) (B.ledger books.new) result }
 {
     let closed = open_meter(books, &exchange.register)?;
@@ -59,7 +59,7 @@ pub fn facts_by<B: Books>(
     requires range { IsCommandInRange moment command.now }
     requires no_start { is_start command.now ≡ false }
     ensures found { Finds (B.ledger books.old) (B.ledger books.new) result
-        (λ held facts. AreAdded moment command.now held facts.items) }
+        (λ known facts. AreAdded moment command.now known facts.items) }
     ensures reads { OnlyReads (B.ledger books.old) (B.ledger books.new) result }
 {
     match command {

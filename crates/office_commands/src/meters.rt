@@ -151,7 +151,7 @@ pub fn open_meter<B: Books>(
     register: &Option<Name>,
 ) -> Result<Option<Installation>, BooksFault>
     ensures found { Finds (B.ledger books.old) (B.ledger books.new) result
-        (λ held row. row ≡ option_and_then (open_at held) register.now) }
+        (λ known row. row ≡ option_and_then (open_at known) register.now) }
     ensures reads { OnlyReads (B.ledger books.old) (B.ledger books.new) result }
 {
     let Some(register) = register else {

@@ -53,9 +53,9 @@ pub fn record<B: Books>(
 ) -> Result<Done, BooksFault>
     requires range { IsCommandInRange moment command.now }
     requires no_start { is_start command.now ≡ false }
-    ensures books { (kept : List sessions.Slot) (held : List Fact)
-        → let later = facts_obeyed moment kept held command.now (option_to_list reply) in
-        AreLawful later → Moves (B.ledger books.old) (B.ledger books.new) held later result }
+    ensures books { (kept : List sessions.Slot) (known : List Fact)
+        → let later = facts_obeyed moment kept known command.now (option_to_list reply) in
+        AreLawful later → Moves (B.ledger books.old) (B.ledger books.new) known later result }
     ensures goes { GoesOn (B.ledger books.old) (B.ledger books.new) result }
     ensures answer { IfOk result (λ done. done.answer ≡ answers.Done (kind_of command.now)) }
     ensures sent { IfOk result (λ done. done.outgoing ≡ []) }

@@ -26,7 +26,7 @@ fn list_of<B: Books>(
     device: &Option<Name>,
 ) -> Result<Option<PlannedList>, BooksFault>
     ensures found { Finds (B.ledger books.old) (B.ledger books.new) result
-        (λ held list. list ≡ option_and_then (list_of held) device.now) }
+        (λ known list. list ≡ option_and_then (list_of known) device.now) }
     ensures reads { OnlyReads (B.ledger books.old) (B.ledger books.new) result }
 {
     match device {
@@ -69,9 +69,9 @@ fn reads_of_round<B: Books>(
     round: &StartRound,
 ) -> Result<Reads, BooksFault>
     ensures spans { Finds (B.ledger books.old) (B.ledger books.new) result
-        (λ held reads. reads.spans.items ≡ spans_by held (command.StartRound round.now)) }
+        (λ known reads. reads.spans.items ≡ spans_by known (command.StartRound round.now)) }
     ensures all { Finds (B.ledger books.old) (B.ledger books.new) result
-        (λ held reads. reads.of ≡ reads_in_all held (command.StartRound round.now)) }
+        (λ known reads. reads.of ≡ reads_in_all known (command.StartRound round.now)) }
     ensures reads { OnlyReads (B.ledger books.old) (B.ledger books.new) result }
 {
     let list = list_of(books, &round.device)?;
@@ -96,9 +96,9 @@ pub fn reads_by<B: Books>(
 ) -> Result<Reads, BooksFault>
     requires { is_start command.now ≡ true }
     ensures spans { Finds (B.ledger books.old) (B.ledger books.new) result
-        (λ held reads. reads.spans.items ≡ spans_by held command.now) }
+        (λ known reads. reads.spans.items ≡ spans_by known command.now) }
     ensures all { Finds (B.ledger books.old) (B.ledger books.new) result
-        (λ held reads. reads.of ≡ reads_in_all held command.now) }
+        (λ known reads. reads.of ≡ reads_in_all known command.now) }
     ensures reads { OnlyReads (B.ledger books.old) (B.ledger books.new) result }
 {
     match command {

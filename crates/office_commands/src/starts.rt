@@ -30,18 +30,18 @@ pub fn start<B: Books>(
 ) -> Result<Done, BooksFault>
     requires start { is_start command.now ≡ true }
     requires limit { moment ≤ LAST_MOMENT }
-    ensures books { WhereStarted slot.old (λ kept held.
-        let later = facts_started moment kept held command.now (option_to_list reply) in
-        AreLawful later → Moves (B.ledger books.old) (B.ledger books.new) held later result) }
-    ensures stands { WhereStarted slot.old (λ kept held. IsBefore moment kept
-        → (B.ledger books.old).holds held → (B.ledger books.new).is_clean
-        → OnOk result (KeepsSlot slot.new (slot_by moment kept held command.now))) }
-    ensures answer { WhereStarted slot.old (λ kept held.
-        (B.ledger books.old).holds held → (B.ledger books.new).is_clean
-        → IfOk result (λ done. done.answer ≡ start_answer moment kept held command.now)) }
-    ensures sent { WhereStarted slot.old (λ kept held. IsBefore moment kept
-        → (B.ledger books.old).holds held → (B.ledger books.new).is_clean
-        → IfOk result (λ done. done.outgoing ≡ frames_by moment kept held command.now)) }
+    ensures books { WhereStarted slot.old (λ kept known.
+        let later = facts_started moment kept known command.now (option_to_list reply) in
+        AreLawful later → Moves (B.ledger books.old) (B.ledger books.new) known later result) }
+    ensures stands { WhereStarted slot.old (λ kept known. IsBefore moment kept
+        → (B.ledger books.old).holds known → (B.ledger books.new).is_clean
+        → OnOk result (KeepsSlot slot.new (slot_by moment kept known command.now))) }
+    ensures answer { WhereStarted slot.old (λ kept known.
+        (B.ledger books.old).holds known → (B.ledger books.new).is_clean
+        → IfOk result (λ done. done.answer ≡ start_answer moment kept known command.now)) }
+    ensures sent { WhereStarted slot.old (λ kept known. IsBefore moment kept
+        → (B.ledger books.old).holds known → (B.ledger books.new).is_clean
+        → IfOk result (λ done. done.outgoing ≡ frames_by moment kept known command.now)) }
     ensures goes { GoesOn (B.ledger books.old) (B.ledger books.new) result }
     ensures unchanged { OnErr result (slot.new ≡ slot.old) }
 {

@@ -101,10 +101,10 @@ days_by (Some fault.Zone) old new zone rows fold (Err why) same added ends = abs
 
 pub adds_up : (old new : Ledger) (fresh after : DaySink) (register : List ℕ) (done : Unit {0}) (result : Result (Vec DayTotal Global) Refusal)
     → RegistersAreInTurn → fresh.zone ≡ old.zone → fresh.fault ≡ None → HasTaken fresh.zone [] fresh.fold
-    → HandsOn TakesShare old new fresh after (Ok done) (λ held. rows_of_register held register) → OnlyReads old new (Ok done)
+    → HandsOn TakesShare old new fresh after (Ok done) (λ known. rows_of_register known register) → OnlyReads old new (Ok done)
     → EndsAs after.fault after.fold.accounts result → AddsUp old new register result
-adds_up old new fresh after register done result in_turn zone works empty hands reads ends = λ held lawful holds clean.
-    let rows = rows_of_register held register in
-    let up = added_up fresh after rows (in_turn held register lawful) works empty (hands.whole held holds clean) in
+adds_up old new fresh after register done result in_turn zone works empty hands reads ends = λ known lawful holds clean.
+    let rows = rows_of_register known register in
+    let up = added_up fresh after rows (in_turn known register lawful) works empty (hands.whole known holds clean) in
     let P : Zone → Type 0 = λ z. UnlessFailed after.fault (HasTaken z rows after.fold) in
     days_by after.fault old new old.zone rows after.fold result reads.goes.faults (subst P (up.0 ∙ zone) up.1) ends

@@ -9,7 +9,7 @@ use Rattle.office_events.specs.declared.facts.Fact.{Fact}
 use Rattle.office_events.specs.declared.refusals.Refusal.{Refusal}
 use Rattle.office_rules.specs.Sessions.{Slot, command_in}
 use Rattle.office_rules.specs.History.{History, Fed, facts_of, slots_of, next_poll}
-use Rattle.office_rules.specs.Refusals.{IsAccepted, refusal_of, unless_kept, unless_refused, response_of, answer_of, is_start}
+use Rattle.office_rules.specs.Refusals.{IsAccepted, refusal_of, unless_kept, unless_refused, decision_of, answer_of, is_start}
 use Rattle.office_laws.specs.Lawfulness.{IsPast, PutsPlanned}
 use Rattle.office_books.specs.declared.faults.BooksFault.{BooksFault}
 use Rattle.office_books.specs.declared.faults.BooksFault.TheVariants.{Store, Memory}
@@ -28,8 +28,8 @@ use Rattle.office_core.specs.Taking.{MayTake, Takes}
 use Rattle.office_core.proofs.Left.{moved_on, moved_not}
 
 -- an accepted event is answered as it is to be
-pub accepted_response : (past : History) (at : ℕ) (e : Event) → IsAccepted past at e → response_of past at e ≡ Ok (answer_of (slots_of past) (facts_of past) at e)
-accepted_response past at e accepted =
+pub accepted_decision : (past : History) (at : ℕ) (e : Event) → IsAccepted past at e → decision_of past at e ≡ Ok (answer_of (slots_of past) (facts_of past) at e)
+accepted_decision past at e accepted =
     ap (λ kept. unless_kept (unless_refused (answer_of (slots_of past) (facts_of past) at e) (refusal_of past at e)) kept) accepted.new
     ∙ ap (unless_refused (answer_of (slots_of past) (facts_of past) at e)) accepted.right
 
@@ -109,7 +109,7 @@ taken ledger past at e old new x given may accepted clean moves is latest slots 
     ap (λ a. outgoing_after past at e (Ok a)) is
     ∙ by_answer (λ a. outgoing_after past at e (Ok a)) _ (λ n m k. refl) (λ k. refl) refl (slots_of past) (facts_of past) at e in
     record {
-      answer = inl (ap (λ a. Ok a) is ∙ sym (accepted_response past at e accepted), moves.goes.faults);
+      answer = inl (ap (λ a. Ok a) is ∙ sym (accepted_decision past at e accepted), moves.goes.faults);
       books =
           subst (BooksStand (ledger new.books)) (sym follows)
           (moved_on (ledger old.books) (ledger new.books) (Fed at e) past x moves (one_more_past past at e may.books.is_past accepted may.planned) clean may.books);

@@ -87,28 +87,28 @@ pub record HandsDays {S : Type 0} (takes : S → DayTotal → S → Type 0) (zon
 abbrev pub FoundIn : {T : Type 0} → (old new : Ledger) → Result T Refusal → (List Fact → Option T)
     → Type 0
 FoundIn old new result row =
-    (held : List Fact) → old.holds held → new.is_clean
-    → IsFound (row held) old.fault_count new.fault_count result
+    (known : List Fact) → old.holds known → new.is_clean
+    → IsFound (row known) old.fault_count new.fault_count result
 
 abbrev pub RowsIn : {S T : Type 0} → (S → T → S → Type 0) → (old new : Ledger) → (from to : S)
     → Result (Unit {0}) Refusal → (List Fact → Option (List T)) → Type 0
 RowsIn takes old new from to result rows =
-    (held : List Fact) → old.holds held → new.is_clean
-    → HandsRows takes (rows held) old.fault_count new.fault_count from to result
+    (known : List Fact) → old.holds known → new.is_clean
+    → HandsRows takes (rows known) old.fault_count new.fault_count from to result
 
 abbrev pub DaysIn : {S : Type 0} → (S → DayTotal → S → Type 0) → (old new : Ledger) → (from to : S)
     → Result (Unit {0}) Refusal → (register : Option (List ℕ)) → Type 0
 DaysIn takes old new from to result register =
-    (held : List Fact) → AreLawful held → old.holds held → new.is_clean
-    → HandsDays takes old.zone held register old.fault_count new.fault_count from to result
+    (known : List Fact) → AreLawful known → old.holds known → new.is_clean
+    → HandsDays takes old.zone known register old.fault_count new.fault_count from to result
 
 -- the days of a register, as a list, where the facts are lawful; or it failed outside
 abbrev pub AddsUp : (old new : Ledger) → (register : List ℕ)
     → Result (Vec DayTotal Global) Refusal → Type 0
 AddsUp old new register result =
-    (held : List Fact) → AreLawful held → old.holds held → new.is_clean
+    (known : List Fact) → AreLawful known → old.holds known → new.is_clean
     → MatchResult result
-    (λ days. AreDaysOf old.zone held register (map account_of days.items)
+    (λ days. AreDaysOf old.zone known register (map account_of days.items)
     × (new.fault_count ≡ old.fault_count))
     (IsOutside old.fault_count new.fault_count)
 

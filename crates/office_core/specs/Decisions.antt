@@ -6,7 +6,7 @@ use Rattle.office_events.specs.declared.events.Event.{Event}
 use Rattle.office_events.specs.declared.refusals.Refusal.{Refusal}
 use Rattle.office_events.specs.declared.refusals.Refusal.TheVariants as refusal
 use Rattle.office_rules.specs.History.{History, facts_of, slots_of, latest_of}
-use Rattle.office_rules.specs.Refusals.{IsAccepted, refusal_of, response_of}
+use Rattle.office_rules.specs.Refusals.{IsAccepted, refusal_of, decision_of}
 use Rattle.office_lines.specs.declared.slots.Slot.{Slot}
 use Rattle.office_lines.specs.Keeping.{KeepsSlots}
 use Rattle.office_books.specs.declared.faults.BooksFault.{BooksFault}
@@ -17,7 +17,7 @@ use Rattle.office_core.specs.Failing.{is_failure}
 -- What is decided: `None` where the event is accepted, and else what it is answered.
 abbrev pub Decides : History → (at : ℕ) → Event → Option (Result Answer Refusal) → Type 0
 Decides past at e None = IsAccepted past at e
-Decides past at e (Some given) = given ≡ response_of past at e
+Decides past at e (Some given) = given ≡ decision_of past at e
 
 abbrev pub Decided : (old new : Ledger) → List Slot → (latest at : ℕ) → Event
     → Result (Option (Result Answer Refusal)) BooksFault → Type 0

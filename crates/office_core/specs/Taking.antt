@@ -5,7 +5,7 @@ use Rattle.office_events.specs.declared.events.Event.{Event}
 use Rattle.office_events.specs.declared.refusals.Refusal.{Refusal}
 use Rattle.office_events.specs.declared.refusals.Refusal.TheVariants as refusal
 use Rattle.office_rules.specs.History.{History, facts_of, slots_of, next_poll}
-use Rattle.office_rules.specs.Refusals.{IsAccepted, response_of, with_answer}
+use Rattle.office_rules.specs.Refusals.{IsAccepted, decision_of, with_answer}
 use Rattle.office_rules.specs.Notes.{notes_after, outgoing_after}
 use Rattle.office_rules.specs.Sessions.{command_in}
 use Rattle.office_laws.specs.Lawfulness.{PutsPlanned}
@@ -25,7 +25,7 @@ failures_of ledger office = (ledger office.books).fault_count
 abbrev pub IsAnswer : History → (at : ℕ) → Event → (before after : ℕ) → Result Answer Refusal
     → Type 0
 IsAnswer past at e before after result =
-    ((result ≡ response_of past at e) × (after ≡ before)) ⊎ FailsOutside before after result
+    ((result ≡ decision_of past at e) × (after ≡ before)) ⊎ FailsOutside before after result
 
 -- What the office tells is of this event alone: its outcomes and readings, and the frames that it wants sent.
 pub record IsTold {B : Type 0} (past : History) (at : ℕ) (e : Event)

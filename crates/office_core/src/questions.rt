@@ -29,7 +29,7 @@ fn found<T: Drop>(answer: Result<Option<T>, BooksFault>) -> Result<T, Refusal>
 /// The installation of a meter, as it stands.
 pub fn meter<B: Books>(books: &mut B, name: &Option<Name>) -> Result<Installation, Refusal>
     ensures found { FoundIn (B.ledger books.old) (B.ledger books.new) result
-        (λ held. option_and_then (meter_of held) name.now) }
+        (λ known. option_and_then (meter_of known) name.now) }
     ensures asks { Asks (B.ledger books.old) (B.ledger books.new) result }
     ensures no_day { IfErr result IsNotForWantOfDay }
 {
@@ -42,7 +42,7 @@ pub fn meter<B: Books>(books: &mut B, name: &Option<Name>) -> Result<Installatio
 /// The poll of a number, and how it ended, if it has.
 pub fn poll<B: Books>(books: &mut B, number: u64) -> Result<PollRow, Refusal>
     ensures found { FoundIn (B.ledger books.old) (B.ledger books.new) result
-        (λ held. poll_row_of held number) }
+        (λ known. poll_row_of known number) }
     ensures asks { Asks (B.ledger books.old) (B.ledger books.new) result }
     ensures no_day { IfErr result IsNotForWantOfDay }
 {
@@ -56,7 +56,7 @@ pub fn intervals<B: Books, K: RowSink<Share>>(
     sink: &mut K,
 ) -> Result<(), Refusal>
     ensures rows { RowsIn K.takes (B.ledger books.old) (B.ledger books.new) sink.old sink.new result
-        (λ held. intervals_of held meter.now) }
+        (λ known. intervals_of known meter.now) }
     ensures puts { TakesRows K.takes sink.old sink.new }
     ensures asks { Asks (B.ledger books.old) (B.ledger books.new) result }
     ensures no_day { IfErr result IsNotForWantOfDay }

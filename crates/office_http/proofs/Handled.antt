@@ -144,7 +144,7 @@ replied ledger at old new inbox full seen result remaining mid later given given
 
 -- ---- an outlet that was finished
 
-pub put_first : (base given : Option (List ℕ)) (out : Outgoing) → out.given ≡ given → out.held ≡ [] → Keeps base given → HasPut base out []
+pub put_first : (base given : Option (List ℕ)) (out : Outgoing) → out.given ≡ given → out.buffered ≡ [] → Keeps base given → HasPut base out []
 put_first base given out is none keeps = record {
   sent = [];
   left = [];

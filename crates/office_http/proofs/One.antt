@@ -7,7 +7,7 @@ use Rattle.http_route.specs.Targets.{is_question, name_in, route_in}
 use Rattle.http_route.specs.declared.routes.Route.{Route}
 use Rattle.http_route.specs.declared.routes.Route.TheVariants as route
 use Rattle.http_status.specs.declared.Status.{Status}
-use Rattle.http_whole.proofs.Unique.{one_held}
+use Rattle.http_whole.proofs.Unique.{one_request}
 use Rattle.office_events.specs.declared.commands.Command.{Command}
 use Rattle.http_answer.specs.Offices.{Office}
 use Rattle.http_answer.specs.Replies.{ask, command_reply, found_reply, reply_bytes, reply_of, route_reply, unless_failed}
@@ -55,7 +55,7 @@ one_given bodies office start body g h a b =
 
 pub one_reply : BodiesGiveOne → RepliesAreOne
 one_reply bodies office bytes one other a b =
-    let same = one_held routes bytes a.start b.start a.body b.body a.holds b.holds in
+    let same = one_request routes bytes a.start b.start a.body b.body a.holds b.holds in
     let gives : BodyGives routes a.start a.body b.given =
     subst (λ (s : Start). BodyGives routes s a.body b.given) (sym same.one_start) (subst (λ t. BodyGives routes b.start t b.given) (sym same.one_body) b.gives) in
     a.is ∙ ap reply_bytes (one_given bodies office a.start a.body a.given b.given a.gives gives)

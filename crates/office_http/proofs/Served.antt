@@ -7,7 +7,7 @@ use Rattle.office_events.specs.declared.events.Event.TheVariants as event
 use Rattle.office_events.specs.declared.refusals.Refusal.{Refusal}
 use Rattle.office_events.specs.declared.refusals.Refusal.TheVariants as refusal
 use Rattle.office_rules.specs.History.{History}
-use Rattle.office_rules.specs.Refusals.{response_of, with_answer}
+use Rattle.office_rules.specs.Refusals.{decision_of, with_answer}
 use Rattle.office_books.specs.Ledgers.{Ledger}
 use Rattle.office_core.specs.Asking.{IsFound, OnlyAsks, or_not_found}
 use Rattle.office_core.specs.Failing.{FailsOutside}

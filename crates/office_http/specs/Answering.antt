@@ -16,7 +16,7 @@ use Rattle.office_rules.specs.Facts.{register_of}
 use Rattle.office_rules.specs.History.{History, facts_of}
 use Rattle.office_rules.specs.Meters.{meter_of}
 use Rattle.office_rules.specs.Readings.{poll_row_of}
-use Rattle.office_rules.specs.Refusals.{response_of}
+use Rattle.office_rules.specs.Refusals.{decision_of}
 use Rattle.office_core.specs.Asking.{AreDaysNamed, intervals_of, or_not_found}
 use Rattle.http_answer.specs.Kinds.{kind_answered}
 use Rattle.http_answer.specs.Offices.{Office}
@@ -51,4 +51,4 @@ pub record AnswersAt (zone : Zone) (past : History) (at : ℕ) (office : Office)
   pub intervals : (name : Option (List ℕ))
       → office.intervals name ≡ or_not_found (intervals_of (facts_of past) name)
   pub days : AnswersDays zone (facts_of past) office.days
-  pub asked : (asked : Asked) → office.asked asked ≡ told (response_of past at (event.Asked asked))
+  pub asked : (asked : Asked) → office.asked asked ≡ told (decision_of past at (event.Asked asked))

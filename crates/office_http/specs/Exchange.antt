@@ -81,7 +81,7 @@ passage remaining later_remaining given later_given last = record {
   last = last;
 }
 
--- Nothing more was taken once what was read held a request, or a bad head: before the last take it went on.
+-- Nothing more was taken once what was read buffered a request, or a bad head: before the last take it went on.
 abbrev pub StopsReading : (read : List ℕ) → Option LastTake → Type 0
 StopsReading read last = (read ≡ []) ⊎ TakesWhatLacks (GoesOn routes) [] read last
 
@@ -103,7 +103,7 @@ pub record GivesReply {B : Type 0} (ledger : B → Ledger) (past : History) (at 
   pub serves : Serves ledger past at read old new cut put
   pub gives : Gives sent given later_given put
 
--- What was read holds a head, or a bad one; nothing more was taken once it held a whole request, or a bad head; and a reply
+-- What was read holds a head, or a bad one; nothing more was taken once it buffered a whole request, or a bad head; and a reply
 -- was given.
 pub record Replies {B : Type 0} (ledger : B → Ledger) (at : ℕ) (old new : Office B) (link : Passage)
     (read : List ℕ) (result : Result (Unit {0}) HandleFault) : Type 0 where

@@ -5,7 +5,7 @@ use Rattle.office_events.specs.declared.events.Asked.{Asked}
 use Rattle.office_events.specs.declared.events.Event.TheVariants as event
 use Rattle.office_events.specs.declared.refusals.Refusal.{Refusal}
 use Rattle.office_rules.specs.History.{History}
-use Rattle.office_rules.specs.Refusals.{response_of, with_answer}
+use Rattle.office_rules.specs.Refusals.{decision_of, with_answer}
 use Rattle.office_books.specs.Ledgers.{Ledger}
 use Rattle.office_core.specs.Failing.{IsOutside}
 use Rattle.office_core.specs.Standing.{After, Stands, books_in, is_stopped}
@@ -30,7 +30,7 @@ Asks read (Some asked) = AsksOffice routes read asked
 abbrev pub with_asked : History → (at : ℕ) → Option Asked → History
 with_asked past at None = past
 with_asked past at (Some asked) =
-    with_answer past at (event.Asked asked) (response_of past at (event.Asked asked))
+    with_answer past at (event.Asked asked) (decision_of past at (event.Asked asked))
 
 -- The reply is what the office answers, by the facts of what it accepted; and it has accepted what the bytes ask.
 pub record IsAnswered (zone : Zone) (past : History) (at : ℕ) (read reply : List ℕ)

@@ -38,12 +38,12 @@ map_none : {X Y : Type 0} (f : X → Y) (o : Option X) → option_map f o ≡ No
 map_none f None h = refl
 map_none f (Some x) h = absurd (cc)
 
-by_caller : (facts held : List Fact) (at : ℕ) (asked : Asked) (caller : Option (List ℕ)) → AreLawful held → at ≤ moment_limit
-    → replies_in held ≡ replies_in facts → option_and_then (λ (c : List ℕ). reply_of facts c asked.number) caller ≡ None
+by_caller : (facts known : List Fact) (at : ℕ) (asked : Asked) (caller : Option (List ℕ)) → AreLawful known → at ≤ moment_limit
+    → replies_in known ≡ replies_in facts → option_and_then (λ (c : List ℕ). reply_of facts c asked.number) caller ≡ None
     → (is_none caller || nat_lt request_limit asked.number) ≡ false
-    → AreLawful (reverse (option_to_list (option_map (λ c. fact.Reply (record { caller = c; number = asked.number; request = asked.request; kind = kind_of asked.command; at = at })) caller)) ++ held)
-by_caller facts held at asked None h timely kept new good = h
-by_caller facts held at asked (Some caller) h timely kept new good = (
+    → AreLawful (reverse (option_to_list (option_map (λ c. fact.Reply (record { caller = c; number = asked.number; request = asked.request; kind = kind_of asked.command; at = at })) caller)) ++ known)
+by_caller facts known at asked None h timely kept new good = h
+by_caller facts known at asked (Some caller) h timely kept new good = (
   (
     record {
       new = ap (λ (rs : List Reply). find (λ (r : Reply). same r.caller caller && (r.number == asked.number)) rs) kept ∙ new;

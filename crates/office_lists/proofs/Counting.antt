@@ -17,28 +17,28 @@ at_most_one None = omega arith
 at_most_one (Some x) = omega arith
 
 -- no more installations than facts
-no_more : (held : List Fact) → length (openings_in held) ≤ length held
+no_more : (known : List Fact) → length (openings_in known) ≤ length known
 no_more [] = omega arith
-no_more (f ∷ held) =
-    omega (arith, one_more (as_opening f) (openings_in held), at_most_one (as_opening f), no_more held)
+no_more (f ∷ known) =
+    omega (arith, one_more (as_opening f) (openings_in known), at_most_one (as_opening f), no_more known)
 
 -- one fact more
-pub figures_after : (old new : Figures) (f : Fact) (held : List Fact) → AreFigures old held → length held < 18446744073709551615
+pub figures_after : (old new : Figures) (f : Fact) (known : List Fact) → AreFigures old known → length known < 18446744073709551615
     → new.installations ≡ min (old.installations + length (openings_in (f ∷ []))) 18446744073709551615
-    → new.latest ≡ max (moment_in f) old.latest → AreFigures new (f ∷ held)
-figures_after old new f held are few counted latest = record {
-  installations = omega (arith, counted, are.installations, no_more held, few, one_more (as_opening f) (openings_in held), at_most_one (as_opening f));
+    → new.latest ≡ max (moment_in f) old.latest → AreFigures new (f ∷ known)
+figures_after old new f known are few counted latest = record {
+  installations = omega (arith, counted, are.installations, no_more known, few, one_more (as_opening f) (openings_in known), at_most_one (as_opening f));
   latest = latest ∙ ap (max (moment_in f)) are.latest;
 }
 
 -- one more of facts that come behind others
-pub with_more : (facts held : List Fact) (i : ℕ) (d : Fact) → i < length facts
-    → with_facts (take (i + 1) facts) held ≡ get_or facts i d ∷ with_facts (take i facts) held
-with_more facts held i d less =
-    ap (λ (fs : List Fact). reverse fs ++ held) (take_more facts i d less)
-    ∙ ap (λ (fs : List Fact). fs ++ held) (reverse-append (take i facts) (get_or facts i d ∷ []))
+pub with_more : (facts known : List Fact) (i : ℕ) (d : Fact) → i < length facts
+    → with_facts (take (i + 1) facts) known ≡ get_or facts i d ∷ with_facts (take i facts) known
+with_more facts known i d less =
+    ap (λ (fs : List Fact). reverse fs ++ known) (take_more facts i d less)
+    ∙ ap (λ (fs : List Fact). fs ++ known) (reverse-append (take i facts) (get_or facts i d ∷ []))
 
-pub few_with : (facts held : List Fact) (i : ℕ) → i < length facts → length held + length facts ≤ 18446744073709551615
-    → length (with_facts (take i facts) held) < 18446744073709551615
-few_with facts held i less few =
-    omega (arith, length-append (reverse (take i facts)) held, length-reverse (take i facts), length-take-le i facts (omega (arith, less)), few, less)
+pub few_with : (facts known : List Fact) (i : ℕ) → i < length facts → length known + length facts ≤ 18446744073709551615
+    → length (with_facts (take i facts) known) < 18446744073709551615
+few_with facts known i less few =
+    omega (arith, length-append (reverse (take i facts)) known, length-reverse (take i facts), length-take-le i facts (omega (arith, less)), few, less)

@@ -8,12 +8,12 @@ use Rattle.office_books.specs.Rows.{TakesAll, HandsOn}
 use Rattle.office_events.specs.declared.facts.Fact.{Fact}
 
 pub handed_on : {S : Type 0} (takes : S → Share → S → Type 0) (old new : Ledger) (before after : S) (rows : List Fact → List Share)
-    → ((held : List Fact) → old.holds held → TakesAll takes before (rows held) after) → TakesSome takes before after
+    → ((known : List Fact) → old.holds known → TakesAll takes before (rows known) after) → TakesSome takes before after
     → HandsOn takes old new before after (Ok tt) rows
 handed_on takes old new before after rows all some = record {
-  begun = λ held holds clean.
+  begun = λ known holds clean.
       let P : List Share → Type 0 = λ taken. TakesAll takes before taken after in
-      (length (rows held), subst P (sym (take_all (length (rows held)) (rows held) (omega arith))) (all held holds));
-  whole = λ held holds clean. all held holds;
+      (length (rows known), subst P (sym (take_all (length (rows known)) (rows known) (omega arith))) (all known holds));
+  whole = λ known holds clean. all known holds;
   some = some;
 }

@@ -9,22 +9,22 @@ use Rattle.office_rules.specs.Lawful.{AreLawful}
 
 -- The facts are lawful, the list has them, the earliest first, the tables say what they say, as far as they have come, and
 -- the figures are theirs.
-pub record AreListed (books : ListBooks) (held : List Fact) : Type 0 where
-  pub lawful : AreLawful held
-  pub facts : books.facts.items ≡ reverse held
+pub record AreListed (books : ListBooks) (known : List Fact) : Type 0 where
+  pub lawful : AreLawful known
+  pub facts : books.facts.items ≡ reverse known
   pub tables : HaveCome books.tables books.facts.items
-  pub figures : AreFigures books.figures held
+  pub figures : AreFigures books.figures known
 
 -- with these facts behind the others, figures that were those of the list are so again
 abbrev pub GoOn : (facts : List Fact) → (old new : ListBooks) → Type 0
-GoOn facts old new = (held : List Fact) → old.facts.items ≡ reverse held
-    → AreFigures old.figures held
-    → AreFigures new.figures (with_facts facts held)
+GoOn facts old new = (known : List Fact) → old.facts.items ≡ reverse known
+    → AreFigures old.figures known
+    → AreFigures new.figures (with_facts facts known)
 
--- one of these lists of facts is held
+-- one of these lists of facts is known
 abbrev pub HasOne : ListBooks → List (List Fact) → Type 0
 HasOne books [] = ⊥
-HasOne books (held ∷ left) = AreListed books held ⊎ HasOne books left
+HasOne books (known ∷ left) = AreListed books known ⊎ HasOne books left
 
 -- Books in memory are always clean and open, and have no store that could fail. A stop leaves what they hold.
 abbrev pub ledger_of : ListBooks → Ledger

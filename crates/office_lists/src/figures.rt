@@ -27,9 +27,9 @@ impl Figures {
 
     /// The figures after one fact more.
     fn after(&self, fact: &Fact) -> Figures
-        ensures { (held : List Fact) → AreFigures self.now held
-            → length held < 18446744073709551615
-            → AreFigures result (fact.now ∷ held) }
+        ensures { (known : List Fact) → AreFigures self.now known
+            → length known < 18446744073709551615
+            → AreFigures result (fact.now ∷ known) }
     {
         Figures {
             installations: self.installations.saturating_add(openings(fact)),
@@ -39,9 +39,9 @@ impl Figures {
 
     /// The figures after these facts.
     pub(crate) fn after_all(&self, facts: &[Fact]) -> Figures
-        ensures { (held : List Fact) → AreFigures self.now held
-            → length held + length facts.now ≤ 18446744073709551615
-            → AreFigures result (with_facts facts.now held) }
+        ensures { (known : List Fact) → AreFigures self.now known
+            → length known + length facts.now ≤ 18446744073709551615
+            → AreFigures result (with_facts facts.now known) }
     {
         let mut figures = *self;
         for fact in facts {

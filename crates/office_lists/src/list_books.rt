@@ -45,8 +45,8 @@ impl ListBooks {
     /// Adds to the tables what they lack. For want of memory they lack some yet.
     fn catch_up(&mut self) -> Result<(), BooksFault>
         ensures keeps { KeepsFacts (ledger_of self.old) (ledger_of self.new) }
-        ensures whole { (held : List Fact) → AreListed self.old held
-            → OnOk result (AreWhole self.new.tables held) }
+        ensures whole { (known : List Fact) → AreListed self.old known
+            → OnOk result (AreWhole self.new.tables known) }
         ensures facts { self.new.facts ≡ self.old.facts }
         ensures figures { self.new.figures ≡ self.old.figures }
         ensures zone { self.new.zone ≡ self.old.zone }
@@ -88,7 +88,7 @@ impl Books for ListBooks {
         self.zone
     }
 
-    fn tables_are_held(&self) {}
+    fn tables_are_known(&self) {}
 
     fn devices(&mut self) -> Result<Vec<Device>, BooksFault> {
         let alloc = *self.facts.allocator();

@@ -12,42 +12,42 @@ use Rattle.office_books.specs.Ledgers.{Ledger, OnlyReads, Books, Moves, with_fac
 use Rattle.office_books.proofs.Moving.{goes_on_then, settles}
 
 -- the facts of the polls that wait
-lost_as : (at : ℕ) (facts : List Fact) (polls : List Poll) (held : List Fact) → facts ≡ map (lost at) polls → polls ≡ pending_in held
-    → with_facts facts held ≡ with_lost at held
-lost_as at facts polls held is found = ap (λ fs. with_facts fs held) (is ∙ ap (map (lost at)) found)
+lost_as : (at : ℕ) (facts : List Fact) (polls : List Poll) (known : List Fact) → facts ≡ map (lost at) polls → polls ≡ pending_in known
+    → with_facts facts known ≡ with_lost at known
+lost_as at facts polls known is found = ap (λ fs. with_facts fs known) (is ∙ ap (map (lost at)) found)
 
-lost_settles : (old new : Ledger) (held : List Fact) (left : List (List Fact)) (facts : List Fact) (result : Result (Unit {0}) BooksFault)
-    → Books old new facts result → old.holds held → AreLawful (with_facts facts held) → old.may_leave left
-    → OnOk result (new.may_leave (with_facts facts held ∷ []) ⊎ ((with_facts facts held ≡ held) × new.may_leave left))
-lost_settles old new held left facts (Ok done) books h lawful may = settles old new held left facts done books h lawful may
-lost_settles old new held left facts (Err why) books h lawful may = tt
+lost_settles : (old new : Ledger) (known : List Fact) (left : List (List Fact)) (facts : List Fact) (result : Result (Unit {0}) BooksFault)
+    → Books old new facts result → old.holds known → AreLawful (with_facts facts known) → old.may_leave left
+    → OnOk result (new.may_leave (with_facts facts known ∷ []) ⊎ ((with_facts facts known ≡ known) × new.may_leave left))
+lost_settles old new known left facts (Ok done) books h lawful may = settles old new known left facts done books h lawful may
+lost_settles old new known left facts (Err why) books h lawful may = tt
 
 -- they are booked after the polls were looked up
-pub books_lost : (old between new : Ledger) (at : ℕ) (held : List Fact) (polls : List Poll) (facts : List Fact) {T : Type 0} (x : T) (result : Result (Unit {0}) BooksFault)
-    → OnlyReads old between (Ok x) → (old.holds held → between.is_clean → polls ≡ pending_in held) → facts ≡ map (lost at) polls
-    → AreLawful (with_lost at held) → Books between new facts result → Moves old new held (with_lost at held) result
-books_lost old between new at held polls facts x result reads found is lawful books =
-    let same : old.holds held → new.is_clean → with_facts facts held ≡ with_lost at held =
-    λ h c. lost_as at facts polls held is (found h (books.goes.clean c)) in
-    let fits : old.holds held → new.is_clean → AreLawful (with_facts facts held) = λ h c. subst AreLawful (sym (same h c)) lawful in
+pub books_lost : (old between new : Ledger) (at : ℕ) (known : List Fact) (polls : List Poll) (facts : List Fact) {T : Type 0} (x : T) (result : Result (Unit {0}) BooksFault)
+    → OnlyReads old between (Ok x) → (old.holds known → between.is_clean → polls ≡ pending_in known) → facts ≡ map (lost at) polls
+    → AreLawful (with_lost at known) → Books between new facts result → Moves old new known (with_lost at known) result
+books_lost old between new at known polls facts x result reads found is lawful books =
+    let same : old.holds known → new.is_clean → with_facts facts known ≡ with_lost at known =
+    λ h c. lost_as at facts polls known is (found h (books.goes.clean c)) in
+    let fits : old.holds known → new.is_clean → AreLawful (with_facts facts known) = λ h c. subst AreLawful (sym (same h c)) lawful in
     record {
-      holds = λ h c. subst (λ fs. OnOk result (new.holds fs)) (same h c) (books.booked held (reads.keeps.facts held h) (fits h c));
-      refused = λ h. books.refused held (reads.keeps.facts held h);
-      settled = λ left h c may. subst (λ fs. OnOk result (new.may_leave (fs ∷ []) ⊎ ((fs ≡ held) × new.may_leave left))) (same h c)
-          (lost_settles between new held left facts result books (reads.keeps.facts held h) (fits h c) (reads.keeps.left left may));
+      holds = λ h c. subst (λ fs. OnOk result (new.holds fs)) (same h c) (books.booked known (reads.keeps.facts known h) (fits h c));
+      refused = λ h. books.refused known (reads.keeps.facts known h);
+      settled = λ left h c may. subst (λ fs. OnOk result (new.may_leave (fs ∷ []) ⊎ ((fs ≡ known) × new.may_leave left))) (same h c)
+          (lost_settles between new known left facts result books (reads.keeps.facts known h) (fits h c) (reads.keeps.left left may));
       under_way = λ left h c may. subst (λ fs. OnErr result (new.may_leave left ⊎ new.may_leave (left ++ fs ∷ []))) (same h c)
-          (on_err_weaker result (λ done. inr done) (books.under_way held left (reads.keeps.facts held h) (fits h c) (reads.keeps.left left may)));
+          (on_err_weaker result (λ done. inr done) (books.under_way known left (reads.keeps.facts known h) (fits h c) (reads.keeps.left left may)));
       goes = goes_on_then old between new x result reads.goes books.goes;
     }
 
 -- no poll waits
-pub nothing_lost : (old new : Ledger) (at : ℕ) (held : List Fact) (polls : List Poll) {T : Type 0} (x : T) → OnlyReads old new (Ok x)
-    → (old.holds held → new.is_clean → polls ≡ pending_in held) → polls ≡ [] → Moves {T = Unit {0}} old new held (with_lost at held) (Ok tt)
-nothing_lost old new at held polls x reads found none =
-    let same : old.holds held → new.is_clean → held ≡ with_lost at held =
-    λ h c. lost_as at [] polls held (sym (ap (map (lost at)) none)) (found h c) in
+pub nothing_lost : (old new : Ledger) (at : ℕ) (known : List Fact) (polls : List Poll) {T : Type 0} (x : T) → OnlyReads old new (Ok x)
+    → (old.holds known → new.is_clean → polls ≡ pending_in known) → polls ≡ [] → Moves {T = Unit {0}} old new known (with_lost at known) (Ok tt)
+nothing_lost old new at known polls x reads found none =
+    let same : old.holds known → new.is_clean → known ≡ with_lost at known =
+    λ h c. lost_as at [] polls known (sym (ap (map (lost at)) none)) (found h c) in
     record {
-      holds = λ h c. subst new.holds (same h c) (reads.keeps.facts held h);
+      holds = λ h c. subst new.holds (same h c) (reads.keeps.facts known h);
       refused = λ h. tt;
       settled = λ left h c may. inr (sym (same h c), reads.keeps.left left may);
       under_way = λ left h c may. tt;

@@ -55,7 +55,7 @@ fn lost_facts(alloc: Global, moment: u64, polls: &[Poll]) -> Result<Vec<Fact>, A
 /// The slots of the devices in the books.
 fn slots_in<B: Books>(alloc: Global, books: &mut B) -> Result<Vec<Slot>, BooksFault>
     ensures found { Finds (B.ledger books.old) (B.ledger books.new) result
-        (λ held slots. slots.items ≡ map opening.opened (reverse (devices_in held))) }
+        (λ known slots. slots.items ≡ map opening.opened (reverse (devices_in known))) }
     ensures reads { OnlyReads (B.ledger books.old) (B.ledger books.new) result }
 {
     let devices = books.devices()?;
@@ -64,10 +64,10 @@ fn slots_in<B: Books>(alloc: Global, books: &mut B) -> Result<Vec<Slot>, BooksFa
 
 /// Books that each poll that has no outcome is lost. If there is none, nothing is written.
 fn book_lost<B: Books>(alloc: Global, books: &mut B, moment: u64) -> Result<(), BooksFault>
-    ensures books { (held : List Fact) → AreLawful (with_lost moment held)
-        → Moves (B.ledger books.old) (B.ledger books.new) held (with_lost moment held) result }
-    ensures refused { (held : List Fact) → (B.ledger books.old).holds held
-        → OnErr result ((B.ledger books.new).holds held) }
+    ensures books { (known : List Fact) → AreLawful (with_lost moment known)
+        → Moves (B.ledger books.old) (B.ledger books.new) known (with_lost moment known) result }
+    ensures refused { (known : List Fact) → (B.ledger books.old).holds known
+        → OnErr result ((B.ledger books.new).holds known) }
     ensures goes { GoesOn (B.ledger books.old) (B.ledger books.new) result }
 {
     let polls = books.pending()?;
@@ -82,7 +82,7 @@ fn book_lost<B: Books>(alloc: Global, books: &mut B, moment: u64) -> Result<(), 
 /// `None` where nothing speaks against it. Moments are seconds since 1970-01-01 UTC.
 pub fn opening_refusal<B: Books>(books: &mut B, moment: u64) -> Result<Option<Refusal>, BooksFault>
     ensures found { Finds (B.ledger books.old) (B.ledger books.new) result
-        (λ held why. why ≡ refusals.opening_refusal_of held moment) }
+        (λ known why. why ≡ refusals.opening_refusal_of known moment) }
     ensures reads { OnlyReads (B.ledger books.old) (B.ledger books.new) result }
     ensures in_time { IfOk result (λ why. why ≡ None → moment ≤ moment_limit) }
     ensures of_opening { IfOk result (λ why. IfSome why IsOfOpening) }
@@ -106,8 +106,8 @@ pub fn book_opening<B: Books>(
 ) -> Result<Vec<Slot>, BooksFault>
     ensures opens { (past : History) → MayOpen past moment
         → Opens past moment (B.ledger books.old) (B.ledger books.new) result }
-    ensures refused { (held : List Fact) → (B.ledger books.old).holds held
-        → OnErr result ((B.ledger books.new).holds held) }
+    ensures refused { (known : List Fact) → (B.ledger books.old).holds known
+        → OnErr result ((B.ledger books.new).holds known) }
     ensures goes { GoesOn (B.ledger books.old) (B.ledger books.new) result }
 {
     facts_are_lawful();

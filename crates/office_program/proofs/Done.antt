@@ -55,13 +55,13 @@ reported {W = W} ledger contents past register name moments later books back ope
     })
 
 pub served : {B : Type 0} (ledger : B → Ledger) (past : History) (connections : ℕ) (moments then later : Option (List ℕ))
-    (books back : B) (opened left : Office B) (held holds : Option (List ℕ)) (end : Serving)
+    (books back : B) (opened left : Office B) (had holds : Option (List ℕ)) (end : Serving)
     → ((ledger (books_in opened)).is_clean → Opens ledger past moments then opened)
     → ((ledger (books_in left)).is_clean → (ledger (books_in opened)).is_clean)
     → After ledger opened left (λ behind. ServesPort connections ledger behind opened left end)
-    → holds ≡ held → back ≡ books_in left → (ledger back).is_clean
-    → TellsServing ledger past connections moments later books back held holds end
-served ledger past connections moments then later books back opened left held holds Served opens lasts serves silent is clean =
+    → holds ≡ had → back ≡ books_in left → (ledger back).is_clean
+    → TellsServing ledger past connections moments later books back had holds end
+served ledger past connections moments then later books back opened left had holds Served opens lasts serves silent is clean =
     let whole = kept ledger left back is clean in
     let behind = opens (lasts whole) in
     record {
@@ -72,7 +72,7 @@ served ledger past connections moments then later books back opened left held ho
       handed = is;
       does = record { serves = serves _ behind.stands whole; silent = silent };
     }
-served ledger past connections moments then later books back opened left held holds NoPort opens lasts serves silent is clean =
+served ledger past connections moments then later books back opened left had holds NoPort opens lasts serves silent is clean =
     let whole = kept ledger left back is clean in
     let behind = opens (lasts whole) in
     record {
@@ -83,7 +83,7 @@ served ledger past connections moments then later books back opened left held ho
       handed = is;
       does = record { serves = serves _ behind.stands whole; silent = silent };
     }
-served ledger past connections moments then later books back opened left held holds Broken opens lasts serves silent is clean =
+served ledger past connections moments then later books back opened left had holds Broken opens lasts serves silent is clean =
     let whole = kept ledger left back is clean in
     let behind = opens (lasts whole) in
     record {
@@ -94,7 +94,7 @@ served ledger past connections moments then later books back opened left held ho
       handed = is;
       does = record { serves = serves _ behind.stands whole; silent = silent };
     }
-served ledger past connections moments then later books back opened left held holds (Unopened status) opens lasts serves silent is clean =
+served ledger past connections moments then later books back opened left had holds (Unopened status) opens lasts serves silent is clean =
     let whole = kept ledger left back is clean in
     let behind = opens (lasts whole) in absurd (serves _ behind.stands whole)
 

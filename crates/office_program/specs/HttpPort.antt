@@ -18,17 +18,17 @@ ServesPort connections ledger past opened left Broken = ServesUpTo connections l
 ServesPort connections ledger past opened left (Unopened status) = ⊥
 
 -- The office served so on a port, and nothing was printed.
-pub record Serves {B : Type 0} (ledger : B → Ledger) (connections : ℕ) (held holds : Option (List ℕ))
+pub record Serves {B : Type 0} (ledger : B → Ledger) (connections : ℕ) (had holds : Option (List ℕ))
     (end : Serving)
     (behind : History) (then : Option (List ℕ)) (opened left : Office B) : Type 0 where
   pub serves : ServesPort connections ledger behind opened left end
-  pub silent : holds ≡ held
+  pub silent : holds ≡ had
 
 -- The opening was refused, and that alone was printed; or the office was opened, and served.
 abbrev pub TellsServing : {B : Type 0} → (B → Ledger) → (past : History) → (connections : ℕ)
-    → (moments later : Option (List ℕ)) → (books back : B) → (held holds : Option (List ℕ))
+    → (moments later : Option (List ℕ)) → (books back : B) → (had holds : Option (List ℕ))
     → Serving → Type 0
-TellsServing ledger past connections moments later books back held holds (Unopened status) =
-    TellsUnopened past moments later (ledger books) (ledger back) status held holds
-TellsServing ledger past connections moments later books back held holds end =
-    WithOffice ledger past moments back (Serves ledger connections held holds end)
+TellsServing ledger past connections moments later books back had holds (Unopened status) =
+    TellsUnopened past moments later (ledger books) (ledger back) status had holds
+TellsServing ledger past connections moments later books back had holds end =
+    WithOffice ledger past moments back (Serves ledger connections had holds end)

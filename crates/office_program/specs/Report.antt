@@ -13,19 +13,19 @@ use Rattle.office_text.specs.EndTexts.{Tells}
 use Rattle.office_program.specs.Opened.{WithOffice}
 
 -- All days of the register were printed, or why there are none; and the office was only asked.
-pub record Reports {B : Type 0} (ledger : B → Ledger) (register later held holds : Option (List ℕ))
+pub record Reports {B : Type 0} (ledger : B → Ledger) (register later had holds : Option (List ℕ))
     (status : Status) (behind : History) (then : Option (List ℕ)) (opened left : Office B)
     : Type 0 where
   pub prints : Tells (ReportPrints (ledger (books_in opened)).zone behind register
-      (failures_of ledger opened) (failures_of ledger left)) status held holds
+      (failures_of ledger opened) (failures_of ledger left)) status had holds
   pub stands : Stands ledger behind left
   pub once : then ≡ later
 
 -- The opening was refused, and that alone was printed; or the office was opened, and reported. The clock was asked once.
 abbrev pub TellsReport : {B : Type 0} → (B → Ledger) → (past : History) → (register : List ℕ)
-    → (moments later : Option (List ℕ)) → (books back : B) → (held holds : Option (List ℕ))
+    → (moments later : Option (List ℕ)) → (books back : B) → (had holds : Option (List ℕ))
     → Status → Type 0
-TellsReport ledger past register moments later books back held holds status =
-    TellsUnopened past moments later (ledger books) (ledger back) status held holds
+TellsReport ledger past register moments later books back had holds status =
+    TellsUnopened past moments later (ledger books) (ledger back) status had holds
     ⊎ WithOffice ledger past moments back
-    (Reports ledger (named register) later held holds status)
+    (Reports ledger (named register) later had holds status)

@@ -20,8 +20,8 @@ fn are_all(slots: &[Slot]) -> bool
 
 /// Why a device is not added.
 pub fn add_device(slots: &[Slot], arrival: &Arrival, device: &AddDevice) -> Option<Refusal>
-    ensures found { (held : List Fact)
-        → IsWhyAmong slots.now arrival.now (command.AddDevice device.now) held result }
+    ensures found { (known : List Fact)
+        → IsWhyAmong slots.now arrival.now (command.AddDevice device.now) known result }
     ensures befits { Befits arrival.now (command.AddDevice device.now) result }
 {
     if has_device(slots, &device.name) {
@@ -38,8 +38,8 @@ pub fn add_device(slots: &[Slot], arrival: &Arrival, device: &AddDevice) -> Opti
 
 /// Why a list is not put.
 pub fn put_list(slots: &[Slot], arrival: &Arrival, put: &PutList) -> Option<Refusal>
-    ensures found { (held : List Fact)
-        → IsWhyAmong slots.now arrival.now (command.PutList put.now) held result }
+    ensures found { (known : List Fact)
+        → IsWhyAmong slots.now arrival.now (command.PutList put.now) known result }
     ensures befits { Befits arrival.now (command.PutList put.now) result }
 {
     if !has_device(slots, &put.device) {

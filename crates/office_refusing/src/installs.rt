@@ -16,7 +16,7 @@ use office_events::{Install, MAX_INSTALLATIONS, Refusal};
 /// Whether as many meters were installed as may be.
 pub fn are_all<B: Books>(books: &mut B) -> Result<bool, BooksFault>
     ensures found { Finds (B.ledger books.old) (B.ledger books.new) result
-        (λ held b. b ≡ nat_le installation_limit (length (openings_in held))) }
+        (λ known b. b ≡ nat_le installation_limit (length (openings_in known))) }
     ensures reads { OnlyReads (B.ledger books.old) (B.ledger books.new) result }
 {
     Ok(MAX_INSTALLATIONS <= books.installation_count()?)

@@ -14,7 +14,7 @@ pub fn meter_at<B: Books>(
     given: &Option<Name>,
 ) -> Result<Option<Installation>, BooksFault>
     ensures found { Finds (B.ledger books.old) (B.ledger books.new) result
-        (λ held row. row ≡ option_and_then (installation_at held) given.now) }
+        (λ known row. row ≡ option_and_then (installation_at known) given.now) }
     ensures reads { ReadsInstallation (B.ledger books.old) (B.ledger books.new) result }
 {
     match given {
@@ -36,7 +36,7 @@ fn is_open(row: &Option<Installation>) -> bool
 /// Whether a meter is open at the register of a name.
 pub fn has_open_meter<B: Books>(books: &mut B, given: &Option<Name>) -> Result<bool, BooksFault>
     ensures found { Finds (B.ledger books.old) (B.ledger books.new) result
-        (λ held b. b ≡ is_some (option_and_then (open_at held) given.now)) }
+        (λ known b. b ≡ is_some (option_and_then (open_at known) given.now)) }
     ensures reads { OnlyReads (B.ledger books.old) (B.ledger books.new) result }
 {
     Ok(is_open(&meter_at(books, given)?))

@@ -10,7 +10,7 @@ use office_events::Name;
 /// Whether a register has the name.
 pub fn has_register<B: Books>(books: &mut B, given: &Option<Name>) -> Result<bool, BooksFault>
     ensures found { Finds (B.ledger books.old) (B.ledger books.new) result
-        (λ held b. b ≡ is_some (option_and_then (register_of held) given.now)) }
+        (λ known b. b ≡ is_some (option_and_then (register_of known) given.now)) }
     ensures reads { OnlyReads (B.ledger books.old) (B.ledger books.new) result }
 {
     match given {
@@ -22,7 +22,7 @@ pub fn has_register<B: Books>(books: &mut B, given: &Option<Name>) -> Result<boo
 /// Whether a meter has the name.
 pub fn has_meter<B: Books>(books: &mut B, given: &Option<Name>) -> Result<bool, BooksFault>
     ensures found { Finds (B.ledger books.old) (B.ledger books.new) result
-        (λ held b. b ≡ is_some (option_and_then (opening_of held) given.now)) }
+        (λ known b. b ≡ is_some (option_and_then (opening_of known) given.now)) }
     ensures reads { OnlyReads (B.ledger books.old) (B.ledger books.new) result }
 {
     match given {

@@ -15,7 +15,7 @@ use office_lines::{Slot, has_device};
 /// Whether a device has as many registers as it may have.
 fn is_full<B: Books>(books: &mut B, given: &Option<Name>) -> Result<bool, BooksFault>
     ensures found { Finds (B.ledger books.old) (B.ledger books.new) result
-        (λ held b. b ≡ is_full_of_registers held given.now) }
+        (λ known b. b ≡ is_full_of_registers known given.now) }
     ensures reads { OnlyReads (B.ledger books.old) (B.ledger books.new) result }
 {
     match given {

@@ -25,7 +25,7 @@ pub fn kept<B: Books>(
     event: &Event,
 ) -> Result<Option<Result<CommandKind, Refusal>>, BooksFault>
     ensures found { Finds (B.ledger books.old) (B.ledger books.new) result
-        (λ held answer. answer ≡ kept_of held event.now) }
+        (λ known answer. answer ≡ kept_of known event.now) }
     ensures reads { OnlyReads (B.ledger books.old) (B.ledger books.new) result }
     ensures reused { IfOk result (λ answer.
         IfSome answer (λ r. IfErr r (λ why. why ≡ refusal.Reused))) }

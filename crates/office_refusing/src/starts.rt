@@ -52,7 +52,7 @@ fn reads_left(list: &PlannedList, from: u64) -> u64
 /// The point list of the device of a name.
 fn list_at<B: Books>(books: &mut B, given: &Option<Name>) -> Result<Option<PlannedList>, BooksFault>
     ensures found { Finds (B.ledger books.old) (B.ledger books.new) result
-        (λ held list. list ≡ option_and_then (list_of held) given.now) }
+        (λ known list. list ≡ option_and_then (list_of known) given.now) }
     ensures reads { OnlyReads (B.ledger books.old) (B.ledger books.new) result }
 {
     match given {
@@ -64,7 +64,7 @@ fn list_at<B: Books>(books: &mut B, given: &Option<Name>) -> Result<Option<Plann
 /// Whether so many polls more would be numbered past the greatest number.
 fn is_past_numbers<B: Books>(books: &mut B, more: u64) -> Result<bool, BooksFault>
     ensures found { Finds (B.ledger books.old) (B.ledger books.new) result
-        (λ held b. b ≡ nat_lt poll_limit (length (polls_in held) + more)) }
+        (λ known b. b ≡ nat_lt poll_limit (length (polls_in known) + more)) }
     ensures reads { OnlyReads (B.ledger books.old) (B.ledger books.new) result }
 {
     let count = books.poll_count()?;

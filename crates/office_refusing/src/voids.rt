@@ -27,7 +27,7 @@ enum Spot {
 /// What is at a place of the meter of a name. The opening has the place 1.
 fn spot_at<B: Books>(books: &mut B, given: &Option<Name>, place: u64) -> Result<Spot, BooksFault>
     ensures found { Finds (B.ledger books.old) (B.ledger books.new) result
-        (λ held spot. spots.IsAt held given.now place spot) }
+        (λ known spot. spots.IsAt known given.now place spot) }
     ensures reads { OnlyReads (B.ledger books.old) (B.ledger books.new) result }
     ensures sound { IfOk result spots.IsSoundSpot }
 {

@@ -12,55 +12,55 @@ use Rattle.office_events.specs.declared.answers.Answer.TheVariants as answer
 use Rattle.office_events.specs.declared.answers.CommandKind.TheVariants as done
 use Rattle.office_events.specs.declared.answers.Note.TheVariants as note
 use Rattle.office_rules.specs.History.{History, Opened, Fed, facts_of}
-use Rattle.office_rules.specs.Refusals.{response_of}
+use Rattle.office_rules.specs.Refusals.{decision_of}
 use Rattle.office_rules.specs.Intervals.{rows_of_meter}
 use Rattle.office_rules.proofs.Samples.{inv, main, m1, m2, device, register, full_range, three_words, start, reset, rescale, manual, close, exchange, reply, answered, told, meter, total}
 
-by_hand_too_little : response_of answered 2000 (manual 5100 0 None) ≡ Err refusal.NegativeStep
+by_hand_too_little : decision_of answered 2000 (manual 5100 0 None) ≡ Err refusal.NegativeStep
 unfolding unit_of frames frames_in rest rest_in is_garbled is_over is_closed stream next_id frames_at ending_at settled_by pending outcomes_at
 by_hand_too_little = refl
 
-by_hand_too_early : response_of answered 1900 (manual 5300 0 None) ≡ Err refusal.NotLater
+by_hand_too_early : decision_of answered 1900 (manual 5300 0 None) ≡ Err refusal.NotLater
 unfolding unit_of frames frames_in rest rest_in is_garbled is_over is_closed stream next_id frames_at ending_at settled_by pending outcomes_at
 by_hand_too_early = refl
 
-by_hand_too_late : response_of answered 2701801 (manual 5300 0 None) ≡ Err refusal.SpanTooLong
+by_hand_too_late : decision_of answered 2701801 (manual 5300 0 None) ≡ Err refusal.SpanTooLong
 unfolding unit_of frames frames_in rest rest_in is_garbled is_over is_closed stream next_id frames_at ending_at settled_by pending outcomes_at
 by_hand_too_late = refl
 
-by_hand_just_in_time : response_of answered 2701800 (manual 5300 0 None) ≡ Ok (answer.Done done.Manual)
+by_hand_just_in_time : decision_of answered 2701800 (manual 5300 0 None) ≡ Ok (answer.Done done.Manual)
 unfolding unit_of frames frames_in rest rest_in is_garbled is_over is_closed stream next_id frames_at ending_at settled_by pending outcomes_at
 by_hand_just_in_time = refl
 
-past_the_moment : response_of answered 2000 (manual 5300 0 (Some 2001)) ≡ Err refusal.Limit
+past_the_moment : decision_of answered 2000 (manual 5300 0 (Some 2001)) ≡ Err refusal.Limit
 unfolding unit_of frames frames_in rest rest_in is_garbled is_over is_closed stream next_id frames_at ending_at settled_by pending outcomes_at
 past_the_moment = refl
 
-a_great_number : response_of answered 2000 (manual 4294967296 0 None) ≡ Err refusal.Limit
+a_great_number : decision_of answered 2000 (manual 4294967296 0 None) ≡ Err refusal.Limit
 unfolding unit_of frames frames_in rest rest_in is_garbled is_over is_closed stream next_id frames_at ending_at settled_by pending outcomes_at
 a_great_number = refl
 
-a_too_great_number : response_of answered 2000 (manual 5000000000000000 0 None) ≡ Err refusal.TotalFull
+a_too_great_number : decision_of answered 2000 (manual 5000000000000000 0 None) ≡ Err refusal.TotalFull
 unfolding unit_of frames frames_in rest rest_in is_garbled is_over is_closed stream next_id frames_at ending_at settled_by pending outcomes_at
 a_too_great_number = refl
 
-a_gap : response_of answered 5000000 (close 5300 0) ≡ Err refusal.SpanTooLong
+a_gap : decision_of answered 5000000 (close 5300 0) ≡ Err refusal.SpanTooLong
 unfolding unit_of frames frames_in rest rest_in is_garbled is_over is_closed stream next_id frames_at ending_at settled_by pending outcomes_at
 a_gap = refl
 
-a_gap_parted : response_of (Fed 5000000 (manual 5300 0 (Some 2701800)) ∷ answered) 5000000 (close 5300 0) ≡ Ok (answer.Done done.Close)
+a_gap_parted : decision_of (Fed 5000000 (manual 5300 0 (Some 2701800)) ∷ answered) 5000000 (close 5300 0) ≡ Ok (answer.Done done.Close)
 unfolding unit_of frames frames_in rest rest_in is_garbled is_over is_closed stream next_id frames_at ending_at settled_by pending outcomes_at
 a_gap_parted = refl
 
-no_more_once_closed : response_of (Fed 2000 (close 5200 0) ∷ answered) 2000 (manual 5300 0 None) ≡ Err refusal.Ended
+no_more_once_closed : decision_of (Fed 2000 (close 5200 0) ∷ answered) 2000 (manual 5300 0 None) ≡ Err refusal.Ended
 unfolding unit_of frames frames_in rest rest_in is_garbled is_over is_closed stream next_id frames_at ending_at settled_by pending outcomes_at
 no_more_once_closed = refl
 
-nothing_was_installed : response_of (Fed 1000 (register (given.Register 40096)) ∷ Fed 1000 (device inv 1) ∷ Opened 0 ∷ []) 2000 (manual 5300 0 None) ≡ Err refusal.NotFound
+nothing_was_installed : decision_of (Fed 1000 (register (given.Register 40096)) ∷ Fed 1000 (device inv 1) ∷ Opened 0 ∷ []) 2000 (manual 5300 0 None) ≡ Err refusal.NotFound
 unfolding unit_of frames frames_in rest rest_in is_garbled is_over is_closed stream next_id frames_at ending_at settled_by pending outcomes_at
 nothing_was_installed = refl
 
-exchanged : response_of answered 2800 (exchange 5300) ≡ Ok (answer.Done done.Exchange)
+exchanged : decision_of answered 2800 (exchange 5300) ≡ Ok (answer.Done done.Exchange)
 unfolding unit_of frames frames_in rest rest_in is_garbled is_over is_closed stream next_id frames_at ending_at settled_by pending outcomes_at
 exchanged = refl
 

@@ -15,7 +15,7 @@ use Rattle.office_events.specs.declared.answers.Answer.TheVariants as answer
 use Rattle.office_events.specs.declared.answers.Note.TheVariants as note
 use Rattle.office_rules.specs.Readings.{poll_row_of}
 use Rattle.office_rules.specs.History.{Opened, Fed, facts_of}
-use Rattle.office_rules.specs.Refusals.{response_of}
+use Rattle.office_rules.specs.Refusals.{decision_of}
 use Rattle.office_rules.specs.Intervals.{rows_of_meter}
 use Rattle.office_rules.proofs.Samples.{inv, main, m1, m2, device, full_range, connect, three_words, start, started, reply, answered, told, sent, meter}
 
@@ -32,7 +32,7 @@ its_facts : facts_of answered
 unfolding unit_of frames frames_in rest rest_in is_garbled is_over is_closed stream next_id frames_at ending_at settled_by pending outcomes_at
 its_facts = refl
 
-the_start_is_answered : response_of (Fed 1898 connect ∷ Fed 1000 (device inv 1) ∷ Opened 0 ∷ []) 1898 (start three_words) ≡ Ok (answer.Started 1 1 1)
+the_start_is_answered : decision_of (Fed 1898 connect ∷ Fed 1000 (device inv 1) ∷ Opened 0 ∷ []) 1898 (start three_words) ≡ Ok (answer.Started 1 1 1)
 unfolding unit_of frames frames_in rest rest_in is_garbled is_over is_closed stream next_id frames_at ending_at settled_by pending outcomes_at
 the_start_is_answered = refl
 
@@ -41,7 +41,7 @@ its_frame : sent (Fed 1898 connect ∷ Fed 1000 (device inv 1) ∷ Opened 0 ∷ 
 unfolding unit_of frames frames_in rest rest_in is_garbled is_over is_closed stream next_id frames_at ending_at settled_by pending outcomes_at
 its_frame = refl
 
-the_reply_is_answered : response_of started 1900 (reply 0 20 80 0) ≡ Ok answer.Noted
+the_reply_is_answered : decision_of started 1900 (reply 0 20 80 0) ≡ Ok answer.Noted
 unfolding unit_of frames frames_in rest rest_in is_garbled is_over is_closed stream next_id frames_at ending_at settled_by pending outcomes_at
 the_reply_is_answered = refl
 

@@ -11,10 +11,10 @@ use Rattle.office_events.specs.declared.answers.Answer.TheVariants as answer
 use Rattle.office_events.specs.declared.answers.CommandKind.TheVariants as done
 use Rattle.office_rules.specs.Facts.{reply_of}
 use Rattle.office_rules.specs.History.{Opened, Fed, facts_of}
-use Rattle.office_rules.specs.Refusals.{response_of, with_answer}
+use Rattle.office_rules.specs.Refusals.{decision_of, with_answer}
 use Rattle.office_rules.proofs.Samples.{inv, main, desk, device, asked, answered, told}
 
-asked_once : response_of answered 2800 (asked (1 ∷ []) 5300) ≡ Ok (answer.Done done.Exchange)
+asked_once : decision_of answered 2800 (asked (1 ∷ []) 5300) ≡ Ok (answer.Done done.Exchange)
 unfolding unit_of frames frames_in rest rest_in is_garbled is_over is_closed stream next_id frames_at ending_at settled_by pending outcomes_at
 asked_once = refl
 
@@ -23,11 +23,11 @@ what_is_kept : reply_of (facts_of (Fed 2800 (asked (1 ∷ []) 5300) ∷ answered
 unfolding unit_of frames frames_in rest rest_in is_garbled is_over is_closed stream next_id frames_at ending_at settled_by pending outcomes_at
 what_is_kept = refl
 
-asked_again : response_of (Fed 2800 (asked (1 ∷ []) 5300) ∷ answered) 2700 (asked (1 ∷ []) 5300) ≡ Ok (answer.Again done.Exchange)
+asked_again : decision_of (Fed 2800 (asked (1 ∷ []) 5300) ∷ answered) 2700 (asked (1 ∷ []) 5300) ≡ Ok (answer.Again done.Exchange)
 unfolding unit_of frames frames_in rest rest_in is_garbled is_over is_closed stream next_id frames_at ending_at settled_by pending outcomes_at
 asked_again = refl
 
-again_changes_nothing : with_answer (Fed 2800 (asked (1 ∷ []) 5300) ∷ answered) 2700 (asked (1 ∷ []) 5300) (response_of (Fed 2800 (asked (1 ∷ []) 5300) ∷ answered) 2700 (asked (1 ∷ []) 5300)) ≡ Fed 2800 (asked (1 ∷ []) 5300) ∷ answered
+again_changes_nothing : with_answer (Fed 2800 (asked (1 ∷ []) 5300) ∷ answered) 2700 (asked (1 ∷ []) 5300) (decision_of (Fed 2800 (asked (1 ∷ []) 5300) ∷ answered) 2700 (asked (1 ∷ []) 5300)) ≡ Fed 2800 (asked (1 ∷ []) 5300) ∷ answered
 unfolding unit_of frames frames_in rest rest_in is_garbled is_over is_closed stream next_id frames_at ending_at settled_by pending outcomes_at
 again_changes_nothing = refl
 
@@ -35,46 +35,46 @@ again_tells_nothing : told (Fed 2800 (asked (1 ∷ []) 5300) ∷ answered) 2700 
 unfolding unit_of frames frames_in rest rest_in is_garbled is_over is_closed stream next_id frames_at ending_at settled_by pending outcomes_at
 again_tells_nothing = refl
 
-asked_otherwise : response_of (Fed 2800 (asked (1 ∷ []) 5300) ∷ answered) 2800 (asked (2 ∷ []) 5301) ≡ Err refusal.Reused
+asked_otherwise : decision_of (Fed 2800 (asked (1 ∷ []) 5300) ∷ answered) 2800 (asked (2 ∷ []) 5301) ≡ Err refusal.Reused
 unfolding unit_of frames frames_in rest rest_in is_garbled is_over is_closed stream next_id frames_at ending_at settled_by pending outcomes_at
 asked_otherwise = refl
 
-asked_in_vain : response_of answered 1800 (asked (1 ∷ []) 5300) ≡ Err refusal.ClockBack
+asked_in_vain : decision_of answered 1800 (asked (1 ∷ []) 5300) ≡ Err refusal.ClockBack
 unfolding unit_of frames frames_in rest rest_in is_garbled is_over is_closed stream next_id frames_at ending_at settled_by pending outcomes_at
 asked_in_vain = refl
 
-judged_anew : response_of answered 2801 (asked (1 ∷ []) 5301) ≡ Ok (answer.Done done.Exchange)
+judged_anew : decision_of answered 2801 (asked (1 ∷ []) 5301) ≡ Ok (answer.Done done.Exchange)
 unfolding unit_of frames frames_in rest rest_in is_garbled is_over is_closed stream next_id frames_at ending_at settled_by pending outcomes_at
 judged_anew = refl
 
-too_great_a_number : response_of answered 2800 (event.Asked (record { caller = Some desk; number = 9223372036854775808; request = []; command = command.Close (record { register = Some main; raw = 5300; rolls = 0 }) })) ≡ Err refusal.Limit
+too_great_a_number : decision_of answered 2800 (event.Asked (record { caller = Some desk; number = 9223372036854775808; request = []; command = command.Close (record { register = Some main; raw = 5300; rolls = 0 }) })) ≡ Err refusal.Limit
 unfolding unit_of frames frames_in rest rest_in is_garbled is_over is_closed stream next_id frames_at ending_at settled_by pending outcomes_at
 too_great_a_number = refl
 
-no_caller : response_of answered 2800 (event.Asked (record { caller = None; number = 7; request = []; command = command.Close (record { register = Some main; raw = 5300; rolls = 0 }) })) ≡ Err refusal.Limit
+no_caller : decision_of answered 2800 (event.Asked (record { caller = None; number = 7; request = []; command = command.Close (record { register = Some main; raw = 5300; rolls = 0 }) })) ≡ Err refusal.Limit
 unfolding unit_of frames frames_in rest rest_in is_garbled is_over is_closed stream next_id frames_at ending_at settled_by pending outcomes_at
 no_caller = refl
 
-a_device : response_of (Opened 0 ∷ []) 5 (device inv 1) ≡ Ok (answer.Done done.Device)
+a_device : decision_of (Opened 0 ∷ []) 5 (device inv 1) ≡ Ok (answer.Done done.Device)
 unfolding unit_of frames frames_in rest rest_in is_garbled is_over is_closed stream next_id frames_at ending_at settled_by pending outcomes_at
 a_device = refl
 
-the_clock_went_back : response_of (Fed 5 (device inv 1) ∷ Opened 0 ∷ []) 4 (device main 1) ≡ Err refusal.ClockBack
+the_clock_went_back : decision_of (Fed 5 (device inv 1) ∷ Opened 0 ∷ []) 4 (device main 1) ≡ Err refusal.ClockBack
 unfolding unit_of frames frames_in rest rest_in is_garbled is_over is_closed stream next_id frames_at ending_at settled_by pending outcomes_at
 the_clock_went_back = refl
 
-the_name_is_taken : response_of (Fed 5 (device inv 1) ∷ Opened 0 ∷ []) 5 (device inv 1) ≡ Err refusal.Exists
+the_name_is_taken : decision_of (Fed 5 (device inv 1) ∷ Opened 0 ∷ []) 5 (device inv 1) ≡ Err refusal.Exists
 unfolding unit_of frames frames_in rest rest_in is_garbled is_over is_closed stream next_id frames_at ending_at settled_by pending outcomes_at
 the_name_is_taken = refl
 
-taken_before_the_clock : response_of (Fed 5 (device inv 1) ∷ Opened 0 ∷ []) 4 (device inv 1) ≡ Err refusal.Exists
+taken_before_the_clock : decision_of (Fed 5 (device inv 1) ∷ Opened 0 ∷ []) 4 (device inv 1) ≡ Err refusal.Exists
 unfolding unit_of frames frames_in rest rest_in is_garbled is_over is_closed stream next_id frames_at ending_at settled_by pending outcomes_at
 taken_before_the_clock = refl
 
-past_the_last_moment : response_of (Opened 0 ∷ []) 4102444801 (device inv 1) ≡ Err refusal.Limit
+past_the_last_moment : decision_of (Opened 0 ∷ []) 4102444801 (device inv 1) ≡ Err refusal.Limit
 unfolding unit_of frames frames_in rest rest_in is_garbled is_over is_closed stream next_id frames_at ending_at settled_by pending outcomes_at
 past_the_last_moment = refl
 
-too_wide_a_window : response_of (Opened 0 ∷ []) 0 (device inv 17) ≡ Err refusal.Limit
+too_wide_a_window : decision_of (Opened 0 ∷ []) 0 (device inv 17) ≡ Err refusal.Limit
 unfolding unit_of frames frames_in rest rest_in is_garbled is_over is_closed stream next_id frames_at ending_at settled_by pending outcomes_at
 too_wide_a_window = refl

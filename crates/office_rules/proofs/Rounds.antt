@@ -18,7 +18,7 @@ use Rattle.office_events.specs.declared.answers.Answer.TheVariants as answer
 use Rattle.office_events.specs.declared.answers.Note.TheVariants as note
 use Rattle.office_rules.specs.Facts.{list_of}
 use Rattle.office_rules.specs.History.{History, Opened, Fed, facts_of}
-use Rattle.office_rules.specs.Refusals.{response_of, opening_refusal_of}
+use Rattle.office_rules.specs.Refusals.{decision_of, opening_refusal_of}
 use Rattle.office_rules.proofs.Samples.{inv, device, connect, gone, bytes, three_words, two_words, start, round, started, reply, told, sent}
 
 too_late : told started 1903 event.Tick ≡ note.Outcome 1 outcome.Silent ∷ []
@@ -32,11 +32,11 @@ a_stray : told silent 1903 (reply 0 20 80 0) ≡ []
 unfolding unit_of frames frames_in rest rest_in is_garbled is_over is_closed stream next_id frames_at ending_at settled_by pending outcomes_at
 a_stray = refl
 
-a_stray_is_noted : response_of silent 1903 (reply 0 20 80 0) ≡ Ok answer.Noted
+a_stray_is_noted : decision_of silent 1903 (reply 0 20 80 0) ≡ Ok answer.Noted
 unfolding unit_of frames frames_in rest rest_in is_garbled is_over is_closed stream next_id frames_at ending_at settled_by pending outcomes_at
 a_stray_is_noted = refl
 
-the_next_start : response_of silent 1904 (start three_words) ≡ Ok (answer.Started 2 1 1)
+the_next_start : decision_of silent 1904 (start three_words) ≡ Ok (answer.Started 2 1 1)
 unfolding unit_of frames frames_in rest rest_in is_garbled is_over is_closed stream next_id frames_at ending_at settled_by pending outcomes_at
 the_next_start = refl
 
@@ -48,7 +48,7 @@ lost_with_its_connection : told (Fed 1904 (start three_words) ∷ silent) 1905 g
 unfolding unit_of frames frames_in rest rest_in is_garbled is_over is_closed stream next_id frames_at ending_at settled_by pending outcomes_at
 lost_with_its_connection = refl
 
-not_connected : response_of (Fed 1905 gone ∷ Fed 1904 (start three_words) ∷ silent) 1905 (start three_words) ≡ Err refusal.Busy
+not_connected : decision_of (Fed 1905 gone ∷ Fed 1904 (start three_words) ∷ silent) 1905 (start three_words) ≡ Err refusal.Busy
 unfolding unit_of frames frames_in rest rest_in is_garbled is_over is_closed stream next_id frames_at ending_at settled_by pending outcomes_at
 not_connected = refl
 
@@ -79,7 +79,7 @@ the_list : list_of (facts_of (listed 1)) inv ≡ Some list
 unfolding unit_of frames frames_in rest rest_in is_garbled is_over is_closed stream next_id frames_at ending_at settled_by pending outcomes_at
 the_list = refl
 
-a_round : response_of (listed 1) 1000 (round 0) ≡ Ok (answer.Started 1 1 2)
+a_round : decision_of (listed 1) 1000 (round 0) ≡ Ok (answer.Started 1 1 2)
 unfolding unit_of frames frames_in rest rest_in is_garbled is_over is_closed stream next_id frames_at ending_at settled_by pending outcomes_at
 a_round = refl
 
@@ -87,7 +87,7 @@ its_first_frame : sent (listed 1) 1000 (round 0) ≡ 0 ∷ 0 ∷ 0 ∷ 0 ∷ 0 �
 unfolding unit_of frames frames_in rest rest_in is_garbled is_over is_closed stream next_id frames_at ending_at settled_by pending outcomes_at
 its_first_frame = refl
 
-no_room_for_the_second : response_of (Fed 1000 (round 0) ∷ listed 1) 1000 (round 1) ≡ Err refusal.Busy
+no_room_for_the_second : decision_of (Fed 1000 (round 0) ∷ listed 1) 1000 (round 1) ≡ Err refusal.Busy
 unfolding unit_of frames frames_in rest rest_in is_garbled is_over is_closed stream next_id frames_at ending_at settled_by pending outcomes_at
 no_room_for_the_second = refl
 
@@ -95,7 +95,7 @@ no_room_for_the_second = refl
 abbrev first_read : History
 first_read = Fed 1001 (bytes ((0 ∷ 0 ∷ 0 ∷ 0 ∷ 0 ∷ 253 ∷ 1 ∷ 3 ∷ 250 ∷ []) ++ replicate 250 0)) ∷ Fed 1000 (round 0) ∷ listed 1
 
-the_second_read : response_of first_read 1001 (round 1) ≡ Ok (answer.Started 2 1 2)
+the_second_read : decision_of first_read 1001 (round 1) ≡ Ok (answer.Started 2 1 2)
 unfolding unit_of frames frames_in rest rest_in is_garbled is_over is_closed stream next_id frames_at ending_at settled_by pending outcomes_at
 the_second_read = refl
 
@@ -103,11 +103,11 @@ its_second_frame : sent first_read 1001 (round 1) ≡ 0 ∷ 1 ∷ 0 ∷ 0 ∷ 0 
 unfolding unit_of frames frames_in rest rest_in is_garbled is_over is_closed stream next_id frames_at ending_at settled_by pending outcomes_at
 its_second_frame = refl
 
-past_the_plan : response_of first_read 1001 (round 2) ≡ Err refusal.Limit
+past_the_plan : decision_of first_read 1001 (round 2) ≡ Err refusal.Limit
 unfolding unit_of frames frames_in rest rest_in is_garbled is_over is_closed stream next_id frames_at ending_at settled_by pending outcomes_at
 past_the_plan = refl
 
-a_round_of_two : response_of (listed 2) 1000 (round 0) ≡ Ok (answer.Started 1 2 2)
+a_round_of_two : decision_of (listed 2) 1000 (round 0) ≡ Ok (answer.Started 1 2 2)
 unfolding unit_of frames frames_in rest rest_in is_garbled is_over is_closed stream next_id frames_at ending_at settled_by pending outcomes_at
 a_round_of_two = refl
 
@@ -116,14 +116,14 @@ both_frames : sent (listed 2) 1000 (round 0)
 unfolding unit_of frames frames_in rest rest_in is_garbled is_over is_closed stream next_id frames_at ending_at settled_by pending outcomes_at
 both_frames = refl
 
-a_device_without_a_list : response_of (Fed 1000 connect ∷ Fed 1000 (device inv 1) ∷ Opened 0 ∷ []) 1000 (round 0) ≡ Err refusal.NotFound
+a_device_without_a_list : decision_of (Fed 1000 connect ∷ Fed 1000 (device inv 1) ∷ Opened 0 ∷ []) 1000 (round 0) ≡ Err refusal.NotFound
 unfolding unit_of frames frames_in rest rest_in is_garbled is_over is_closed stream next_id frames_at ending_at settled_by pending outcomes_at
 a_device_without_a_list = refl
 
 abbrev both_wait : History
 both_wait = Fed 1000 (start two_words) ∷ Fed 1000 (start two_words) ∷ Fed 1000 connect ∷ Fed 1000 (device inv 2) ∷ Opened 0 ∷ []
 
-a_third_has_no_room : response_of both_wait 1000 (start two_words) ≡ Err refusal.Busy
+a_third_has_no_room : decision_of both_wait 1000 (start two_words) ≡ Err refusal.Busy
 unfolding unit_of frames frames_in rest rest_in is_garbled is_over is_closed stream next_id frames_at ending_at settled_by pending outcomes_at
 a_third_has_no_room = refl
 

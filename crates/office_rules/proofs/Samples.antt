@@ -14,7 +14,7 @@ use Rattle.office_events.specs.declared.answers.Note.{Note}
 use Rattle.office_events.specs.declared.questions.Installation.{Installation}
 use Rattle.office_rules.specs.Meters.{meter_of}
 use Rattle.office_rules.specs.History.{History, Opened, Fed, facts_of}
-use Rattle.office_rules.specs.Refusals.{response_of}
+use Rattle.office_rules.specs.Refusals.{decision_of}
 use Rattle.office_rules.specs.Notes.{notes_after, outgoing_after}
 
 -- ---- names
@@ -142,10 +142,10 @@ read at id counter past = Fed at (shows id counter) ∷ Fed at (start two_words)
 -- ---- what is told
 
 abbrev pub told : History → (at : ℕ) → Event → List Note
-told past at e = notes_after past at e (response_of past at e)
+told past at e = notes_after past at e (decision_of past at e)
 
 abbrev pub sent : History → (at : ℕ) → Event → List ℕ
-sent past at e = outgoing_after past at e (response_of past at e)
+sent past at e = outgoing_after past at e (decision_of past at e)
 
 abbrev pub meter : History → List ℕ → Option Installation
 meter past name = meter_of (facts_of past) name

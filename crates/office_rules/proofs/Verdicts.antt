@@ -10,7 +10,7 @@ use Rattle.office_events.specs.declared.commands.GivenScale.TheVariants as given
 use Rattle.office_events.specs.declared.refusals.Refusal.TheVariants as refusal
 use Rattle.office_events.specs.declared.answers.Note.TheVariants as note
 use Rattle.office_rules.specs.History.{Opened, Fed}
-use Rattle.office_rules.specs.Refusals.{response_of}
+use Rattle.office_rules.specs.Refusals.{decision_of}
 use Rattle.office_rules.proofs.Samples.{inv, m1, device, register, full_range, install, two_words, start, house, shows, told}
 
 a_rollover : told (Fed 1900 (start two_words) ∷ house 1000 4294967200 (pos 0) 1000 full_range) 1900 (shows 0 (0 ∷ 0 ∷ 0 ∷ 104 ∷ []))
@@ -58,10 +58,10 @@ too_long_for_a_small_range : told (Fed 36000 (start two_words) ∷ house 0 5 (po
 unfolding unit_of frames frames_in rest rest_in is_garbled is_over is_closed stream next_id frames_at ending_at settled_by pending outcomes_at
 too_long_for_a_small_range = refl
 
-no_range : response_of (Fed 0 (register (given.Fixed (pos 0))) ∷ Fed 0 (device inv 1) ∷ Opened 0 ∷ []) 0 (install 5 (pos 0) 1000 65535) ≡ Err refusal.Limit
+no_range : decision_of (Fed 0 (register (given.Fixed (pos 0))) ∷ Fed 0 (device inv 1) ∷ Opened 0 ∷ []) 0 (install 5 (pos 0) 1000 65535) ≡ Err refusal.Limit
 unfolding unit_of frames frames_in rest rest_in is_garbled is_over is_closed stream next_id frames_at ending_at settled_by pending outcomes_at
 no_range = refl
 
-not_below_its_range : response_of (Fed 0 (register (given.Fixed (pos 0))) ∷ Fed 0 (device inv 1) ∷ Opened 0 ∷ []) 0 (install 65536 (pos 0) 1000 65536) ≡ Err refusal.Limit
+not_below_its_range : decision_of (Fed 0 (register (given.Fixed (pos 0))) ∷ Fed 0 (device inv 1) ∷ Opened 0 ∷ []) 0 (install 65536 (pos 0) 1000 65536) ≡ Err refusal.Limit
 unfolding unit_of frames frames_in rest rest_in is_garbled is_over is_closed stream next_id frames_at ending_at settled_by pending outcomes_at
 not_below_its_range = refl

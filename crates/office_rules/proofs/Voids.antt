@@ -15,11 +15,11 @@ use Rattle.office_events.specs.declared.answers.Answer.TheVariants as answer
 use Rattle.office_events.specs.declared.answers.CommandKind.TheVariants as done
 use Rattle.office_rules.specs.Meters.{entry_at}
 use Rattle.office_rules.specs.History.{History, Fed, facts_of}
-use Rattle.office_rules.specs.Refusals.{response_of}
+use Rattle.office_rules.specs.Refusals.{decision_of}
 use Rattle.office_rules.specs.Intervals.{rows_of_meter}
 use Rattle.office_rules.proofs.Samples.{main, m1, full_range, three_words, start, manual, void, reply, answered, house, read, meter, total}
 
-the_only_reading : response_of answered 4000 (void 2) ≡ Ok (answer.Done done.Void)
+the_only_reading : decision_of answered 4000 (void 2) ≡ Ok (answer.Done done.Void)
 unfolding unit_of frames frames_in rest rest_in is_garbled is_over is_closed stream next_id frames_at ending_at settled_by pending outcomes_at
 the_only_reading = refl
 
@@ -36,23 +36,23 @@ no_intervals_are_left : rows_of_meter (facts_of (Fed 4000 (void 2) ∷ answered)
 unfolding unit_of frames frames_in rest rest_in is_garbled is_over is_closed stream next_id frames_at ending_at settled_by pending outcomes_at
 no_intervals_are_left = refl
 
-voided_twice : response_of (Fed 4000 (void 2) ∷ answered) 4000 (void 2) ≡ Err refusal.NotVoidable
+voided_twice : decision_of (Fed 4000 (void 2) ∷ answered) 4000 (void 2) ≡ Err refusal.NotVoidable
 unfolding unit_of frames frames_in rest rest_in is_garbled is_over is_closed stream next_id frames_at ending_at settled_by pending outcomes_at
 voided_twice = refl
 
-the_opening_stays : response_of (Fed 4000 (void 2) ∷ answered) 4000 (void 1) ≡ Err refusal.NotVoidable
+the_opening_stays : decision_of (Fed 4000 (void 2) ∷ answered) 4000 (void 1) ≡ Err refusal.NotVoidable
 unfolding unit_of frames frames_in rest rest_in is_garbled is_over is_closed stream next_id frames_at ending_at settled_by pending outcomes_at
 the_opening_stays = refl
 
-no_such_entry : response_of (Fed 4000 (void 2) ∷ answered) 4000 (void 9) ≡ Err refusal.NotFound
+no_such_entry : decision_of (Fed 4000 (void 2) ∷ answered) 4000 (void 9) ≡ Err refusal.NotFound
 unfolding unit_of frames frames_in rest rest_in is_garbled is_over is_closed stream next_id frames_at ending_at settled_by pending outcomes_at
 no_such_entry = refl
 
-no_place_0 : response_of (Fed 4000 (void 2) ∷ answered) 4000 (void 0) ≡ Err refusal.NotFound
+no_place_0 : decision_of (Fed 4000 (void 2) ∷ answered) 4000 (void 0) ≡ Err refusal.NotFound
 unfolding unit_of frames frames_in rest rest_in is_garbled is_over is_closed stream next_id frames_at ending_at settled_by pending outcomes_at
 no_place_0 = refl
 
-before_one_by_hand : response_of (Fed 2800 (manual 5300 0 None) ∷ answered) 4000 (void 2) ≡ Err refusal.NotVoidable
+before_one_by_hand : decision_of (Fed 2800 (manual 5300 0 None) ∷ answered) 4000 (void 2) ≡ Err refusal.NotVoidable
 unfolding unit_of frames frames_in rest rest_in is_garbled is_over is_closed stream next_id frames_at ending_at settled_by pending outcomes_at
 before_one_by_hand = refl
 
@@ -87,11 +87,11 @@ both_accepted : total slow m1 ≡ Some 4000
 unfolding unit_of frames frames_in rest rest_in is_garbled is_over is_closed stream next_id frames_at ending_at settled_by pending outcomes_at
 both_accepted = refl
 
-too_fast_without_it : response_of slow 4000 (void 2) ≡ Err (refusal.NotPlausible cause.TooFast)
+too_fast_without_it : decision_of slow 4000 (void 2) ≡ Err (refusal.NotPlausible cause.TooFast)
 unfolding unit_of frames frames_in rest rest_in is_garbled is_over is_closed stream next_id frames_at ending_at settled_by pending outcomes_at
 too_fast_without_it = refl
 
-the_last_may_go : response_of slow 4000 (void 3) ≡ Ok (answer.Done done.Void)
+the_last_may_go : decision_of slow 4000 (void 3) ≡ Ok (answer.Done done.Void)
 unfolding unit_of frames frames_in rest rest_in is_garbled is_over is_closed stream next_id frames_at ending_at settled_by pending outcomes_at
 the_last_may_go = refl
 

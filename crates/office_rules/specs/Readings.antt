@@ -55,7 +55,8 @@ scale_of span words (source.Register address) = scale_value (word_at span words 
 abbrev pub reading_of : ℕ → ReadSpan → List ℕ → Register → Reading
 reading_of at span words register = record {
   at = at;
-  raw = acc32_value (word_at span words register.address) (word_at span words (register.address + 1));
+  raw =
+      acc32_value (word_at span words register.address) (word_at span words (register.address + 1));
   sf = scale_of span words register.scale;
 }
 

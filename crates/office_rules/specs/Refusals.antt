@@ -374,8 +374,8 @@ abbrev pub unless_kept : Result Answer Refusal → Option (Result CommandKind Re
 unless_kept given None = given
 unless_kept given (Some kept) = by_kept kept
 
-abbrev pub response_of : History → (at : ℕ) → Event → Result Answer Refusal
-response_of past at e =
+abbrev pub decision_of : History → (at : ℕ) → Event → Result Answer Refusal
+decision_of past at e =
     unless_kept (unless_refused (answer_of (slots_of past) (facts_of past) at e)
     (refusal_of past at e)) (kept_of (facts_of past) e)
 

@@ -76,41 +76,41 @@ before_outcomes at (settled ∷ later) facts h = before_outcome at settled facts
 
 -- nothing is added
 pub stays : (holds : List Fact → Type 0) (clean : Type 0) (draft : Draft) → Grows holds clean draft draft (λ facts. facts) (λ facts. [])
-stays holds clean draft = λ held h c told lawful. record { facts = refl; notes = sym (append-nil draft.notes.items); told = told }
+stays holds clean draft = λ recorded h c told lawful. record { facts = refl; notes = sym (append-nil draft.notes.items); told = told }
 
 -- the same said otherwise
 pub grows_like : (holds : List Fact → Type 0) (clean : Type 0) (old new : Draft) (f g : List Fact → List Fact) (n m : List Fact → List Note)
     → ((facts : List Fact) → g facts ≡ f facts) → ((facts : List Fact) → m facts ≡ n facts) → Grows holds clean old new f n → Grows holds clean old new g m
-grows_like holds clean old new f g n m same_facts same_notes on = λ held h c told lawful.
-    let all = on held h c told (subst AreLawful (same_facts (so_far old held)) lawful) in
+grows_like holds clean old new f g n m same_facts same_notes on = λ recorded h c told lawful.
+    let all = on recorded h c told (subst AreLawful (same_facts (so_far old recorded)) lawful) in
     record {
-      facts = all.facts ∙ sym (same_facts (so_far old held));
-      notes = all.notes ∙ ap (λ xs. old.notes.items ++ xs) (sym (same_notes (so_far old held)));
+      facts = all.facts ∙ sym (same_facts (so_far old recorded));
+      notes = all.notes ∙ ap (λ xs. old.notes.items ++ xs) (sym (same_notes (so_far old recorded)));
       told = all.told;
     }
 
 -- one step after another
 pub grows_then : (holds mid : List Fact → Type 0) (clean later : Type 0) (old between new : Draft) (f g : List Fact → List Fact) (n m : List Fact → List Note)
-    → ((held : List Fact) → holds held → mid held) → (later → clean) → KeepsLawful g → Grows holds clean old between f n → Grows mid later between new g m
+    → ((recorded : List Fact) → holds recorded → mid recorded) → (later → clean) → KeepsLawful g → Grows holds clean old between f n → Grows mid later between new g m
     → Grows holds later old new (λ facts. g (f facts)) (λ facts. n facts ++ m (f facts))
-grows_then holds mid clean later old between new f g n m kept cleaner before first second = λ held h c told lawful.
-    let one = first held h (cleaner c) told (before (f (so_far old held)) lawful) in
-    let two = second held (kept held h) c one.told (subst (λ fs. AreLawful (g fs)) (sym one.facts) lawful) in
+grows_then holds mid clean later old between new f g n m kept cleaner before first second = λ recorded h c told lawful.
+    let one = first recorded h (cleaner c) told (before (f (so_far old recorded)) lawful) in
+    let two = second recorded (kept recorded h) c one.told (subst (λ fs. AreLawful (g fs)) (sym one.facts) lawful) in
     record {
       facts = two.facts ∙ ap g one.facts;
       notes =
-          two.notes ∙ ap (λ xs. xs ++ m (so_far between held)) one.notes
-          ∙ append_assoc old.notes.items (n (so_far old held)) (m (so_far between held))
-          ∙ ap (λ fs. old.notes.items ++ (n (so_far old held) ++ m fs)) one.facts;
+          two.notes ∙ ap (λ xs. xs ++ m (so_far between recorded)) one.notes
+          ∙ append_assoc old.notes.items (n (so_far old recorded)) (m (so_far between recorded))
+          ∙ ap (λ fs. old.notes.items ++ (n (so_far old recorded) ++ m fs)) one.facts;
       told = two.told;
     }
 
 -- one fact with its note
 pub one_added : (holds : List Fact → Type 0) (clean : Type 0) (old new : Draft) (x : Fact) (y : Note) → IsTold x
     → HasMore old new x y → Grows holds clean old new (λ facts. x ∷ facts) (λ facts. y ∷ [])
-one_added holds clean old new x y is more = λ held h c told lawful.
+one_added holds clean old new x y is more = λ recorded h c told lawful.
     record {
-      facts = ap (λ fs. reverse fs ++ held) more.facts ∙ ap (λ fs. fs ++ held) (reverse-append old.facts.items (x ∷ []));
+      facts = ap (λ fs. reverse fs ++ recorded) more.facts ∙ ap (λ fs. fs ++ recorded) (reverse-append old.facts.items (x ∷ []));
       notes = more.notes;
       told = subst AreTold (sym more.facts) (told_last old.facts.items x told is);
     }
@@ -122,18 +122,18 @@ told_reading meter poll reading (Held cause) = tt
 -- a reading at a register
 pub read_at : (holds : List Fact → Type 0) (clean : Type 0) (at : ℕ) (poll : Poll) (words : List ℕ) (register : Register) (old new : Draft) (row : Installation)
     → is_read_by poll.span register ≡ true
-    → ((held : List Fact) → holds held → clean → AreTold old.facts.items → AreLawful (so_far old held) → Some row ≡ open_at (so_far old held) register.name)
+    → ((recorded : List Fact) → holds recorded → clean → AreTold old.facts.items → AreLawful (so_far old recorded) → Some row ≡ open_at (so_far old recorded) register.name)
     → HasMore old new (reading_fact poll.number (reading_of at poll.span words register) row) (reading_note (reading_of at poll.span words register) row)
     → Grows holds clean old new (with_register at poll words register) (register_notes at poll words register)
-read_at holds clean at poll words register old new row read found more = λ held h c told lawful.
+read_at holds clean at poll words register old new row read found more = λ recorded h c told lawful.
     let reading : Reading = reading_of at poll.span words register in
-    let there = found held h c told (before_register at poll words register (so_far old held) lawful) in
-    let is : reading_fact poll.number reading row ∷ so_far old held ≡ with_register at poll words register (so_far old held) =
-    ap (λ o. with_reading poll.number reading o (so_far old held)) there ∙ sym (cond-true _ _ _ read) in
-    let told_so : reading_note reading row ∷ [] ≡ register_notes at poll words register (so_far old held) =
+    let there = found recorded h c told (before_register at poll words register (so_far old recorded) lawful) in
+    let is : reading_fact poll.number reading row ∷ so_far old recorded ≡ with_register at poll words register (so_far old recorded) =
+    ap (λ o. with_reading poll.number reading o (so_far old recorded)) there ∙ sym (cond-true _ _ _ read) in
+    let told_so : reading_note reading row ∷ [] ≡ register_notes at poll words register (so_far old recorded) =
     ap (λ o. option_to_list (option_map (reading_note reading) o)) there ∙ sym (cond-true _ _ _ read) in
     record {
-      facts = ap (λ fs. reverse fs ++ held) more.facts ∙ ap (λ fs. fs ++ held) (reverse-append old.facts.items _) ∙ is;
+      facts = ap (λ fs. reverse fs ++ recorded) more.facts ∙ ap (λ fs. fs ++ recorded) (reverse-append old.facts.items _) ∙ is;
       notes = more.notes ∙ ap (λ xs. old.notes.items ++ xs) told_so;
       told = subst AreTold (sym more.facts) (told_last old.facts.items _ told (told_reading row.opening.meter poll.number reading (judgement row reading)));
     }
@@ -145,14 +145,14 @@ unread_at holds clean at poll words register draft other =
 
 pub no_meter_at : (holds : List Fact → Type 0) (clean : Type 0) (at : ℕ) (poll : Poll) (words : List ℕ) (register : Register) (draft : Draft)
     → is_read_by poll.span register ≡ true
-    → ((held : List Fact) → holds held → clean → AreTold draft.facts.items → AreLawful (so_far draft held) → None ≡ open_at (so_far draft held) register.name)
+    → ((recorded : List Fact) → holds recorded → clean → AreTold draft.facts.items → AreLawful (so_far draft recorded) → None ≡ open_at (so_far draft recorded) register.name)
     → Grows holds clean draft draft (with_register at poll words register) (register_notes at poll words register)
-no_meter_at holds clean at poll words register draft read found = λ held h c told lawful.
+no_meter_at holds clean at poll words register draft read found = λ recorded h c told lawful.
     let reading : Reading = reading_of at poll.span words register in
-    let there = found held h c told (before_register at poll words register (so_far draft held) lawful) in
-    let is : so_far draft held ≡ with_register at poll words register (so_far draft held) =
-    ap (λ o. with_reading poll.number reading o (so_far draft held)) there ∙ sym (cond-true _ _ _ read) in
-    let told_so : [] ≡ register_notes at poll words register (so_far draft held) =
+    let there = found recorded h c told (before_register at poll words register (so_far draft recorded) lawful) in
+    let is : so_far draft recorded ≡ with_register at poll words register (so_far draft recorded) =
+    ap (λ o. with_reading poll.number reading o (so_far draft recorded)) there ∙ sym (cond-true _ _ _ read) in
+    let told_so : [] ≡ register_notes at poll words register (so_far draft recorded) =
     ap (λ o. option_to_list (option_map (reading_note reading) o)) there ∙ sym (cond-true _ _ _ read) in
     record { facts = is; notes = sym (append-nil draft.notes.items) ∙ ap (λ xs. draft.notes.items ++ xs) told_so; told = told }
 
@@ -172,7 +172,7 @@ notes-more at poll words (x ∷ xs) y facts =
 
 pub one_register_more : (holds mid : List Fact → Type 0) (clean later : Type 0) (old between new : Draft) (at : ℕ) (poll : Poll) (words : List ℕ)
     (rs : List Register) (i : ℕ) (r : Register) → i < length rs → r ≡ get_or rs i r
-    → ((held : List Fact) → holds held → mid held) → (later → clean)
+    → ((recorded : List Fact) → holds recorded → mid recorded) → (later → clean)
     → Grows holds clean old between (with_registers at poll words (take i rs)) (registers_notes at poll words (take i rs))
     → Grows mid later between new (with_register at poll words r) (register_notes at poll words r)
     → Grows holds later old new (with_registers at poll words (take (i + 1) rs)) (registers_notes at poll words (take (i + 1) rs))
@@ -209,51 +209,51 @@ no_register (fact.Poll poll) told = absurd told
 no_register (fact.Outcome ended) told = refl
 no_register (fact.Reply reply) told = absurd told
 
-poll_behind : (draft : Draft) (held : List Fact) (number : ℕ) → AreTold draft.facts.items → poll_of (so_far draft held) number ≡ poll_of held number
-poll_behind draft held number told =
-    ap (λ ps. find (λ (p : Poll). p.number == number) ps) (told_skipped as_poll no_poll draft.facts.items held told)
+poll_behind : (draft : Draft) (recorded : List Fact) (number : ℕ) → AreTold draft.facts.items → poll_of (so_far draft recorded) number ≡ poll_of recorded number
+poll_behind draft recorded number told =
+    ap (λ ps. find (λ (p : Poll). p.number == number) ps) (told_skipped as_poll no_poll draft.facts.items recorded told)
 
-registers_behind : (draft : Draft) (held : List Fact) (device : List ℕ) → AreTold draft.facts.items
-    → registers_of (so_far draft held) device ≡ registers_of held device
-registers_behind draft held device told =
-    ap (λ rs. reverse (filter (λ (r : Register). same r.device device) rs)) (told_skipped as_register no_register draft.facts.items held told)
+registers_behind : (draft : Draft) (recorded : List Fact) (device : List ℕ) → AreTold draft.facts.items
+    → registers_of (so_far draft recorded) device ≡ registers_of recorded device
+registers_behind draft recorded device told =
+    ap (λ rs. reverse (filter (λ (r : Register). same r.device device) rs)) (told_skipped as_register no_register draft.facts.items recorded told)
 
-no_row : (held : List Fact) (o : Option Poll) → None ≡ option_map (poll_row held) o → o ≡ None
-no_row held None h = refl
-no_row held (Some poll) h = absurd (cc)
+no_row : (recorded : List Fact) (o : Option Poll) → None ≡ option_map (poll_row recorded) o → o ≡ None
+no_row recorded None h = refl
+no_row recorded (Some poll) h = absurd (cc)
 
-its_row : (held : List Fact) (row : PollRow) (o : Option Poll) → Some row ≡ option_map (poll_row held) o → o ≡ Some row.poll
-its_row held row None h = absurd (cc)
-its_row held row (Some poll) h = let e : row ≡ poll_row held poll = cc in ap Some (sym (ap (λ (r : PollRow). r.poll) e))
+its_row : (recorded : List Fact) (row : PollRow) (o : Option Poll) → Some row ≡ option_map (poll_row recorded) o → o ≡ Some row.poll
+its_row recorded row None h = absurd (cc)
+its_row recorded row (Some poll) h = let e : row ≡ poll_row recorded poll = cc in ap Some (sym (ap (λ (r : PollRow). r.poll) e))
 
 -- the reply to a poll that is not known, or known
 pub reply_to_none : (holds : List Fact → Type 0) (clean : Type 0) (draft : Draft) (at number : ℕ) (words : List ℕ)
-    → ((held : List Fact) → holds held → clean → None ≡ poll_row_of held number)
+    → ((recorded : List Fact) → holds recorded → clean → None ≡ poll_row_of recorded number)
     → Grows holds clean draft draft (λ facts. with_reply at (poll_of facts number) words facts) (λ facts. reply_notes at (poll_of facts number) words facts)
-reply_to_none holds clean draft at number words found = λ held h c told lawful.
-    let none : poll_of (so_far draft held) number ≡ None =
-    poll_behind draft held number told ∙ no_row held (poll_of held number) (found held h c) in
+reply_to_none holds clean draft at number words found = λ recorded h c told lawful.
+    let none : poll_of (so_far draft recorded) number ≡ None =
+    poll_behind draft recorded number told ∙ no_row recorded (poll_of recorded number) (found recorded h c) in
     record {
-      facts = ap (λ o. with_reply at o words (so_far draft held)) (sym none);
-      notes = sym (append-nil draft.notes.items) ∙ ap (λ o. draft.notes.items ++ reply_notes at o words (so_far draft held)) (sym none);
+      facts = ap (λ o. with_reply at o words (so_far draft recorded)) (sym none);
+      notes = sym (append-nil draft.notes.items) ∙ ap (λ o. draft.notes.items ++ reply_notes at o words (so_far draft recorded)) (sym none);
       told = told;
     }
 
 pub reply_to : (holds mid : List Fact → Type 0) (clean : Type 0) (old new : Draft) (at number : ℕ) (words : List ℕ) (row : PollRow) (rs : List Register)
-    → ((held : List Fact) → holds held → clean → Some row ≡ poll_row_of held number)
-    → ((held : List Fact) → holds held → clean → rs ≡ registers_of held row.poll.device)
-    → ((held : List Fact) → holds held → mid held)
+    → ((recorded : List Fact) → holds recorded → clean → Some row ≡ poll_row_of recorded number)
+    → ((recorded : List Fact) → holds recorded → clean → rs ≡ registers_of recorded row.poll.device)
+    → ((recorded : List Fact) → holds recorded → mid recorded)
     → Grows mid clean old new (with_registers at row.poll words rs) (registers_notes at row.poll words rs)
     → Grows holds clean old new (λ facts. with_reply at (poll_of facts number) words facts) (λ facts. reply_notes at (poll_of facts number) words facts)
-reply_to holds mid clean old new at number words row rs found known kept on = λ held h c told lawful.
-    let F : List Fact = so_far old held in
-    let p : poll_of F number ≡ Some row.poll = poll_behind old held number told ∙ its_row held row (poll_of held number) (found held h c) in
-    let r : rs ≡ registers_of F row.poll.device = known held h c ∙ sym (registers_behind old held row.poll.device told) in
+reply_to holds mid clean old new at number words row rs found known kept on = λ recorded h c told lawful.
+    let F : List Fact = so_far old recorded in
+    let p : poll_of F number ≡ Some row.poll = poll_behind old recorded number told ∙ its_row recorded row (poll_of recorded number) (found recorded h c) in
+    let r : rs ≡ registers_of F row.poll.device = known recorded h c ∙ sym (registers_behind old recorded row.poll.device told) in
     let is : with_registers at row.poll words rs F ≡ with_reply at (poll_of F number) words F =
     ap (λ xs. with_registers at row.poll words xs F) r ∙ ap (λ o. with_reply at o words F) (sym p) in
     let told_so : registers_notes at row.poll words rs F ≡ reply_notes at (poll_of F number) words F =
     ap (λ xs. registers_notes at row.poll words xs F) r ∙ ap (λ o. reply_notes at o words F) (sym p) in
-    let all = on held (kept held h) c told (subst AreLawful (sym is) lawful) in
+    let all = on recorded (kept recorded h) c told (subst AreLawful (sym is) lawful) in
     record { facts = all.facts ∙ is; notes = all.notes ∙ ap (λ xs. old.notes.items ++ xs) told_so; told = all.told }
 
 -- an outcome, and what its reply means
@@ -316,7 +316,7 @@ outcome_unread holds clean old new at settled lends none more =
 pub outcome_read : (holds mid : List Fact → Type 0) (clean later : Type 0) (old between new : Draft) (at : ℕ) (settled : Settled) (reply : Reply)
     → LendsReply settled → settled.reply ≡ Some reply
     → HasMore old between (ended_fact at settled) (ended_note settled)
-    → ((held : List Fact) → holds held → mid held) → (later → clean)
+    → ((recorded : List Fact) → holds recorded → mid recorded) → (later → clean)
     → Grows mid later between new (λ facts. with_reply at (poll_of facts settled.poll) (session.words_in (reply_answer reply)) facts)
     (λ facts. reply_notes at (poll_of facts settled.poll) (session.words_in (reply_answer reply)) facts)
     → Grows holds later old new (with_outcome at (settled_of settled)) (outcome_notes at (settled_of settled))

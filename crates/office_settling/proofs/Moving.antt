@@ -17,27 +17,27 @@ use Rattle.office_books.proofs.Moving.{settles}
 use Rattle.office_books.specs.Ledgers.{Ledger, GoesOn, OnlyReads, Books, Moves, with_facts}
 
 -- all facts are booked, or none
-pub moves_booked : (old new : Ledger) (facts held : List Fact) (result : Result (Unit {0}) BooksFault) → Books old new facts result
-    → AreLawful (with_facts facts held) → Moves old new held (with_facts facts held) result
-moves_booked old new facts held (Ok done) books lawful = record {
-  holds = λ h clean. books.booked held h lawful;
+pub moves_booked : (old new : Ledger) (facts known : List Fact) (result : Result (Unit {0}) BooksFault) → Books old new facts result
+    → AreLawful (with_facts facts known) → Moves old new known (with_facts facts known) result
+moves_booked old new facts known (Ok done) books lawful = record {
+  holds = λ h clean. books.booked known h lawful;
   refused = λ h. tt;
-  settled = λ left h clean l. settles old new held left facts done books h lawful l;
+  settled = λ left h clean l. settles old new known left facts done books h lawful l;
   under_way = λ left h clean l. tt;
   goes = books.goes;
 }
-moves_booked old new facts held (Err why) books lawful = record {
+moves_booked old new facts known (Err why) books lawful = record {
   holds = λ h clean. tt;
-  refused = λ h. books.refused held h;
+  refused = λ h. books.refused known h;
   settled = λ left h clean l. tt;
-  under_way = λ left h clean l. inr (books.under_way held left h lawful l);
+  under_way = λ left h clean l. inr (books.under_way known left h lawful l);
   goes = books.goes;
 }
 
 -- there are none to book
-pub moves_nothing : (old : Ledger) (facts held : List Fact) → facts ≡ [] → Moves {T = Unit {0}} old old held (with_facts facts held) (Ok tt)
-moves_nothing old facts held none =
-    let same : with_facts facts held ≡ held = ap (λ fs. with_facts fs held) none in
+pub moves_nothing : (old : Ledger) (facts known : List Fact) → facts ≡ [] → Moves {T = Unit {0}} old old known (with_facts facts known) (Ok tt)
+moves_nothing old facts known none =
+    let same : with_facts facts known ≡ known = ap (λ fs. with_facts fs known) none in
     record {
       holds = λ h clean. subst old.holds (sym same) h;
       refused = λ h. tt;
@@ -47,27 +47,27 @@ moves_nothing old facts held none =
     }
 
 -- What the books hold behind the facts of an event, and that these are lawful.
-abbrev pub Leads : Ledger → (clean : Type 0) → (facts held later : List Fact) → Type 0
-Leads old clean facts held later = old.holds held → clean → (with_facts facts held ≡ later) × AreLawful (with_facts facts held)
+abbrev pub Leads : Ledger → (clean : Type 0) → (facts known later : List Fact) → Type 0
+Leads old clean facts known later = old.holds known → clean → (with_facts facts known ≡ later) × AreLawful (with_facts facts known)
 
 -- Books that were only read before they move ..
-pub moves_after : {T U : Type 0} (old mid new : Ledger) (facts held later : List Fact) (x : T) (r : Result U BooksFault)
-    → OnlyReads old mid (Ok x) → Leads old mid.is_clean facts held later
-    → (AreLawful (with_facts facts held) → Moves mid new held (with_facts facts held) r)
-    → (mid.holds held → OnErr r (new.holds held)) → GoesOn mid new r → Moves old new held later r
-moves_after old mid new facts held later x r reads leads moves refused goes = record {
+pub moves_after : {T U : Type 0} (old mid new : Ledger) (facts known later : List Fact) (x : T) (r : Result U BooksFault)
+    → OnlyReads old mid (Ok x) → Leads old mid.is_clean facts known later
+    → (AreLawful (with_facts facts known) → Moves mid new known (with_facts facts known) r)
+    → (mid.holds known → OnErr r (new.holds known)) → GoesOn mid new r → Moves old new known later r
+moves_after old mid new facts known later x r reads leads moves refused goes = record {
   holds = λ h clean.
       let there = leads h (goes.clean clean) in
-      subst (λ fs. OnOk r (new.holds fs)) there.0 ((moves there.1).holds (reads.keeps.facts held h) clean);
-  refused = λ h. refused (reads.keeps.facts held h);
+      subst (λ fs. OnOk r (new.holds fs)) there.0 ((moves there.1).holds (reads.keeps.facts known h) clean);
+  refused = λ h. refused (reads.keeps.facts known h);
   settled = λ left h clean l.
       let there = leads h (goes.clean clean) in
-      subst (λ fs. OnOk r (new.may_leave (fs ∷ []) ⊎ ((fs ≡ held) × new.may_leave left))) there.0
-      ((moves there.1).settled left (reads.keeps.facts held h) clean (reads.keeps.left left l));
+      subst (λ fs. OnOk r (new.may_leave (fs ∷ []) ⊎ ((fs ≡ known) × new.may_leave left))) there.0
+      ((moves there.1).settled left (reads.keeps.facts known h) clean (reads.keeps.left left l));
   under_way = λ left h clean l.
       let there = leads h (goes.clean clean) in
       subst (λ fs. OnErr r (new.may_leave left ⊎ new.may_leave (left ++ fs ∷ []))) there.0
-      ((moves there.1).under_way left (reads.keeps.facts held h) clean (reads.keeps.left left l));
+      ((moves there.1).under_way left (reads.keeps.facts known h) clean (reads.keeps.left left l));
   goes = record {
     clean = λ clean. reads.goes.clean (goes.clean clean);
     faults = goes.faults ∙ ap (faults_after r) reads.goes.faults;
@@ -76,20 +76,20 @@ moves_after old mid new facts held later x r reads leads moves refused goes = re
 }
 
 -- .. or where they could not be read
-pub moves_unread : {T : Type 0} (old new : Ledger) (held later : List Fact) (fault : BooksFault) → OnlyReads {T = T} old new (Err fault)
-    → Moves {T = T} old new held later (Err fault)
-moves_unread old new held later fault reads = record {
+pub moves_unread : {T : Type 0} (old new : Ledger) (known later : List Fact) (fault : BooksFault) → OnlyReads {T = T} old new (Err fault)
+    → Moves {T = T} old new known later (Err fault)
+moves_unread old new known later fault reads = record {
   holds = λ h clean. tt;
-  refused = λ h. reads.keeps.facts held h;
+  refused = λ h. reads.keeps.facts known h;
   settled = λ left h clean l. tt;
   under_way = λ left h clean l. inl (reads.keeps.left left l);
   goes = record { clean = reads.goes.clean; faults = reads.goes.faults; zone = reads.goes.zone };
 }
 
 -- the same at another type
-pub moves_as : {T U : Type 0} (old new : Ledger) (held later : List Fact) (x : T) (y : U) → Moves {T = T} old new held later (Ok x)
-    → Moves {T = U} old new held later (Ok y)
-moves_as old new held later x y moves = record {
+pub moves_as : {T U : Type 0} (old new : Ledger) (known later : List Fact) (x : T) (y : U) → Moves {T = T} old new known later (Ok x)
+    → Moves {T = U} old new known later (Ok y)
+moves_as old new known later x y moves = record {
   holds = moves.holds;
   refused = moves.refused;
   settled = moves.settled;
@@ -97,9 +97,9 @@ moves_as old new held later x y moves = record {
   goes = record { clean = moves.goes.clean; faults = moves.goes.faults; zone = moves.goes.zone };
 }
 
-failed_as : {T U : Type 0} (old new : Ledger) (held later : List Fact) (fault : BooksFault) → Moves {T = T} old new held later (Err fault)
-    → Moves {T = U} old new held later (Err fault)
-failed_as old new held later fault moves = record {
+failed_as : {T U : Type 0} (old new : Ledger) (known later : List Fact) (fault : BooksFault) → Moves {T = T} old new known later (Err fault)
+    → Moves {T = U} old new known later (Err fault)
+failed_as old new known later fault moves = record {
   holds = moves.holds;
   refused = moves.refused;
   settled = moves.settled;

@@ -80,11 +80,11 @@ booked_goes_on laws facts o b true e is fits lawful recorded low =
     (same_Some fits.opening o (sym there ∙ found)) fits.fits in
     reading_entered laws o (journal_of facts o.meter) b.kind b.entry is own.1 (laws.kept facts o lawful recorded).account.account low
 
-held_goes_on : (o : Opening) (lines : journal.Journal) (line : journal.Line) (b : Bool) → journal.rows_of (opened o) (line ∷ lines) ≡ journal.rows_of (opened o) lines
+known_goes_on : (o : Opening) (lines : journal.Journal) (line : journal.Line) (b : Bool) → journal.rows_of (opened o) (line ∷ lines) ≡ journal.rows_of (opened o) lines
     → journal.is_ended (line ∷ lines) ≡ journal.is_ended lines
     → at_journal o lines ≡ at_journal o (cons_option (cond b (Some line) None) lines)
-held_goes_on o lines line false rows ended = refl
-held_goes_on o lines line true rows ended =
+known_goes_on o lines line false rows ended = refl
+known_goes_on o lines line true rows ended =
     ap (λ rs. standing o (journal.entries_in rs) (journal.is_ended lines)) (sym rows)
     ∙ ap (λ e. standing o (journal.entries_of (opened o) (line ∷ lines)) e) (sym ended)
 
@@ -98,7 +98,7 @@ goes_on laws (fact.Opening opening) facts o told h recorded low = absurd told
 goes_on laws (fact.Entry b) facts o told h recorded low =
     booked_goes_on laws facts o b (same b.meter o.meter) refl told h.0.0 h.1 recorded low
 goes_on laws (fact.Hold held) facts o told h recorded low =
-    held_goes_on o (journal_of facts o.meter) (held_line held) (same held.meter o.meter) refl refl
+    known_goes_on o (journal_of facts o.meter) (held_line held) (same held.meter o.meter) refl refl
 goes_on laws (fact.Void voided) facts o told h recorded low = absurd told
 goes_on laws (fact.Poll poll) facts o told h recorded low = absurd told
 goes_on laws (fact.Outcome ended) facts o told h recorded low = refl
@@ -106,12 +106,12 @@ goes_on laws (fact.Reply reply) facts o told h recorded low = absurd told
 
 -- behind the first facts of a draft it stands so
 abbrev pub StandsBehindFirst : Installation → List Fact → ℕ → Installation → Type 0
-StandsBehindFirst row facts i behind = (held : List Fact) → AreTold facts → AreLawful (reverse facts ++ held)
-    → IsIn held row → behind ≡ installation_of (reverse (take i facts) ++ held) row.opening
+StandsBehindFirst row facts i behind = (known : List Fact) → AreTold facts → AreLawful (reverse facts ++ known)
+    → IsIn known row → behind ≡ installation_of (reverse (take i facts) ++ known) row.opening
 
-still_recorded : (facts held : List Fact) (o : Opening) → AreTold facts → IsRecorded held o → IsRecorded (reverse facts ++ held) o
-still_recorded facts held o told recorded =
-    subst (λ (os : List Opening). Contains os o) (sym (told_openings facts held told)) recorded
+still_recorded : (facts known : List Fact) (o : Opening) → AreTold facts → IsRecorded known o → IsRecorded (reverse facts ++ known) o
+still_recorded facts known o told recorded =
+    subst (λ (os : List Opening). Contains os o) (sym (told_openings facts known told)) recorded
 
 reverse_more : (facts : List Fact) (i : ℕ) (x : Fact) → i < length facts → x ≡ get_or facts i x → reverse (take (i + 1) facts) ≡ x ∷ reverse (take i facts)
 reverse_more facts i x less is =
@@ -120,16 +120,16 @@ reverse_more facts i x less is =
 pub one_fact_more : Laws → (row : Installation) (facts : List Fact) (i : ℕ) (behind new : Installation) (x : Fact)
     → i < length facts → x ≡ get_or facts i x → IsSound behind → StandsBehindFirst row facts i behind → new ≡ installation_with x behind
     → StandsBehindFirst row facts (i + 1) new
-one_fact_more laws row facts i behind new x less is sound stands with_it = λ held told lawful at_first.
-    let first : List Fact = reverse (take i facts) ++ held in
-    let more : reverse (take (i + 1) facts) ++ held ≡ x ∷ first = ap (λ fs. fs ++ held) (reverse_more facts i x less is) in
-    let fits : AreLawful (x ∷ first) = subst AreLawful more (lawful_first facts held (i + 1) lawful) in
-    let here : behind ≡ installation_of first row.opening = stands held told lawful at_first in
+one_fact_more laws row facts i behind new x less is sound stands with_it = λ known told lawful at_first.
+    let first : List Fact = reverse (take i facts) ++ known in
+    let more : reverse (take (i + 1) facts) ++ known ≡ x ∷ first = ap (λ fs. fs ++ known) (reverse_more facts i x less is) in
+    let fits : AreLawful (x ∷ first) = subst AreLawful more (lawful_first facts known (i + 1) lawful) in
+    let here : behind ≡ installation_of first row.opening = stands known told lawful at_first in
     let low : (installation_of first row.opening).last.raw < row.opening.range =
     subst (λ (r : Installation). r.last.raw < r.opening.range) here sound.raw in
     with_it
     ∙ ap (installation_with x) here
-    ∙ goes_on laws x first row.opening (told_at facts i x less is told) fits (still_recorded (take i facts) held row.opening (told_first i facts told) at_first.recorded) low
+    ∙ goes_on laws x first row.opening (told_at facts i x less is told) fits (still_recorded (take i facts) known row.opening (told_first i facts told) at_first.recorded) low
     ∙ ap (λ fs. installation_of fs row.opening) (sym more)
 
 -- what is found in a list stands there
@@ -143,42 +143,42 @@ found_contains p [] x h = absurd (cc)
 found_contains p (y ∷ ys) x h = found_step p (p y) y x ys (found_contains p ys x) h
 
 -- what is told installs nothing
-installed_behind : (facts held : List Fact) (register : List ℕ) → AreTold facts → installed_at (reverse facts ++ held) register ≡ installed_at held register
-installed_behind facts held register told =
-    ap (λ os. find (λ (o : Opening). same o.register register) os) (told_openings facts held told)
+installed_behind : (facts known : List Fact) (register : List ℕ) → AreTold facts → installed_at (reverse facts ++ known) register ≡ installed_at known register
+installed_behind facts known register told =
+    ap (λ os. find (λ (o : Opening). same o.register register) os) (told_openings facts known told)
 
 -- a register without a meter has none behind what is told
-pub none_open : (facts held : List Fact) (register : List ℕ) → AreTold facts → None ≡ installation_at held register
-    → None ≡ open_at (reverse facts ++ held) register
-none_open facts held register told none =
-    none_by (installed_at held register) none
-    ∙ ap (λ o. option_and_then if_open (option_map (installation_of (reverse facts ++ held)) o)) (sym (installed_behind facts held register told))
+pub none_open : (facts known : List Fact) (register : List ℕ) → AreTold facts → None ≡ installation_at known register
+    → None ≡ open_at (reverse facts ++ known) register
+none_open facts known register told none =
+    none_by (installed_at known register) none
+    ∙ ap (λ o. option_and_then if_open (option_map (installation_of (reverse facts ++ known)) o)) (sym (installed_behind facts known register told))
   where
-    none_by : (o : Option Opening) → None ≡ option_map (installation_of held) o
-        → None ≡ option_and_then if_open (option_map (installation_of (reverse facts ++ held)) o)
+    none_by : (o : Option Opening) → None ≡ option_map (installation_of known) o
+        → None ≡ option_and_then if_open (option_map (installation_of (reverse facts ++ known)) o)
     none_by None h = refl
     none_by (Some opening) h = absurd (cc)
 
 -- the installation at a register, behind what is told
-found_open : (facts held : List Fact) (register : List ℕ) (row new : Installation) (found : Option Opening) → AreTold facts → AreLawful (reverse facts ++ held)
-    → StandsBehind row facts new → installed_at held register ≡ found → Some row ≡ option_map (installation_of held) found
-    → if_open new ≡ open_at (reverse facts ++ held) register
-found_open facts held register row new None told lawful stands there is = absurd (cc)
-found_open facts held register row new (Some o) told lawful stands there is =
-    let F : List Fact = reverse facts ++ held in
-    let row_is : row ≡ installation_of held o = same_Some row (installation_of held o) is in
+found_open : (facts known : List Fact) (register : List ℕ) (row new : Installation) (found : Option Opening) → AreTold facts → AreLawful (reverse facts ++ known)
+    → StandsBehind row facts new → installed_at known register ≡ found → Some row ≡ option_map (installation_of known) found
+    → if_open new ≡ open_at (reverse facts ++ known) register
+found_open facts known register row new None told lawful stands there is = absurd (cc)
+found_open facts known register row new (Some o) told lawful stands there is =
+    let F : List Fact = reverse facts ++ known in
+    let row_is : row ≡ installation_of known o = same_Some row (installation_of known o) is in
     let opening_is : row.opening ≡ o = ap (λ (r : Installation). r.opening) row_is in
-    let at_first : IsIn held row = record {
+    let at_first : IsIn known row = record {
       recorded =
-          subst (IsRecorded held) (sym opening_is)
-          (found_contains (λ (x : Opening). same x.register register) (openings_in held) o there);
-      stands = row_is ∙ ap (installation_of held) (sym opening_is);
+          subst (IsRecorded known) (sym opening_is)
+          (found_contains (λ (x : Opening). same x.register register) (openings_in known) o there);
+      stands = row_is ∙ ap (installation_of known) (sym opening_is);
     } in
-    let new_is : new ≡ installation_of F o = stands held told lawful at_first ∙ ap (installation_of F) opening_is in
+    let new_is : new ≡ installation_of F o = stands known told lawful at_first ∙ ap (installation_of F) opening_is in
     ap if_open new_is
-    ∙ ap (λ x. option_and_then if_open (option_map (installation_of F) x)) (sym (installed_behind facts held register told ∙ there))
+    ∙ ap (λ x. option_and_then if_open (option_map (installation_of F) x)) (sym (installed_behind facts known register told ∙ there))
 
-pub open_behind : (facts held : List Fact) (register : List ℕ) (row new : Installation) → AreTold facts → AreLawful (reverse facts ++ held)
-    → StandsBehind row facts new → Some row ≡ installation_at held register → if_open new ≡ open_at (reverse facts ++ held) register
-open_behind facts held register row new told lawful stands is =
-    found_open facts held register row new (installed_at held register) told lawful stands refl is
+pub open_behind : (facts known : List Fact) (register : List ℕ) (row new : Installation) → AreTold facts → AreLawful (reverse facts ++ known)
+    → StandsBehind row facts new → Some row ≡ installation_at known register → if_open new ≡ open_at (reverse facts ++ known) register
+open_behind facts known register row new told lawful stands is =
+    found_open facts known register row new (installed_at known register) told lawful stands refl is

@@ -11,7 +11,7 @@ use Rattle.office_books.specs.Ledgers.{Ledger, OnlyReads}
 pub reads_none : {T : Type 0} (a : Ledger) (x : T) → OnlyReads a a (Ok x)
 reads_none a x = record {
   goes = record { clean = λ clean. clean; faults = refl; zone = refl };
-  keeps = record { facts = λ held h. h; left = λ left h. h };
+  keeps = record { facts = λ known h. h; left = λ left h. h };
 }
 
 -- one call after another
@@ -23,7 +23,7 @@ reads_then a b c x r first second = record {
     zone = second.goes.zone ∙ first.goes.zone;
   };
   keeps = record {
-    facts = λ held h. second.keeps.facts held (first.keeps.facts held h);
+    facts = λ known h. second.keeps.facts known (first.keeps.facts known h);
     left = λ left h. second.keeps.left left (first.keeps.left left h);
   };
 }

@@ -83,7 +83,7 @@ pub goes_further : (holds mid : List Fact → Type 0) (clean later same changed 
     → ((slot : sessions.Slot) → MayReach at x slot
     → Grows mid later draft new (with_outcomes at (settled_by number at e slot)) (outcomes_notes at (settled_by number at e slot)))
     → ((slot : sessions.Slot) → MayReach at x slot → settled_by number at e slot ≡ [] → same → changed)
-    → ((held : List Fact) → holds held → mid held) → (later → clean)
+    → ((known : List Fact) → holds known → mid known) → (later → clean)
     → FirstReached number at e (i + 1) (slice_set now i y) kept
     × Grows holds later first new (with_settled number at e (take (i + 1) kept)) (settled_notes number at e (take (i + 1) kept))
     × (SettleNothing number at e kept → changed)

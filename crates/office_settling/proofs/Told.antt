@@ -12,14 +12,14 @@ use Rattle.office_settling.specs.Drafts.{IsTold, AreTold}
 abbrev pub SkipsTold : {X : Type 0} → (Fact → Option X) → Type 0
 SkipsTold f = (x : Fact) → IsTold x → f x ≡ None
 
-pub told_skipped : {X : Type 0} (f : Fact → Option X) → SkipsTold f → (facts held : List Fact) → AreTold facts
-    → filter_map f (reverse facts ++ held) ≡ filter_map f held
-told_skipped f skips [] held told = refl
-told_skipped f skips (x ∷ facts) held told =
-    ap (λ fs. filter_map f (fs ++ held)) (reverse-append (x ∷ []) facts)
-    ∙ ap (filter_map f) (append_assoc (reverse facts) (x ∷ []) held)
-    ∙ told_skipped f skips facts (x ∷ held) told.1
-    ∙ ap (λ o. cons_option o (filter_map f held)) (skips x told.0)
+pub told_skipped : {X : Type 0} (f : Fact → Option X) → SkipsTold f → (facts known : List Fact) → AreTold facts
+    → filter_map f (reverse facts ++ known) ≡ filter_map f known
+told_skipped f skips [] known told = refl
+told_skipped f skips (x ∷ facts) known told =
+    ap (λ fs. filter_map f (fs ++ known)) (reverse-append (x ∷ []) facts)
+    ∙ ap (filter_map f) (append_assoc (reverse facts) (x ∷ []) known)
+    ∙ told_skipped f skips facts (x ∷ known) told.1
+    ∙ ap (λ o. cons_option o (filter_map f known)) (skips x told.0)
 
 -- a told fact is no opening
 no_opening : SkipsTold as_opening
@@ -34,8 +34,8 @@ no_opening (fact.Poll poll) told = absurd told
 no_opening (fact.Outcome ended) told = refl
 no_opening (fact.Reply reply) told = absurd told
 
-pub told_openings : (facts held : List Fact) → AreTold facts → openings_in (reverse facts ++ held) ≡ openings_in held
-told_openings facts held told = told_skipped as_opening no_opening facts held told
+pub told_openings : (facts known : List Fact) → AreTold facts → openings_in (reverse facts ++ known) ≡ openings_in known
+told_openings facts known told = told_skipped as_opening no_opening facts known told
 
 pub told_first : (i : ℕ) (facts : List Fact) → AreTold facts → AreTold (take i facts)
 told_first zero facts told = tt
@@ -57,10 +57,10 @@ lawful_before [] facts h = h
 lawful_before (x ∷ new) facts h = lawful_before new facts h.1
 
 -- the first of some lawful facts are lawful
-pub lawful_first : (facts held : List Fact) (i : ℕ) → AreLawful (reverse facts ++ held) → AreLawful (reverse (take i facts) ++ held)
-lawful_first facts held i lawful =
-    lawful_before (reverse (drop i facts)) (reverse (take i facts) ++ held)
+pub lawful_first : (facts known : List Fact) (i : ℕ) → AreLawful (reverse facts ++ known) → AreLawful (reverse (take i facts) ++ known)
+lawful_first facts known i lawful =
+    lawful_before (reverse (drop i facts)) (reverse (take i facts) ++ known)
     (subst AreLawful
-    (ap (λ fs. reverse fs ++ held) (sym (take-append-drop i facts))
-    ∙ ap (λ fs. fs ++ held) (reverse-append (take i facts) (drop i facts))
-    ∙ append_assoc (reverse (drop i facts)) (reverse (take i facts)) held) lawful)
+    (ap (λ fs. reverse fs ++ known) (sym (take-append-drop i facts))
+    ∙ ap (λ fs. fs ++ known) (reverse-append (take i facts) (drop i facts))
+    ∙ append_assoc (reverse (drop i facts)) (reverse (take i facts)) known) lawful)

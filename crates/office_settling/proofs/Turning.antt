@@ -62,7 +62,7 @@ longer_is_some (y ∷ xs) x h = cc
 pub turns : (holds mid : List Fact → Type 0) (clean later unchanged changed : Type 0) (old between new : State) (before after : Event) (call : Call)
     (first draft next : Draft) (o : ℕ × Settlement) → Turned holds clean unchanged old between before call first draft
     → moment_of after ≡ moment_of before → new.settling ≡ Some call → new.last ≡ moment_of after → Called between new before after (Some o)
-    → ((held : List Fact) → holds held → mid held) → (later → clean)
+    → ((known : List Fact) → holds known → mid known) → (later → clean)
     → Grows mid later draft next (with_outcome (moment_of before) o) (outcome_notes (moment_of before) o)
     → Turned holds later changed old new after call first next
 turns holds mid clean later unchanged changed old between new before after call first draft next o t same settling last called kept cleaner on = record {

@@ -40,5 +40,5 @@ pub record IsIn (facts : List Fact) (row : Installation) : Type 0 where
 -- behind these facts it stands so
 abbrev pub StandsBehind : Installation → (facts : List Fact) → Installation → Type 0
 StandsBehind row facts behind =
-    (held : List Fact) → AreTold facts → AreLawful (reverse facts ++ held) → IsIn held row
-    → behind ≡ installation_of (reverse facts ++ held) row.opening
+    (known : List Fact) → AreTold facts → AreLawful (reverse facts ++ known) → IsIn known row
+    → behind ≡ installation_of (reverse facts ++ known) row.opening

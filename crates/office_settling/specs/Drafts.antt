@@ -9,9 +9,9 @@ use Rattle.office_books.specs.declared.faults.BooksFault.{BooksFault}
 use Rattle.office_books.specs.Ledgers.{Ledger}
 use Rattle.office_settling.specs.declared.drafts.Draft.{Draft}
 
--- the facts that are held, with those of the draft in front
-abbrev pub so_far : Draft → (held : List Fact) → List Fact
-so_far draft held = reverse draft.facts.items ++ held
+-- the facts that are known, with those of the draft in front
+abbrev pub so_far : Draft → (known : List Fact) → List Fact
+so_far draft known = reverse draft.facts.items ++ known
 
 -- a fact and a note more
 pub record HasMore (old new : Draft) (f : Fact) (note : Note) : Type 0 where
@@ -30,18 +30,18 @@ AreTold [] = Unit {0}
 AreTold (f ∷ facts) = IsTold f × AreTold facts
 
 -- The facts go on as they are said to, and these notes more are told.
-pub record IsAdded (held : List Fact) (old new : Draft) (more : List Fact → List Fact)
+pub record IsAdded (known : List Fact) (old new : Draft) (more : List Fact → List Fact)
     (tells : List Fact → List Note) : Type 0 where
-  pub facts : so_far new held ≡ more (so_far old held)
-  pub notes : new.notes.items ≡ old.notes.items ++ tells (so_far old held)
+  pub facts : so_far new known ≡ more (so_far old known)
+  pub notes : new.notes.items ≡ old.notes.items ++ tells (so_far old known)
   pub told : AreTold new.facts.items
 
 -- So it is for all facts that the books hold, if none of their answers was wrong and the facts so reached are lawful.
 abbrev pub Grows : (holds : List Fact → Type 0) (clean : Type 0) (old new : Draft)
     → (List Fact → List Fact) → (List Fact → List Note) → Type 0
 Grows holds clean old new more tells =
-    (held : List Fact) → holds held → clean → AreTold old.facts.items
-    → AreLawful (more (so_far old held)) → IsAdded held old new more tells
+    (known : List Fact) → holds known → clean → AreTold old.facts.items
+    → AreLawful (more (so_far old known)) → IsAdded known old new more tells
 
 -- ... where a call succeeds that asks the books
 abbrev pub Adds : {T : Type 0} → (old new : Ledger) → (before after : Draft) → Result T BooksFault
@@ -53,8 +53,8 @@ Adds old new before after result more tells =
 abbrev pub FindsBehind : {T : Type 0} → (old new : Ledger) → Draft → Result T BooksFault
     → (List Fact → T → Type 0) → Type 0
 FindsBehind old new draft result says =
-    (held : List Fact) → old.holds held → new.is_clean → AreTold draft.facts.items
-    → AreLawful (so_far draft held) → IfOk result (says (so_far draft held))
+    (known : List Fact) → old.holds known → new.is_clean → AreTold draft.facts.items
+    → AreLawful (so_far draft known) → IfOk result (says (so_far draft known))
 
 -- The call succeeds, and asks no books.
 pub record IsIdle {T B : Type 0} (result : Result T BooksFault) (old new : B)

@@ -18,10 +18,10 @@ use std::alloc::Global;
 
 /// Books the facts of an event, if it has any.
 fn book_all<B: Books>(books: &mut B, facts: Vec<Fact>) -> Result<(), BooksFault>
-    ensures moves { (held : List Fact) → let later = with_facts facts.items held in
-        AreLawful later → Moves (B.ledger books.old) (B.ledger books.new) held later result }
-    ensures refused { (held : List Fact) → (B.ledger books.old).holds held
-        → OnErr result ((B.ledger books.new).holds held) }
+    ensures moves { (known : List Fact) → let later = with_facts facts.items known in
+        AreLawful later → Moves (B.ledger books.old) (B.ledger books.new) known later result }
+    ensures refused { (known : List Fact) → (B.ledger books.old).holds known
+        → OnErr result ((B.ledger books.new).holds known) }
     ensures quiet { facts.items ≡ [] → IsOk result × (books.new ≡ books.old) }
     ensures goes { GoesOn (B.ledger books.old) (B.ledger books.new) result }
 {

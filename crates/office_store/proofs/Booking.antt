@@ -17,10 +17,10 @@ use Rattle.office_store.specs.Answers.{answer_of, fault_of}
 use Rattle.office_store.specs.Stored.{IsStored, MayBeLeft, ledger_of}
 
 -- all facts that a connection holds are held for the days of one zone
-pub held_in : {S : Type 0} → DatabasesTellTheirFacts → (g : Ghosts S) (zone other : List ℕ) (h : Held S) (facts others : List Fact)
+pub known_in : {S : Type 0} → DatabasesTellTheirFacts → (g : Ghosts S) (zone other : List ℕ) (h : Held S) (facts others : List Fact)
     → HoldsFacts g zone h facts → HoldsFacts g other h others → HoldsFacts g other h facts
 unfolding HoldsFacts
-held_in tell g zone other h facts others a b clean still =
+known_in tell g zone other h facts others a b clean still =
     let has = a clean still in
     let one : zone ≡ other = (tell zone other facts others (state g h).committed has (b clean still)).1 in
     let P : List ℕ → Type 0 = λ z. HasFacts z facts (state g h).committed in
@@ -29,33 +29,33 @@ held_in tell g zone other h facts others a b clean still =
 same : {S : Type 0} (g : Ghosts S) (old new : Held S) (n : ℕ) (zone : Zone) → new ≡ old → KeepsFacts (ledger_of g old n zone) (ledger_of g new n zone)
 same {S} g old new n zone is =
     let P : Held S → Type 0 = λ h. KeepsFacts (ledger_of g old n zone) (ledger_of g h n zone) in
-    subst P (sym is) (record { facts = λ held h. h; left = λ left h. h })
+    subst P (sym is) (record { facts = λ content h. h; left = λ left h. h })
 
 all_booked : {S : Type 0} → DatabasesTellTheirFacts → (g : Ghosts S) (old new : Held S) (n : ℕ) (zone : Zone) (facts : List Fact) (done : Result (Unit {0}) RowFault)
     → ((text : List ℕ) → BooksFacts g text facts old new done)
     → Books (ledger_of g old n zone) (ledger_of g new (faults_after (answer_of done) n) zone) facts (answer_of done)
 all_booked tell g old new n zone facts (Ok x) books = record {
-  booked = λ held h lawful. record { zone = h.zone; holds = (books h.zone).booked held h.holds lawful };
-  settled = λ some held h lawful. record {
+  booked = λ content h lawful. record { zone = h.zone; holds = (books h.zone).booked content h.holds lawful };
+  settled = λ some content h lawful. record {
     zone = h.zone;
-    facts = with_facts facts held;
-    holds = (books h.zone).booked held h.holds lawful;
-    leaves = (books h.zone).settled some held h.holds lawful;
+    facts = with_facts facts content;
+    holds = (books h.zone).booked content h.holds lawful;
+    leaves = (books h.zone).settled some content h.holds lawful;
   };
-  refused = λ held h. tt;
-  under_way = λ held left h lawful may. tt;
+  refused = λ content h. tt;
+  under_way = λ content left h lawful may. tt;
   nothing = λ none. (refl, same g old new n zone ((books []).nothing none).0);
   goes = record { clean = (books []).clean; faults = refl; zone = refl };
 }
 all_booked tell g old new n zone facts (Err e) books = record {
-  booked = λ held h lawful. tt;
-  settled = λ some held h lawful. tt;
-  refused = λ held h. record { zone = h.zone; holds = (books h.zone).refused held h.holds };
-  under_way = λ held left h lawful may. record {
+  booked = λ content h lawful. tt;
+  settled = λ some content h lawful. tt;
+  refused = λ content h. record { zone = h.zone; holds = (books h.zone).refused content h.holds };
+  under_way = λ content left h lawful may. record {
     zone = may.zone;
     facts = may.facts;
     holds = (books may.zone).refused may.facts may.holds;
-    leaves = (books may.zone).under_way held left (held_in tell g h.zone may.zone old held may.facts h.holds may.holds) lawful may.leaves;
+    leaves = (books may.zone).under_way content left (known_in tell g h.zone may.zone old content may.facts h.holds may.holds) lawful may.leaves;
   };
   nothing = λ none. let wrong : false ≡ true = ((books []).nothing none).1 in absurd (cc);
   goes = record { clean = (books []).clean; faults = refl; zone = refl };

@@ -19,9 +19,9 @@ use Rattle.store_metering.specs.Looking as metering
 use Rattle.office_store.specs.Answers.{answer_of}
 use Rattle.office_store.specs.Stored.{IsStored, MayBeLeft, ledger_of}
 
-held_on : {S : Type 0} (g : Ghosts S) (zone : List ℕ) (old new : Held S) (facts : List Fact)
+still_on : {S : Type 0} (g : Ghosts S) (zone : List ℕ) (old new : Held S) (facts : List Fact)
     → OnlyLooks g zone old new → HoldsFacts g zone old facts → HoldsFacts g zone new facts
-held_on g zone old new facts looks holds = kept_holds g zone old new facts looks.clean (λ clean. looks.kept facts holds clean) holds
+still_on g zone old new facts looks holds = kept_holds g zone old new facts looks.clean (λ clean. looks.kept facts holds clean) holds
 
 left_on : {S : Type 0} (g : Ghosts S) (zone : List ℕ) (old new : Held S) (facts : List Fact) (left : List (List Fact))
     → OnlyLooks g zone old new → HoldsFacts g zone old facts → LeavesFacts g zone old left → LeavesFacts g zone new left
@@ -32,11 +32,11 @@ left_on g zone old new facts left looks holds leaves clean trees may =
 keeps : {S : Type 0} (g : Ghosts S) (old new : Held S) (n m : ℕ) (zone : Zone)
     → ((text : List ℕ) → OnlyLooks g text old new) → KeepsFacts (ledger_of g old n zone) (ledger_of g new m zone)
 keeps g old new n m zone looks = record {
-  facts = λ held h. record { zone = h.zone; holds = held_on g h.zone old new held (looks h.zone) h.holds };
+  facts = λ content h. record { zone = h.zone; holds = still_on g h.zone old new content (looks h.zone) h.holds };
   left = λ left h. record {
     zone = h.zone;
     facts = h.facts;
-    holds = held_on g h.zone old new h.facts (looks h.zone) h.holds;
+    holds = still_on g h.zone old new h.facts (looks h.zone) h.holds;
     leaves = left_on g h.zone old new h.facts left (looks h.zone) h.holds h.leaves;
   };
 }
@@ -58,9 +58,9 @@ tells : {S T : Type 0} (g : Ghosts S) (old new : Held S) (n m : ℕ) (zone : Zon
     (found : Result T RowFault) (answer : Result T BooksFault) → answer ≡ answer_of found
     → ((text : List ℕ) (facts : List Fact) → HoldsFacts g text old facts → HasCleanDisk (state g new) → IfOk found (Says facts))
     → Finds (ledger_of g old n zone) (ledger_of g new m zone) answer Says
-tells {T = T} g old new n m zone Says found answer is says held h clean =
-    let P : Result T BooksFault → Type 0 = λ a. IfOk a (Says held) in
-    subst P (sym is) (told (Says held) found (says h.zone held h.holds clean))
+tells {T = T} g old new n m zone Says found answer is says content h clean =
+    let P : Result T BooksFault → Type 0 = λ a. IfOk a (Says content) in
+    subst P (sym is) (told (Says content) found (says h.zone content h.holds clean))
 
 -- it answers what the tables answer
 pub finds : {S T : Type 0} {Says : List Fact → T → Type 0} {AreSound : List Fact → Type 0} (g : Ghosts S) (old new : Held S) (n m : ℕ) (zone : Zone)
@@ -90,9 +90,9 @@ pub hands_on : {S K : Type 0} (g : Ghosts S) (old new : Held S) (n m : ℕ) (zon
     → metering.HandsOn g old new takes before after found rows
     → HandsOn takes (ledger_of g old n zone) (ledger_of g new m zone) before after answer rows
 hands_on g old new n m zone takes before after rows found answer is hands = record {
-  begun = λ held h clean. hands.begun h.zone held h.holds clean;
-  whole = λ held h clean.
-      let P : Result (Unit {0}) BooksFault → Type 0 = λ a. OnOk a (TakesAll takes before (rows held) after) in
-      subst P (sym is) (told_on (TakesAll takes before (rows held) after) found (hands.whole h.zone held h.holds clean));
+  begun = λ content h clean. hands.begun h.zone content h.holds clean;
+  whole = λ content h clean.
+      let P : Result (Unit {0}) BooksFault → Type 0 = λ a. OnOk a (TakesAll takes before (rows content) after) in
+      subst P (sym is) (told_on (TakesAll takes before (rows content) after) found (hands.whole h.zone content h.holds clean));
   some = hands.some;
 }

@@ -39,7 +39,7 @@ holds_none none g zone old new x settles blank does =
     alone g zone new [] settles (λ clean.
     let it = does.ok clean in
     let is = it.2 blank in
-    (it.1, record { held = is.0; tables = is.2; are = none zone is.0 is.1 }))
+    (it.1, record { content = is.0; tables = is.2; are = none zone is.0 is.1 }))
 
 -- ---- books that were opened
 
@@ -53,19 +53,19 @@ module _ {S X E : Type 0} (theirs : OpenedFilesKeepTheirs) (g : Ghosts S) (zone 
     (first : HasCleanDisk (state g new) → HasCleanDisk (state g old)) where
   -- what an opening promises of a file of the newest version
   abbrev pub Opens : Result X E → Type 0
-  Opens result = HasCleanDisk (state g new) → (held : Content)
-      → (IsTrue (state g old).is_open → IsFile Third zone (state g old).committed held) → OpensFile Third zone held (state g old) (state g new) result
+  Opens result = HasCleanDisk (state g new) → (content : Content)
+      → (IsTrue (state g old).is_open → IsFile Third zone (state g old).committed content) → OpensFile Third zone content (state g old) (state g new) result
 
   opened : (facts : List Fact) (result : Result X E) → Opens result → HasCleanDisk (state g new) → (has : HasFacts zone facts (state g old).committed)
-      → OpensFile Third zone has.held (state g old) (state g new) result
-  opened facts result opens clean has = opens clean has.held (λ still. (theirs zone facts (state g old).committed has).file)
+      → OpensFile Third zone has.content (state g old) (state g new) result
+  opened facts result opens clean has = opens clean has.content (λ still. (theirs zone facts (state g old).committed has).file)
 
   pub holds_again : (facts : List Fact) (x : X) → Settles g new → HasFile g zone old facts → Opens (Ok x) → HoldsAlone g zone new facts
   holds_again facts x settles file opens =
       alone g zone new facts settles (λ clean.
       let has = file (first clean) in
       let it = (opened facts (Ok x) opens clean has).ok in
-      (it.0, record { held = it.1; tables = it.3; are = (theirs zone facts (state g old).committed has).kept it.1 it.2 }))
+      (it.0, record { content = it.1; tables = it.3; are = (theirs zone facts (state g old).committed has).kept it.1 it.2 }))
 
   pub holds_yet : (facts : List Fact) (e : E) → HasFile g zone old facts → Opens (Err e) → HoldsYet g zone old new facts
   unfolding HoldsFacts LeavesFacts
@@ -81,7 +81,7 @@ module _ {S X E : Type 0} (theirs : OpenedFilesKeepTheirs) (g : Ghosts S) (zone 
             facts = facts;
             one = one;
             db = there.2;
-            has = record { held = there.0; tables = there.3; are = (theirs zone facts (state g old).committed has).kept there.0 there.1 };
+            has = record { content = there.0; tables = there.3; are = (theirs zone facts (state g old).committed has).kept there.0 there.1 };
             same = there.4;
           }
         ];

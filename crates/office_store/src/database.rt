@@ -75,14 +75,14 @@ impl<S: Alter> SqlBooks<S> {
         ensures faults { IfOk result (λ books. books.faults ≡ 0) }
         ensures told { HasCleanDisk (state S.Store (connection_in result))
             → connection.in_transaction ≡ false → IsTrue (state S.Store connection).is_open
-            → (layout : TheLayout) (held : Content)
-            → AreTablesIn (schema_of layout) (state S.Store connection).committed held
-            → (m : Meta) → IsMarked m held → Tells (version_of layout) m (told_by result) }
+            → (layout : TheLayout) (content : Content)
+            → AreTablesIn (schema_of layout) (state S.Store connection).committed content
+            → (m : Meta) → IsMarked m content → Tells (version_of layout) m (told_by result) }
         ensures opened { HasCleanDisk (state S.Store (connection_in result))
-            → (layout : TheLayout) (zone : List ℕ) (held : Content)
+            → (layout : TheLayout) (zone : List ℕ) (content : Content)
             → (IsTrue (state S.Store connection).is_open
-            → IsFile layout zone (state S.Store connection).committed held)
-            → OpensFile layout zone held (state S.Store connection)
+            → IsFile layout zone (state S.Store connection).committed content)
+            → OpensFile layout zone content (state S.Store connection)
             (state S.Store (connection_in result)) (told_by result) }
         ensures again { (zone : List ℕ) (facts : List Fact) → HasFile S.Store zone connection facts
             → IfOk result (λ books. HoldsAlone S.Store zone books.connection facts) }

@@ -22,7 +22,7 @@ impl<S: Alter + Drop> Books for SqlBooks<S> {
         self.zone
     }
 
-    fn tables_are_held(&self) {
+    fn tables_are_known(&self) {
         databases_tell_their_facts();
     }
 

@@ -23,9 +23,9 @@ pub record Opens {B : Type 0} (ledger : B → Ledger) (past : History)
 -- The opening is refused as its definition says, or failed outside; the books stand as they did, and the reason is printed.
 pub record TellsUnopened (past : History) (moments later : Option (List ℕ)) (old new : Ledger)
     (status : Status)
-    (held holds : Option (List ℕ)) : Type 0 where
+    (had holds : Option (List ℕ)) : Type 0 where
   pub at : ℕ
   pub timed : clocks.Tells moments later at
   pub why : Refusal
   pub refused : IsNotOpened past at old new why
-  pub told : IsTold (refused_line why) Refused status held holds
+  pub told : IsTold (refused_line why) Refused status had holds

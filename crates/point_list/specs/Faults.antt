@@ -38,7 +38,8 @@ pub record RowText : Type 0 where
   pub scale : List ℕ
 
 abbrev pub six_fields : List (List ℕ) → Option RowText
-six_fields (a ∷ b ∷ c ∷ d ∷ e ∷ f ∷ []) = Some (record { name = a; function = b; area = c; address = d; kind = e; scale = f })
+six_fields (a ∷ b ∷ c ∷ d ∷ e ∷ f ∷ []) =
+    Some (record { name = a; function = b; area = c; address = d; kind = e; scale = f })
 six_fields _ = None
 
 -- a row of six fields of which the first is the name
@@ -61,7 +62,8 @@ is_fixed_scale field = is_some (fixed_scale_of field)
 abbrev pub is_bad_scale : List ℕ → Option PointType → Bool
 is_bad_scale [] kind = false
 is_bad_scale (first ∷ rest) kind =
-    not (is_fixed_scale (first ∷ rest) || is_name (first ∷ rest)) || option_map_or (λ k. not (takes_scale k)) kind false
+    not (is_fixed_scale (first ∷ rest) || is_name (first ∷ rest))
+    || option_map_or (λ k. not (takes_scale k)) kind false
 
 -- the first of the faults whose condition holds
 abbrev pub first_of : List (RowFault × Bool) → Option RowFault
@@ -75,7 +77,11 @@ conditions_where taken place row =
     ∷ (DoubleName, taken)
     ∷ (Function, is_none (function_of row.function))
     ∷ (Area, is_no_number 0 255 row.area)
-    ∷ (Address, is_no_number 0 65535 row.address || reaches_past (number_within 0 65535 row.address) (type_of row.kind))
+    ∷ (
+      Address,
+      is_no_number 0 65535 row.address
+          || reaches_past (number_within 0 65535 row.address) (type_of row.kind),
+    )
     ∷ («Type», is_none (type_of row.kind))
     ∷ (Scale, is_bad_scale row.scale (type_of row.kind))
     ∷ (TooMany, nat_le 512 place)
@@ -87,9 +93,17 @@ conditions place earlier row = conditions_where (list_any (has_name row.name) ea
 
 -- the least fault of a row that no other row enters into but by its name
 abbrev pub least_fault : ℕ → List (List (List ℕ)) → List (List ℕ) → Option RowFault
-least_fault place earlier fields = option_map_or (λ row. first_of (conditions place earlier row)) (six_fields fields) (Some Csv)
+least_fault place earlier fields =
+    option_map_or (λ row. first_of (conditions place earlier row)) (six_fields fields) (Some Csv)
 
 -- the fields as slices, seen as lists
 abbrev pub seen_row : RowFields → RowText
 seen_row row =
-    record { name = row.name.now; function = row.function.now; area = row.area.now; address = row.address.now; kind = row.kind.now; scale = row.scale.now }
+    record {
+      name = row.name.now;
+      function = row.function.now;
+      area = row.area.now;
+      address = row.address.now;
+      kind = row.kind.now;
+      scale = row.scale.now;
+    }

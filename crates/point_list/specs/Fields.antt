@@ -21,7 +21,8 @@ number_within low high field =
 
 -- the function of a code: 3 or 4
 abbrev pub function_coded : ℕ → Option ReadFunction
-function_coded n = if n == 3 then Some HoldingRegisters else if n == 4 then Some InputRegisters else None
+function_coded n =
+    if n == 3 then Some HoldingRegisters else if n == 4 then Some InputRegisters else None
 
 abbrev pub function_of : List ℕ → Option ReadFunction
 function_of field = option_and_then function_coded (number_of field)

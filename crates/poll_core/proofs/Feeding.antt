@@ -7,7 +7,7 @@ use Rattle.std.proofs.lemmas.List.Elements.{filter_agree}
 use Rattle.std.proofs.lemmas.Bool.{eq-eqb, ne_eqb}
 use Rattle.mb_wire.specs.Frames.{Reads, IsOwn, tid_of}
 use Rattle.std.specs.Option.{option_map}
-use Rattle.mb_wire.specs.Reader.{Held, Fields, fields_of, Tells, held_after, ended}
+use Rattle.mb_wire.specs.Reader.{Buffered, Fields, fields_of, Tells, buffered_after, ended}
 use Rattle.mb_wire.specs.declared.frames.Framing.{Framing}
 use Rattle.mb_wire.specs.declared.frames.Framing.TheVariants.{Need, Whole, Foreign, Garbled}
 use Rattle.poll_core.proofs.Filters.{filter-none, filter-all}
@@ -67,13 +67,13 @@ FeedsOn-then a p b q c gs hs first second = λ bytes before h.
     let Q : List (List ℕ) → Type 0 = λ y. Reads ((bytes ++ p) ++ q) y c in
     subst P (append_assoc bytes p q) (subst Q (append_assoc before gs hs) (second (bytes ++ p) (before ++ gs) (first bytes before h)))
 
-pub Finds-nothing : (a : List ℕ) (held : Held) (ps : List Poll) → held.rest ≡ a → Finds a [] ps None held ps
-Finds-nothing a held ps e =
+pub Finds-nothing : (a : List ℕ) (buffered : Buffered) (ps : List Poll) → buffered.rest ≡ a → Finds a [] ps None buffered ps
+Finds-nothing a buffered ps e =
     record {
       ended = [];
       feeds = λ bytes before h.
-          let P : List ℕ → Type 0 = λ y. Reads y (before ++ []) held.rest in
-          let Q : List (List ℕ) → Type 0 = λ y. Reads bytes y held.rest in
+          let P : List ℕ → Type 0 = λ y. Reads y (before ++ []) buffered.rest in
+          let Q : List (List ℕ) → Type 0 = λ y. Reads bytes y buffered.rest in
           let R : List ℕ → Type 0 = λ y. Reads bytes before y in
           subst P (sym (append-nil bytes)) (subst Q (sym (append-nil before)) (subst R (sym e) h));
       told = refl;
@@ -81,11 +81,11 @@ Finds-nothing a held ps e =
     }
 
 -- frames that settle nothing, and then more
-pub Finds-then : (a p q : List ℕ) (mid held : Held) (ps qs : List Poll) (o : Option Poll) → Finds a p ps None mid ps → Finds mid.rest q ps o held qs → Finds a (p ++ q) ps o held qs
-Finds-then a p q mid held ps qs o first second =
+pub Finds-then : (a p q : List ℕ) (mid buffered : Buffered) (ps qs : List Poll) (o : Option Poll) → Finds a p ps None mid ps → Finds mid.rest q ps o buffered qs → Finds a (p ++ q) ps o buffered qs
+Finds-then a p q mid buffered ps qs o first second =
     record {
       ended = first.ended ++ second.ended;
-      feeds = FeedsOn-then a p mid.rest q held.rest first.ended second.ended first.feeds second.feeds;
+      feeds = FeedsOn-then a p mid.rest q buffered.rest first.ended second.ended first.feeds second.feeds;
       told =
           by_frame-append first.ended second.ended ps
           ∙ ap (λ x. x ++ by_frame second.ended (unmatched first.ended ps)) first.told
@@ -98,17 +98,17 @@ some_inj : {X : Type 0} (a b : X) → Some a ≡ Some b → a ≡ b
 some_inj a b e = cc
 
 -- the frame that the reader lends
-pub FindsBy-lent : (held : Option (List ℕ)) (fields : Fields) (ps qs : List Poll) (o : Option Poll) → Some fields ≡ option_map fields_of held → AreApart ps → TakesOut (has_id fields.tid) ps o qs → (f : List ℕ) → held ≡ Some f → IsOwn f → FindsBy f ps o qs
-FindsBy-lent held fields ps qs o lent apart h f e own =
+pub FindsBy-lent : (buffered : Option (List ℕ)) (fields : Fields) (ps qs : List Poll) (o : Option Poll) → Some fields ≡ option_map fields_of buffered → AreApart ps → TakesOut (has_id fields.tid) ps o qs → (f : List ℕ) → buffered ≡ Some f → IsOwn f → FindsBy f ps o qs
+FindsBy-lent buffered fields ps qs o lent apart h f e own =
     let same : fields ≡ fields_of f = some_inj _ _ (lent ∙ ap (option_map fields_of) e) in
     let P : ℕ → Type 0 = λ id. TakesOut (has_id id) ps o qs in
     FindsBy-own f ps qs o own apart (subst P (ap (λ (x : Fields). x.tid) same) h)
 
 -- the loop: what was fed so far settled nothing
-pub record Strays (old : List ℕ) (piece : List ℕ) (at : ℕ) (polls : List Poll) (held : Held) : Type 0 where
+pub record Strays (old : List ℕ) (piece : List ℕ) (at : ℕ) (polls : List Poll) (buffered : Buffered) : Type 0 where
   pub within : at ≤ length piece
   pub apart : AreApart polls
-  pub none : Finds old (take at piece) polls None held polls
+  pub none : Finds old (take at piece) polls None buffered polls
 
 pub piece-more : (at n : ℕ) (piece : List ℕ) → take (at + n) piece ≡ take at piece ++ take n (take (length piece - at) (drop at piece))
 piece-more at n piece = take-add at n piece ∙ ap (λ x. take at piece ++ take n x) (sym (take_rest piece at))
@@ -117,39 +117,39 @@ abbrev slice_at : ℕ → List ℕ → List ℕ
 slice_at at piece = take (length piece - at) (drop at piece)
 
 -- one feed more, by what it told
-goes_on : (old piece : List ℕ) (at n : ℕ) (ps qs : List Poll) (o : Option Poll) (mid held : Held) → Strays old piece at ps mid → Finds mid.rest (take n (slice_at at piece)) ps o held qs → Finds old (take (at + n) piece) ps o held qs
-goes_on old piece at n ps qs o mid held strays more =
-    let P : List ℕ → Type 0 = λ y. Finds old y ps o held qs in
-    subst P (sym (piece-more at n piece)) (Finds-then old (take at piece) (take n (slice_at at piece)) mid held ps qs o strays.none more)
+goes_on : (old piece : List ℕ) (at n : ℕ) (ps qs : List Poll) (o : Option Poll) (mid buffered : Buffered) → Strays old piece at ps mid → Finds mid.rest (take n (slice_at at piece)) ps o buffered qs → Finds old (take (at + n) piece) ps o buffered qs
+goes_on old piece at n ps qs o mid buffered strays more =
+    let P : List ℕ → Type 0 = λ y. Finds old y ps o buffered qs in
+    subst P (sym (piece-more at n piece)) (Finds-then old (take at piece) (take n (slice_at at piece)) mid buffered ps qs o strays.none more)
 
-quiet : (a q : List ℕ) (held : Held) (ps : List Poll) → FeedsOn a q [] held.rest → Finds a q ps None held ps
-quiet a q held ps h = record { ended = []; feeds = h; told = refl; others_are = unmatched-nil ps }
+quiet : (a q : List ℕ) (buffered : Buffered) (ps : List Poll) → FeedsOn a q [] buffered.rest → Finds a q ps None buffered ps
+quiet a q buffered ps h = record { ended = []; feeds = h; told = refl; others_are = unmatched-nil ps }
 
-pub goes_quietly : (what : Framing) (old piece : List ℕ) (at n : ℕ) (ps : List Poll) (mid held : Held) (f : List ℕ) → (what ≡ Need) ⊎ (what ≡ Garbled) → Strays old piece at ps mid → FeedsOn mid.rest (take n (slice_at at piece)) (ended what f) held.rest → Finds old (take (at + n) piece) ps None held ps
-goes_quietly what old piece at n ps mid held f (inl e) strays h =
-    let P : Framing → Type 0 = λ w. FeedsOn mid.rest (take n (slice_at at piece)) (ended w f) held.rest in
-    goes_on old piece at n ps ps None mid held strays (quiet _ _ held ps (subst P e h))
-goes_quietly what old piece at n ps mid held f (inr e) strays h =
-    let P : Framing → Type 0 = λ w. FeedsOn mid.rest (take n (slice_at at piece)) (ended w f) held.rest in
-    goes_on old piece at n ps ps None mid held strays (quiet _ _ held ps (subst P e h))
+pub goes_quietly : (what : Framing) (old piece : List ℕ) (at n : ℕ) (ps : List Poll) (mid buffered : Buffered) (f : List ℕ) → (what ≡ Need) ⊎ (what ≡ Garbled) → Strays old piece at ps mid → FeedsOn mid.rest (take n (slice_at at piece)) (ended what f) buffered.rest → Finds old (take (at + n) piece) ps None buffered ps
+goes_quietly what old piece at n ps mid buffered f (inl e) strays h =
+    let P : Framing → Type 0 = λ w. FeedsOn mid.rest (take n (slice_at at piece)) (ended w f) buffered.rest in
+    goes_on old piece at n ps ps None mid buffered strays (quiet _ _ buffered ps (subst P e h))
+goes_quietly what old piece at n ps mid buffered f (inr e) strays h =
+    let P : Framing → Type 0 = λ w. FeedsOn mid.rest (take n (slice_at at piece)) (ended w f) buffered.rest in
+    goes_on old piece at n ps ps None mid buffered strays (quiet _ _ buffered ps (subst P e h))
 
-pub goes_past : (what : Framing) (old piece : List ℕ) (at n : ℕ) (ps : List Poll) (mid held : Held) (f : List ℕ) → what ≡ Foreign → Strays old piece at ps mid → FeedsOn mid.rest (take n (slice_at at piece)) (ended what f) held.rest → Tells what f → Finds old (take (at + n) piece) ps None held ps
-goes_past what old piece at n ps mid held f e strays h tells =
-    let P : Framing → Type 0 = λ w. FeedsOn mid.rest (take n (slice_at at piece)) (ended w f) held.rest in
+pub goes_past : (what : Framing) (old piece : List ℕ) (at n : ℕ) (ps : List Poll) (mid buffered : Buffered) (f : List ℕ) → what ≡ Foreign → Strays old piece at ps mid → FeedsOn mid.rest (take n (slice_at at piece)) (ended what f) buffered.rest → Tells what f → Finds old (take (at + n) piece) ps None buffered ps
+goes_past what old piece at n ps mid buffered f e strays h tells =
+    let P : Framing → Type 0 = λ w. FeedsOn mid.rest (take n (slice_at at piece)) (ended w f) buffered.rest in
     let Q : Framing → Type 0 = λ w. Tells w f in
     let foreign = subst Q e tells in
     let by = FindsBy-foreign f ps foreign.1 in
-    goes_on old piece at n ps ps None mid held strays
+    goes_on old piece at n ps ps None mid buffered strays
     record { ended = f ∷ []; feeds = subst P e h; told = by.0; others_are = by.1 }
 
-pub goes_framed : (what : Framing) (old piece : List ℕ) (at n : ℕ) (ps qs : List Poll) (o : Option Poll) (mid held : Held) (f : List ℕ) → what ≡ Whole → Strays old piece at ps mid → FeedsOn mid.rest (take n (slice_at at piece)) (ended what f) held.rest → Tells what f → held ≡ held_after what f → ((g : List ℕ) → held.frame ≡ Some g → IsOwn g → FindsBy g ps o qs) → Finds old (take (at + n) piece) ps o held qs
-goes_framed what old piece at n ps qs o mid held f e strays h tells after found =
-    let P : Framing → Type 0 = λ w. FeedsOn mid.rest (take n (slice_at at piece)) (ended w f) held.rest in
+pub goes_framed : (what : Framing) (old piece : List ℕ) (at n : ℕ) (ps qs : List Poll) (o : Option Poll) (mid buffered : Buffered) (f : List ℕ) → what ≡ Whole → Strays old piece at ps mid → FeedsOn mid.rest (take n (slice_at at piece)) (ended what f) buffered.rest → Tells what f → buffered ≡ buffered_after what f → ((g : List ℕ) → buffered.frame ≡ Some g → IsOwn g → FindsBy g ps o qs) → Finds old (take (at + n) piece) ps o buffered qs
+goes_framed what old piece at n ps qs o mid buffered f e strays h tells after found =
+    let P : Framing → Type 0 = λ w. FeedsOn mid.rest (take n (slice_at at piece)) (ended w f) buffered.rest in
     let Q : Framing → Type 0 = λ w. Tells w f in
     let whole = subst Q e tells in
-    let has : held.frame ≡ Some f = ap (λ (x : Held). x.frame) after ∙ ap (λ w. (held_after w f).frame) e in
+    let has : buffered.frame ≡ Some f = ap (λ (x : Buffered). x.frame) after ∙ ap (λ w. (buffered_after w f).frame) e in
     let by = found f has whole.1 in
-    goes_on old piece at n ps qs o mid held strays
+    goes_on old piece at n ps qs o mid buffered strays
     record { ended = f ∷ []; feeds = subst P e h; told = by.0 ∙ ap (told_list o) (sym has); others_are = by.1 }
 
 pub within-more : (at n : ℕ) (piece : List ℕ) → at ≤ length piece → n ≤ length (slice_at at piece) → at + n ≤ length piece

@@ -6,7 +6,7 @@ use Rattle.std.proofs.lemmas.List.{append-nil, take-append-drop, take_all}
 use Rattle.std.proofs.lemmas.List.Elements.{filter-append, filter_agree}
 use Rattle.std.proofs.lemmas.Bool.{cond-false, or_left, or_right, or_parts, or_cases, both_ways, false_from_ne_true}
 use Rattle.mb_wire.specs.Frames.{Reads, frames, rest, is_bad, is_garbled}
-use Rattle.mb_wire.specs.Reader.{Held}
+use Rattle.mb_wire.specs.Reader.{Buffered}
 use Rattle.poll_core.proofs.Filters.{filter-none, filter_filter}
 use Rattle.poll_core.proofs.Frames.{unmatched-nil, unmatched-append, by_frame-append, by_frame-none}
 use Rattle.poll_core.proofs.Pending.{pending-other}
@@ -33,7 +33,7 @@ pub record Mid (t m n : ℕ) (r : List ℕ) (ps : List Poll) (x : Option LostCau
   pub polls : if_going x (alive m ps) ≡ pending t (es ++ e ∷ [])
   pub over : is_some x ≡ is_over (es ++ e ∷ [])
   pub none_after : is_closed es ≡ true → pending t es ≡ []
-  pub held : x ≡ None → r ≡ rest (stream (es ++ e ∷ []))
+  pub buffered : x ≡ None → r ≡ rest (stream (es ++ e ∷ []))
 
 -- the outcomes of an event that is no start
 abbrev pub told_at : ℕ → List Poll → List (List ℕ) → Option LostCause → List (ℕ × Settlement)
@@ -88,7 +88,7 @@ tell t m n r ps qs x es e told taken frame mid h =
       polls = h.1 ∙ mid.polls;
       over = mid.over;
       none_after = mid.none_after;
-      held = mid.held;
+      buffered = mid.buffered;
     }
 
 going_all : (x : Option LostCause) (ps : List Poll) → (is_some x ≡ true → ps ≡ []) → if_going x ps ≡ ps
@@ -100,7 +100,7 @@ some_case None h = absurd (cc)
 some_case (Some c) h = (c, refl)
 
 -- nothing is owed: the session stands behind the event
-pub done : (t m n w : ℕ) (r : Held) (ps qs : List Poll) (x : Option LostCause) (es : List Event) (e : Event) (told : List (ℕ × Settlement)) → Mid t m n r.rest ps x es e told → TellsOwed m x ps None qs → Stands (record { timeout = t; window = w; last = m; next = n; reader = r; polls = qs; ending = x; settling = None }) (es ++ e ∷ []) × (told ≡ outcomes_at t es e)
+pub done : (t m n w : ℕ) (r : Buffered) (ps qs : List Poll) (x : Option LostCause) (es : List Event) (e : Event) (told : List (ℕ × Settlement)) → Mid t m n r.rest ps x es e told → TellsOwed m x ps None qs → Stands (record { timeout = t; window = w; last = m; next = n; reader = r; polls = qs; ending = x; settling = None }) (es ++ e ∷ []) × (told ≡ outcomes_at t es e)
 done t m n w r ps qs x es e told mid h = (
   record {
     told = refl;
@@ -111,7 +111,7 @@ done t m n w r ps qs x es e told mid h = (
     none_after = λ over.
         let c = some_case x (mid.over ∙ over) in
         sym mid.polls ∙ ap (λ y. if_going y (alive m ps)) c.1;
-    held = mid.held;
+    buffered = mid.buffered;
   },
   sym (append-nil told) ∙ ap (λ y. told ++ y) (sym h.1) ∙ mid.whole,
 )
@@ -179,9 +179,9 @@ begin s es e other none h =
           ∙ sym (pending-other s.timeout es e other);
       over = is_some-or s.ending (closing_of e) ∙ ap (λ b. b || is_some (closing_of e)) h.over ∙ sym (is_over-same es e none);
       none_after = λ closed. h.none_after (is_over-closed es closed);
-      held = λ going.
+      buffered = λ going.
           let both = or_parts _ _ (sym (is_some-or s.ending (closing_of e)) ∙ ap is_some going) in
-          h.held (none_case s.ending both.0) ∙ ap rest (sym (stream-same es e none));
+          h.buffered (none_case s.ending both.0) ∙ ap rest (sym (stream-same es e none));
     }
 
 not_and : (b : Bool) → (not b && b) ≡ false
@@ -231,8 +231,8 @@ fresh_before : (one : OneReading) → (b p : List ℕ) → is_garbled (b ++ p) �
 fresh_before one b p h = false_from_ne_true _ (λ g. both_ways _ h (is_garbled-append one b p g))
 
 -- a session that goes on takes more of a piece: its frames settle at most one poll, and the bytes may garble it
-pub feed : (one : OneReading) → (t m n : ℕ) (r q p : List ℕ) (held : Held) (ps qs : List Poll) (o : Option Poll) (es : List Event) (told : List (ℕ × Settlement)) (g : Bool) → Mid t m n r ps None es (Piece m p) told → owed_by m None ps ≡ [] → alive m ps ≡ ps → Finds r q ps o held qs → is_bad held.rest ≡ g → Mid t m n held.rest qs (garbled_end g) es (Piece m (p ++ q)) (told ++ told_list o held.frame)
-feed one t m n r q p held ps qs o es told g mid none all found bad =
+pub feed : (one : OneReading) → (t m n : ℕ) (r q p : List ℕ) (buffered : Buffered) (ps qs : List Poll) (o : Option Poll) (es : List Event) (told : List (ℕ × Settlement)) (g : Bool) → Mid t m n r ps None es (Piece m p) told → owed_by m None ps ≡ [] → alive m ps ≡ ps → Finds r q ps o buffered qs → is_bad buffered.rest ≡ g → Mid t m n buffered.rest qs (garbled_end g) es (Piece m (p ++ q)) (told ++ told_list o buffered.frame)
+feed one t m n r q p buffered ps qs o es told g mid none all found bad =
     let e = Piece m p in
     let e' = Piece m (p ++ q) in
     let b = stream es in
@@ -244,27 +244,27 @@ feed one t m n r q p held ps qs o es told g mid none all found bad =
     let parts = or_parts _ _ going in
     let fresh : is_garbled b ≡ false = fresh_before one b p parts.0 in
     let no_end : ending_at es e ≡ None = ending_at-piece es m p fresh ∙ ap garbled_end parts.0 in
-    let r_is : r ≡ rest (b ++ p) = mid.held refl ∙ ap rest (stream-push es e) in
-    let reads : Reads ((b ++ p) ++ q) (frames (b ++ p) ++ gs) held.rest = found.feeds (b ++ p) (frames (b ++ p)) (subst (λ y. Reads (b ++ p) (frames (b ++ p)) y) (sym r_is) (one.exists (b ++ p))) in
+    let r_is : r ≡ rest (b ++ p) = mid.buffered refl ∙ ap rest (stream-push es e) in
+    let reads : Reads ((b ++ p) ++ q) (frames (b ++ p) ++ gs) buffered.rest = found.feeds (b ++ p) (frames (b ++ p)) (subst (λ y. Reads (b ++ p) (frames (b ++ p)) y) (sym r_is) (one.exists (b ++ p))) in
     let garbled : is_garbled (b ++ (p ++ q)) ≡ g = ap is_garbled (sym (append_assoc b p q)) ∙ is_garbled-reads one _ _ _ reads ∙ bad in
     let end' : ending_at es e' ≡ garbled_end g = ending_at-piece es m (p ++ q) fresh ∙ ap garbled_end garbled in
-    let frames' : frames_at es e' ≡ f1 ++ gs = frames_at-more one es m p q gs held.rest reads in
+    let frames' : frames_at es e' ≡ f1 ++ gs = frames_at-more one es m p q gs buffered.rest reads in
     let ps_is : unmatched f1 A ≡ ps = sym (sym all ∙ mid.polls ∙ pending-other t es e refl ∙ ap (λ c. if_going c (unmatched f1 A)) no_end) in
     let unmatched' : unmatched (f1 ++ gs) A ≡ qs = unmatched-append f1 gs A ∙ ap (unmatched gs) ps_is ∙ found.others_are in
     let told_is : told ≡ S ++ by_frame f1 A =
     sym (append-nil told) ∙ ap (λ y. told ++ y) (sym none) ∙ mid.whole ∙ outcomes_at-other t es e refl ∙ ap (told_at m (pending t es) f1) no_end ∙ append-nil (S ++ by_frame f1 A) in
-    let by_new : by_frame gs (unmatched f1 A) ≡ told_list o held.frame = ap (by_frame gs) ps_is ∙ found.told in
+    let by_new : by_frame gs (unmatched f1 A) ≡ told_list o buffered.frame = ap (by_frame gs) ps_is ∙ found.told in
     let alive' : alive m qs ≡ qs = ap (alive m) (sym found.others_are) ∙ alive_left m gs ps all ∙ found.others_are in
     let owed' : owed_by m (garbled_end g) qs ≡ losses (garbled_end g) qs = ap (λ y. silences y ++ losses (garbled_end g) (alive m qs)) (alive_due m qs alive') ∙ ap (losses (garbled_end g)) alive' in
-    let by_all : S ++ by_frame (f1 ++ gs) A ≡ told ++ told_list o held.frame =
+    let by_all : S ++ by_frame (f1 ++ gs) A ≡ told ++ told_list o buffered.frame =
     ap (λ y. S ++ y) (by_frame-append f1 gs A ∙ ap (λ y. by_frame f1 A ++ y) by_new)
-    ∙ sym (append_assoc S (by_frame f1 A) (told_list o held.frame))
-    ∙ ap (λ y. y ++ told_list o held.frame) (sym told_is) in
+    ∙ sym (append_assoc S (by_frame f1 A) (told_list o buffered.frame))
+    ∙ ap (λ y. y ++ told_list o buffered.frame) (sym told_is) in
     record {
       last = refl;
       next = mid.next ∙ next_id-other es e refl ∙ sym (next_id-other es e' refl);
       whole =
-          ap (λ y. (told ++ told_list o held.frame) ++ y) owed'
+          ap (λ y. (told ++ told_list o buffered.frame) ++ y) owed'
           ∙ ap (λ y. y ++ losses (garbled_end g) qs) (sym by_all)
           ∙ ap (λ y. (S ++ by_frame (f1 ++ gs) A) ++ losses (garbled_end g) y) (sym unmatched')
           ∙ ap (told_at m (pending t es) (f1 ++ gs)) (sym end')
@@ -282,7 +282,7 @@ feed one t m n r q p held ps qs o es told g mid none all found bad =
           ∙ ap (λ c. is_garbled (b ++ (p ++ q)) || c) (sym parts.1)
           ∙ sym (over_parts es m (p ++ q));
       none_after = mid.none_after;
-      held = λ _. sym (one.only _ _ _ reads).1 ∙ ap rest (append_assoc b p q ∙ sym (stream-push es e'));
+      buffered = λ _. sym (one.only _ _ _ reads).1 ∙ ap rest (append_assoc b p q ∙ sym (stream-push es e'));
     }
 
 frames_at-garbled : (one : OneReading) → (es : List Event) (m : ℕ) (p q : List ℕ) → is_garbled (stream es ++ p) ≡ true → frames_at es (Piece m (p ++ q)) ≡ frames_at es (Piece m p)
@@ -336,7 +336,7 @@ drop_rest one t m n r r' q p ps c es told mid =
       polls = mid.polls ∙ sym same.1;
       over = sym (over_parts es m (p ++ q) ∙ same.2);
       none_after = mid.none_after;
-      held = λ going. absurd (cc);
+      buffered = λ going. absurd (cc);
     }
 
 closing_none : (b : Bool) (x : Option LostCause) → (b || is_some x) ≡ false → x ≡ None
@@ -366,16 +366,16 @@ enter s es e told other (inr (settling, w)) =
       polls = ap (λ m. if_going s.ending (alive m s.polls)) (sym w.last) ∙ w.polls;
       over = w.over;
       none_after = w.none_after;
-      held = w.held;
+      buffered = w.buffered;
     }
 
 -- what a call answers when one outcome more is told
-pub told_more : (t m n w : ℕ) (r : Held) (ps : List Poll) (x : Option LostCause) (z : Option Call) (es : List Event) (e : Event) (told : List (ℕ × Settlement)) → Mid t m n r.rest ps x es e told → Within (record { timeout = t; window = w; last = m; next = n; reader = r; polls = ps; ending = x; settling = z }) es e told
+pub told_more : (t m n w : ℕ) (r : Buffered) (ps : List Poll) (x : Option LostCause) (z : Option Call) (es : List Event) (e : Event) (told : List (ℕ × Settlement)) → Mid t m n r.rest ps x es e told → Within (record { timeout = t; window = w; last = m; next = n; reader = r; polls = ps; ending = x; settling = z }) es e told
 told_more t m n w r ps x z es e told mid =
-    record { last = mid.last; next = mid.next; whole = mid.whole; polls = mid.polls; over = mid.over; none_after = mid.none_after; held = mid.held }
+    record { last = mid.last; next = mid.next; whole = mid.whole; polls = mid.polls; over = mid.over; none_after = mid.none_after; buffered = mid.buffered }
 
 -- the end of a call that only tells what is owed
-pub settle : (t m n w : ℕ) (r : Held) (ps qs : List Poll) (x : Option LostCause) (call : Call) (taken : Option SettledPoll) (es : List Event) (e : Event) (told : List (ℕ × Settlement)) → call_of e ≡ Some call → Mid t m n r.rest ps x es e told → TellsOwed m x ps taken qs → After (record { timeout = t; window = w; last = m; next = n; reader = r; polls = qs; ending = x; settling = call_if taken call }) es e told (told_of taken r.frame)
+pub settle : (t m n w : ℕ) (r : Buffered) (ps qs : List Poll) (x : Option LostCause) (call : Call) (taken : Option SettledPoll) (es : List Event) (e : Event) (told : List (ℕ × Settlement)) → call_of e ≡ Some call → Mid t m n r.rest ps x es e told → TellsOwed m x ps taken qs → After (record { timeout = t; window = w; last = m; next = n; reader = r; polls = qs; ending = x; settling = call_if taken call }) es e told (told_of taken r.frame)
 settle t m n w r ps qs x call None es e told by mid h = done t m n w r ps qs x es e told mid h
 settle t m n w r ps qs x call (Some taken) es e told by mid h =
     (sym by, told_more t m n w r qs x (Some call) es e (told ++ told_by taken r.frame ∷ []) (tell t m n r.rest ps qs x es e told taken r.frame mid h))
@@ -414,60 +414,60 @@ piece_dropped one s m c qs piece over h es p told b =
     done s.timeout m s.next s.window s.reader s.polls qs s.ending es (Piece m (p ++ q)) told mid h
 
 -- the piece is fed, up to a frame that settles a poll or to its end
-abbrev fed_mid : State → ℕ → Held → List Poll → Option Poll → Bool → List ℕ → List Event → List ℕ → List (ℕ × Settlement) → Type 0
-fed_mid s m held rs o g q es p told = Mid s.timeout m s.next held.rest rs (garbled_end g) es (Piece m (p ++ q)) (told ++ told_list o held.frame)
+abbrev fed_mid : State → ℕ → Buffered → List Poll → Option Poll → Bool → List ℕ → List Event → List ℕ → List (ℕ × Settlement) → Type 0
+fed_mid s m buffered rs o g q es p told = Mid s.timeout m s.next buffered.rest rs (garbled_end g) es (Piece m (p ++ q)) (told ++ told_list o buffered.frame)
 
-fed : (one : OneReading) → (s : State) (m : ℕ) (q : List ℕ) (held : Held) (qs rs : List Poll) (o : Option Poll) (g : Bool) → s.ending ≡ None → TellsOwed m s.ending s.polls None qs → Finds s.reader.rest q qs o held rs → is_bad held.rest ≡ g → (es : List Event) (p : List ℕ) (told : List (ℕ × Settlement)) → Before s es (Piece m p) told → fed_mid s m held rs o g q es p told
-fed one s m q held qs rs o g going h found bad es p told b =
+fed : (one : OneReading) → (s : State) (m : ℕ) (q : List ℕ) (buffered : Buffered) (qs rs : List Poll) (o : Option Poll) (g : Bool) → s.ending ≡ None → TellsOwed m s.ending s.polls None qs → Finds s.reader.rest q qs o buffered rs → is_bad buffered.rest ≡ g → (es : List Event) (p : List ℕ) (told : List (ℕ × Settlement)) → Before s es (Piece m p) told → fed_mid s m buffered rs o g q es p told
+fed one s m q buffered qs rs o g going h found bad es p told b =
     let P : Option LostCause → Type 0 = λ y. Mid s.timeout m s.next s.reader.rest s.polls y es (Piece m p) told in
-    let F : List Poll → Type 0 = λ y. Finds s.reader.rest q y o held rs in
+    let F : List Poll → Type 0 = λ y. Finds s.reader.rest q y o buffered rs in
     let none : owed_by m None s.polls ≡ [] = ap (λ y. owed_by m y s.polls) (sym going) ∙ h.1 in
-    feed one s.timeout m s.next s.reader.rest q p held s.polls rs o es told g (subst P going (enters s m p es told b)) none h.2 (subst F h.0 found) bad
+    feed one s.timeout m s.next s.reader.rest q p buffered s.polls rs o es told g (subst P going (enters s m p es told b)) none h.2 (subst F h.0 found) bad
 
-pub piece_framed : (one : OneReading) → (s : State) (m n : ℕ) (piece : List ℕ) (held : Held) (qs rs : List Poll) (poll : Poll) (g : Bool) → s.ending ≡ None → TellsOwed m s.ending s.polls None qs → Finds s.reader.rest (take n piece) qs (Some poll) held rs → is_bad held.rest ≡ g → g ≡ false → (es : List Event) (p : List ℕ) (told : List (ℕ × Settlement)) → Before s es (Piece m p) told → After (record { timeout = s.timeout; window = s.window; last = m; next = s.next; reader = held; polls = rs; ending = s.ending; settling = Some call.Piece }) es (Piece m (p ++ take n piece)) told (told_of (Some (record { poll = poll; by = by.Frame })) held.frame)
-piece_framed one s m n piece held qs rs poll g going h found bad clean es p told b =
+pub piece_framed : (one : OneReading) → (s : State) (m n : ℕ) (piece : List ℕ) (buffered : Buffered) (qs rs : List Poll) (poll : Poll) (g : Bool) → s.ending ≡ None → TellsOwed m s.ending s.polls None qs → Finds s.reader.rest (take n piece) qs (Some poll) buffered rs → is_bad buffered.rest ≡ g → g ≡ false → (es : List Event) (p : List ℕ) (told : List (ℕ × Settlement)) → Before s es (Piece m p) told → After (record { timeout = s.timeout; window = s.window; last = m; next = s.next; reader = buffered; polls = rs; ending = s.ending; settling = Some call.Piece }) es (Piece m (p ++ take n piece)) told (told_of (Some (record { poll = poll; by = by.Frame })) buffered.frame)
+piece_framed one s m n piece buffered qs rs poll g going h found bad clean es p told b =
     let q = take n piece in
-    let mid = fed one s m q held qs rs (Some poll) g going h found bad es p told b in
-    let P : Option LostCause → Type 0 = λ y. Mid s.timeout m s.next held.rest rs y es (Piece m (p ++ q)) (told ++ told_list (Some poll) held.frame) in
+    let mid = fed one s m q buffered qs rs (Some poll) g going h found bad es p told b in
+    let P : Option LostCause → Type 0 = λ y. Mid s.timeout m s.next buffered.rest rs y es (Piece m (p ++ q)) (told ++ told_list (Some poll) buffered.frame) in
     let mid' = subst P (ap garbled_end clean ∙ sym going) mid in
-    (refl, told_more s.timeout m s.next s.window held rs s.ending (Some call.Piece) es (Piece m (p ++ q)) (told ++ told_list (Some poll) held.frame) mid')
+    (refl, told_more s.timeout m s.next s.window buffered rs s.ending (Some call.Piece) es (Piece m (p ++ q)) (told ++ told_list (Some poll) buffered.frame) mid')
 
 -- nothing was settled by a frame: what is owed now is told, and else the piece is done
-pub piece_ended : (one : OneReading) → (s : State) (m n k : ℕ) (piece : List ℕ) (held : Held) (qs rs us : List Poll) (g : Bool) (x : Option LostCause) (lost : Option SettledPoll) → s.ending ≡ None → TellsOwed m s.ending s.polls None qs → Finds s.reader.rest (take n piece) qs None held rs → is_bad held.rest ≡ g → x ≡ garbled_end g → TellsOwed m x rs lost us → n ≤ length piece → (g ≡ false → n ≡ length piece) → k ≡ cond (is_some lost) n (length piece) → (es : List Event) (p : List ℕ) (told : List (ℕ × Settlement)) → Before s es (Piece m p) told → After (record { timeout = s.timeout; window = s.window; last = m; next = s.next; reader = held; polls = us; ending = x; settling = call_if lost call.Piece }) es (Piece m (p ++ take k piece)) told (told_of lost held.frame)
-piece_ended one s m n k piece held qs rs us g x (Some taken) going h found bad x_is owes within all k_is es p told b =
+pub piece_ended : (one : OneReading) → (s : State) (m n k : ℕ) (piece : List ℕ) (buffered : Buffered) (qs rs us : List Poll) (g : Bool) (x : Option LostCause) (lost : Option SettledPoll) → s.ending ≡ None → TellsOwed m s.ending s.polls None qs → Finds s.reader.rest (take n piece) qs None buffered rs → is_bad buffered.rest ≡ g → x ≡ garbled_end g → TellsOwed m x rs lost us → n ≤ length piece → (g ≡ false → n ≡ length piece) → k ≡ cond (is_some lost) n (length piece) → (es : List Event) (p : List ℕ) (told : List (ℕ × Settlement)) → Before s es (Piece m p) told → After (record { timeout = s.timeout; window = s.window; last = m; next = s.next; reader = buffered; polls = us; ending = x; settling = call_if lost call.Piece }) es (Piece m (p ++ take k piece)) told (told_of lost buffered.frame)
+piece_ended one s m n k piece buffered qs rs us g x (Some taken) going h found bad x_is owes within all k_is es p told b =
     let q = take n piece in
-    let mid = fed one s m q held qs rs None g going h found bad es p told b in
-    let P : Option LostCause → Type 0 = λ y. Mid s.timeout m s.next held.rest rs y es (Piece m (p ++ q)) (told ++ []) in
-    let T : List (ℕ × Settlement) → Type 0 = λ y. Mid s.timeout m s.next held.rest rs x es (Piece m (p ++ q)) y in
+    let mid = fed one s m q buffered qs rs None g going h found bad es p told b in
+    let P : Option LostCause → Type 0 = λ y. Mid s.timeout m s.next buffered.rest rs y es (Piece m (p ++ q)) (told ++ []) in
+    let T : List (ℕ × Settlement) → Type 0 = λ y. Mid s.timeout m s.next buffered.rest rs x es (Piece m (p ++ q)) y in
     let mid' = subst T (append-nil told) (subst P (sym x_is) mid) in
-    let A : ℕ → Type 0 = λ y. After (record { timeout = s.timeout; window = s.window; last = m; next = s.next; reader = held; polls = us; ending = x; settling = Some call.Piece }) es (Piece m (p ++ take y piece)) told (told_of (Some taken) held.frame) in
-    subst A (sym k_is) (settle s.timeout m s.next s.window held rs us x call.Piece (Some taken) es (Piece m (p ++ q)) told refl mid' owes)
-piece_ended one s m n k piece held qs rs us true x None going h found bad x_is owes within all k_is es p told b =
+    let A : ℕ → Type 0 = λ y. After (record { timeout = s.timeout; window = s.window; last = m; next = s.next; reader = buffered; polls = us; ending = x; settling = Some call.Piece }) es (Piece m (p ++ take y piece)) told (told_of (Some taken) buffered.frame) in
+    subst A (sym k_is) (settle s.timeout m s.next s.window buffered rs us x call.Piece (Some taken) es (Piece m (p ++ q)) told refl mid' owes)
+piece_ended one s m n k piece buffered qs rs us true x None going h found bad x_is owes within all k_is es p told b =
     let q = take n piece in
     let more = drop n piece in
-    let mid = fed one s m q held qs rs None true going h found bad es p told b in
-    let T : List (ℕ × Settlement) → Type 0 = λ y. Mid s.timeout m s.next held.rest rs (Some Garbled) es (Piece m (p ++ q)) y in
+    let mid = fed one s m q buffered qs rs None true going h found bad es p told b in
+    let T : List (ℕ × Settlement) → Type 0 = λ y. Mid s.timeout m s.next buffered.rest rs (Some Garbled) es (Piece m (p ++ q)) y in
     let mid' = subst T (append-nil told) mid in
-    let dropped = drop_rest one s.timeout m s.next held.rest held.rest more (p ++ q) rs Garbled es told mid' in
+    let dropped = drop_rest one s.timeout m s.next buffered.rest buffered.rest more (p ++ q) rs Garbled es told mid' in
     let whole : (p ++ q) ++ more ≡ p ++ take k piece = append_assoc p q more ∙ ap (λ y. p ++ y) (take-append-drop n piece ∙ sym (take_all k piece (omega arith))) in
-    let P : List ℕ → Type 0 = λ y. Mid s.timeout m s.next held.rest rs (Some Garbled) es (Piece m y) told in
-    let X : Option LostCause → Type 0 = λ y. Mid s.timeout m s.next held.rest rs y es (Piece m (p ++ take k piece)) told in
-    settle s.timeout m s.next s.window held rs us x call.Piece None es (Piece m (p ++ take k piece)) told refl (subst X (sym x_is) (subst P whole dropped)) owes
-piece_ended one s m n k piece held qs rs us false x None going h found bad x_is owes within all k_is es p told b =
+    let P : List ℕ → Type 0 = λ y. Mid s.timeout m s.next buffered.rest rs (Some Garbled) es (Piece m y) told in
+    let X : Option LostCause → Type 0 = λ y. Mid s.timeout m s.next buffered.rest rs y es (Piece m (p ++ take k piece)) told in
+    settle s.timeout m s.next s.window buffered rs us x call.Piece None es (Piece m (p ++ take k piece)) told refl (subst X (sym x_is) (subst P whole dropped)) owes
+piece_ended one s m n k piece buffered qs rs us false x None going h found bad x_is owes within all k_is es p told b =
     let q = take n piece in
-    let mid = fed one s m q held qs rs None false going h found bad es p told b in
-    let T : List (ℕ × Settlement) → Type 0 = λ y. Mid s.timeout m s.next held.rest rs None es (Piece m (p ++ q)) y in
+    let mid = fed one s m q buffered qs rs None false going h found bad es p told b in
+    let T : List (ℕ × Settlement) → Type 0 = λ y. Mid s.timeout m s.next buffered.rest rs None es (Piece m (p ++ q)) y in
     let mid' = subst T (append-nil told) mid in
     let same : n ≡ k = all refl ∙ sym k_is in
-    let P : ℕ → Type 0 = λ y. Mid s.timeout m s.next held.rest rs None es (Piece m (p ++ take y piece)) told in
-    let X : Option LostCause → Type 0 = λ y. Mid s.timeout m s.next held.rest rs y es (Piece m (p ++ take k piece)) told in
-    settle s.timeout m s.next s.window held rs us x call.Piece None es (Piece m (p ++ take k piece)) told refl (subst X (sym x_is) (subst P same mid')) owes
+    let P : ℕ → Type 0 = λ y. Mid s.timeout m s.next buffered.rest rs None es (Piece m (p ++ take y piece)) told in
+    let X : Option LostCause → Type 0 = λ y. Mid s.timeout m s.next buffered.rest rs y es (Piece m (p ++ take k piece)) told in
+    settle s.timeout m s.next s.window buffered rs us x call.Piece None es (Piece m (p ++ take k piece)) told refl (subst X (sym x_is) (subst P same mid')) owes
 
 nil_rest : (r : List ℕ) → [] ≡ r → [] ≡ r
 nil_rest r e = e
 
 -- a session of which no event is known
-pub Stands-new : (one : OneReading) → (t w : ℕ) (r : Held) → Reads [] [] r.rest → Stands (record { timeout = t; window = w; last = 0; next = 0; reader = r; polls = []; ending = None; settling = None }) []
+pub Stands-new : (one : OneReading) → (t w : ℕ) (r : Buffered) → Reads [] [] r.rest → Stands (record { timeout = t; window = w; last = 0; next = 0; reader = r; polls = []; ending = None; settling = None }) []
 unfolding pending next_id stream is_over is_closed is_garbled
 Stands-new one t w r h =
     let r_is : rest [] ≡ r.rest = (one.only [] [] r.rest h).1 in
@@ -478,5 +478,5 @@ Stands-new one t w r h =
       polls = refl;
       over = ap (λ y. is_bad y || false) (nil_rest r.rest h.joined ∙ sym r_is);
       none_after = λ _. refl;
-      held = λ _. sym r_is;
+      buffered = λ _. sym r_is;
     }

@@ -37,7 +37,7 @@ starts s es m n u span poll h going poll_is =
       polls = ap (λ x. x ++ poll ∷ []) h.polls ∙ sym (pending-start s.timeout es m n u span poll (ap Some (sym here)));
       over = h.over ∙ fresh ∙ sym fresh';
       none_after = λ over. absurd (both_ways _ fresh' over);
-      held = λ _. h.held going ∙ ap rest (sym (stream-same es e refl));
+      buffered = λ _. h.buffered going ∙ ap rest (sym (stream-same es e refl));
     }
 
 -- a refusal by what the session holds is one by the events

@@ -3,7 +3,7 @@ use Rattle.std.specs.Prelude.{◌≡◌, ℕ, ◌⊎◌, Bool, true, ◌||◌, L
 use Rattle.std.specs.declared.option.Option.{Option}
 use Rattle.std.specs.List.{filter, list_any}
 use Rattle.mb_wire.specs.Frames.{is_garbled, rest}
-use Rattle.mb_wire.specs.Reader.{Held}
+use Rattle.mb_wire.specs.Reader.{Buffered}
 use Rattle.poll_core.specs.Settling.{Event, Start, Piece, Tick, Close, moment_of, bytes_of, closing_of, stream, next_id, Settlement, alive, silences, losses, pending, outcomes_at}
 use Rattle.poll_core.specs.Polls.{Poll, due}
 use Rattle.poll_core.specs.declared.outcome.LostCause.{LostCause}
@@ -17,7 +17,7 @@ pub record State : Type 0 where
   pub window : ℕ
   pub last : ℕ
   pub next : ℕ
-  pub reader : Held
+  pub reader : Buffered
   pub polls : List Poll
   pub ending : Option LostCause
   pub settling : Option Call
@@ -45,7 +45,7 @@ pub record Stands (session : State) (events : List Event) : Type 0 where
   -- no start is accepted once the session is over
   pub none_after : is_over events ≡ true → pending session.timeout events ≡ []
   -- while it goes on, it has read the stream up to its rest
-  pub held : session.ending ≡ None → session.reader.rest ≡ rest (stream events)
+  pub buffered : session.ending ≡ None → session.reader.rest ≡ rest (stream events)
 
 -- what the session has yet to tell: who is due is silent, and at the end the others are lost
 abbrev pub owed_by : ℕ → Option LostCause → List Poll → List (ℕ × Settlement)
@@ -70,7 +70,7 @@ pub record Within (session : State) (events : List Event) (event : Event)
       ≡ pending session.timeout (events ++ event ∷ [])
   pub over : is_some session.ending ≡ is_over (events ++ event ∷ [])
   pub none_after : is_closed events ≡ true → pending session.timeout events ≡ []
-  pub held : session.ending ≡ None → session.reader.rest ≡ rest (stream (events ++ event ∷ []))
+  pub buffered : session.ending ≡ None → session.reader.rest ≡ rest (stream (events ++ event ∷ []))
 
 -- the call that brings the event
 abbrev pub call_of : Event → Option Call

@@ -3,7 +3,7 @@ use Rattle.std.specs.Prelude.{◌≡◌, ℕ, suc, ◌≤◌, ◌<◌, Bool, tru
 use Rattle.std.specs.declared.option.Option.{Option}
 use Rattle.std.specs.List.{filter}
 use Rattle.mb_wire.specs.Frames.{Reads}
-use Rattle.mb_wire.specs.Reader.{Held}
+use Rattle.mb_wire.specs.Reader.{Buffered}
 use Rattle.poll_core.specs.Settling.{Settlement, Silent, Lost, answer, alive, by_frame, unmatched}
 use Rattle.poll_core.specs.Standing.{owed_by, if_going}
 use Rattle.poll_core.specs.Polls.{Poll, has_id}
@@ -71,11 +71,11 @@ told_list None frame = []
 told_list (Some poll) frame = (poll.number, outcome_by poll by.Frame frame) ∷ []
 
 -- The bytes ended frames of which at most the last has the id of a poll: that one is taken out, and the reader holds its frame.
-pub record Finds (old piece : List ℕ) (polls : List Poll) (found : Option Poll) (held : Held)
+pub record Finds (old piece : List ℕ) (polls : List Poll) (found : Option Poll) (buffered : Buffered)
     (others : List Poll) : Type 0 where
   pub ended : List (List ℕ)
-  pub feeds : FeedsOn old piece ended held.rest
-  pub told : by_frame ended polls ≡ told_list found held.frame
+  pub feeds : FeedsOn old piece ended buffered.rest
+  pub told : by_frame ended polls ≡ told_list found buffered.frame
   pub others_are : unmatched ended polls ≡ others
 
 -- one frame of the protocol that came whole

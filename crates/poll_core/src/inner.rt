@@ -151,7 +151,7 @@ impl Inner {
             → Before (state_of self.old) events (Tick moment) told →
             After (state_of self.new) events (Tick moment) told
             (told_of result self.new.reader.frame) }
-        ensures held { CanTell result self.new.reader.frame }
+        ensures buffered { CanTell result self.new.reader.frame }
     {
         self.last = moment;
         let taken = take_owed(&mut self.polls, self.ending, moment);
@@ -172,7 +172,7 @@ impl Inner {
             → Before (state_of self.old) events (Close moment closing) told →
             After (state_of self.new) events (Close moment closing) told
             (told_of result self.new.reader.frame) }
-        ensures held { CanTell result self.new.reader.frame }
+        ensures buffered { CanTell result self.new.reader.frame }
     {
         self.last = moment;
         self.ending = self.ending.or(Some(LostCause::from(closing)));
@@ -196,7 +196,7 @@ impl Inner {
             Before (state_of self.old) events (Piece moment bytes) told →
             After (state_of self.new) events (Piece moment (bytes ++ take result.taken piece.now))
             told (told_of result.settled self.new.reader.frame) }
-        ensures held { CanTell result.settled self.new.reader.frame }
+        ensures buffered { CanTell result.settled self.new.reader.frame }
     {
         one_reading();
         self.last = moment;

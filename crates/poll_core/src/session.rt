@@ -148,7 +148,7 @@ impl Session {
             (λ step. TellsPiece self.old self.new moment (take step.taken piece.now)
             (told_of step.settled self.new.reader.frame)) }
         ensures back { IsErr result ↔ (moment < self.old.last) }
-        ensures held { IfOk result (λ step. CanTell step.settled self.new.reader.frame) }
+        ensures buffered { IfOk result (λ step. CanTell step.settled self.new.reader.frame) }
         ensures taken { IfOk result (λ step. step.taken ≤ length piece.now) }
         ensures all { IfOk result
             (λ step. is_some step.settled ≡ false → step.taken ≡ length piece.now) }
@@ -178,7 +178,7 @@ impl Session {
         ensures told { IfOk result
             (λ taken. TellsEvent self.old self.new (Tick moment)
             (told_of taken self.new.reader.frame)) }
-        ensures held { IfOk result (λ taken. CanTell taken self.new.reader.frame) }
+        ensures buffered { IfOk result (λ taken. CanTell taken self.new.reader.frame) }
         ensures back { IsErr result ↔ (moment < self.old.last) }
     {
         if moment < self.inner.last {
@@ -210,7 +210,7 @@ impl Session {
         ensures told { IfOk result
             (λ taken. TellsEvent self.old self.new (Close moment closing)
             (told_of taken self.new.reader.frame)) }
-        ensures held { IfOk result (λ taken. CanTell taken self.new.reader.frame) }
+        ensures buffered { IfOk result (λ taken. CanTell taken self.new.reader.frame) }
         ensures back { IsErr result ↔ (moment < self.old.last) }
     {
         if moment < self.inner.last {

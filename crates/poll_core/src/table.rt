@@ -111,7 +111,7 @@ pub fn take_owed(polls: &mut Table, ending: Option<LostCause>, moment: u64) -> O
 
 // Takes out the poll that the reader's frame settles.
 fn take_framed(reader: &FrameReader, polls: &mut Table) -> Option<PendingPoll>
-    requires held { IsSome reader.now.frame }
+    requires buffered { IsSome reader.now.frame }
     requires apart { AreApart polls.old.items }
     ensures apart { AreApart polls.new.items }
     ensures less { OneLess polls.old.items result polls.new.items }
@@ -140,7 +140,7 @@ pub fn feed_until(reader: &mut FrameReader, polls: &mut Table, piece: &[u8]) -> 
     ensures taken { result.taken ≤ length piece.now }
     ensures all { result.poll ≡ None → result.is_garbled ≡ false → result.taken ≡ length piece.now }
     ensures clean { IsSome result.poll → result.is_garbled ≡ false }
-    ensures held { IsSome result.poll → IsSome reader.new.frame }
+    ensures buffered { IsSome result.poll → IsSome reader.new.frame }
     ensures garbled { is_bad reader.new.rest ≡ result.is_garbled }
     ensures found { Finds reader.old.rest
         (take result.taken piece.now) polls.old.items result.poll reader.new polls.new.items }

@@ -49,4 +49,4 @@ module _ (points items reads : List Run) (rule : FollowsRule items reads) (reada
       }
 
   pub rule-lawful : All (IsInArea points) items → IsLawful points items reads
-  rule-lawful areas = record { readable = reads-readable; in_areas = reads-in-areas areas; held = rule.held }
+  rule-lawful areas = record { readable = reads-readable; in_areas = reads-in-areas areas; contained = rule.contained }

@@ -8,7 +8,7 @@ use Rattle.mb_wire.specs.Spans.{code_of}
 use Rattle.mb_wire.specs.declared.span.ReadFunction.{ReadFunction}
 use Rattle.mb_wire.specs.declared.span.ReadFunction.TheVariants.{HoldingRegisters}
 use Rattle.read_plan.specs.declared.run.Run.{Run}
-use Rattle.read_plan.specs.Plans.{SameArea, Holds, IsHeld, ComesBefore, LiesWithinReach, EndsAtLastInReach, FollowsRule}
+use Rattle.read_plan.specs.Plans.{SameArea, Holds, IsContained, ComesBefore, LiesWithinReach, EndsAtLastInReach, FollowsRule}
 use Rattle.read_plan.proofs.BeginningLemmas.{before-or-same}
 use Rattle.read_plan.proofs.PlanLemmas.{any-take, same_area-sym, same_area-trans}
 
@@ -43,9 +43,9 @@ before_later ys x k j d ordered le lt before =
     ]
 
 -- of an item of the list, what is said of all
-held_item : (reads items : List Run) (item : Run) (k : ℕ) → All (IsHeld reads) items → k < length items → get_or items k item ≡ item
-    → IsHeld reads item
-held_item reads items item k all lt is = subst (IsHeld reads) is (all k item lt)
+contained_item : (reads items : List Run) (item : Run) (k : ℕ) → All (IsContained reads) items → k < length items → get_or items k item ≡ item
+    → IsContained reads item
+contained_item reads items item k all lt is = subst (IsContained reads) is (all k item lt)
 
 -- Where two lists of the rule agree up to a read, that of the one does not come before that of the other.
 not_before : (items xs ys : List Run) (k : ℕ) (d : Run) → FollowsRule items xs → FollowsRule items ys → k < length xs → k < length ys
@@ -54,16 +54,16 @@ not_before items xs ys k d hx hy there here same before =
     let x : Run = get_or xs k d in
     let w = (hx.begins k d there).at_item in
     let item : Run = w.1 in
-    let held : IsHeld ys item = held_item ys items item w.0 hy.held w.2 w.3 in
-    elim (cases_lt held.0 k) [
+    let contained : IsContained ys item = contained_item ys items item w.0 hy.contained w.2 w.3 in
+    elim (cases_lt contained.0 k) [
       | inl less ↦ w.4.2
-          (subst (λ (l : List Run). IsHeld l item) (sym same)
-          (any-take (λ (read : Run). Holds read item) ys k held.0 held.1 less (omega (arith, here))
-          (subst (λ (r : Run). Holds r item) (sym held.3) held.4)))
+          (subst (λ (l : List Run). IsContained l item) (sym same)
+          (any-take (λ (read : Run). Holds read item) ys k contained.0 contained.1 less (omega (arith, here))
+          (subst (λ (r : Run). Holds r item) (sym contained.3) contained.4)))
       | inr ge ↦
-          let later : ComesBefore x (get_or ys held.0 d) = before_later ys x k held.0 d hy.ordered ge held.2 before in
-          let is : get_or ys held.0 d ≡ held.1 = get_or_default ys held.0 d held.1 held.2 ∙ held.3 in
-          too_late x held.1 item w.4.0 w.4.1 (subst (ComesBefore x) is later) held.4
+          let later : ComesBefore x (get_or ys contained.0 d) = before_later ys x k contained.0 d hy.ordered ge contained.2 before in
+          let is : get_or ys contained.0 d ≡ contained.1 = get_or_default ys contained.0 d contained.1 contained.2 ∙ contained.3 in
+          too_late x contained.1 item w.4.0 w.4.1 (subst (ComesBefore x) is later) contained.4
     ]
 
 ends_no_later : (items : List Run) (x y : Run) → SameArea x y → x.first ≡ y.first → EndsAtLastInReach items x → EndsAtLastInReach items y → x.end ≤ y.end
@@ -121,7 +121,7 @@ no_longer items xs ys hx hy less =
     let n : ℕ = length xs in
     let same : xs ≡ take n ys = sym (take-length xs) ∙ same_front items xs ys n hx hy (omega arith) (omega (arith, less)) in
     let w = (hy.begins n a_run less).at_item in
-    w.4.2 (subst (λ (l : List Run). IsHeld l w.1) same (held_item xs items w.1 w.0 hx.held w.2 w.3))
+    w.4.2 (subst (λ (l : List Run). IsContained l w.1) same (contained_item xs items w.1 w.0 hx.contained w.2 w.3))
 
 pub rule_is_one : (items xs ys : List Run) → FollowsRule items xs → FollowsRule items ys → xs ≡ ys
 rule_is_one items xs ys hx hy =

@@ -9,7 +9,7 @@ use Rattle.read_plan.specs.declared.planned_reads.PlannedRead.{PlannedRead}
 use Rattle.read_plan.specs.declared.run.Run.{Run}
 use Rattle.read_plan.specs.Beginnings.{ends_by}
 use Rattle.read_plan.specs.PlannedReads.{IsFirstHolding, IsPlan, Planned, read_run, read_runs}
-use Rattle.read_plan.specs.Plans.{ComesBefore, EndsBefore, FollowsRule, Holds, IsHeld, IsReadable, LiesWithinReach, SameArea}
+use Rattle.read_plan.specs.Plans.{ComesBefore, EndsBefore, FollowsRule, Holds, IsContained, IsReadable, LiesWithinReach, SameArea}
 use Rattle.read_plan.proofs.EndLemmas.{ends_by-false, ends_by-true}
 use Rattle.read_plan.proofs.PlanLemmas.{all-at, any-take, anything, first-before, same_area-trans}
 
@@ -37,8 +37,8 @@ module _ (items runs : List Run) (rule : FollowsRule items runs) (readable : All
       elim (cases_lt r.end b.end) [
         | inl l ↦ omega (arith, l, low)
         | inr ge ↦
-            let held : Holds r b = record { same_area = same_area-trans r s b area at.4.0; from_first = omega (arith, lower, first); to_end = ge } in
-            absurd (at.4.2 (any-take (λ read. Holds read b) runs j i anything below (omega (arith, within)) held))
+            let contained : Holds r b = record { same_area = same_area-trans r s b area at.4.0; from_first = omega (arith, lower, first); to_end = ge } in
+            absurd (at.4.2 (any-take (λ read. Holds read b) runs j i anything below (omega (arith, within)) contained))
       ]
 
   -- a read before one that ends before an item ends before it too
@@ -60,19 +60,19 @@ module _ (items runs : List Run) (rule : FollowsRule items runs) (readable : All
           inr (inr (same_area-trans (run_at i) (run_at j) x c.0 e.0, omega (arith, rises, b)))
 
   -- the read at which the search stops is the first that holds the item
-  first-holding : (x : Run) (count : ℕ) → IsHeld runs x → ((k : ℕ) → k < count → k < length runs → EndsBefore (run_at k) x)
+  first-holding : (x : Run) (count : ℕ) → IsContained runs x → ((k : ℕ) → k < count → k < length runs → EndsBefore (run_at k) x)
       → ((k : ℕ) → count ≤ k → k < length runs → ¬ EndsBefore (run_at k) x) → IsFirstHolding runs x count
-  first-holding x count held before after =
-      let h = held.0 in
-      let at : run_at h ≡ held.1 = get_or_default runs h anything held.1 held.2 ∙ held.3 in
-      let holds : Holds (run_at h) x = subst (λ (r : Run). Holds r x) (sym at) held.4 in
-      let high : count ≤ h = elim (cases_lt h count) [ inl l ↦ absurd (holds-ends (run_at h) x holds (before h l held.2)) | inr ge ↦ ge ] in
-      let within : count < length runs = omega (arith, high, held.2) in
+  first-holding x count contained before after =
+      let h = contained.0 in
+      let at : run_at h ≡ contained.1 = get_or_default runs h anything contained.1 contained.2 ∙ contained.3 in
+      let holds : Holds (run_at h) x = subst (λ (r : Run). Holds r x) (sym at) contained.4 in
+      let high : count ≤ h = elim (cases_lt h count) [ inl l ↦ absurd (holds-ends (run_at h) x holds (before h l contained.2)) | inr ge ↦ ge ] in
+      let within : count < length runs = omega (arith, high, contained.2) in
       let r = run_at count in
       let not-before = after count (omega arith) within in
       let here : Holds r x = elim (cases_lt count h) [
         | inr ge ↦ subst (λ (n : ℕ). Holds (run_at n) x) (let e : h ≡ count = omega (arith, high, ge) in e) holds
-        | inl less ↦ earlier (run_at h) r x (rule.ordered count h anything less held.2) holds not-before
+        | inl less ↦ earlier (run_at h) r x (rule.ordered count h anything less contained.2) holds not-before
       ] in
       record {
         within = within;
@@ -124,17 +124,17 @@ module _ (items : List Run) (reads : List PlannedRead) (rule : FollowsRule items
         elim (cases_Bool (not_yet (get_or reads i d))) [ inl t ↦ t | inr f ↦ absurd (ends-not (get_or reads i d) f here) ]
   ]
 
-  pub found-first : (count : ℕ) → IsHeld (read_runs reads) x → IsPartitionPoint (λ read. not_yet read ≡ true) (λ read. not_yet read ≡ false) reads count
+  pub found-first : (count : ℕ) → IsContained (read_runs reads) x → IsPartitionPoint (λ read. not_yet read ≡ true) (λ read. not_yet read ≡ false) reads count
       → IsFirstHolding (read_runs reads) x count
-  found-first count held point =
+  found-first count contained point =
       let size = length-map reads read_run in
       by-first reads refl
     where
       by-first : (rs : List PlannedRead) → rs ≡ reads → IsFirstHolding (read_runs reads) x count
-      by-first [] e = absurd (omega (arith, held.2, length-map reads read_run, ap length e))
+      by-first [] e = absurd (omega (arith, contained.2, length-map reads read_run, ap length e))
       by-first (d ∷ ds) e =
           let size = length-map reads read_run in
-          first-holding items (read_runs reads) rule readable x count held
+          first-holding items (read_runs reads) rule readable x count contained
           (λ k below within.
           let inside : k < length reads = omega (arith, within, size) in
           subst (λ (r : Run). EndsBefore r x) (sym (at-run k d inside)) (ends-of (get_or reads k d) (point.0 k d (omega arith) below)))
@@ -155,8 +155,8 @@ plan-partitioned plan is x = reads-partitioned plan.items plan.reads is.rule is.
 pub place-facts : (plan : Planned) (point count : ℕ) (x : Run) → IsPlan plan → point < length plan.items → x ≡ get_or plan.items point x
     → IsPartitionPoint (λ read. not (ends_by x (read_run read)) ≡ true) (λ read. not (ends_by x (read_run read)) ≡ false) plan.reads count → PlaceFacts plan point count x
 place-facts plan point count x is within at stop =
-    let held : IsHeld (read_runs plan.reads) x = subst (λ (r : Run). IsHeld (read_runs plan.reads) r) (sym at) (is.rule.held point x within) in
-    let found = found-first plan.items plan.reads is.rule is.readable x count held stop in
+    let contained : IsContained (read_runs plan.reads) x = subst (λ (r : Run). IsContained (read_runs plan.reads) r) (sym at) (is.rule.contained point x within) in
+    let found = found-first plan.items plan.reads is.rule is.readable x count contained stop in
     let size = length-map plan.reads read_run in
     let same = is.each in
     let inside : count < length plan.reads = omega (arith, found.within, size) in

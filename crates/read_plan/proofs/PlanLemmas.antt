@@ -5,7 +5,7 @@ use Rattle.std.proofs.lemmas.List.{get_or-take, get_or_default, length-take-le}
 use Rattle.mb_wire.specs.declared.span.ReadFunction.TheVariants.{HoldingRegisters}
 use Rattle.read_plan.specs.declared.run.Run.{Run}
 use Rattle.mb_wire.specs.Spans.{code_of}
-use Rattle.read_plan.specs.Plans.{ComesBefore, FollowsRule, Holds, IsHeld, IsLawful, IsReadable, LiesWithinReach, SameArea}
+use Rattle.read_plan.specs.Plans.{ComesBefore, FollowsRule, Holds, IsContained, IsLawful, IsReadable, LiesWithinReach, SameArea}
 use Rattle.read_plan.proofs.Pigeons.{pigeonhole}
 
 abbrev pub anything : Run
@@ -47,7 +47,7 @@ pub record HoldsBeginning (items reads : List Run) (k : ℕ) (y : Run) : Type 0 
   pub among : Contains items item
   pub same_area : SameArea (get_or reads k anything) item
   pub at_first : item.first ≡ (get_or reads k anything).first
-  pub unheld : IsHeld (take k reads) item → ⊥
+  pub unheld : IsContained (take k reads) item → ⊥
   pub holds : Holds y item
   pub readable : IsReadable y
 
@@ -66,31 +66,31 @@ beginnings-apart items reads rule j k y below within a b =
       in_reach = omega (arith, b.holds.to_end, b.readable.1, a.holds.from_first, a.at_first);
     } in
     let ends = rule.ends j anything (omega (arith, below, within)) in
-    let held : Holds r b.item = record {
+    let contained : Holds r b.item = record {
       same_area = r_to_b;
       from_first = reach.from_first;
       to_end = all-at (λ i. LiesWithinReach r i → i.end ≤ r.end) items ends.last b.item b.among reach;
     } in
-    b.unheld (any-take (λ read. Holds read b.item) reads k j anything below (omega (arith, within)) held)
+    b.unheld (any-take (λ read. Holds read b.item) reads k j anything below (omega (arith, within)) contained)
 
 pub fewest : (points items reads other : List Run) → FollowsRule items reads → IsLawful points items other → length reads ≤ length other
 fewest points items reads other rule lawful =
     pigeonhole (length reads) (HoldsBeginning items reads) other
     (λ k within.
     let at = (rule.begins k anything within).at_item in
-    let held : IsHeld other at.1 = all-at (IsHeld other) items lawful.held at.1 (at.0, at.2, at.3) in (
-      held.0,
-      held.1,
-      held.2,
-      held.3,
+    let contained : IsContained other at.1 = all-at (IsContained other) items lawful.contained at.1 (at.0, at.2, at.3) in (
+      contained.0,
+      contained.1,
+      contained.2,
+      contained.3,
       record {
         item = at.1;
         among = (at.0, at.2, at.3);
         same_area = at.4.0;
         at_first = at.4.1;
         unheld = at.4.2;
-        holds = held.4;
-        readable = all-at IsReadable other lawful.readable held.1 (held.0, held.2, held.3);
+        holds = contained.4;
+        readable = all-at IsReadable other lawful.readable contained.1 (contained.0, contained.2, contained.3);
       },
     ))
     (beginnings-apart items reads rule)

@@ -9,7 +9,7 @@ use Rattle.std.proofs.lemmas.List.Elements.{All-weaker, AllZip-get_or, length_al
 use Rattle.read_plan.specs.declared.run.Run.{Run}
 use Rattle.read_plan.specs.Beginnings.{AreBeginnings, IsGreatestEnd, ReadsFrom}
 use Rattle.mb_wire.specs.Spans.{code_of}
-use Rattle.read_plan.specs.Plans.{BeginsAtFirstUnheld, ComesBefore, EndsAtLastInReach, FollowsRule, Holds, IsHeld, IsReadable, LiesWithinReach, SameArea}
+use Rattle.read_plan.specs.Plans.{BeginsAtFirstUnheld, ComesBefore, EndsAtLastInReach, FollowsRule, Holds, IsContained, IsReadable, LiesWithinReach, SameArea}
 use Rattle.read_plan.proofs.PlanLemmas.{all-at, any-take, anything, first-before, same_area-sym, same_area-trans}
 
 any-permutation : (P : Run → Type 0) (xs ys : List Run) → IsPermutation xs ys → Any P xs → Any P ys
@@ -84,17 +84,17 @@ module _ (items begins reads : List Run) (readable : All IsReadable items) (from
       let is = end.4.2 in
       omega (arith, a, few, is)
 
-  unheld : (k : ℕ) → k < length begins → IsHeld (take k reads) (begin_at k) → ⊥
+  unheld : (k : ℕ) → k < length begins → IsContained (take k reads) (begin_at k) → ⊥
   unheld k within w =
       let size = length-take-le k reads (omega (arith, within, same)) in
       let j = w.0 in
       let below : j < k = omega (arith, size, w.2) in
       let within-j : j < length reads = omega (arith, below, within, same) in
       let at : read_at j ≡ w.1 = get_or_default reads j anything w.1 within-j ∙ sym (get_or-take k reads j w.1 below) ∙ w.3 in
-      let held : Holds (read_at j) (begin_at k) = subst (λ (r : Run). Holds r (begin_at k)) (sym at) w.4 in
+      let contained : Holds (read_at j) (begin_at k) = subst (λ (r : Run). Holds r (begin_at k)) (sym at) w.4 in
       let f = each j (omega (arith, below, within)) in
-      let far = unreached j k below within (same_area-trans (begin_at j) (read_at j) (begin_at k) f.same_area held.same_area) in
-      let e = held.to_end in
+      let far = unreached j k below within (same_area-trans (begin_at j) (read_at j) (begin_at k) f.same_area contained.same_area) in
+      let e = contained.to_end in
       omega (arith, far, e)
 
   begins-first : (k : ℕ) → k < length begins → BeginsAtFirstUnheld items (take k reads) (read_at k)
@@ -157,7 +157,7 @@ module _ (items begins reads : List Run) (readable : All IsReadable items) (from
         rw (at-i, at-j) (before-moved (begin_at i) (begin_at j) (read_at i) (read_at j) f.same_area f.first g.same_area g.first (from.apart i j anything below within-j).0);
     begins = λ k d within. rw (get_or_default reads k d anything within) (begins-first k (omega (arith, within, same)));
     ends = λ k d within. rw (get_or_default reads k d anything within) (ends-last k (omega (arith, within, same)));
-    held = λ i d inside.
+    contained = λ i d inside.
         let x = get_or items i d in
         let w = from.reach i d inside in
         let j = w.0 in

@@ -15,7 +15,12 @@ use Rattle.read_plan.specs.declared.run.Run.{Run}
 -- the registers of a point
 abbrev pub point_run : ListedPoint → Run
 point_run point =
-    record { function = point.function; area = point.area; first = point.address; end = end_of point }
+    record {
+      function = point.function;
+      area = point.area;
+      first = point.address;
+      end = end_of point;
+    }
 
 -- the least run with both, of one area
 abbrev pub joined : Run → Run → Run

@@ -3,7 +3,7 @@ use Rattle.std.specs.Prelude.{ℕ, ◌≡◌, ◌+◌, ◌<◌, ◌≤◌, List,
 use Rattle.std.specs.List.{All}
 use Rattle.read_plan.specs.declared.planned_reads.PlannedRead.{PlannedRead}
 use Rattle.read_plan.specs.declared.run.Run.{Run}
-use Rattle.read_plan.specs.Plans.{FollowsRule, Holds, IsHeld, IsReadable}
+use Rattle.read_plan.specs.Plans.{FollowsRule, Holds, IsContained, IsReadable}
 
 -- the registers of a read
 abbrev pub read_run : PlannedRead → Run
@@ -41,4 +41,4 @@ pub record IsPlan (plan : Planned) : Type 0 where
 pub record IsFirstHolding (reads : List Run) (item : Run) (place : ℕ) : Type 0 where
   pub within : place < length reads
   pub holds : (d : Run) → Holds (slice_index_or reads place d) item
-  pub first : ¬ IsHeld (take place reads) item
+  pub first : ¬ IsContained (take place reads) item

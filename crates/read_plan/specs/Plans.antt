@@ -16,8 +16,8 @@ pub record Holds (read item : Run) : Type 0 where
   pub to_end : item.end ≤ read.end
 
 -- some read of the list holds the item
-abbrev pub IsHeld : List Run → Run → Type 0
-IsHeld reads item = Any (λ read. Holds read item) reads
+abbrev pub IsContained : List Run → Run → Type 0
+IsContained reads item = Any (λ read. Holds read item) reads
 
 -- 1 to 125 registers
 abbrev pub IsReadable : Run → Type 0
@@ -32,7 +32,7 @@ pub record IsInArea (points : List Run) (run : Run) : Type 0 where
 pub record IsLawful (points items reads : List Run) : Type 0 where
   pub readable : All IsReadable reads
   pub in_areas : All (IsInArea points) reads
-  pub held : All (IsHeld reads) items
+  pub contained : All (IsContained reads) items
 
 -- before, by function, then by area number, then by first register
 abbrev pub ComesBefore : Run → Run → Type 0
@@ -56,9 +56,11 @@ pub record LiesWithinReach (read item : Run) : Type 0 where
 
 -- a read begins at the first register of the first item of its area that no earlier read holds
 pub record BeginsAtFirstUnheld (items earlier : List Run) (read : Run) : Type 0 where
-  pub at_item : Any (λ item. SameArea read item × (item.first ≡ read.first) × ¬ IsHeld earlier item)
+  pub at_item : Any (λ item. SameArea read item × (item.first ≡ read.first)
+      × ¬ IsContained earlier item)
       items
-  pub first : All (λ item. SameArea read item → item.first < read.first → IsHeld earlier item) items
+  pub first : All (λ item. SameArea read item → item.first < read.first
+      → IsContained earlier item) items
 
 -- a read ends at the greatest last register of the items within its reach
 pub record EndsAtLastInReach (items : List Run) (read : Run) : Type 0 where
@@ -71,4 +73,4 @@ pub record FollowsRule (items reads : List Run) : Type 0 where
   pub begins : (k : ℕ) (d : Run) → k < length reads
       → BeginsAtFirstUnheld items (take k reads) (slice_index_or reads k d)
   pub ends : All (EndsAtLastInReach items) reads
-  pub held : All (IsHeld reads) items
+  pub contained : All (IsContained reads) items

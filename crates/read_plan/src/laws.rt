@@ -3,7 +3,7 @@ ghost use Rattle.std.specs.Prelude.{List, ◌≤◌, length};
 ghost use Rattle.std.specs.List.{All};
 ghost use Rattle.read_plan.specs.declared.run.Run.{Run};
 ghost use Rattle.read_plan.specs.PlannedLists.{ListsArePlannedOnce};
-ghost use Rattle.read_plan.specs.Plans.{FollowsRule, IsHeld, IsLawful};
+ghost use Rattle.read_plan.specs.Plans.{FollowsRule, IsContained, IsLawful};
 
 /// A law of plans: whatever the points and their items, the rule's reads are the fewest.
 pub fn rule_is_least()

@@ -13,7 +13,7 @@ use Rattle.office_events.specs.declared.refusals.Refusal.{Refusal}
 use Rattle.office_events.specs.declared.refusals.Refusal.TheVariants as refusal
 use Rattle.office_rules.specs.History.{History}
 use Rattle.office_rules.specs.Notes.{notes_after, outgoing_after}
-use Rattle.office_rules.specs.Refusals.{response_of}
+use Rattle.office_rules.specs.Refusals.{decision_of}
 use Rattle.office_core.specs.Failing.{is_failure}
 use Rattle.office_core.specs.Taking.{SettlesNothing}
 use Rattle.script_lines.specs.declared.script.GivenList.{GivenList}
@@ -24,7 +24,7 @@ use Rattle.script_text.specs.AnswerText.{accepted_text, fault_line, refused_line
 -- The office replies as its definition says, or it failed. What settles nothing in an office that goes
 -- on never fails.
 pub record IsReply (now : Stage) (at : ℕ) (e : Event) (reply : Result Answer Refusal) : Type 0 where
-  pub answer : (reply ≡ response_of now.past at e) ⊎ Fails reply
+  pub answer : (reply ≡ decision_of now.past at e) ⊎ Fails reply
   pub stops : TellsStop now reply
   pub quiet : now.stopped ≡ false → SettlesNothing now.past at e → is_failure reply ≡ false
 

@@ -87,11 +87,11 @@ abbrev pub InputRuns : Zone → (input : List ℕ) → Status → (output output
 InputRuns zone input status output output' =
     Writes (ReplayPrints zone input) (ReplayBegins zone input) status output output'
 
--- The writer holds a beginning of what it held and of this text behind it.
+-- The writer holds a beginning of what it buffered and of this text behind it.
 abbrev pub HoldsPart : (old new : Option (List ℕ)) → (text : List ℕ) → Type 0
 HoldsPart None new text = ⊤
-HoldsPart (Some held) None text = ⊥
-HoldsPart (Some held) (Some holds) text = (rest : List ℕ) × (held ++ text ≡ holds ++ rest)
+HoldsPart (Some buffered) None text = ⊥
+HoldsPart (Some buffered) (Some holds) text = (rest : List ℕ) × (buffered ++ text ≡ holds ++ rest)
 
 -- What a run leaves with the writer that it was given.
 abbrev pub Replays : Zone → (input : List ℕ) → Status → (output output' : Option (List ℕ)) → Type 0

@@ -29,9 +29,9 @@ answered (Err Garbled) course frames old new all = (carried_out course frames, a
 answered (Err TurnsUsed) course frames old new all = (carried_out course frames, all.maps)
 
 pub turned : (standing standing' : Standing) (result : Result Turned ServeFault) (r g r' g' : Option (List ℕ)) (maps maps' : Maps)
-    → ((held : List ℕ) (course : Course) → standing ≡ Holds held course → Turns held course result (around r g maps) (around r' g' maps') standing')
+    → ((buffered : List ℕ) (course : Course) → standing ≡ Holds buffered course → Turns buffered course result (around r g maps) (around r' g' maps') standing')
     → (standing ≡ Over → maps' ≡ maps) → (standing ≡ Faulted → maps' ≡ maps) → Exchanged maps maps'
-turned (Holds held course) standing' result r g r' g' maps maps' serving over faulted =
-    answered result course _ (around r g maps) (around r' g' maps') (serving held course refl).answered
+turned (Holds buffered course) standing' result r g r' g' maps maps' serving over faulted =
+    answered result course _ (around r g maps) (around r' g' maps') (serving buffered course refl).answered
 turned Over standing' result r g r' g' maps maps' serving over faulted = nothing_done maps maps' (over refl)
 turned Faulted standing' result r g r' g' maps maps' serving over faulted = nothing_done maps maps' (faulted refl)

@@ -14,7 +14,7 @@ use std::net::{OpenListener, OpenStream};
 pub const MOST_TURNS: u32 = 100_000;
 
 /// Answers what comes over a link to its end, in at most `MOST_TURNS` turns, and says how many frames were answered, those
-/// included that a trick dropped, held or cut off.
+/// included that a trick dropped, buffered or cut off.
 pub fn answer_one<L: Link>(
     link: &mut L,
     bank: &mut Bank,

@@ -24,15 +24,15 @@ pub came : (fs : List Fact) (i : ℕ) (f : Fact) (a b c : State) → i < length 
 came fs i f a b c lt is one two =
     let more : take (i + 1) fs ≡ take i fs ++ f ∷ [] = take_more fs i f lt ∙ ap (λ (g : Fact). take i fs ++ (g ∷ [])) (sym is) in
     subst (λ (l : List Fact). Goes {X = Unit {0}} {E = RowFault} a c (Ok tt) (RecordsAll l)) (sym more)
-    (going.goes_then a b c tt (Ok tt) (RecordsAll (take i fs)) (Records f) (RecordsAll (take i fs ++ f ∷ [])) one two (λ held mid after all here. one_recorded (take i fs) f held mid after all here))
+    (going.goes_then a b c tt (Ok tt) (RecordsAll (take i fs)) (Records f) (RecordsAll (take i fs ++ f ∷ [])) one two (λ content mid after all here. one_recorded (take i fs) f content mid after all here))
 
 -- the answer is another
 pub commit_failed : {X Y D : Type 0} (T : RowFault → Type 0) (a b : State) (e : D) (r : Result Y RowFault) (Makes : Content → Content → Type 0) → Commits {X = X} a b (Err e) Makes → IsErrAnd r T → Commits a b r Makes
 commit_failed T a b e (Ok y) Makes one is = absurd is
-commit_failed T a b e (Err d) Makes one is = record { ok = λ clean held has. tt; err = one.err; survives = one.survives }
+commit_failed T a b e (Err d) Makes one is = record { ok = λ clean content has. tt; err = one.err; survives = one.survives }
 
 pub commit_done : {X Y D E : Type 0} (a b : State) (x : X) (y : Y) (Makes : Content → Content → Type 0) → Commits {X = X} {E = D} a b (Ok x) Makes → Commits {X = Y} {E = E} a b (Ok y) Makes
-commit_done a b x y Makes one = record { ok = one.ok; err = λ clean held has. tt; survives = one.survives }
+commit_done a b x y Makes one = record { ok = one.ok; err = λ clean content has. tt; survives = one.survives }
 
 -- a transaction that was given up
 pub left_off : {S X Y D : Type 0} (g : Ghosts S) (old : Held S) (mid end : State) (Makes : Content → Content → Type 0) (T : RowFault → Type 0) (e : D) (r : Result Y RowFault)

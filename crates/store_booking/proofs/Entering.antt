@@ -41,7 +41,7 @@ pub device_entered : (device : Device) (place : ℕ) (name : List ℕ) (row : De
 device_entered device place name row name_is row_is before mid after next adds =
     let is : (let d : Added = record { name = name; row = row } in d) ≡ added place device = λ i. record { name = name_is i; row = row_is i } in
     device_recorded device place before after next.behind
-    (subst (λ (d : Added). Edits list_tree.devices device_columns (with_row d) before after) is (subst (λ held. AddsDevice name row held after) next.same adds))
+    (subst (λ (d : Added). Edits list_tree.devices device_columns (with_row d) before after) is (subst (λ tables. AddsDevice name row tables after) next.same adds))
 
 -- ---- lists
 
@@ -50,9 +50,9 @@ PutsList device ps = Edits list_tree.points point_columns (with_list device ps)
 
 pub list_entered : (put : DeviceList) (device : List ℕ) (ps : List Point) → device ≡ put.device
     → ((d : List ℕ) → map (listed_at d) ps ≡ placed_on (listed d) 0 put.list.points)
-    → (held after : Content) → PutsList device ps held after → Records (fact.List put) held after
-list_entered put device ps device_is are held after puts =
-    list_recorded put ps held after (are put.device) (subst (λ d. PutsList d ps held after) device_is puts)
+    → (tables after : Content) → PutsList device ps tables after → Records (fact.List put) tables after
+list_entered put device ps device_is are tables after puts =
+    list_recorded put ps tables after (are put.device) (subst (λ d. PutsList d ps tables after) device_is puts)
 
 -- ---- registers
 
@@ -67,7 +67,7 @@ pub register_entered : (register : Register) (place : ℕ) (name device : List �
 register_entered register place name device row name_is device_is row_is before mid after next adds =
     let is : (let r : Registered = record { name = name; device = device; row = row } in r) ≡ registered place register = λ i. record { name = name_is i; device = device_is i; row = row_is i } in
     register_recorded register place before after next.behind
-    (subst (λ (r : Registered). Edits list_tree.registers register_columns (with_row r) before after) is (subst (λ held. AddsRegister name device row held after) next.same adds))
+    (subst (λ (r : Registered). Edits list_tree.registers register_columns (with_row r) before after) is (subst (λ tables. AddsRegister name device row tables after) next.same adds))
 
 -- ---- polls
 
@@ -75,16 +75,16 @@ abbrev pub AddsPoll : (device : List ℕ) → PollRow → Content → Content �
 AddsPoll device row = Edits poll_tree.polls poll_columns (with_row (let p : Started = record { device = device; row = row } in p))
 
 pub poll_entered : (poll : Poll) (device : List ℕ) (row : PollRow) → device ≡ poll.device → row ≡ (started poll).row
-    → (held after : Content) → AddsPoll device row held after → Records (fact.Poll poll) held after
-poll_entered poll device row device_is row_is held after adds =
+    → (tables after : Content) → AddsPoll device row tables after → Records (fact.Poll poll) tables after
+poll_entered poll device row device_is row_is tables after adds =
     let is : (let p : Started = record { device = device; row = row } in p) ≡ started poll = λ i. record { device = device_is i; row = row_is i } in
-    poll_recorded poll held after (subst (λ (p : Started). Edits poll_tree.polls poll_columns (with_row p) held after) is adds)
+    poll_recorded poll tables after (subst (λ (p : Started). Edits poll_tree.polls poll_columns (with_row p) tables after) is adds)
 
 abbrev pub AddsOutcome : OutcomeRow → Content → Content → Type 0
 AddsOutcome row = Edits poll_tree.outcomes outcome_columns (with_row row)
 
-pub outcome_entered : (ended : EndedPoll) (row : OutcomeRow) → row ≡ outcome_row ended → (held after : Content) → AddsOutcome row held after → Records (fact.Outcome ended) held after
-outcome_entered ended row is held after adds = outcome_recorded ended held after (subst (λ (o : OutcomeRow). Edits poll_tree.outcomes outcome_columns (with_row o) held after) is adds)
+pub outcome_entered : (ended : EndedPoll) (row : OutcomeRow) → row ≡ outcome_row ended → (tables after : Content) → AddsOutcome row tables after → Records (fact.Outcome ended) tables after
+outcome_entered ended row is tables after adds = outcome_recorded ended tables after (subst (λ (o : OutcomeRow). Edits poll_tree.outcomes outcome_columns (with_row o) tables after) is adds)
 
 abbrev pub AddsHold : (meter : List ℕ) → HoldRow → Content → Content → Type 0
 AddsHold meter row = Edits poll_tree.holds hold_columns (with_row (let h : Held = record { meter = meter; row = row } in h))
@@ -106,8 +106,8 @@ AddsReply caller number request kind moment =
     Edits poll_tree.replies reply_columns (with_row (let k : Kept = record { caller = caller; number = number; request = request; kind = kind; moment = moment } in k))
 
 pub reply_entered : (reply : Reply) (caller request : List ℕ) (kind : ReplyKind) → caller ≡ reply.caller → request ≡ reply.request → kind ≡ reply_kind reply.kind
-    → (held after : Content) → AddsReply caller reply.number request kind reply.at held after → Records (fact.Reply reply) held after
-reply_entered reply caller request kind caller_is request_is kind_is held after adds =
+    → (tables after : Content) → AddsReply caller reply.number request kind reply.at tables after → Records (fact.Reply reply) tables after
+reply_entered reply caller request kind caller_is request_is kind_is tables after adds =
     let is : (let k : Kept = record { caller = caller; number = reply.number; request = request; kind = kind; moment = reply.at } in k) ≡ kept reply =
     λ i. record { caller = caller_is i; number = reply.number; request = request_is i; kind = kind_is i; moment = reply.at } in
-    reply_recorded reply held after (subst (λ (k : Kept). Edits poll_tree.replies reply_columns (with_row k) held after) is adds)
+    reply_recorded reply tables after (subst (λ (k : Kept). Edits poll_tree.replies reply_columns (with_row k) tables after) is adds)

@@ -40,6 +40,6 @@ opening_entered law o place meter register row first meter_is register_is row_is
     let next = one.1.1 in
     opening_recorded law o place zone facts before one.0 mid after a lawful next.behind
     (subst (λ (x : Installed). Edits meter_tree.installations installed_columns (with_row x) before one.0) installed_is
-    (subst (λ held. AddsInstallation meter register row held one.0) next.same one.1.2))
+    (subst (λ content. AddsInstallation meter register row content one.0) next.same one.1.2))
     (subst (λ (x : Ranged). Edits meter_tree.ranges ranged_columns (with_row x) one.0 mid) range_is one.2)
     (subst (λ (x : Entered). Edits entry_tree.entries entry_columns (with_row x) mid after) entry_is adds)

@@ -89,9 +89,9 @@ other_rows meter other (share ∷ shares) off = (off, other_rows meter other sha
 
 module _ (f : Fact) (facts : List Fact) (meter : List ℕ) (same_found : (m : List ℕ) → opening_of (f ∷ facts) m ≡ opening_of facts m) (spares : SparesOthers f facts meter) where
   -- ---- the interval rows
-  pub shares_replaced : (shares : List Share) (held after : Content) → rows_of_meter (f ∷ facts) meter ≡ shares → ReplacesShares meter shares held after
-      → AreIntervals facts held → AreIntervals (f ∷ facts) after
-  shares_replaced shares held after are e a = record {
+  pub shares_replaced : (shares : List Share) (content after : Content) → rows_of_meter (f ∷ facts) meter ≡ shares → ReplacesShares meter shares content after
+      → AreIntervals facts content → AreIntervals (f ∷ facts) after
+  shares_replaced shares content after are e a = record {
     rows = with_all meter shares a.rows;
     there = e.rows a.rows a.there;
     each = λ m. elim (cases_Bool (same meter m)) [
@@ -129,9 +129,9 @@ module _ (f : Fact) (facts : List Fact) (meter : List ℕ) (same_found : (m : Li
     own_entries g found = ap (entries_at g) found
 
     -- no row changes
-    pub entries_kept : (held after : Content) → entered_rows o (rows_of (f ∷ facts) o) ≡ entered_rows o (rows_of facts o) → Edits entry_tree.entries entry_columns (λ rows. rows) held after
-        → AreEntries facts held → AreEntries (f ∷ facts) after
-    entries_kept held after are e a = record {
+    pub entries_kept : (content after : Content) → entered_rows o (rows_of (f ∷ facts) o) ≡ entered_rows o (rows_of facts o) → Edits entry_tree.entries entry_columns (λ rows. rows) content after
+        → AreEntries facts content → AreEntries (f ∷ facts) after
+    entries_kept content after are e a = record {
       rows = a.rows;
       there = e.rows a.rows a.there;
       each = λ m. elim (cases_Bool (same meter m)) [
@@ -164,9 +164,9 @@ module _ (f : Fact) (facts : List Fact) (meter : List ℕ) (same_found : (m : Li
           off_by true c h = absurd (h refl)
           off_by false c h = refl
 
-      pub entry_rolled : (held after : Content) → entered_rows o (rows_of (f ∷ facts) o) ≡ map edit (entered_rows o (rows_of facts o))
-          → Edits entry_tree.entries entry_columns (changed_where (is_entry meter place) (with_rollovers rolls)) held after → AreEntries facts held → AreEntries (f ∷ facts) after
-      entry_rolled held after are e a = record {
+      pub entry_rolled : (content after : Content) → entered_rows o (rows_of (f ∷ facts) o) ≡ map edit (entered_rows o (rows_of facts o))
+          → Edits entry_tree.entries entry_columns (changed_where (is_entry meter place) (with_rollovers rolls)) content after → AreEntries facts content → AreEntries (f ∷ facts) after
+      entry_rolled content after are e a = record {
         rows = map edit a.rows;
         there = e.rows a.rows a.there;
         each = λ m. elim (cases_Bool (same meter m)) [
@@ -279,15 +279,15 @@ module _ (v : VoidedEntry) (facts : List Fact) (lawful : AreLawful (fact.Void v 
       all_weaker (FoundThere v.place around.row) (rolling.IsRead o v.place) (λ row found e. subst (λ (r : EntryRow). is_read r.kind r.entry ≡ true) (found e) read) rows
       (found_there v.place rows around numbered at).0
 
-  pub entries_after : (next : Option Rollover) → HasRolls told.opening around next → (held after : Content) → RollsNext v.meter next held after → AreEntries facts held → AreEntries (f ∷ facts) after
-  entries_after None none held after e a =
+  pub entries_after : (next : Option Rollover) → HasRolls told.opening around next → (content after : Content) → RollsNext v.meter next content after → AreEntries facts content → AreEntries (f ∷ facts) after
+  entries_after None none content after e a =
       let unrolled : entered_rows o (map (changed_by v.place None last) rows) ≡ entered_rows o rows =
       rolling.all_edited o v.place None last (λ e. e) refl rows each_read
       (all_weaker (rolling.IsRead o v.place) (rolling.IsEdited o v.place None last (λ e. e)) (λ row h. rolling.none_next o v.place last row) rows each_read)
       ∙ map_same (entered_rows o rows) in
-      entries_kept f facts v.meter same_found spares o there held after
+      entries_kept f facts v.meter same_found spares o there content after
       (ap (entered_rows o) rows_are ∙ (ap (λ (n : Option EntryRow). entered_rows o (map (changed_by v.place n last) rows)) none ∙ unrolled)) e a
-  entries_after (Some rollover) one held after e a =
+  entries_after (Some rollover) one content after e a =
       let next : EntryRow = one.0 in
       let next_is : around.next ≡ Some next = one.1 in
       let it = rolling.next_there v.place rows around next numbered at next_is in
@@ -304,7 +304,7 @@ module _ (v : VoidedEntry) (facts : List Fact) (lawful : AreLawful (fact.Void v 
       ap (λ m. map (edited m next.place rolls) (entered_rows o rows)) (named facts v.meter o there)
       ∙ ap (λ p. map (edited v.meter p rolls) (entered_rows o rows)) (sym place_is)
       ∙ ap (λ n. map (edited v.meter rollover.place n) (entered_rows o rows)) (sym rolls_are) in
-      entry_rolled f facts v.meter same_found spares o there rollover.place rollover.rolls held after
+      entry_rolled f facts v.meter same_found spares o there rollover.place rollover.rolls content after
       (ap (entered_rows o) rows_are ∙ (ap (λ (n : Option EntryRow). entered_rows o (map (changed_by v.place n last) rows)) next_is ∙ (rolled_rows ∙ same_edit))) e a
 
 -- The void of an entry: its row, and what is left of its meter.

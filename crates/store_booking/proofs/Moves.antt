@@ -59,17 +59,17 @@ module _ {X : Type 0} (p : X → Bool) (f h : X → X) (keeps : (x : X) → p (f
   twice_changed [] = refl
   twice_changed (x ∷ xs) = ap₂ ◌∷◌ (twice_step (p x) x refl) (twice_changed xs)
 
-  pub edited_twice : (tree : ℕ) (columns : X → Row) (held mid after : Content) → Edits tree columns (changed_where p f) held mid → Edits tree columns (changed_where p h) mid after
-      → Edits tree columns (changed_where p (λ x. h (f x))) held after
-  edited_twice tree columns held mid after one two = record {
+  pub edited_twice : (tree : ℕ) (columns : X → Row) (content mid after : Content) → Edits tree columns (changed_where p f) content mid → Edits tree columns (changed_where p h) mid after
+      → Edits tree columns (changed_where p (λ x. h (f x))) content after
+  edited_twice tree columns content mid after one two = record {
     rows = λ xs has. subst (λ l. HasRows tree columns l after) (twice_changed xs) (two.rows (changed_where p f xs) (one.rows xs has));
     others = λ t off. two.others t off ∙ one.others t off;
   }
 
 -- a meter that was closed
-pub settles_closed : (meter : List ℕ) (last : LastRow) (held mid after : Content) → Edits meter_tree.installations installed_columns (changed_where (is_meter meter) (moved last)) held mid
-    → Edits meter_tree.installations installed_columns (changed_where (is_meter meter) ended) mid after → Settles meter last true held after
-settles_closed meter last held mid after one two = edited_twice (is_meter meter) (moved last) ended (λ i. refl) meter_tree.installations installed_columns held mid after one two
+pub settles_closed : (meter : List ℕ) (last : LastRow) (content mid after : Content) → Edits meter_tree.installations installed_columns (changed_where (is_meter meter) (moved last)) content mid
+    → Edits meter_tree.installations installed_columns (changed_where (is_meter meter) ended) mid after → Settles meter last true content after
+settles_closed meter last content mid after one two = edited_twice (is_meter meter) (moved last) ended (λ i. refl) meter_tree.installations installed_columns content mid after one two
 
 -- ---- the entry
 
@@ -124,7 +124,7 @@ entry_entered moves others sums limits traces booked standing advance row advanc
     entry_recorded moves others sums limits booked zone facts o (settled advance.last (is_closing booked.kind)) before enters.one enters.two after a lawful there
     (changed booked facts o on standing advance advances last_is range_is)
     (subst (λ (e : EntryRow). Edits entry_tree.entries entry_columns (with_row (entered meter e)) before enters.one) (same_row booked facts o on standing advance advances last_is range_is row place_is row_is)
-    (subst (λ (held : Content). Edits entry_tree.entries entry_columns (with_row (entered meter row)) held enters.one) at.same enters.entry))
+    (subst (λ (content : Content). Edits entry_tree.entries entry_columns (with_row (entered meter row)) content enters.one) at.same enters.entry))
     (subst (λ (s : Step). BooksShares meter (shares_of s) enters.one enters.two) (step_is booked facts o on standing advance advances last_is range_is) enters.energy)
     enters.stands
 

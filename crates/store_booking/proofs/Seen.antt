@@ -16,7 +16,7 @@ use Rattle.store_booking.specs.Places.{Answered, IsSeenIn}
 -- what was asked is of no use
 pub asked_refused : {S A D Y E : Type 0} (g : Ghosts S) (old new : Held S) (r : Result A D) (e : E) (Makes : Content → Content → Type 0) → AsksInside g old new r
     → Goes {X = Y} (state g old) (state g new) (Err e) Makes
-asked_refused g old new r e Makes asks = record { kept = λ clean inside held has. asks.kept clean held has; makes = λ clean inside held has. tt; survives = asks.survives }
+asked_refused g old new r e Makes asks = record { kept = λ clean inside content has. asks.kept clean content has; makes = λ clean inside content has. tt; survives = asks.survives }
 
 pub asked_stopped : {S A D Y E : Type 0} (T : E → Type 0) (g : Ghosts S) (old new : Held S) (r : Result A D) (q : Result Y E) (Makes : Y → Content → Content → Type 0) → AsksInside g old new r → IsErrAnd q T
     → Goes (state g old) (state g new) q (Answered q Makes)
@@ -36,7 +36,7 @@ module _ {X : Type 0} (passes : X → Bool) (shown : X → Row) where
       → Goes {X = B} {E = RowFault} (state g old) (state g new) (Ok b) (IsSeenIn tree columns passes IsSeen b)
   seen_told g old new tree columns rows items row a b IsRead IsSound IsSeen tells_more asks tells is reads =
       told_less {D = Error} (state g old) (state g new) rows b (Told tree columns (λ xs a. ShowsFirst passes AnyOrder shown xs items) rows) (IsSeenIn tree columns passes IsSeen b)
-      (λ held after (told : Told tree columns (λ xs a. ShowsFirst passes AnyOrder shown xs items) rows held after). record {
+      (λ content after (told : Told tree columns (λ xs a. ShowsFirst passes AnyOrder shown xs items) rows content after). record {
         same = told.same;
         seen = λ xs has.
             let it = told.answers xs has in

@@ -33,21 +33,21 @@ use Rattle.store_booking.specs.Voids.{IsSaidIn, IsJournalOf}
 use Rattle.store_booking.specs.declared.journals.MeterJournal.{MeterJournal}
 
 -- the rows of a table are those of the facts, and say this
-pub record Says {A X : Type 0} (tree : ℕ) (columns : X → Row) (Answers : List X → A → Type 0) (says : A → Type 0) (held : Content) : Type 0 where
+pub record Says {A X : Type 0} (tree : ℕ) (columns : X → Row) (Answers : List X → A → Type 0) (says : A → Type 0) (content : Content) : Type 0 where
   pub rows : List X
-  pub there : HasRows tree columns rows held
+  pub there : HasRows tree columns rows content
   pub so : (a : A) → Answers rows a → says a
 
 -- one question
 pub said : {S A X : Type 0} (g : Ghosts S) (old new : Held S) (tree : ℕ) (columns : X → Row) (a : A) (Answers : List X → A → Type 0) (says : List Fact → A → Type 0)
     → AsksInside {X = A} {E = Error} g old new (Ok a) → Tells {E = Error} g old new tree columns (Ok a) Answers
-    → ((zone : List ℕ) (facts : List Fact) (held : Content) → AreOf zone facts held → Says tree columns Answers (says facts) held)
+    → ((zone : List ℕ) (facts : List Fact) (content : Content) → AreOf zone facts content → Says tree columns Answers (says facts) content)
     → Goes {X = A} {E = RowFault} (state g old) (state g new) (Ok a) (IsSaidIn (λ facts. says facts a))
 said g old new tree columns a Answers says asks tells speaks =
     told_less {D = Error} (state g old) (state g new) a a (Told tree columns Answers a) (IsSaidIn (λ facts. says facts a))
-    (λ held after (told : Told tree columns Answers a held after). record {
+    (λ content after (told : Told tree columns Answers a content after). record {
       same = told.same;
-      says = λ zone facts are. let it = speaks zone facts held are in it.so a (told.answers it.rows it.there);
+      says = λ zone facts are. let it = speaks zone facts content are in it.so a (told.answers it.rows it.there);
     })
     (of_answer g old new tree columns Answers a asks tells)
 

@@ -31,14 +31,14 @@ use Rattle.store_booking.proofs.Leaving.{completed_alone}
 pub none_rolled : (a : State) (meter : List ℕ) (next : Option Rollover) → next ≡ None → Goes {X = Unit {0}} {E = RowFault} a a (Ok tt) (RollsNext meter next)
 none_rolled a meter next is =
     subst (λ (n : Option Rollover). Goes {X = Unit {0}} {E = RowFault} a a (Ok tt) (RollsNext meter n)) (sym is)
-    (nothing_done a tt (RollsNext meter None) (λ held. record { rows = λ xs has. has; others = λ t off. refl }))
+    (nothing_done a tt (RollsNext meter None) (λ content. record { rows = λ xs has. has; others = λ t off. refl }))
 
 pub one_rolled : (a b : State) (n : ℕ) (meter : List ℕ) (next : Option Rollover) (rollover : Rollover) → next ≡ Some rollover
     → Steps {X = ℕ} {E = Error} a b (Ok n) (Edits entries entry_columns (changed_where (is_entry meter rollover.place) (rolled rollover.rolls)))
     → Goes {X = Unit {0}} {E = RowFault} a b (Ok tt) (RollsNext meter next)
 one_rolled a b n meter next rollover is does =
     subst (λ (n : Option Rollover). Goes {X = Unit {0}} {E = RowFault} a b (Ok tt) (RollsNext meter n)) (sym is)
-    (completed_alone a b n (Edits entries entry_columns (changed_where (is_entry meter rollover.place) (rolled rollover.rolls))) (RollsNext meter (Some rollover)) does (λ held after edits. edits))
+    (completed_alone a b n (Edits entries entry_columns (changed_where (is_entry meter rollover.place) (rolled rollover.rolls))) (RollsNext meter (Some rollover)) does (λ content after edits. edits))
 
 -- what was found at a place
 abbrev pub around_of : List EntryRow → FoundRow → Around

@@ -21,13 +21,15 @@ use Rattle.store_booking.specs.declared.meter_entries.Advance.{Advance}
 use Rattle.store_booking.specs.Places.{StandsThere}
 
 -- The tables say that the meter stands there, and nothing was changed.
-pub record IsStanding (meter : List ℕ) (standing : Standing) (held after : Content) : Type 0 where
-  pub same : after ≡ held
+pub record IsStanding (meter : List ℕ) (standing : Standing)
+    (content after : Content) : Type 0 where
+  pub same : after ≡ content
   pub behind : IsBehind entry_tree.entries entry_columns (is_of meter) entry_place standing.place
-      held
-  pub last : (rows : List Installed) → HasRows meter_tree.installations installed_columns rows held
+      content
+  pub last : (rows : List Installed)
+      → HasRows meter_tree.installations installed_columns rows content
       → IsFound (is_meter meter) StandsThere rows (Some standing.last)
-  pub range : (rows : List Ranged) → HasRows meter_tree.ranges ranged_columns rows held
+  pub range : (rows : List Ranged) → HasRows meter_tree.ranges ranged_columns rows content
       → IsFound (is_range_of meter) HasRange rows (Some standing.range)
 
 -- the counter, as a row has it, and a row of it, with the whole energy
@@ -60,9 +62,9 @@ Settles meter last is_closing =
 
 -- One more entry of a meter: its row, the energy of its step, and where the meter stands then.
 pub record EntersEntry (meter : List ℕ) (row : EntryRow) (advance : Advance) (is_closing : Bool)
-    (held after : Content) : Type 0 where
+    (content after : Content) : Type 0 where
   pub one : Content
   pub two : Content
-  pub entry : Edits entry_tree.entries entry_columns (with_row (entered meter row)) held one
+  pub entry : Edits entry_tree.entries entry_columns (with_row (entered meter row)) content one
   pub energy : BooksShares meter (shares_of advance.step) one two
   pub stands : Settles meter advance.last is_closing two after

@@ -30,13 +30,13 @@ next_in rows = place_after (slice_get rows 0)
 abbrev pub Answered : {X E : Type 0} → Result X E → (X → Content → Content → Type 0) → Content
     → Content → Type 0
 Answered (Ok x) Makes = Makes x
-Answered (Err e) Makes = λ held after. ⊤
+Answered (Err e) Makes = λ content after. ⊤
 
 -- The answer is what is seen of a row that passes, and nothing was changed.
 pub record IsSeenIn {X A : Type 0} (tree : ℕ) (columns : X → Row) (passes : X → Bool)
-    (IsSeen : X → A → Type 0) (answer : A) (held after : Content) : Type 0 where
-  pub same : after ≡ held
-  pub seen : (rows : List X) → HasRows tree columns rows held
+    (IsSeen : X → A → Type 0) (answer : A) (content after : Content) : Type 0 where
+  pub same : after ≡ content
+  pub seen : (rows : List X) → HasRows tree columns rows content
       → IsFound passes IsSeen rows (Some answer)
 
 abbrev pub StandsThere : Installed → LastRow → Type 0

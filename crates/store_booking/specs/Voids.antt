@@ -25,9 +25,9 @@ use Rattle.store_booking.specs.declared.journals.MeterJournal.{MeterJournal}
 use Rattle.store_booking.specs.MeterState.{stands_at, Settles}
 
 -- The facts say this whose tables these are, and nothing was changed.
-pub record IsSaidIn (Say : List Fact → Type 0) (held after : Content) : Type 0 where
-  pub same : after ≡ held
-  pub says : (zone : List ℕ) (facts : List Fact) → AreOf zone facts held → Say facts
+pub record IsSaidIn (Say : List Fact → Type 0) (content after : Content) : Type 0 where
+  pub same : after ≡ content
+  pub says : (zone : List ℕ) (facts : List Fact) → AreOf zone facts content → Say facts
 
 -- the journal of a meter that was installed
 pub record IsJournalFrom (facts : List Fact) (first : Opening) (journal : MeterJournal) : Type 0
@@ -81,17 +81,18 @@ abbrev pub RollsNext : (meter : List ℕ) → Option Rollover → Content → Co
 RollsNext meter next = Edits entries entry_columns (rolled_next meter next)
 
 -- Another account stands in the place of the meter's.
-pub record KeepsAccount (meter : List ℕ) (account : Account) (held after : Content) : Type 0 where
+pub record KeepsAccount (meter : List ℕ) (account : Account)
+    (content after : Content) : Type 0 where
   pub one : Content
-  pub energy : ReplacesShares meter account.shares.items held one
+  pub energy : ReplacesShares meter account.shares.items content one
   pub stands : Settles meter account.last false one after
 
 -- One void of a meter's entry: its row, the next entry's rollovers, and the meter's account then.
 pub record EntersVoid (meter : List ℕ) (place moment : ℕ) (made : Correction)
-    (held after : Content) : Type 0 where
+    (content after : Content) : Type 0 where
   pub one : Content
   pub two : Content
   pub void : Edits voids voided_columns
-      (with_row (record { meter = meter; place = place; moment = moment })) held one
+      (with_row (record { meter = meter; place = place; moment = moment })) content one
   pub next : RollsNext meter made.next one two
   pub account : KeepsAccount meter made.account two after

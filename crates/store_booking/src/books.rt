@@ -74,7 +74,7 @@ fn commit_facts<S: Alter>(
     Ok(())
 }
 
-/// Books facts that may follow those that are held, all of them or none, whatever stops the call. The commit is its last
+/// Books facts that may follow those that are known, all of them or none, whatever stops the call. The commit is its last
 /// call of the database; to book no facts makes none.
 pub fn book_facts<S: Alter>(
     alloc: Global,

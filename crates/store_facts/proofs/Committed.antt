@@ -71,15 +71,15 @@ module _ {S X E : Type 0} (g : Ghosts S) (zone : List ℕ) (old mid new : Held S
       subst (HasFacts zone facts) (sym (o.1 ∙ k.committed o.0)) (holds (first clean) (k.was_open o.0))
 
   -- what is made of it
-  made : (facts : List Fact) (held : Content) (db : Database) → AreOf zone facts held → AreLawful (reverse fs ++ facts) → HasMade (RecordsAll fs) held db → HasFacts zone (reverse fs ++ facts) db
-  made facts held db are lawful it = record { held = it.0; tables = it.2; are = it.1 zone facts are lawful }
+  made : (facts : List Fact) (content : Content) (db : Database) → AreOf zone facts content → AreLawful (reverse fs ++ facts) → HasMade (RecordsAll fs) content db → HasFacts zone (reverse fs ++ facts) db
+  made facts content db are lawful it = record { content = it.0; tables = it.2; are = it.1 zone facts are lawful }
 
   now_holds : (facts : List Fact) → HoldsFacts g zone old facts → AreLawful (reverse fs ++ facts) → (x : X) → r ≡ Ok x → HasCleanDisk (state g new)
       → IsTrue (state g new).is_open × HasFacts zone (reverse fs ++ facts) (state g new).committed
   now_holds facts holds lawful x is clean =
       let one = found facts holds clean in
-      let h = subst (λ (q : Result X E). OnOk q (IsTrue (state g mid).is_open × IsTrue (state g new).is_open × HasMade (RecordsAll fs) one.held (state g new).committed)) is (does.ok clean one.held one.tables) in
-      (h.1, made facts one.held (state g new).committed one.are lawful h.2)
+      let h = subst (λ (q : Result X E). OnOk q (IsTrue (state g mid).is_open × IsTrue (state g new).is_open × HasMade (RecordsAll fs) one.content (state g new).committed)) is (does.ok clean one.content one.tables) in
+      (h.1, made facts one.content (state g new).committed one.are lawful h.2)
 
   booked : (facts : List Fact) → HoldsFacts g zone old facts → AreLawful (reverse fs ++ facts) → OnOk r (HoldsFacts g zone new (reverse fs ++ facts))
   unfolding HoldsFacts
@@ -89,7 +89,7 @@ module _ {S X E : Type 0} (g : Ghosts S) (zone : List ℕ) (old mid new : Held S
   unfolding HoldsFacts
   refused facts holds = by_err r (λ e is clean still.
       let one = found facts holds clean in
-      let k = subst (λ (q : Result X E). OnErr q (KeepsCommit (state g mid) (state g new))) is (does.err clean one.held one.tables) in
+      let k = subst (λ (q : Result X E). OnErr q (KeepsCommit (state g mid) (state g new))) is (does.err clean one.content one.tables) in
       let m = kept (early clean) in
       subst (HasFacts zone facts) (sym (k.committed still ∙ m.committed (k.was_open still))) (holds (first clean) (m.was_open (k.was_open still))))
 
@@ -113,7 +113,7 @@ module _ {S X E : Type 0} (g : Ghosts S) (zone : List ℕ) (old mid new : Held S
     ]
     | inr there ↦
         let one = found facts holds clean in
-        record { facts = reverse fs ++ facts; one = the_last left (reverse fs ++ facts); db = there.db; has = made facts one.held there.db one.are lawful (there.made one.held one.tables); same = there.same }
+        record { facts = reverse fs ++ facts; one = the_last left (reverse fs ++ facts); db = there.db; has = made facts one.content there.db one.are lawful (there.made one.content one.tables); same = there.same }
   ])
 
   pub books : (fs ≢ []) → ((trees : Trees) → IsTrue (state g new).is_open → (state g new).may_leave trees → trees ≡ (state g new).committed.trees) → BooksFacts g zone fs old new r

@@ -61,10 +61,10 @@ module _ (f : Fact) (facts : List Fact) (meter : List ℕ) (same_found : (m : Li
     own_name = named facts meter o there
 
     -- ---- the entries
-    pub entry_added : (row : journal.EntryRow) (new : Entered) (held after : Content) → rows_of (f ∷ facts) o ≡ row ∷ rows_of facts o
+    pub entry_added : (row : journal.EntryRow) (new : Entered) (content after : Content) → rows_of (f ∷ facts) o ≡ row ∷ rows_of facts o
         → entered_rows o (row ∷ rows_of facts o) ≡ new ∷ entered_rows o (rows_of facts o) → new.meter ≡ meter
-        → Edits entries entry_columns (with_row new) held after → AreEntries facts held → AreEntries (f ∷ facts) after
-    entry_added row new held after grows first of e a = record {
+        → Edits entries entry_columns (with_row new) content after → AreEntries facts content → AreEntries (f ∷ facts) after
+    entry_added row new content after grows first of e a = record {
       rows = new ∷ a.rows;
       there = e.rows a.rows a.there;
       each = λ m. elim (cases_Bool (same meter m)) [
@@ -89,10 +89,10 @@ module _ (f : Fact) (facts : List Fact) (meter : List ℕ) (same_found : (m : Li
 
     -- ---- the interval rows
     module _ (kept : MetersAreKept) (ranges : InstallationsAreInRange) where
-      pub energy_added : (shares : List Share) (held after : Content) → AreLawful facts → AreLawful (f ∷ facts)
+      pub energy_added : (shares : List Share) (content after : Content) → AreLawful facts → AreLawful (f ∷ facts)
           → rows_of_opening (f ∷ facts) o ≡ with_each shares (rows_of_opening facts o)
-          → BooksShares meter shares held after → AreIntervals facts held → AreIntervals (f ∷ facts) after
-      energy_added shares held after was lawful grows e a = record {
+          → BooksShares meter shares content after → AreIntervals facts content → AreIntervals (f ∷ facts) after
+      energy_added shares content after was lawful grows e a = record {
         rows = with_shares meter shares a.rows;
         there = e.rows a.rows a.there (rows_small kept ranges (f ∷ facts) (with_shares meter shares a.rows) lawful each);
         each = each;

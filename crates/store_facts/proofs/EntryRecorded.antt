@@ -59,15 +59,15 @@ entries_count o (row ∷ rows) passes all last numbered are h =
 
 -- An entry of a meter: its row, the energy of its step, and where its meter stands then.
 pub entry_recorded : EntriesMoveOn → OtherMetersStay → MetersAreKept → InstallationsAreInRange
-    → (booked : BookedEntry) (zone : List ℕ) (facts : List Fact) (o : Opening) (change : Installed → Installed) (held one two after : Content)
-    → AreOf zone facts held → AreLawful (fact.Entry booked ∷ facts) → opening_of facts booked.meter ≡ Some o
+    → (booked : BookedEntry) (zone : List ℕ) (facts : List Fact) (o : Opening) (change : Installed → Installed) (content one two after : Content)
+    → AreOf zone facts content → AreLawful (fact.Entry booked ∷ facts) → opening_of facts booked.meter ≡ Some o
     → ((place : ℕ) → installed_row (fact.Entry booked ∷ facts) place o ≡ change (installed_row facts place o))
     → (let row = new_row (rows_of facts o) booked.kind booked.entry in
-    Edits entry_tree.entries entry_columns (with_row (entered booked.meter (entry_row (scale_behind o (row ∷ rows_of facts o)) row))) held one)
+    Edits entry_tree.entries entry_columns (with_row (entered booked.meter (entry_row (scale_behind o (row ∷ rows_of facts o)) row))) content one)
     → BooksShares booked.meter (shares_of (step_from (installation_of facts o) booked.entry)) one two
     → Edits meter_tree.installations installed_columns (changed_where (is_meter booked.meter) change) two after
     → AreOf zone (fact.Entry booked ∷ facts) after
-entry_recorded moves others sums limits booked zone facts o change held one two after a lawful there changed e b m =
+entry_recorded moves others sums limits booked zone facts o change content one two after a lawful there changed e b m =
     let f = fact.Entry booked in
     let on = moves booked facts o lawful there in
     let row = new_row (rows_of facts o) booked.kind booked.entry in
@@ -78,24 +78,24 @@ entry_recorded moves others sums limits booked zone facts o change held one two 
     let far = λ (t : ℕ) (x : t ≢ 9) (y : t ≢ 14) (z : t ≢ 7). late t y z ∙ e.others t x in
     record {
       lawful = lawful;
-      meta = stay meta_tree meta_columns (zone ∷ []) held after (far 0 (λ is. omega (arith, is)) (λ is. omega (arith, is)) (λ is. omega (arith, is))) a.meta;
-      devices = stay list_tree.devices device_columns (placed added (devices_in facts)) held after (far 1 (λ is. omega (arith, is)) (λ is. omega (arith, is)) (λ is. omega (arith, is))) a.devices;
-      points = points_stay facts (f ∷ facts) held after (far 3 (λ is. omega (arith, is)) (λ is. omega (arith, is)) (λ is. omega (arith, is))) (λ device. refl) a.points;
-      registers = stay list_tree.registers register_columns (placed registered (registers_in facts)) held after (far 5 (λ is. omega (arith, is)) (λ is. omega (arith, is)) (λ is. omega (arith, is))) a.registers;
+      meta = stay meta_tree meta_columns (zone ∷ []) content after (far 0 (λ is. omega (arith, is)) (λ is. omega (arith, is)) (λ is. omega (arith, is))) a.meta;
+      devices = stay list_tree.devices device_columns (placed added (devices_in facts)) content after (far 1 (λ is. omega (arith, is)) (λ is. omega (arith, is)) (λ is. omega (arith, is))) a.devices;
+      points = points_stay facts (f ∷ facts) content after (far 3 (λ is. omega (arith, is)) (λ is. omega (arith, is)) (λ is. omega (arith, is))) (λ device. refl) a.points;
+      registers = stay list_tree.registers register_columns (placed registered (registers_in facts)) content after (far 5 (λ is. omega (arith, is)) (λ is. omega (arith, is)) (λ is. omega (arith, is))) a.registers;
       installations =
           subst (λ rows. HasRows meter_tree.installations installed_columns rows after) (sym (installations_changed f facts booked.meter found spares o there change changed lawful.1))
           (m.rows (placed (installed_row facts) (openings_in facts))
-          (stay meter_tree.installations installed_columns (placed (installed_row facts) (openings_in facts)) held two
+          (stay meter_tree.installations installed_columns (placed (installed_row facts) (openings_in facts)) content two
           (b.others 7 (λ is. omega (arith, is)) ∙ e.others 7 (λ is. omega (arith, is))) a.installations));
-      ranges = stay meter_tree.ranges ranged_columns (map ranged (openings_in facts)) held after (far 18 (λ is. omega (arith, is)) (λ is. omega (arith, is)) (λ is. omega (arith, is))) a.ranges;
+      ranges = stay meter_tree.ranges ranged_columns (map ranged (openings_in facts)) content after (far 18 (λ is. omega (arith, is)) (λ is. omega (arith, is)) (λ is. omega (arith, is))) a.ranges;
       entries = entries_stay (f ∷ facts) (f ∷ facts) one after (late 9 (λ is. omega (arith, is)) (λ is. omega (arith, is))) (λ meter. refl)
-          (entry_added f facts booked.meter found spares o there row new held one on.rows (ap (λ name. entered name (entry_row (scale_behind o (row ∷ rows_of facts o)) row) ∷ entered_rows o (rows_of facts o)) (named facts booked.meter o there)) refl e a.entries);
-      voids = stay entry_tree.voids voided_columns (map voided (voids_in facts)) held after (far 20 (λ is. omega (arith, is)) (λ is. omega (arith, is)) (λ is. omega (arith, is))) a.voids;
-      polls = stay poll_tree.polls poll_columns (map started (polls_in facts)) held after (far 11 (λ is. omega (arith, is)) (λ is. omega (arith, is)) (λ is. omega (arith, is))) a.polls;
-      holds = stay poll_tree.holds hold_columns (placed held_row (holds_in facts)) held after (far 12 (λ is. omega (arith, is)) (λ is. omega (arith, is)) (λ is. omega (arith, is))) a.holds;
-      outcomes = stay poll_tree.outcomes outcome_columns (map outcome_row (ended_in facts)) held after (far 13 (λ is. omega (arith, is)) (λ is. omega (arith, is)) (λ is. omega (arith, is))) a.outcomes;
+          (entry_added f facts booked.meter found spares o there row new content one on.rows (ap (λ name. entered name (entry_row (scale_behind o (row ∷ rows_of facts o)) row) ∷ entered_rows o (rows_of facts o)) (named facts booked.meter o there)) refl e a.entries);
+      voids = stay entry_tree.voids voided_columns (map voided (voids_in facts)) content after (far 20 (λ is. omega (arith, is)) (λ is. omega (arith, is)) (λ is. omega (arith, is))) a.voids;
+      polls = stay poll_tree.polls poll_columns (map started (polls_in facts)) content after (far 11 (λ is. omega (arith, is)) (λ is. omega (arith, is)) (λ is. omega (arith, is))) a.polls;
+      holds = stay poll_tree.holds hold_columns (placed held_row (holds_in facts)) content after (far 12 (λ is. omega (arith, is)) (λ is. omega (arith, is)) (λ is. omega (arith, is))) a.holds;
+      outcomes = stay poll_tree.outcomes outcome_columns (map outcome_row (ended_in facts)) content after (far 13 (λ is. omega (arith, is)) (λ is. omega (arith, is)) (λ is. omega (arith, is))) a.outcomes;
       intervals = intervals_stay (f ∷ facts) (f ∷ facts) two after (m.others 14 (λ is. omega (arith, is))) (λ meter. refl)
           (energy_added f facts booked.meter found spares o there sums limits (shares_of (step_from (installation_of facts o) booked.entry)) one two lawful.1 lawful on.added b
-          (intervals_stay facts facts held one (e.others 14 (λ is. omega (arith, is))) (λ meter. refl) a.intervals));
-      replies = stay poll_tree.replies reply_columns (map kept (replies_in facts)) held after (far 16 (λ is. omega (arith, is)) (λ is. omega (arith, is)) (λ is. omega (arith, is))) a.replies;
+          (intervals_stay facts facts content one (e.others 14 (λ is. omega (arith, is))) (λ meter. refl) a.intervals));
+      replies = stay poll_tree.replies reply_columns (map kept (replies_in facts)) content after (far 16 (λ is. omega (arith, is)) (λ is. omega (arith, is)) (λ is. omega (arith, is))) a.replies;
     }

@@ -8,13 +8,13 @@ use Rattle.store_tables.specs.Content.{Content}
 use Rattle.store_facts.specs.Tables.{AreOf}
 use Rattle.store_facts.specs.Recording.{Records, RecordsAll}
 
-pub none_recorded : (held : Content) → RecordsAll [] held held
-none_recorded held zone facts a lawful = a
+pub none_recorded : (content : Content) → RecordsAll [] content content
+none_recorded content zone facts a lawful = a
 
 behind : (fs : List Fact) (f : Fact) (facts : List Fact) → reverse (fs ++ f ∷ []) ++ facts ≡ f ∷ (reverse fs ++ facts)
 behind fs f facts = ap (λ l. l ++ facts) (reverse-append fs (f ∷ []))
 
-pub one_recorded : (fs : List Fact) (f : Fact) (held mid after : Content) → RecordsAll fs held mid → Records f mid after → RecordsAll (fs ++ f ∷ []) held after
-one_recorded fs f held mid after all one zone facts a lawful =
+pub one_recorded : (fs : List Fact) (f : Fact) (content mid after : Content) → RecordsAll fs content mid → Records f mid after → RecordsAll (fs ++ f ∷ []) content after
+one_recorded fs f content mid after all one zone facts a lawful =
     let here : AreLawful (f ∷ (reverse fs ++ facts)) = subst AreLawful (behind fs f facts) lawful in
     subst (λ l. AreOf zone l after) (sym (behind fs f facts)) (one zone (reverse fs ++ facts) (all zone facts a here.1) here)

@@ -22,8 +22,8 @@ both_ok (Err e) f p q = tt
 -- one statement
 pub of_steps : {X E : Type 0} (old new : State) (r : Result X E) (Makes : Content → Content → Type 0) → StepsTo old new r (Turns Makes) → Goes old new r Makes
 of_steps old new r Makes one = record {
-  kept = λ clean inside held has. one.kept clean inside;
-  makes = λ clean inside held has. both_ok r (λ still turns. (still, turns held has)) (one.inside clean inside) (one.rows clean inside);
+  kept = λ clean inside content has. one.kept clean inside;
+  makes = λ clean inside content has. both_ok r (λ still turns. (still, turns content has)) (one.inside clean inside) (one.rows clean inside);
   survives = one.survives;
 }
 
@@ -32,18 +32,18 @@ pub of_answer : {S A D E X : Type 0} (g : Ghosts S) (old new : Held S) (tree : �
     → AsksInside {X = A} {E = D} g old new (Ok a) → Tells {E = D} g old new tree columns (Ok a) Answers
     → Goes {X = A} {E = E} (state g old) (state g new) (Ok a) (Told tree columns Answers a)
 of_answer g old new tree columns Answers a asks tells = record {
-  kept = λ clean inside held has. asks.kept clean held has;
-  makes = λ clean inside held has.
-      let still = asks.unchanged clean held has inside in
-      (still.0, (held, record { same = refl; answers = tells clean held has }, subst (λ d. AreTables d held) (sym still.1) has));
+  kept = λ clean inside content has. asks.kept clean content has;
+  makes = λ clean inside content has.
+      let still = asks.unchanged clean content has inside in
+      (still.0, (content, record { same = refl; answers = tells clean content has }, subst (λ d. AreTables d content) (sym still.1) has));
   survives = asks.survives;
 }
 
 pub of_no_answer : {S A D E X : Type 0} (g : Ghosts S) (old new : Held S) (e : D) (d : E) (Makes : Content → Content → Type 0)
     → AsksInside {X = A} {E = D} g old new (Err e) → Goes {X = X} {E = E} (state g old) (state g new) (Err d) Makes
 of_no_answer g old new e d Makes asks = record {
-  kept = λ clean inside held has. asks.kept clean held has;
-  makes = λ clean inside held has. tt;
+  kept = λ clean inside content has. asks.kept clean content has;
+  makes = λ clean inside content has. tt;
   survives = asks.survives;
 }
 
@@ -55,14 +55,14 @@ more_ok (Err e) f h = tt
 pub goes_then : {X Y D E : Type 0} (a b c : State) (x : X) (r : Result Y E) (P Q R : Content → Content → Type 0) → Goes {X = X} {E = D} a b (Ok x) P → Goes b c r Q
     → ((before mid after : Content) → P before mid → Q mid after → R before after) → Goes a c r R
 goes_then a b c x r P Q R one two goes = record {
-  kept = λ clean inside held has.
+  kept = λ clean inside content has.
       let early : HasCleanDisk b = omega (arith, two.survives.clean) in
-      let first = one.makes early inside held has in
-      kept_then a b c (one.kept early inside held has) (two.kept clean first.0 first.1.0 first.1.2);
-  makes = λ clean inside held has.
+      let first = one.makes early inside content has in
+      kept_then a b c (one.kept early inside content has) (two.kept clean first.0 first.1.0 first.1.2);
+  makes = λ clean inside content has.
       let early : HasCleanDisk b = omega (arith, two.survives.clean) in
-      let first = one.makes early inside held has in
-      more_ok r (λ (h : IsTrue c.in_transaction × HasMade Q first.1.0 c.now). (h.0, (h.1.0, goes held first.1.0 h.1.0 first.1.1 h.1.1, h.1.2)))
+      let first = one.makes early inside content has in
+      more_ok r (λ (h : IsTrue c.in_transaction × HasMade Q first.1.0 c.now). (h.0, (h.1.0, goes content first.1.0 h.1.0 first.1.1 h.1.1, h.1.2)))
       (two.makes clean first.0 first.1.0 first.1.2);
   survives = survives_then a b c (λ _. ⊥) (λ _. ⊥) (λ _. ⊥) (λ _ db none. none) (λ _ db none. none) one.survives two.survives;
 }
@@ -71,27 +71,27 @@ goes_then a b c x r P Q R one two goes = record {
 pub then_failed : {X Y Z D E F : Type 0} (a b c : State) (x : X) (e : E) (f : F) (P Q R : Content → Content → Type 0) → Goes {X = X} {E = D} a b (Ok x) P → Goes {X = Y} b c (Err e) Q
     → Goes {X = Z} a c (Err f) R
 then_failed a b c x e f P Q R one two = record {
-  kept = λ clean inside held has.
+  kept = λ clean inside content has.
       let early : HasCleanDisk b = omega (arith, two.survives.clean) in
-      let first = one.makes early inside held has in
-      kept_then a b c (one.kept early inside held has) (two.kept clean first.0 first.1.0 first.1.2);
-  makes = λ clean inside held has. tt;
+      let first = one.makes early inside content has in
+      kept_then a b c (one.kept early inside content has) (two.kept clean first.0 first.1.0 first.1.2);
+  makes = λ clean inside content has. tt;
   survives = survives_then a b c (λ _. ⊥) (λ _. ⊥) (λ _. ⊥) (λ _ db none. none) (λ _ db none. none) one.survives two.survives;
 }
 
 -- what failed stays so, whatever it was to make, and what went well may be refused after
 pub failed : {X Y D E : Type 0} (a b : State) (e : D) (d : E) (P Q : Content → Content → Type 0) → Goes {X = X} a b (Err e) P → Goes {X = Y} a b (Err d) Q
-failed a b e d P Q one = record { kept = one.kept; makes = λ clean inside held has. tt; survives = one.survives }
+failed a b e d P Q one = record { kept = one.kept; makes = λ clean inside content has. tt; survives = one.survives }
 
 pub then_refused : {X Y D E : Type 0} (a b : State) (x : X) (d : E) (P Q : Content → Content → Type 0) → Goes {X = X} {E = D} a b (Ok x) P → Goes {X = Y} a b (Err d) Q
-then_refused a b x d P Q one = record { kept = one.kept; makes = λ clean inside held has. tt; survives = one.survives }
+then_refused a b x d P Q one = record { kept = one.kept; makes = λ clean inside content has. tt; survives = one.survives }
 
 -- what is made is more than is told, and the answer is another
-pub told_less : {X Y D E : Type 0} (a b : State) (x : X) (y : Y) (P Q : Content → Content → Type 0) → ((held after : Content) → P held after → Q held after)
+pub told_less : {X Y D E : Type 0} (a b : State) (x : X) (y : Y) (P Q : Content → Content → Type 0) → ((content after : Content) → P content after → Q content after)
     → Goes {X = X} {E = D} a b (Ok x) P → Goes {X = Y} {E = E} a b (Ok y) Q
 told_less a b x y P Q tells one = record {
   kept = one.kept;
-  makes = λ clean inside held has. let h = one.makes clean inside held has in (h.0, (h.1.0, tells held h.1.0 h.1.1, h.1.2));
+  makes = λ clean inside content has. let h = one.makes clean inside content has in (h.0, (h.1.0, tells content h.1.0 h.1.1, h.1.2));
   survives = one.survives;
 }
 
@@ -99,17 +99,17 @@ told_less a b x y P Q tells one = record {
 still_there : (a : State) → Survives a a (λ _. ⊥)
 still_there a = record { clean = omega arith; shield = λ is. is; counts = omega arith; limit = refl; closes = λ clean is. inl is; crash = λ clean db left. inl left }
 
-pub nothing_done : {X E : Type 0} (a : State) (x : X) (Q : Content → Content → Type 0) → ((held : Content) → Q held held) → Goes {X = X} {E = E} a a (Ok x) Q
+pub nothing_done : {X E : Type 0} (a : State) (x : X) (Q : Content → Content → Type 0) → ((content : Content) → Q content content) → Goes {X = X} {E = E} a a (Ok x) Q
 nothing_done a x Q same = record {
-  kept = λ clean inside held has. record { was_open = λ still. still; committed = λ still. refl };
-  makes = λ clean inside held has. (inside, (held, same held, has));
+  kept = λ clean inside content has. record { was_open = λ still. still; committed = λ still. refl };
+  makes = λ clean inside content has. (inside, (content, same content, has));
   survives = still_there a;
 }
 
 pub refused : {X E : Type 0} (a : State) (d : E) (Q : Content → Content → Type 0) → Goes {X = X} {E = E} a a (Err d) Q
 refused a d Q = record {
-  kept = λ clean inside held has. record { was_open = λ still. still; committed = λ still. refl };
-  makes = λ clean inside held has. tt;
+  kept = λ clean inside content has. record { was_open = λ still. still; committed = λ still. refl };
+  makes = λ clean inside content has. tt;
   survives = still_there a;
 }
 
@@ -128,12 +128,12 @@ module _ {S : Type 0} (g : Ghosts S) (old : Held S) (mid end : State) (Makes : C
   committed r done ok err crash =
       let begun = state g (record old { in_transaction = true }) in
       let early = λ (clean : HasCleanDisk end). let is : HasCleanDisk mid = omega (arith, crash.clean) in is in
-      let made = λ (clean : HasCleanDisk end) (held : Content) (has : AreTables (state g old).now held). (done.makes (early clean) refl held has).1 in
-      let kept = λ (clean : HasCleanDisk end) (held : Content) (has : AreTables (state g old).now held). done.kept (early clean) refl held has in
+      let made = λ (clean : HasCleanDisk end) (content : Content) (has : AreTables (state g old).now content). (done.makes (early clean) refl content has).1 in
+      let kept = λ (clean : HasCleanDisk end) (content : Content) (has : AreTables (state g old).now content). done.kept (early clean) refl content has in
       record {
-        ok = λ clean held has. more_ok r (λ (h : IsTrue mid.in_transaction × Shows mid end mid.now mid.now false × KeepsCounts mid end × (end.marks ≡ [])).
-            ((kept clean held has).was_open h.1.was_open, h.1.is_open, subst (HasMade Makes held) (sym h.1.committed_is) (made clean held has))) (ok clean);
-        err = λ clean held has. on_err r (λ e h. kept_begun end (kept_then begun mid end (kept clean held has) (uncommitted_kept mid end e h))) (err clean);
+        ok = λ clean content has. more_ok r (λ (h : IsTrue mid.in_transaction × Shows mid end mid.now mid.now false × KeepsCounts mid end × (end.marks ≡ [])).
+            ((kept clean content has).was_open h.1.was_open, h.1.is_open, subst (HasMade Makes content) (sym h.1.committed_is) (made clean content has))) (ok clean);
+        err = λ clean content has. on_err r (λ e h. kept_begun end (kept_then begun mid end (kept clean content has) (uncommitted_kept mid end e h))) (err clean);
         survives = survives_begin g old end _ (survives_then begun mid end (λ _. ⊥) (λ db. db ≡ mid.now.trees) (AreMade (state g old) Makes)
             (λ _ db none. absurd none) (λ clean db is. record { db = mid.now; made = made clean; same = is }) done.survives crash);
       }
@@ -144,7 +144,7 @@ module _ {S : Type 0} (g : Ghosts S) (old : Held S) (mid end : State) (Makes : C
   given_up e d done undone crash =
       let begun = state g (record old { in_transaction = true }) in
       record {
-        ok = λ clean held has. tt;
-        err = λ clean held has. let early : HasCleanDisk mid = omega (arith, crash.clean) in kept_begun end (kept_then begun mid end (done.kept early refl held has) (undone_kept mid end (undone clean)));
+        ok = λ clean content has. tt;
+        err = λ clean content has. let early : HasCleanDisk mid = omega (arith, crash.clean) in kept_begun end (kept_then begun mid end (done.kept early refl content has) (undone_kept mid end (undone clean)));
         survives = survives_begin g old end _ (survives_then begun mid end (λ _. ⊥) (λ _. ⊥) _ (λ _ db none. absurd none) (λ _ db none. absurd none) done.survives crash);
       }

@@ -38,29 +38,29 @@ module _ (f : Fact) (facts : List Fact) (stays : (o : Opening) → Stays f facts
   installed_same openings = λ i. placed (λ place o. installed_as place ((stays o).installation i)) openings
 
 -- a held reading, at the place behind the last
-pub hold_recorded : HoldsChangeNothing → (reading : HeldReading) (place : ℕ) (held after : Content) → IsBehind poll_tree.holds hold_columns every hold_place place held
-    → Edits poll_tree.holds hold_columns (with_row (held_row place reading)) held after → Records (fact.Hold reading) held after
-hold_recorded law reading place held after behind e zone facts a lawful =
+pub hold_recorded : HoldsChangeNothing → (reading : HeldReading) (place : ℕ) (content after : Content) → IsBehind poll_tree.holds hold_columns every hold_place place content
+    → Edits poll_tree.holds hold_columns (with_row (held_row place reading)) content after → Records (fact.Hold reading) content after
+hold_recorded law reading place content after behind e zone facts a lawful =
     let f = fact.Hold reading in
     let stays = λ (o : Opening). law reading facts o in
     record {
       lawful = lawful;
-      meta = stay meta_tree meta_columns (zone ∷ []) held after (e.others 0 (λ is. omega (arith, is))) a.meta;
-      devices = stay list_tree.devices device_columns (placed added (devices_in facts)) held after (e.others 1 (λ is. omega (arith, is))) a.devices;
-      points = points_stay facts (f ∷ facts) held after (e.others 3 (λ is. omega (arith, is))) (λ device. refl) a.points;
-      registers = stay list_tree.registers register_columns (placed registered (registers_in facts)) held after (e.others 5 (λ is. omega (arith, is))) a.registers;
+      meta = stay meta_tree meta_columns (zone ∷ []) content after (e.others 0 (λ is. omega (arith, is))) a.meta;
+      devices = stay list_tree.devices device_columns (placed added (devices_in facts)) content after (e.others 1 (λ is. omega (arith, is))) a.devices;
+      points = points_stay facts (f ∷ facts) content after (e.others 3 (λ is. omega (arith, is))) (λ device. refl) a.points;
+      registers = stay list_tree.registers register_columns (placed registered (registers_in facts)) content after (e.others 5 (λ is. omega (arith, is))) a.registers;
       installations = subst (λ rows. HasRows meter_tree.installations installed_columns rows after) (sym (installed_same f facts stays (openings_in facts)))
-          (stay meter_tree.installations installed_columns (placed (installed_row facts) (openings_in facts)) held after (e.others 7 (λ is. omega (arith, is))) a.installations);
-      ranges = stay meter_tree.ranges ranged_columns (map ranged (openings_in facts)) held after (e.others 18 (λ is. omega (arith, is))) a.ranges;
-      entries = entries_stay facts (f ∷ facts) held after (e.others 9 (λ is. omega (arith, is))) (λ meter. entries_same f facts stays (opening_of facts meter)) a.entries;
-      voids = stay entry_tree.voids voided_columns (map voided (voids_in facts)) held after (e.others 20 (λ is. omega (arith, is))) a.voids;
-      polls = stay poll_tree.polls poll_columns (map started (polls_in facts)) held after (e.others 11 (λ is. omega (arith, is))) a.polls;
+          (stay meter_tree.installations installed_columns (placed (installed_row facts) (openings_in facts)) content after (e.others 7 (λ is. omega (arith, is))) a.installations);
+      ranges = stay meter_tree.ranges ranged_columns (map ranged (openings_in facts)) content after (e.others 18 (λ is. omega (arith, is))) a.ranges;
+      entries = entries_stay facts (f ∷ facts) content after (e.others 9 (λ is. omega (arith, is))) (λ meter. entries_same f facts stays (opening_of facts meter)) a.entries;
+      voids = stay entry_tree.voids voided_columns (map voided (voids_in facts)) content after (e.others 20 (λ is. omega (arith, is))) a.voids;
+      polls = stay poll_tree.polls poll_columns (map started (polls_in facts)) content after (e.others 11 (λ is. omega (arith, is))) a.polls;
       holds =
           let hs = holds_in facts in
           let it = behind (placed held_row hs) a.holds in
           let count : place ≡ length hs + 1 = it.1 ∙ last_counts held_row hold_place (λ place h. refl) hs it.0 it.2 in
           subst (λ n. HasRows poll_tree.holds hold_columns (held_row n reading ∷ placed held_row hs) after) count (e.rows (placed held_row hs) a.holds);
-      outcomes = stay poll_tree.outcomes outcome_columns (map outcome_row (ended_in facts)) held after (e.others 13 (λ is. omega (arith, is))) a.outcomes;
-      intervals = intervals_stay facts (f ∷ facts) held after (e.others 14 (λ is. omega (arith, is))) (λ meter. intervals_same f facts stays (opening_of facts meter)) a.intervals;
-      replies = stay poll_tree.replies reply_columns (map kept (replies_in facts)) held after (e.others 16 (λ is. omega (arith, is))) a.replies;
+      outcomes = stay poll_tree.outcomes outcome_columns (map outcome_row (ended_in facts)) content after (e.others 13 (λ is. omega (arith, is))) a.outcomes;
+      intervals = intervals_stay facts (f ∷ facts) content after (e.others 14 (λ is. omega (arith, is))) (λ meter. intervals_same f facts stays (opening_of facts meter)) a.intervals;
+      replies = stay poll_tree.replies reply_columns (map kept (replies_in facts)) content after (e.others 16 (λ is. omega (arith, is))) a.replies;
     }

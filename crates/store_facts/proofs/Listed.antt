@@ -59,9 +59,9 @@ others_left device other (p ∷ rows) off =
     (λ here. ap (λ t. same t other) (same_text p.device device here) ∙ off) (others_left device other rows off)
 
 -- A list that is put takes the place of the one that its device has.
-pub list_put : (put : DeviceList) (facts : List Fact) (ps : List Point) (held after : Content) → map (listed_at put.device) ps ≡ placed_on (listed put.device) 0 put.list.points
-    → Edits list_tree.points point_columns (with_list put.device ps) held after → ArePoints facts held → ArePoints (fact.List put ∷ facts) after
-list_put put facts ps held after are e a = record {
+pub list_put : (put : DeviceList) (facts : List Fact) (ps : List Point) (content after : Content) → map (listed_at put.device) ps ≡ placed_on (listed put.device) 0 put.list.points
+    → Edits list_tree.points point_columns (with_list put.device ps) content after → ArePoints facts content → ArePoints (fact.List put ∷ facts) after
+list_put put facts ps content after are e a = record {
   rows = with_list put.device ps a.rows;
   there = e.rows a.rows a.there;
   each = λ device. elim (cases_Bool (same put.device device)) [
@@ -93,22 +93,22 @@ list_put put facts ps held after are e a = record {
         ∙ ap₂ ◌++◌ (filter_none (is_point_of device) news (other_points put.device device ps off)) (others_left put.device device a.rows off)
 
 -- the list of a device
-pub list_recorded : (put : DeviceList) (ps : List Point) (held after : Content)
+pub list_recorded : (put : DeviceList) (ps : List Point) (content after : Content)
     → map (listed_at put.device) ps ≡ placed_on (listed put.device) 0 put.list.points
-    → Edits list_tree.points point_columns (with_list put.device ps) held after → Records (fact.List put) held after
-list_recorded put ps held after are e zone facts a lawful = record {
+    → Edits list_tree.points point_columns (with_list put.device ps) content after → Records (fact.List put) content after
+list_recorded put ps content after are e zone facts a lawful = record {
   lawful = lawful;
-  meta = stay meta_tree meta_columns (zone ∷ []) held after (e.others 0 (λ is. omega (arith, is))) a.meta;
-  devices = stay list_tree.devices device_columns (placed added (devices_in facts)) held after (e.others 1 (λ is. omega (arith, is))) a.devices;
-  points = list_put put facts ps held after are e a.points;
-  registers = stay list_tree.registers register_columns (placed registered (registers_in facts)) held after (e.others 5 (λ is. omega (arith, is))) a.registers;
-  installations = stay meter_tree.installations installed_columns (placed (installed_row facts) (openings_in facts)) held after (e.others 7 (λ is. omega (arith, is))) a.installations;
-  ranges = stay meter_tree.ranges ranged_columns (map ranged (openings_in facts)) held after (e.others 18 (λ is. omega (arith, is))) a.ranges;
-  entries = entries_stay facts (fact.List put ∷ facts) held after (e.others 9 (λ is. omega (arith, is))) (λ meter. refl) a.entries;
-  voids = stay entry_tree.voids voided_columns (map voided (voids_in facts)) held after (e.others 20 (λ is. omega (arith, is))) a.voids;
-  polls = stay poll_tree.polls poll_columns (map started (polls_in facts)) held after (e.others 11 (λ is. omega (arith, is))) a.polls;
-  holds = stay poll_tree.holds hold_columns (placed held_row (holds_in facts)) held after (e.others 12 (λ is. omega (arith, is))) a.holds;
-  outcomes = stay poll_tree.outcomes outcome_columns (map outcome_row (ended_in facts)) held after (e.others 13 (λ is. omega (arith, is))) a.outcomes;
-  intervals = intervals_stay facts (fact.List put ∷ facts) held after (e.others 14 (λ is. omega (arith, is))) (λ meter. refl) a.intervals;
-  replies = stay poll_tree.replies reply_columns (map kept (replies_in facts)) held after (e.others 16 (λ is. omega (arith, is))) a.replies;
+  meta = stay meta_tree meta_columns (zone ∷ []) content after (e.others 0 (λ is. omega (arith, is))) a.meta;
+  devices = stay list_tree.devices device_columns (placed added (devices_in facts)) content after (e.others 1 (λ is. omega (arith, is))) a.devices;
+  points = list_put put facts ps content after are e a.points;
+  registers = stay list_tree.registers register_columns (placed registered (registers_in facts)) content after (e.others 5 (λ is. omega (arith, is))) a.registers;
+  installations = stay meter_tree.installations installed_columns (placed (installed_row facts) (openings_in facts)) content after (e.others 7 (λ is. omega (arith, is))) a.installations;
+  ranges = stay meter_tree.ranges ranged_columns (map ranged (openings_in facts)) content after (e.others 18 (λ is. omega (arith, is))) a.ranges;
+  entries = entries_stay facts (fact.List put ∷ facts) content after (e.others 9 (λ is. omega (arith, is))) (λ meter. refl) a.entries;
+  voids = stay entry_tree.voids voided_columns (map voided (voids_in facts)) content after (e.others 20 (λ is. omega (arith, is))) a.voids;
+  polls = stay poll_tree.polls poll_columns (map started (polls_in facts)) content after (e.others 11 (λ is. omega (arith, is))) a.polls;
+  holds = stay poll_tree.holds hold_columns (placed held_row (holds_in facts)) content after (e.others 12 (λ is. omega (arith, is))) a.holds;
+  outcomes = stay poll_tree.outcomes outcome_columns (map outcome_row (ended_in facts)) content after (e.others 13 (λ is. omega (arith, is))) a.outcomes;
+  intervals = intervals_stay facts (fact.List put ∷ facts) content after (e.others 14 (λ is. omega (arith, is))) (λ meter. refl) a.intervals;
+  replies = stay poll_tree.replies reply_columns (map kept (replies_in facts)) content after (e.others 16 (λ is. omega (arith, is))) a.replies;
 }

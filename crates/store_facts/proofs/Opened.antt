@@ -30,9 +30,9 @@ use Rattle.store_facts.proofs.Placed.{last_counts}
 use Rattle.store_facts.proofs.Recorded.{stay, points_stay, entries_stay, intervals_stay}
 
 module _ (facts : List Fact) (o : Opening) (begins : Begins facts o) (new : opening_of facts o.meter ≡ None) where
-  opening_entered : (held after : Content) → Edits entry_tree.entries entry_columns (with_row (entered o.meter (opening_row o))) held after
-      → AreEntries facts held → AreEntries (fact.Opening o ∷ facts) after
-  opening_entered held after e a = record {
+  opening_entered : (content after : Content) → Edits entry_tree.entries entry_columns (with_row (entered o.meter (opening_row o))) content after
+      → AreEntries facts content → AreEntries (fact.Opening o ∷ facts) after
+  opening_entered content after e a = record {
     rows = first ∷ a.rows;
     there = e.rows a.rows a.there;
     each = λ m. elim (cases_Bool (same o.meter m)) [
@@ -71,24 +71,24 @@ module _ (facts : List Fact) (o : Opening) (begins : Begins facts o) (new : open
       still (Some x) = refl
 
 -- An installation, at the place behind the last, with its range and its opening.
-pub opening_recorded : OpeningsBegin → (o : Opening) (place : ℕ) (zone : List ℕ) (facts : List Fact) (held one two after : Content)
-    → AreOf zone facts held → AreLawful (fact.Opening o ∷ facts)
-    → IsBehind meter_tree.installations installed_columns every installed_place place held
-    → Edits meter_tree.installations installed_columns (with_row (installed_as place (begun o))) held one
+pub opening_recorded : OpeningsBegin → (o : Opening) (place : ℕ) (zone : List ℕ) (facts : List Fact) (content one two after : Content)
+    → AreOf zone facts content → AreLawful (fact.Opening o ∷ facts)
+    → IsBehind meter_tree.installations installed_columns every installed_place place content
+    → Edits meter_tree.installations installed_columns (with_row (installed_as place (begun o))) content one
     → Edits meter_tree.ranges ranged_columns (with_row (ranged o)) one two
     → Edits entry_tree.entries entry_columns (with_row (entered o.meter (opening_row o))) two after
     → AreOf zone (fact.Opening o ∷ facts) after
-opening_recorded law o place zone facts held one two after a lawful behind i r e =
+opening_recorded law o place zone facts content one two after a lawful behind i r e =
     let f = fact.Opening o in
     let begins = law o facts lawful in
     let new = lawful.0.0.new in
     let far = λ (t : ℕ) (x : t ≢ 7) (y : t ≢ 18) (z : t ≢ 9). e.others t z ∙ r.others t y ∙ i.others t x in
     record {
       lawful = lawful;
-      meta = stay meta_tree meta_columns (zone ∷ []) held after (far 0 (λ is. omega (arith, is)) (λ is. omega (arith, is)) (λ is. omega (arith, is))) a.meta;
-      devices = stay list_tree.devices device_columns (placed added (devices_in facts)) held after (far 1 (λ is. omega (arith, is)) (λ is. omega (arith, is)) (λ is. omega (arith, is))) a.devices;
-      points = points_stay facts (f ∷ facts) held after (far 3 (λ is. omega (arith, is)) (λ is. omega (arith, is)) (λ is. omega (arith, is))) (λ device. refl) a.points;
-      registers = stay list_tree.registers register_columns (placed registered (registers_in facts)) held after (far 5 (λ is. omega (arith, is)) (λ is. omega (arith, is)) (λ is. omega (arith, is))) a.registers;
+      meta = stay meta_tree meta_columns (zone ∷ []) content after (far 0 (λ is. omega (arith, is)) (λ is. omega (arith, is)) (λ is. omega (arith, is))) a.meta;
+      devices = stay list_tree.devices device_columns (placed added (devices_in facts)) content after (far 1 (λ is. omega (arith, is)) (λ is. omega (arith, is)) (λ is. omega (arith, is))) a.devices;
+      points = points_stay facts (f ∷ facts) content after (far 3 (λ is. omega (arith, is)) (λ is. omega (arith, is)) (λ is. omega (arith, is))) (λ device. refl) a.points;
+      registers = stay list_tree.registers register_columns (placed registered (registers_in facts)) content after (far 5 (λ is. omega (arith, is)) (λ is. omega (arith, is)) (λ is. omega (arith, is))) a.registers;
       installations =
           let os = openings_in facts in
           let rows = placed (installed_row facts) os in
@@ -98,12 +98,12 @@ opening_recorded law o place zone facts held one two after a lawful behind i r e
           (subst (λ row. HasRows meter_tree.installations installed_columns (installed_as (length os + 1) row ∷ rows) one) (sym begins.installation)
           (subst (λ n. HasRows meter_tree.installations installed_columns (installed_as n (begun o) ∷ rows) one) count (i.rows rows a.installations)));
       ranges = stay meter_tree.ranges ranged_columns (ranged o ∷ map ranged (openings_in facts)) two after (e.others 18 (λ is. omega (arith, is)))
-          (r.rows (map ranged (openings_in facts)) (stay meter_tree.ranges ranged_columns (map ranged (openings_in facts)) held one (i.others 18 (λ is. omega (arith, is))) a.ranges));
-      entries = opening_entered facts o begins new two after e (entries_stay facts facts held two (r.others 9 (λ is. omega (arith, is)) ∙ i.others 9 (λ is. omega (arith, is))) (λ meter. refl) a.entries);
-      voids = stay entry_tree.voids voided_columns (map voided (voids_in facts)) held after (far 20 (λ is. omega (arith, is)) (λ is. omega (arith, is)) (λ is. omega (arith, is))) a.voids;
-      polls = stay poll_tree.polls poll_columns (map started (polls_in facts)) held after (far 11 (λ is. omega (arith, is)) (λ is. omega (arith, is)) (λ is. omega (arith, is))) a.polls;
-      holds = stay poll_tree.holds hold_columns (placed held_row (holds_in facts)) held after (far 12 (λ is. omega (arith, is)) (λ is. omega (arith, is)) (λ is. omega (arith, is))) a.holds;
-      outcomes = stay poll_tree.outcomes outcome_columns (map outcome_row (ended_in facts)) held after (far 13 (λ is. omega (arith, is)) (λ is. omega (arith, is)) (λ is. omega (arith, is))) a.outcomes;
-      intervals = intervals_stay facts (f ∷ facts) held after (far 14 (λ is. omega (arith, is)) (λ is. omega (arith, is)) (λ is. omega (arith, is))) (opening_intervals facts o begins new) a.intervals;
-      replies = stay poll_tree.replies reply_columns (map kept (replies_in facts)) held after (far 16 (λ is. omega (arith, is)) (λ is. omega (arith, is)) (λ is. omega (arith, is))) a.replies;
+          (r.rows (map ranged (openings_in facts)) (stay meter_tree.ranges ranged_columns (map ranged (openings_in facts)) content one (i.others 18 (λ is. omega (arith, is))) a.ranges));
+      entries = opening_entered facts o begins new two after e (entries_stay facts facts content two (r.others 9 (λ is. omega (arith, is)) ∙ i.others 9 (λ is. omega (arith, is))) (λ meter. refl) a.entries);
+      voids = stay entry_tree.voids voided_columns (map voided (voids_in facts)) content after (far 20 (λ is. omega (arith, is)) (λ is. omega (arith, is)) (λ is. omega (arith, is))) a.voids;
+      polls = stay poll_tree.polls poll_columns (map started (polls_in facts)) content after (far 11 (λ is. omega (arith, is)) (λ is. omega (arith, is)) (λ is. omega (arith, is))) a.polls;
+      holds = stay poll_tree.holds hold_columns (placed held_row (holds_in facts)) content after (far 12 (λ is. omega (arith, is)) (λ is. omega (arith, is)) (λ is. omega (arith, is))) a.holds;
+      outcomes = stay poll_tree.outcomes outcome_columns (map outcome_row (ended_in facts)) content after (far 13 (λ is. omega (arith, is)) (λ is. omega (arith, is)) (λ is. omega (arith, is))) a.outcomes;
+      intervals = intervals_stay facts (f ∷ facts) content after (far 14 (λ is. omega (arith, is)) (λ is. omega (arith, is)) (λ is. omega (arith, is))) (opening_intervals facts o begins new) a.intervals;
+      replies = stay poll_tree.replies reply_columns (map kept (replies_in facts)) content after (far 16 (λ is. omega (arith, is)) (λ is. omega (arith, is)) (λ is. omega (arith, is))) a.replies;
     }

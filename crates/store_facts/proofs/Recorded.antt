@@ -27,134 +27,134 @@ use Rattle.store_facts.specs.Tables.{meta_tree, meta_columns, ArePoints, AreEntr
 use Rattle.store_facts.specs.Recording.{Records, IsBehind}
 use Rattle.store_facts.proofs.Placed.{last_counts}
 
-pub stay : {X : Type 0} (tree : ℕ) (columns : X → Row) (rows : List X) (held after : Content) → after tree ≡ held tree → HasRows tree columns rows held → HasRows tree columns rows after
-stay tree columns rows held after same has = subst (IsPermutation (map columns rows)) (sym same) has
+pub stay : {X : Type 0} (tree : ℕ) (columns : X → Row) (rows : List X) (content after : Content) → after tree ≡ content tree → HasRows tree columns rows content → HasRows tree columns rows after
+stay tree columns rows content after same has = subst (IsPermutation (map columns rows)) (sym same) has
 
-pub points_stay : (facts others : List Fact) (held after : Content) → after list_tree.points ≡ held list_tree.points
-    → ((device : List ℕ) → points_of others device ≡ points_of facts device) → ArePoints facts held → ArePoints others after
-points_stay facts others held after same of a = record {
+pub points_stay : (facts others : List Fact) (content after : Content) → after list_tree.points ≡ content list_tree.points
+    → ((device : List ℕ) → points_of others device ≡ points_of facts device) → ArePoints facts content → ArePoints others after
+points_stay facts others content after same of a = record {
   rows = a.rows;
   there = subst (IsPermutation (map point_columns a.rows)) (sym same) a.there;
   each = λ device. subst (λ ps. IsPermutation (filter (is_point_of device) a.rows) (placed_on (listed device) 0 ps)) (sym (of device)) (a.each device);
 }
 
-pub entries_stay : (facts others : List Fact) (held after : Content) → after entry_tree.entries ≡ held entry_tree.entries
-    → ((meter : List ℕ) → entries_of others meter ≡ entries_of facts meter) → AreEntries facts held → AreEntries others after
-entries_stay facts others held after same of a = record {
+pub entries_stay : (facts others : List Fact) (content after : Content) → after entry_tree.entries ≡ content entry_tree.entries
+    → ((meter : List ℕ) → entries_of others meter ≡ entries_of facts meter) → AreEntries facts content → AreEntries others after
+entries_stay facts others content after same of a = record {
   rows = a.rows;
   there = subst (IsPermutation (map entry_columns a.rows)) (sym same) a.there;
   each = λ meter. subst (IsPermutation (filter (is_entry_of meter) a.rows)) (sym (of meter)) (a.each meter);
 }
 
-pub intervals_stay : (facts others : List Fact) (held after : Content) → after interval_tree.intervals ≡ held interval_tree.intervals
-    → ((meter : List ℕ) → rows_of_meter others meter ≡ rows_of_meter facts meter) → AreIntervals facts held → AreIntervals others after
-intervals_stay facts others held after same of a = record {
+pub intervals_stay : (facts others : List Fact) (content after : Content) → after interval_tree.intervals ≡ content interval_tree.intervals
+    → ((meter : List ℕ) → rows_of_meter others meter ≡ rows_of_meter facts meter) → AreIntervals facts content → AreIntervals others after
+intervals_stay facts others content after same of a = record {
   rows = a.rows;
   there = subst (IsPermutation (map interval_columns a.rows)) (sym same) a.there;
   each = λ meter. subst (λ rs. IsPermutation (filter (is_interval_of meter) a.rows) (map (interval_of meter) rs)) (sym (of meter)) (a.each meter);
 }
 
 -- a device, at the place behind the last
-pub device_recorded : (device : Device) (place : ℕ) (held after : Content) → IsBehind list_tree.devices device_columns every device_place place held
-    → Edits list_tree.devices device_columns (with_row (added place device)) held after → Records (fact.Device device) held after
-device_recorded device place held after behind e zone facts a lawful = record {
+pub device_recorded : (device : Device) (place : ℕ) (content after : Content) → IsBehind list_tree.devices device_columns every device_place place content
+    → Edits list_tree.devices device_columns (with_row (added place device)) content after → Records (fact.Device device) content after
+device_recorded device place content after behind e zone facts a lawful = record {
   lawful = lawful;
-  meta = stay meta_tree meta_columns (zone ∷ []) held after (e.others 0 (λ is. omega (arith, is))) a.meta;
+  meta = stay meta_tree meta_columns (zone ∷ []) content after (e.others 0 (λ is. omega (arith, is))) a.meta;
   devices =
       let ds = devices_in facts in
       let it = behind (placed added ds) a.devices in
       let count : place ≡ length ds + 1 = it.1 ∙ last_counts added device_place (λ place d. refl) ds it.0 it.2 in
       subst (λ n. HasRows list_tree.devices device_columns (added n device ∷ placed added ds) after) count (e.rows (placed added ds) a.devices);
-  points = points_stay facts (fact.Device device ∷ facts) held after (e.others 3 (λ is. omega (arith, is))) (λ device. refl) a.points;
-  registers = stay list_tree.registers register_columns (placed registered (registers_in facts)) held after (e.others 5 (λ is. omega (arith, is))) a.registers;
-  installations = stay meter_tree.installations installed_columns (placed (installed_row facts) (openings_in facts)) held after (e.others 7 (λ is. omega (arith, is))) a.installations;
-  ranges = stay meter_tree.ranges ranged_columns (map ranged (openings_in facts)) held after (e.others 18 (λ is. omega (arith, is))) a.ranges;
-  entries = entries_stay facts (fact.Device device ∷ facts) held after (e.others 9 (λ is. omega (arith, is))) (λ meter. refl) a.entries;
-  voids = stay entry_tree.voids voided_columns (map voided (voids_in facts)) held after (e.others 20 (λ is. omega (arith, is))) a.voids;
-  polls = stay poll_tree.polls poll_columns (map started (polls_in facts)) held after (e.others 11 (λ is. omega (arith, is))) a.polls;
-  holds = stay poll_tree.holds hold_columns (placed held_row (holds_in facts)) held after (e.others 12 (λ is. omega (arith, is))) a.holds;
-  outcomes = stay poll_tree.outcomes outcome_columns (map outcome_row (ended_in facts)) held after (e.others 13 (λ is. omega (arith, is))) a.outcomes;
-  intervals = intervals_stay facts (fact.Device device ∷ facts) held after (e.others 14 (λ is. omega (arith, is))) (λ meter. refl) a.intervals;
-  replies = stay poll_tree.replies reply_columns (map kept (replies_in facts)) held after (e.others 16 (λ is. omega (arith, is))) a.replies;
+  points = points_stay facts (fact.Device device ∷ facts) content after (e.others 3 (λ is. omega (arith, is))) (λ device. refl) a.points;
+  registers = stay list_tree.registers register_columns (placed registered (registers_in facts)) content after (e.others 5 (λ is. omega (arith, is))) a.registers;
+  installations = stay meter_tree.installations installed_columns (placed (installed_row facts) (openings_in facts)) content after (e.others 7 (λ is. omega (arith, is))) a.installations;
+  ranges = stay meter_tree.ranges ranged_columns (map ranged (openings_in facts)) content after (e.others 18 (λ is. omega (arith, is))) a.ranges;
+  entries = entries_stay facts (fact.Device device ∷ facts) content after (e.others 9 (λ is. omega (arith, is))) (λ meter. refl) a.entries;
+  voids = stay entry_tree.voids voided_columns (map voided (voids_in facts)) content after (e.others 20 (λ is. omega (arith, is))) a.voids;
+  polls = stay poll_tree.polls poll_columns (map started (polls_in facts)) content after (e.others 11 (λ is. omega (arith, is))) a.polls;
+  holds = stay poll_tree.holds hold_columns (placed held_row (holds_in facts)) content after (e.others 12 (λ is. omega (arith, is))) a.holds;
+  outcomes = stay poll_tree.outcomes outcome_columns (map outcome_row (ended_in facts)) content after (e.others 13 (λ is. omega (arith, is))) a.outcomes;
+  intervals = intervals_stay facts (fact.Device device ∷ facts) content after (e.others 14 (λ is. omega (arith, is))) (λ meter. refl) a.intervals;
+  replies = stay poll_tree.replies reply_columns (map kept (replies_in facts)) content after (e.others 16 (λ is. omega (arith, is))) a.replies;
 }
 
 -- a register, at the place behind the last
-pub register_recorded : (register : Register) (place : ℕ) (held after : Content) → IsBehind list_tree.registers register_columns every register_place place held
-    → Edits list_tree.registers register_columns (with_row (registered place register)) held after → Records (fact.Register register) held after
-register_recorded register place held after behind e zone facts a lawful = record {
+pub register_recorded : (register : Register) (place : ℕ) (content after : Content) → IsBehind list_tree.registers register_columns every register_place place content
+    → Edits list_tree.registers register_columns (with_row (registered place register)) content after → Records (fact.Register register) content after
+register_recorded register place content after behind e zone facts a lawful = record {
   lawful = lawful;
-  meta = stay meta_tree meta_columns (zone ∷ []) held after (e.others 0 (λ is. omega (arith, is))) a.meta;
-  devices = stay list_tree.devices device_columns (placed added (devices_in facts)) held after (e.others 1 (λ is. omega (arith, is))) a.devices;
-  points = points_stay facts (fact.Register register ∷ facts) held after (e.others 3 (λ is. omega (arith, is))) (λ device. refl) a.points;
+  meta = stay meta_tree meta_columns (zone ∷ []) content after (e.others 0 (λ is. omega (arith, is))) a.meta;
+  devices = stay list_tree.devices device_columns (placed added (devices_in facts)) content after (e.others 1 (λ is. omega (arith, is))) a.devices;
+  points = points_stay facts (fact.Register register ∷ facts) content after (e.others 3 (λ is. omega (arith, is))) (λ device. refl) a.points;
   registers =
       let rs = registers_in facts in
       let it = behind (placed registered rs) a.registers in
       let count : place ≡ length rs + 1 = it.1 ∙ last_counts registered register_place (λ place r. refl) rs it.0 it.2 in
       subst (λ n. HasRows list_tree.registers register_columns (registered n register ∷ placed registered rs) after) count (e.rows (placed registered rs) a.registers);
-  installations = stay meter_tree.installations installed_columns (placed (installed_row facts) (openings_in facts)) held after (e.others 7 (λ is. omega (arith, is))) a.installations;
-  ranges = stay meter_tree.ranges ranged_columns (map ranged (openings_in facts)) held after (e.others 18 (λ is. omega (arith, is))) a.ranges;
-  entries = entries_stay facts (fact.Register register ∷ facts) held after (e.others 9 (λ is. omega (arith, is))) (λ meter. refl) a.entries;
-  voids = stay entry_tree.voids voided_columns (map voided (voids_in facts)) held after (e.others 20 (λ is. omega (arith, is))) a.voids;
-  polls = stay poll_tree.polls poll_columns (map started (polls_in facts)) held after (e.others 11 (λ is. omega (arith, is))) a.polls;
-  holds = stay poll_tree.holds hold_columns (placed held_row (holds_in facts)) held after (e.others 12 (λ is. omega (arith, is))) a.holds;
-  outcomes = stay poll_tree.outcomes outcome_columns (map outcome_row (ended_in facts)) held after (e.others 13 (λ is. omega (arith, is))) a.outcomes;
-  intervals = intervals_stay facts (fact.Register register ∷ facts) held after (e.others 14 (λ is. omega (arith, is))) (λ meter. refl) a.intervals;
-  replies = stay poll_tree.replies reply_columns (map kept (replies_in facts)) held after (e.others 16 (λ is. omega (arith, is))) a.replies;
+  installations = stay meter_tree.installations installed_columns (placed (installed_row facts) (openings_in facts)) content after (e.others 7 (λ is. omega (arith, is))) a.installations;
+  ranges = stay meter_tree.ranges ranged_columns (map ranged (openings_in facts)) content after (e.others 18 (λ is. omega (arith, is))) a.ranges;
+  entries = entries_stay facts (fact.Register register ∷ facts) content after (e.others 9 (λ is. omega (arith, is))) (λ meter. refl) a.entries;
+  voids = stay entry_tree.voids voided_columns (map voided (voids_in facts)) content after (e.others 20 (λ is. omega (arith, is))) a.voids;
+  polls = stay poll_tree.polls poll_columns (map started (polls_in facts)) content after (e.others 11 (λ is. omega (arith, is))) a.polls;
+  holds = stay poll_tree.holds hold_columns (placed held_row (holds_in facts)) content after (e.others 12 (λ is. omega (arith, is))) a.holds;
+  outcomes = stay poll_tree.outcomes outcome_columns (map outcome_row (ended_in facts)) content after (e.others 13 (λ is. omega (arith, is))) a.outcomes;
+  intervals = intervals_stay facts (fact.Register register ∷ facts) content after (e.others 14 (λ is. omega (arith, is))) (λ meter. refl) a.intervals;
+  replies = stay poll_tree.replies reply_columns (map kept (replies_in facts)) content after (e.others 16 (λ is. omega (arith, is))) a.replies;
 }
 
 -- a poll
-pub poll_recorded : (poll : Poll) (held after : Content) → Edits poll_tree.polls poll_columns (with_row (started poll)) held after → Records (fact.Poll poll) held after
-poll_recorded poll held after e zone facts a lawful = record {
+pub poll_recorded : (poll : Poll) (content after : Content) → Edits poll_tree.polls poll_columns (with_row (started poll)) content after → Records (fact.Poll poll) content after
+poll_recorded poll content after e zone facts a lawful = record {
   lawful = lawful;
-  meta = stay meta_tree meta_columns (zone ∷ []) held after (e.others 0 (λ is. omega (arith, is))) a.meta;
-  devices = stay list_tree.devices device_columns (placed added (devices_in facts)) held after (e.others 1 (λ is. omega (arith, is))) a.devices;
-  points = points_stay facts (fact.Poll poll ∷ facts) held after (e.others 3 (λ is. omega (arith, is))) (λ device. refl) a.points;
-  registers = stay list_tree.registers register_columns (placed registered (registers_in facts)) held after (e.others 5 (λ is. omega (arith, is))) a.registers;
-  installations = stay meter_tree.installations installed_columns (placed (installed_row facts) (openings_in facts)) held after (e.others 7 (λ is. omega (arith, is))) a.installations;
-  ranges = stay meter_tree.ranges ranged_columns (map ranged (openings_in facts)) held after (e.others 18 (λ is. omega (arith, is))) a.ranges;
-  entries = entries_stay facts (fact.Poll poll ∷ facts) held after (e.others 9 (λ is. omega (arith, is))) (λ meter. refl) a.entries;
-  voids = stay entry_tree.voids voided_columns (map voided (voids_in facts)) held after (e.others 20 (λ is. omega (arith, is))) a.voids;
+  meta = stay meta_tree meta_columns (zone ∷ []) content after (e.others 0 (λ is. omega (arith, is))) a.meta;
+  devices = stay list_tree.devices device_columns (placed added (devices_in facts)) content after (e.others 1 (λ is. omega (arith, is))) a.devices;
+  points = points_stay facts (fact.Poll poll ∷ facts) content after (e.others 3 (λ is. omega (arith, is))) (λ device. refl) a.points;
+  registers = stay list_tree.registers register_columns (placed registered (registers_in facts)) content after (e.others 5 (λ is. omega (arith, is))) a.registers;
+  installations = stay meter_tree.installations installed_columns (placed (installed_row facts) (openings_in facts)) content after (e.others 7 (λ is. omega (arith, is))) a.installations;
+  ranges = stay meter_tree.ranges ranged_columns (map ranged (openings_in facts)) content after (e.others 18 (λ is. omega (arith, is))) a.ranges;
+  entries = entries_stay facts (fact.Poll poll ∷ facts) content after (e.others 9 (λ is. omega (arith, is))) (λ meter. refl) a.entries;
+  voids = stay entry_tree.voids voided_columns (map voided (voids_in facts)) content after (e.others 20 (λ is. omega (arith, is))) a.voids;
   polls = e.rows (map started (polls_in facts)) a.polls;
-  holds = stay poll_tree.holds hold_columns (placed held_row (holds_in facts)) held after (e.others 12 (λ is. omega (arith, is))) a.holds;
-  outcomes = stay poll_tree.outcomes outcome_columns (map outcome_row (ended_in facts)) held after (e.others 13 (λ is. omega (arith, is))) a.outcomes;
-  intervals = intervals_stay facts (fact.Poll poll ∷ facts) held after (e.others 14 (λ is. omega (arith, is))) (λ meter. refl) a.intervals;
-  replies = stay poll_tree.replies reply_columns (map kept (replies_in facts)) held after (e.others 16 (λ is. omega (arith, is))) a.replies;
+  holds = stay poll_tree.holds hold_columns (placed held_row (holds_in facts)) content after (e.others 12 (λ is. omega (arith, is))) a.holds;
+  outcomes = stay poll_tree.outcomes outcome_columns (map outcome_row (ended_in facts)) content after (e.others 13 (λ is. omega (arith, is))) a.outcomes;
+  intervals = intervals_stay facts (fact.Poll poll ∷ facts) content after (e.others 14 (λ is. omega (arith, is))) (λ meter. refl) a.intervals;
+  replies = stay poll_tree.replies reply_columns (map kept (replies_in facts)) content after (e.others 16 (λ is. omega (arith, is))) a.replies;
 }
 
 -- the end of a poll
-pub outcome_recorded : (ended : EndedPoll) (held after : Content) → Edits poll_tree.outcomes outcome_columns (with_row (outcome_row ended)) held after → Records (fact.Outcome ended) held after
-outcome_recorded ended held after e zone facts a lawful = record {
+pub outcome_recorded : (ended : EndedPoll) (content after : Content) → Edits poll_tree.outcomes outcome_columns (with_row (outcome_row ended)) content after → Records (fact.Outcome ended) content after
+outcome_recorded ended content after e zone facts a lawful = record {
   lawful = lawful;
-  meta = stay meta_tree meta_columns (zone ∷ []) held after (e.others 0 (λ is. omega (arith, is))) a.meta;
-  devices = stay list_tree.devices device_columns (placed added (devices_in facts)) held after (e.others 1 (λ is. omega (arith, is))) a.devices;
-  points = points_stay facts (fact.Outcome ended ∷ facts) held after (e.others 3 (λ is. omega (arith, is))) (λ device. refl) a.points;
-  registers = stay list_tree.registers register_columns (placed registered (registers_in facts)) held after (e.others 5 (λ is. omega (arith, is))) a.registers;
-  installations = stay meter_tree.installations installed_columns (placed (installed_row facts) (openings_in facts)) held after (e.others 7 (λ is. omega (arith, is))) a.installations;
-  ranges = stay meter_tree.ranges ranged_columns (map ranged (openings_in facts)) held after (e.others 18 (λ is. omega (arith, is))) a.ranges;
-  entries = entries_stay facts (fact.Outcome ended ∷ facts) held after (e.others 9 (λ is. omega (arith, is))) (λ meter. refl) a.entries;
-  voids = stay entry_tree.voids voided_columns (map voided (voids_in facts)) held after (e.others 20 (λ is. omega (arith, is))) a.voids;
-  polls = stay poll_tree.polls poll_columns (map started (polls_in facts)) held after (e.others 11 (λ is. omega (arith, is))) a.polls;
-  holds = stay poll_tree.holds hold_columns (placed held_row (holds_in facts)) held after (e.others 12 (λ is. omega (arith, is))) a.holds;
+  meta = stay meta_tree meta_columns (zone ∷ []) content after (e.others 0 (λ is. omega (arith, is))) a.meta;
+  devices = stay list_tree.devices device_columns (placed added (devices_in facts)) content after (e.others 1 (λ is. omega (arith, is))) a.devices;
+  points = points_stay facts (fact.Outcome ended ∷ facts) content after (e.others 3 (λ is. omega (arith, is))) (λ device. refl) a.points;
+  registers = stay list_tree.registers register_columns (placed registered (registers_in facts)) content after (e.others 5 (λ is. omega (arith, is))) a.registers;
+  installations = stay meter_tree.installations installed_columns (placed (installed_row facts) (openings_in facts)) content after (e.others 7 (λ is. omega (arith, is))) a.installations;
+  ranges = stay meter_tree.ranges ranged_columns (map ranged (openings_in facts)) content after (e.others 18 (λ is. omega (arith, is))) a.ranges;
+  entries = entries_stay facts (fact.Outcome ended ∷ facts) content after (e.others 9 (λ is. omega (arith, is))) (λ meter. refl) a.entries;
+  voids = stay entry_tree.voids voided_columns (map voided (voids_in facts)) content after (e.others 20 (λ is. omega (arith, is))) a.voids;
+  polls = stay poll_tree.polls poll_columns (map started (polls_in facts)) content after (e.others 11 (λ is. omega (arith, is))) a.polls;
+  holds = stay poll_tree.holds hold_columns (placed held_row (holds_in facts)) content after (e.others 12 (λ is. omega (arith, is))) a.holds;
   outcomes = e.rows (map outcome_row (ended_in facts)) a.outcomes;
-  intervals = intervals_stay facts (fact.Outcome ended ∷ facts) held after (e.others 14 (λ is. omega (arith, is))) (λ meter. refl) a.intervals;
-  replies = stay poll_tree.replies reply_columns (map kept (replies_in facts)) held after (e.others 16 (λ is. omega (arith, is))) a.replies;
+  intervals = intervals_stay facts (fact.Outcome ended ∷ facts) content after (e.others 14 (λ is. omega (arith, is))) (λ meter. refl) a.intervals;
+  replies = stay poll_tree.replies reply_columns (map kept (replies_in facts)) content after (e.others 16 (λ is. omega (arith, is))) a.replies;
 }
 
 -- a reply
-pub reply_recorded : (reply : Reply) (held after : Content) → Edits poll_tree.replies reply_columns (with_row (kept reply)) held after → Records (fact.Reply reply) held after
-reply_recorded reply held after e zone facts a lawful = record {
+pub reply_recorded : (reply : Reply) (content after : Content) → Edits poll_tree.replies reply_columns (with_row (kept reply)) content after → Records (fact.Reply reply) content after
+reply_recorded reply content after e zone facts a lawful = record {
   lawful = lawful;
-  meta = stay meta_tree meta_columns (zone ∷ []) held after (e.others 0 (λ is. omega (arith, is))) a.meta;
-  devices = stay list_tree.devices device_columns (placed added (devices_in facts)) held after (e.others 1 (λ is. omega (arith, is))) a.devices;
-  points = points_stay facts (fact.Reply reply ∷ facts) held after (e.others 3 (λ is. omega (arith, is))) (λ device. refl) a.points;
-  registers = stay list_tree.registers register_columns (placed registered (registers_in facts)) held after (e.others 5 (λ is. omega (arith, is))) a.registers;
-  installations = stay meter_tree.installations installed_columns (placed (installed_row facts) (openings_in facts)) held after (e.others 7 (λ is. omega (arith, is))) a.installations;
-  ranges = stay meter_tree.ranges ranged_columns (map ranged (openings_in facts)) held after (e.others 18 (λ is. omega (arith, is))) a.ranges;
-  entries = entries_stay facts (fact.Reply reply ∷ facts) held after (e.others 9 (λ is. omega (arith, is))) (λ meter. refl) a.entries;
-  voids = stay entry_tree.voids voided_columns (map voided (voids_in facts)) held after (e.others 20 (λ is. omega (arith, is))) a.voids;
-  polls = stay poll_tree.polls poll_columns (map started (polls_in facts)) held after (e.others 11 (λ is. omega (arith, is))) a.polls;
-  holds = stay poll_tree.holds hold_columns (placed held_row (holds_in facts)) held after (e.others 12 (λ is. omega (arith, is))) a.holds;
-  outcomes = stay poll_tree.outcomes outcome_columns (map outcome_row (ended_in facts)) held after (e.others 13 (λ is. omega (arith, is))) a.outcomes;
-  intervals = intervals_stay facts (fact.Reply reply ∷ facts) held after (e.others 14 (λ is. omega (arith, is))) (λ meter. refl) a.intervals;
+  meta = stay meta_tree meta_columns (zone ∷ []) content after (e.others 0 (λ is. omega (arith, is))) a.meta;
+  devices = stay list_tree.devices device_columns (placed added (devices_in facts)) content after (e.others 1 (λ is. omega (arith, is))) a.devices;
+  points = points_stay facts (fact.Reply reply ∷ facts) content after (e.others 3 (λ is. omega (arith, is))) (λ device. refl) a.points;
+  registers = stay list_tree.registers register_columns (placed registered (registers_in facts)) content after (e.others 5 (λ is. omega (arith, is))) a.registers;
+  installations = stay meter_tree.installations installed_columns (placed (installed_row facts) (openings_in facts)) content after (e.others 7 (λ is. omega (arith, is))) a.installations;
+  ranges = stay meter_tree.ranges ranged_columns (map ranged (openings_in facts)) content after (e.others 18 (λ is. omega (arith, is))) a.ranges;
+  entries = entries_stay facts (fact.Reply reply ∷ facts) content after (e.others 9 (λ is. omega (arith, is))) (λ meter. refl) a.entries;
+  voids = stay entry_tree.voids voided_columns (map voided (voids_in facts)) content after (e.others 20 (λ is. omega (arith, is))) a.voids;
+  polls = stay poll_tree.polls poll_columns (map started (polls_in facts)) content after (e.others 11 (λ is. omega (arith, is))) a.polls;
+  holds = stay poll_tree.holds hold_columns (placed held_row (holds_in facts)) content after (e.others 12 (λ is. omega (arith, is))) a.holds;
+  outcomes = stay poll_tree.outcomes outcome_columns (map outcome_row (ended_in facts)) content after (e.others 13 (λ is. omega (arith, is))) a.outcomes;
+  intervals = intervals_stay facts (fact.Reply reply ∷ facts) content after (e.others 14 (λ is. omega (arith, is))) (λ meter. refl) a.intervals;
   replies = e.rows (map kept (replies_in facts)) a.replies;
 }

@@ -8,35 +8,35 @@ use Rattle.store_tables.specs.Content.{Content, AreTables, HasRows}
 
 -- The database has tables that are made of these.
 abbrev pub HasMade : (Content → Content → Type 0) → Content → Database → Type 0
-HasMade Makes held db = (after : Content) × Makes held after × AreTables db after
+HasMade Makes content db = (after : Content) × Makes content after × AreTables db after
 
 -- At Ok a call inside a transaction makes other tables of those that there were. Nothing is committed.
 pub record Goes {X E : Type 0} (old new : State) (result : Result X E)
     (Makes : Content → Content → Type 0) : Type 0 where
-  pub kept : HasCleanDisk new → IsTrue old.in_transaction → (held : Content)
-      → AreTables old.now held → KeepsCommit old new
-  pub makes : HasCleanDisk new → IsTrue old.in_transaction → (held : Content)
-      → AreTables old.now held
-      → OnOk result (IsTrue new.in_transaction × HasMade Makes held new.now)
+  pub kept : HasCleanDisk new → IsTrue old.in_transaction → (content : Content)
+      → AreTables old.now content → KeepsCommit old new
+  pub makes : HasCleanDisk new → IsTrue old.in_transaction → (content : Content)
+      → AreTables old.now content
+      → OnOk result (IsTrue new.in_transaction × HasMade Makes content new.now)
   pub survives : Survives old new (λ _. ⊥)
 
 -- The trees of a database whose tables are made of those that there were.
 pub record AreMade (old : State) (Makes : Content → Content → Type 0) (trees : Trees) : Type 0 where
   pub db : Database
-  pub made : (held : Content) → AreTables old.now held → HasMade Makes held db
+  pub made : (content : Content) → AreTables old.now content → HasMade Makes content db
   pub same : trees ≡ db.trees
 
 -- All is committed at Ok, or nothing is. A stop leaves what there was, or all.
 pub record Commits {X E : Type 0} (old new : State) (result : Result X E)
     (Makes : Content → Content → Type 0) : Type 0 where
-  pub ok : HasCleanDisk new → (held : Content) → AreTables old.now held
-      → OnOk result (IsTrue old.is_open × IsTrue new.is_open × HasMade Makes held new.committed)
-  pub err : HasCleanDisk new → (held : Content) → AreTables old.now held
+  pub ok : HasCleanDisk new → (content : Content) → AreTables old.now content
+      → OnOk result (IsTrue old.is_open × IsTrue new.is_open × HasMade Makes content new.committed)
+  pub err : HasCleanDisk new → (content : Content) → AreTables old.now content
       → OnErr result (KeepsCommit old new)
   pub survives : Survives old new (AreMade old Makes)
 
 -- A question was answered of the rows of a table, whatever they are, and nothing was changed.
 pub record Told {A X : Type 0} (tree : ℕ) (columns : X → Row) (Answers : List X → A → Type 0)
-    (answer : A) (held after : Content) : Type 0 where
-  pub same : after ≡ held
-  pub answers : (rows : List X) → HasRows tree columns rows held → Answers rows answer
+    (answer : A) (content after : Content) : Type 0 where
+  pub same : after ≡ content
+  pub answers : (rows : List X) → HasRows tree columns rows content → Answers rows answer

@@ -12,9 +12,9 @@ use Rattle.store_facts.specs.Tables.{AreOf}
 
 -- A database has the tables of these facts.
 pub record HasFacts (zone : List ℕ) (facts : List Fact) (db : Database) : Type 0 where
-  pub held : Content
-  pub tables : AreTables db held
-  pub are : AreOf zone facts held
+  pub content : Content
+  pub tables : AreTables db content
+  pub are : AreOf zone facts content
 
 abbrev pub IsOneOf : List (List Fact) → List Fact → Type 0
 IsOneOf [] facts = ⊥
@@ -49,8 +49,8 @@ module _ {S : Type 0} (g : Ghosts S) (zone : List ℕ) where
     pub left : (facts : List Fact) → HoldsFacts old facts → HasCleanDisk (state g new)
         → (trees : Trees) → (state g new).may_leave trees → (state g old).may_leave trees
 
-  -- Facts that may follow those that are held were booked at Ok, all of them, and a stop leaves nothing else from then on.
-  -- At a fault none is held, and a stop may yet leave all of them. To book no facts does nothing.
+  -- Facts that may follow those that are known were booked at Ok, all of them, and a stop leaves nothing else from then on.
+  -- At a fault none is known, and a stop may yet leave all of them. To book no facts does nothing.
   pub record BooksFacts {X E : Type 0} (fs : List Fact) (old new : Held S) (result : Result X E) :
       Type 0 where
     pub clean : HasCleanDisk (state g new) → HasCleanDisk (state g old)

@@ -9,13 +9,13 @@ use Rattle.store_facts.specs.Tables.{AreOf}
 
 -- The tables of some facts come to be those with this fact too, where it may follow them.
 abbrev pub Records : Fact → Content → Content → Type 0
-Records f held after = (zone : List ℕ) (facts : List Fact) → AreOf zone facts held
+Records f content after = (zone : List ℕ) (facts : List Fact) → AreOf zone facts content
     → AreLawful (f ∷ facts) → AreOf zone (f ∷ facts) after
 
 -- the same of several, one after the other
 abbrev pub RecordsAll : List Fact → Content → Content → Type 0
-RecordsAll fs held after =
-    (zone : List ℕ) (facts : List Fact) → AreOf zone facts held → AreLawful (reverse fs ++ facts)
+RecordsAll fs content after =
+    (zone : List ℕ) (facts : List Fact) → AreOf zone facts content → AreLawful (reverse fs ++ facts)
     → AreOf zone (reverse fs ++ facts) after
 
 -- the place behind the last
@@ -26,12 +26,12 @@ next_place (Some place) = place + 1
 -- The place is behind that of the last row that passes, whatever rows the table has.
 abbrev pub IsBehind : {X : Type 0} → (tree : ℕ) → (columns : X → Row) → (passes : X → Bool)
     → (key : X → ℕ) → (place : ℕ) → Content → Type 0
-IsBehind {X} tree columns passes key place held =
-    (rows : List X) → HasRows tree columns rows held
+IsBehind {X} tree columns passes key place content =
+    (rows : List X) → HasRows tree columns rows content
     → (last : Option ℕ) × (place ≡ next_place last) × IsLast passes (λ x n. n ≡ key x) key rows last
 
 -- It was asked for, and nothing was changed.
 pub record IsNext {X : Type 0} (tree : ℕ) (columns : X → Row) (passes : X → Bool) (key : X → ℕ)
-    (place : ℕ) (held after : Content) : Type 0 where
-  pub same : after ≡ held
-  pub behind : IsBehind tree columns passes key place held
+    (place : ℕ) (content after : Content) : Type 0 where
+  pub same : after ≡ content
+  pub behind : IsBehind tree columns passes key place content

@@ -29,43 +29,44 @@ abbrev pub meta_columns : (zone : List ℕ) → Row
 meta_columns zone = Int (pos 1) ∷ Null ∷ Int (pos 3) ∷ Text zone ∷ []
 
 -- The points of each device are those of its latest list, in order.
-pub record ArePoints (facts : List Fact) (held : Content) : Type 0 where
+pub record ArePoints (facts : List Fact) (content : Content) : Type 0 where
   pub rows : List Listed
-  pub there : HasRows list_tree.points point_columns rows held
+  pub there : HasRows list_tree.points point_columns rows content
   pub each : (device : List ℕ)
       → IsPermutation (filter (is_point_of device) rows)
       (placed_on (listed device) 0 (points_of facts device))
 
 -- The entries of each meter are its opening and what came after.
-pub record AreEntries (facts : List Fact) (held : Content) : Type 0 where
+pub record AreEntries (facts : List Fact) (content : Content) : Type 0 where
   pub rows : List Entered
-  pub there : HasRows entry_tree.entries entry_columns rows held
+  pub there : HasRows entry_tree.entries entry_columns rows content
   pub each : (meter : List ℕ)
       → IsPermutation (filter (is_entry_of meter) rows) (entries_of facts meter)
 
 -- The rows of each meter have the energy of its intervals.
-pub record AreIntervals (facts : List Fact) (held : Content) : Type 0 where
+pub record AreIntervals (facts : List Fact) (content : Content) : Type 0 where
   pub rows : List Interval
-  pub there : HasRows interval_tree.intervals interval_columns rows held
+  pub there : HasRows interval_tree.intervals interval_columns rows content
   pub each : (meter : List ℕ)
       → IsPermutation (filter (is_interval_of meter) rows)
       (map (interval_of meter) (rows_of_meter facts meter))
 
 -- The tables have the rows of these lawful facts, the latest first, and name this zone.
-pub record AreOf (zone : List ℕ) (facts : List Fact) (held : Content) : Type 0 where
+pub record AreOf (zone : List ℕ) (facts : List Fact) (content : Content) : Type 0 where
   pub lawful : AreLawful facts
-  pub meta : HasRows meta_tree meta_columns (zone ∷ []) held
-  pub devices : HasRows list_tree.devices device_columns (placed added (devices_in facts)) held
-  pub points : ArePoints facts held
+  pub meta : HasRows meta_tree meta_columns (zone ∷ []) content
+  pub devices : HasRows list_tree.devices device_columns (placed added (devices_in facts)) content
+  pub points : ArePoints facts content
   pub registers : HasRows list_tree.registers register_columns
-      (placed registered (registers_in facts)) held
+      (placed registered (registers_in facts)) content
   pub installations : HasRows meter_tree.installations installed_columns
-      (placed (installed_row facts) (openings_in facts)) held
-  pub ranges : HasRows meter_tree.ranges ranged_columns (map ranged (openings_in facts)) held
-  pub entries : AreEntries facts held
-  pub voids : HasRows entry_tree.voids voided_columns (map voided (voids_in facts)) held
-  pub polls : HasRows poll_tree.polls poll_columns (map started (polls_in facts)) held
-  pub holds : HasRows poll_tree.holds hold_columns (placed held_row (holds_in facts)) held
-  pub outcomes : HasRows poll_tree.outcomes outcome_columns (map outcome_row (ended_in facts)) held
-  pub intervals : AreIntervals facts held
-  pub replies : HasRows poll_tree.replies reply_columns (map kept (replies_in facts)) held
+      (placed (installed_row facts) (openings_in facts)) content
+  pub ranges : HasRows meter_tree.ranges ranged_columns (map ranged (openings_in facts)) content
+  pub entries : AreEntries facts content
+  pub voids : HasRows entry_tree.voids voided_columns (map voided (voids_in facts)) content
+  pub polls : HasRows poll_tree.polls poll_columns (map started (polls_in facts)) content
+  pub holds : HasRows poll_tree.holds hold_columns (placed held_row (holds_in facts)) content
+  pub outcomes : HasRows poll_tree.outcomes outcome_columns (map outcome_row (ended_in facts))
+      content
+  pub intervals : AreIntervals facts content
+  pub replies : HasRows poll_tree.replies reply_columns (map kept (replies_in facts)) content

@@ -25,69 +25,69 @@ SetsVersion = Edits meta meta_columns (changed_where every (with_version 3))
 
 -- the rows of a file without the tables that are to come
 abbrev behind_second : Content → Content
-behind_second held = with_rows 20 [] held
+behind_second content = with_rows 20 [] content
 
 abbrev behind_first : Content → Content
-behind_first held = with_rows 18 [] (behind_second held)
+behind_first content = with_rows 18 [] (behind_second content)
 
 -- ---- version 2
 
-second_same : (held : Content) (t : ℕ) → HasTree (first_tables 12).tables t → behind_second held t ≡ held t
-second_same held t there = with_others 20 [] held t (λ is. has_not (first_tables 12).tables 20 refl (subst (HasTree (first_tables 12).tables) is there))
+second_same : (content : Content) (t : ℕ) → HasTree (first_tables 12).tables t → behind_second content t ≡ content t
+second_same content t there = with_others 20 [] content t (λ is. has_not (first_tables 12).tables 20 refl (subst (HasTree (first_tables 12).tables) is there))
 
-second_none : (held : Content) (t : ℕ) → HasTree (drop 12 books_schema.tables) t → behind_second held t ≡ []
-second_none held t (inl is) = subst (λ n. behind_second held n ≡ []) (sym is) (with_here 20 [] held)
-second_none held t (inr none) = absurd none
+second_none : (content : Content) (t : ℕ) → HasTree (drop 12 books_schema.tables) t → behind_second content t ≡ []
+second_none content t (inl is) = subst (λ n. behind_second content n ≡ []) (sym is) (with_here 20 [] content)
+second_none content t (inr none) = absurd none
 
-has_second : (db : Database) (held : Content) → AreTablesIn (first_tables 12) db held → HasFirst 12 db (behind_second held)
-has_second db held has = record {
+has_second : (db : Database) (content : Content) → AreTablesIn (first_tables 12) db content → HasFirst 12 db (behind_second content)
+has_second db content has = record {
   schema = has.schema;
-  rows = λ t there. subst (IsPermutation _) (sym (second_same held t there)) (has.rows t there);
+  rows = λ t there. subst (IsPermutation _) (sym (second_same content t there)) (has.rows t there);
   apart = has.apart;
   none = λ t there out. elim (has_split books_schema.tables 12 t there) [
     | inl before ↦ absurd (out before)
-    | inr behind ↦ second_none held t behind
+    | inr behind ↦ second_none content t behind
   ];
 }
 
-set : (version : ℕ) (zone : List ℕ) (held after : Content) → IsMarked (record { version = version; zone = zone }) held → SetsVersion held after → IsMarked (record { version = 3; zone = zone }) after
-set version zone held after marked sets = sets.rows (record { version = version; zone = zone } ∷ []) marked
+set : (version : ℕ) (zone : List ℕ) (content after : Content) → IsMarked (record { version = version; zone = zone }) content → SetsVersion content after → IsMarked (record { version = 3; zone = zone }) after
+set version zone content after marked sets = sets.rows (record { version = version; zone = zone } ∷ []) marked
 
 pub brought_second : {E D : Type 0} (a b c : State) (x : ℕ) (r : Result ℕ E) → StepsTo {X = ℕ} {E = D} a b (Ok x) (Grows 12 13) → StepsTo b c r (Turns SetsVersion) → StepsTo a c r BringsSecond
 brought_second a b c x r one two =
-    goes_then a b c x r (Grows 12 13) (Turns SetsVersion) BringsSecond one two (λ grows sets zone held file.
-    let start = behind_second held in
-    let last = sets start (grows start (has_second a.now held file.tables)) in (
+    goes_then a b c x r (Grows 12 13) (Turns SetsVersion) BringsSecond one two (λ grows sets zone content file.
+    let start = behind_second content in
+    let last = sets start (grows start (has_second a.now content file.tables)) in (
       last.0,
       record {
         marked = set 2 zone start last.0 file.marked last.1;
         with_ranges = last.1.others 18 (λ e. absurd (omega arith));
-        with_voids = last.1.others 20 (λ e. absurd (omega arith)) ∙ with_here 20 [] held;
-        others = λ t off on away. last.1.others t off ∙ with_others 20 [] held t away;
+        with_voids = last.1.others 20 (λ e. absurd (omega arith)) ∙ with_here 20 [] content;
+        others = λ t off on away. last.1.others t off ∙ with_others 20 [] content t away;
       },
       last.2,
     ))
 
 -- ---- version 1
 
-first_same : (held : Content) (t : ℕ) → HasTree (first_tables 11).tables t → behind_first held t ≡ held t
-first_same held t there =
-    with_others 18 [] (behind_second held) t (λ is. has_not (first_tables 11).tables 18 refl (subst (HasTree (first_tables 11).tables) is there))
-    ∙ with_others 20 [] held t (λ is. has_not (first_tables 11).tables 20 refl (subst (HasTree (first_tables 11).tables) is there))
+first_same : (content : Content) (t : ℕ) → HasTree (first_tables 11).tables t → behind_first content t ≡ content t
+first_same content t there =
+    with_others 18 [] (behind_second content) t (λ is. has_not (first_tables 11).tables 18 refl (subst (HasTree (first_tables 11).tables) is there))
+    ∙ with_others 20 [] content t (λ is. has_not (first_tables 11).tables 20 refl (subst (HasTree (first_tables 11).tables) is there))
 
-first_none : (held : Content) (t : ℕ) → HasTree (drop 11 books_schema.tables) t → behind_first held t ≡ []
-first_none held t (inl is) = subst (λ n. behind_first held n ≡ []) (sym is) (with_here 18 [] (behind_second held))
-first_none held t (inr (inl is)) = subst (λ n. behind_first held n ≡ []) (sym is) (with_others 18 [] (behind_second held) 20 (λ e. absurd (omega arith)) ∙ with_here 20 [] held)
-first_none held t (inr (inr none)) = absurd none
+first_none : (content : Content) (t : ℕ) → HasTree (drop 11 books_schema.tables) t → behind_first content t ≡ []
+first_none content t (inl is) = subst (λ n. behind_first content n ≡ []) (sym is) (with_here 18 [] (behind_second content))
+first_none content t (inr (inl is)) = subst (λ n. behind_first content n ≡ []) (sym is) (with_others 18 [] (behind_second content) 20 (λ e. absurd (omega arith)) ∙ with_here 20 [] content)
+first_none content t (inr (inr none)) = absurd none
 
-has_first : (db : Database) (held : Content) → AreTablesIn (first_tables 11) db held → HasFirst 11 db (behind_first held)
-has_first db held has = record {
+has_first : (db : Database) (content : Content) → AreTablesIn (first_tables 11) db content → HasFirst 11 db (behind_first content)
+has_first db content has = record {
   schema = has.schema;
-  rows = λ t there. subst (IsPermutation _) (sym (first_same held t there)) (has.rows t there);
+  rows = λ t there. subst (IsPermutation _) (sym (first_same content t there)) (has.rows t there);
   apart = has.apart;
   none = λ t there out. elim (has_split books_schema.tables 11 t there) [
     | inl before ↦ absurd (out before)
-    | inr behind ↦ first_none held t behind
+    | inr behind ↦ first_none content t behind
   ];
 }
 
@@ -106,27 +106,27 @@ pub brought_first : {E D F : Type 0} (shown : List Row) (a b c d : State) (x : �
 brought_first {E} {D} {F} shown a b c d x r one two three =
     let Between : Database → Database → Type 0 = λ old new. (start : Content) → HasFirst 11 old start → (next : Content) × GivesRanges shown start next × AreTables new next in
     let first : StepsTo {X = Unit {0}} {E = F} a c (Ok tt) Between = goes_then a b c x (Ok tt) (Grows 11 13) (Turns (GivesRanges shown)) Between one two (λ grows gives start has. gives start (grows start has)) in
-    goes_then a c d tt r Between (Turns SetsVersion) (BringsFirst shown) first three (λ between sets zone held file shows.
-    let start = behind_first held in
-    let next = between start (has_first a.now held file.tables) in
+    goes_then a c d tt r Between (Turns SetsVersion) (BringsFirst shown) first three (λ between sets zone content file shows.
+    let start = behind_first content in
+    let next = between start (has_first a.now content file.tables) in
     let last = sets next.0 next.2 in (
       last.0,
       record {
         marked = set 1 zone next.0 last.0 (subst (IsPermutation _) (sym (next.1.others 0 (λ e. absurd (omega arith)))) file.marked) last.1;
         with_ranges = λ is are.
             subst (IsPermutation _) (sym (last.1.others 18 (λ e. absurd (omega arith))))
-            (ranges_are shown is (next.0 18) (shows is are) (next.1.rows [] (subst (IsPermutation []) (sym (with_here 18 [] (behind_second held))) (IsPermutation-refl []))));
-        with_voids = last.1.others 20 (λ e. absurd (omega arith)) ∙ (next.1.others 20 (λ e. absurd (omega arith)) ∙ (with_others 18 [] (behind_second held) 20 (λ e. absurd (omega arith)) ∙ with_here 20 [] held));
-        others = λ t off on away. last.1.others t off ∙ (next.1.others t on ∙ (with_others 18 [] (behind_second held) t on ∙ with_others 20 [] held t away));
+            (ranges_are shown is (next.0 18) (shows is are) (next.1.rows [] (subst (IsPermutation []) (sym (with_here 18 [] (behind_second content))) (IsPermutation-refl []))));
+        with_voids = last.1.others 20 (λ e. absurd (omega arith)) ∙ (next.1.others 20 (λ e. absurd (omega arith)) ∙ (with_others 18 [] (behind_second content) 20 (λ e. absurd (omega arith)) ∙ with_here 20 [] content));
+        others = λ t off on away. last.1.others t off ∙ (next.1.others t on ∙ (with_others 18 [] (behind_second content) t on ∙ with_others 20 [] content t away));
       },
       last.2,
     ))
 
 -- ---- what the opening leaves
 
-module _ (layout : Layout) (zone : List ℕ) (held : Content) where
+module _ (layout : Layout) (zone : List ℕ) (content : Content) where
   -- a question before it
-  pub after_question : {X E : Type 0} (a b c : State) (r : Result X E) → IsUnchanged a b → Survives a b (λ _. ⊥) → OpensFile layout zone held b c r → OpensFile layout zone held a c r
+  pub after_question : {X E : Type 0} (a b c : State) (r : Result X E) → IsUnchanged a b → Survives a b (λ _. ⊥) → OpensFile layout zone content b c r → OpensFile layout zone content a c r
   after_question a b c (Ok x) same crash it = record { ok = it.ok; err = tt; survives = survives_then a b c (λ _. ⊥) _ _ (λ _ db none. absurd none) (λ _ db is. is) crash it.survives }
   after_question a b c (Err e) same crash it = record {
     ok = tt;
@@ -135,12 +135,12 @@ module _ (layout : Layout) (zone : List ℕ) (held : Content) where
   }
 
   -- a call before it that commits nothing
-  pub after_kept : {X E : Type 0} (a b c : State) (r : Result X E) → KeepsCommit a b → Survives a b (λ _. ⊥) → OpensFile layout zone held b c r → OpensFile layout zone held a c r
+  pub after_kept : {X E : Type 0} (a b c : State) (r : Result X E) → KeepsCommit a b → Survives a b (λ _. ⊥) → OpensFile layout zone content b c r → OpensFile layout zone content a c r
   after_kept a b c (Ok x) kept crash it = record { ok = it.ok; err = tt; survives = survives_then a b c (λ _. ⊥) _ _ (λ _ db none. absurd none) (λ _ db is. is) crash it.survives }
   after_kept a b c (Err e) kept crash it = record { ok = tt; err = kept_then a b c kept it.err; survives = survives_then a b c (λ _. ⊥) _ _ (λ _ db none. absurd none) (λ _ db is. is) crash it.survives }
 
   -- nothing is done
-  pub untouched : {X E : Type 0} (a : State) (e : E) → OpensFile {X = X} layout zone held a a (Err e)
+  pub untouched : {X E : Type 0} (a : State) (e : E) → OpensFile {X = X} layout zone content a a (Err e)
   untouched a e = record {
     ok = tt;
     err = record { was_open = λ is. is; committed = λ is. refl };
@@ -148,27 +148,27 @@ module _ (layout : Layout) (zone : List ℕ) (held : Content) where
   }
 
   -- a question that failed, or whose answer ends the opening
-  pub given_up : {X E : Type 0} (a b : State) (e : E) → KeepsCommit a b → Survives a b (λ _. ⊥) → OpensFile {X = X} layout zone held a b (Err e)
+  pub given_up : {X E : Type 0} (a b : State) (e : E) → KeepsCommit a b → Survives a b (λ _. ⊥) → OpensFile {X = X} layout zone content a b (Err e)
   given_up a b e kept crash = record { ok = tt; err = kept; survives = survives_weaker a b _ _ (λ _ db none. absurd none) crash }
 
-  pub ended : {X E : Type 0} (a b : State) (r : Result X E) (Q : E → Type 0) → IsErrAnd r Q → KeepsCommit a b → Survives a b (λ _. ⊥) → OpensFile layout zone held a b r
+  pub ended : {X E : Type 0} (a b : State) (r : Result X E) (Q : E → Type 0) → IsErrAnd r Q → KeepsCommit a b → Survives a b (λ _. ⊥) → OpensFile layout zone content a b r
   ended a b (Ok x) Q fails kept crash = absurd fails
   ended a b (Err e) Q fails kept crash = given_up a b e kept crash
 
-  pub passed_on : {X Y E D : Type 0} (a b : State) (e : E) (r : Result Y D) (Q : D → Type 0) → IsErrAnd r Q → OpensFile {X = X} layout zone held a b (Err e) → OpensFile layout zone held a b r
+  pub passed_on : {X Y E D : Type 0} (a b : State) (e : E) (r : Result Y D) (Q : D → Type 0) → IsErrAnd r Q → OpensFile {X = X} layout zone content a b (Err e) → OpensFile layout zone content a b r
   passed_on a b e (Ok y) Q fails it = absurd fails
   passed_on a b e (Err d) Q fails it = record { ok = tt; err = it.err; survives = it.survives }
 
   -- the answer alone is another
-  pub told_as : {X Y E D : Type 0} (a b : State) (x : X) (y : Y) → OpensFile {X = X} {E = E} layout zone held a b (Ok x) → OpensFile {X = Y} {E = D} layout zone held a b (Ok y)
+  pub told_as : {X Y E D : Type 0} (a b : State) (x : X) (y : Y) → OpensFile {X = X} {E = E} layout zone content a b (Ok x) → OpensFile {X = Y} {E = D} layout zone content a b (Ok y)
   told_as a b x y it = record { ok = it.ok; err = tt; survives = it.survives }
 
-  pub failed_as : {X Y E D : Type 0} (a b : State) (e : E) (d : D) → OpensFile {X = X} layout zone held a b (Err e) → OpensFile {X = Y} layout zone held a b (Err d)
+  pub failed_as : {X Y E D : Type 0} (a b : State) (e : E) (d : D) → OpensFile {X = X} layout zone content a b (Err e) → OpensFile {X = Y} layout zone content a b (Err d)
   failed_as a b e d it = record { ok = tt; err = it.err; survives = it.survives }
 
   -- a transaction
   pub transacted : {X E : Type 0} (a b : State) (r : Result X E) (Goes : Database → Database → Type 0) → HasCleanDisk b → TransactsTo a b r Goes
-      → ((db : Database) → Goes a.now db → (after : Content) × IsBrought layout zone held after × AreTables db after) → OpensFile layout zone held a b r
+      → ((db : Database) → Goes a.now db → (after : Content) × IsBrought layout zone content after × AreTables db after) → OpensFile layout zone content a b r
   transacted a b r Goes clean done brings = record {
     ok = on_ok r (λ (h : IsTrue a.is_open × IsTrue b.is_open × Goes a.now b.committed). let it = brings b.committed h.2 in (h.1, it.0, it.1, it.2)) (done.ok clean);
     err = done.err clean;
@@ -176,21 +176,21 @@ module _ (layout : Layout) (zone : List ℕ) (held : Content) where
   }
 
 -- a file of version 3 stays
-pub third : {E : Type 0} (zone : List ℕ) (held : Content) (s : State) → IsOpenTo Third zone held s → OpensFile {X = Unit {0}} {E = E} Third zone held s s (Ok tt)
-third zone held s it = record {
-  ok = (it.is_open, held, record { marked = it.file.marked; with_ranges = refl; with_voids = refl; others = λ t off on away. refl }, it.file.tables);
+pub third : {E : Type 0} (zone : List ℕ) (content : Content) (s : State) → IsOpenTo Third zone content s → OpensFile {X = Unit {0}} {E = E} Third zone content s s (Ok tt)
+third zone content s it = record {
+  ok = (it.is_open, content, record { marked = it.file.marked; with_ranges = refl; with_voids = refl; others = λ t off on away. refl }, it.file.tables);
   err = tt;
   survives = record { clean = omega arith; shield = λ is. is; counts = omega arith; limit = refl; closes = λ clean is. inl is; crash = λ clean db left. inl left };
 }
 
 -- the file as the connection sees it
-pub seen : (layout : Layout) (zone : List ℕ) (held : Content) (s : State) → IsOpenTo layout zone held s → IsFile layout zone s.now held
-seen layout zone held s it = subst (λ d. IsFile layout zone d held) (sym it.settled) it.file
+pub seen : (layout : Layout) (zone : List ℕ) (content : Content) (s : State) → IsOpenTo layout zone content s → IsFile layout zone s.now content
+seen layout zone content s it = subst (λ d. IsFile layout zone d content) (sym it.settled) it.file
 
 -- a question leaves the connection open to the file
-pub still_open : (layout : Layout) (zone : List ℕ) (held : Content) (a b : State) → IsUnchanged a b → IsOpenTo layout zone held a → IsOpenTo layout zone held b
-still_open layout zone held a b same it = record {
+pub still_open : (layout : Layout) (zone : List ℕ) (content : Content) (a b : State) → IsUnchanged a b → IsOpenTo layout zone content a → IsOpenTo layout zone content b
+still_open layout zone content a b same it = record {
   is_open = same.0.is_open;
   settled = same.0.now_is ∙ (it.settled ∙ sym same.0.committed_is);
-  file = subst (λ d. IsFile layout zone d held) (sym same.0.committed_is) it.file;
+  file = subst (λ d. IsFile layout zone d content) (sym same.0.committed_is) it.file;
 }

@@ -116,11 +116,11 @@ module _ (n : ℕ) (text : List ℕ) (table : Table)
   place t has = has_either schema.tables (record table { tree = next_tree schema }) t (subst (λ (s : Schema). HasTree s.tables t) (sym next) has)
 
   grown : (old new : Database) → IsMade schema table old new → Grows n (suc n) old new
-  grown old new it held has = record {
+  grown old new it content has = record {
     schema = it.schema_is ∙ next;
     rows = λ t there. elim (place t there) [
-      | inl before ↦ subst (λ (rs : List Row). IsPermutation (map (told (is_numbered t)) rs) (held t)) (sym (kept schema.tables old.trees new.trees it.others t before)) (has.rows t before)
-      | inr last ↦ subst (λ k. IsPermutation (map (told (is_numbered k)) (new.trees k)) (held k)) (sym last)
+      | inl before ↦ subst (λ (rs : List Row). IsPermutation (map (told (is_numbered t)) rs) (content t)) (sym (kept schema.tables old.trees new.trees it.others t before)) (has.rows t before)
+      | inr last ↦ subst (λ k. IsPermutation (map (told (is_numbered k)) (new.trees k)) (content k)) (sym last)
           (rw (it.empty, has.none (next_tree schema) (has_whole books_schema.tables (suc n) (next_tree schema) (subst (HasTree (first_tables (suc n)).tables) last there)) (has_not schema.tables (next_tree schema) free)) (IsPermutation-refl []))
     ];
     apart = λ t there. elim (place t there) [
@@ -136,14 +136,14 @@ module _ (n : ℕ) (text : List ℕ) (table : Table)
     where
       going : (old new : State) (r : Result ℕ Error) → Executes text [] old new r → OnOk r (Grows n (suc n) old.now new.now)
       going old new (Err e) h = tt
-      going old new (Ok count) h = λ held has. grown old.now new.now (makes old new (Ok count) has.schema h) held has
+      going old new (Ok count) h = λ content has. grown old.now new.now (makes old new (Ok count) has.schema h) content has
 
 -- ---- one table after the other
 
-pub first_of : (n : ℕ) (db : Database) (held : Content) → AreTablesIn (first_tables n) db held → ((t : ℕ) → HasTree books_schema.tables t → (HasTree (first_tables n).tables t → ⊥) → held t ≡ []) → HasFirst n db held
-first_of n db held has none = record { schema = has.schema; rows = has.rows; apart = has.apart; none = none }
+pub first_of : (n : ℕ) (db : Database) (content : Content) → AreTablesIn (first_tables n) db content → ((t : ℕ) → HasTree books_schema.tables t → (HasTree (first_tables n).tables t → ⊥) → content t ≡ []) → HasFirst n db content
+first_of n db content has none = record { schema = has.schema; rows = has.rows; apart = has.apart; none = none }
 
 pub grows_then : {E D : Type 0} (n m k : ℕ) (low : n ≤ m) (a b c : State) (x : ℕ) (r : Result ℕ E) → StepsTo {X = ℕ} {E = D} a b (Ok x) (Grows n m) → StepsTo b c r (Grows m k) → StepsTo a c r (Grows n k)
 grows_then n m k low a b c x r one two =
     goes_then a b c x r (Grows n m) (Grows m k) (Grows n k) one two
-    (λ first second held has. second held (first_of m b.now held (first held has) (λ t there out. has.none t there (λ before. out (has_more books_schema.tables n m t low before)))))
+    (λ first second content has. second content (first_of m b.now content (first content has) (λ t there out. has.none t there (λ before. out (has_more books_schema.tables n m t low before)))))

@@ -34,10 +34,10 @@ meta_there Third = inl refl
 one_row : (rows all : List Row) (m : Meta) → IsPermutation (map (told true) rows) all → IsPermutation (meta_columns m ∷ []) all → rows ≡ meta_columns m ∷ []
 one_row rows all m is marked = sym (told_same rows) ∙ one_permutation (meta_columns m) (map (told true) rows) (IsPermutation-trans _ _ _ marked (IsPermutation-sym _ _ is))
 
-pub meta_answer : (layout : Layout) (old new : State) (held : Content) (m : Meta) (rows : List Row) → AreTablesIn (schema_of layout) old.now held → IsMarked m held → Shown text.meta_rows [] old new rows → rows ≡ meta_shown m ∷ []
-meta_answer layout old new held m rows has marked h =
+pub meta_answer : (layout : Layout) (old new : State) (content : Content) (m : Meta) (rows : List Row) → AreTablesIn (schema_of layout) old.now content → IsMarked m content → Shown text.meta_rows [] old new rows → rows ≡ meta_shown m ∷ []
+meta_answer layout old new content m rows has marked h =
     let got = reads_as text.meta_rows [] old new (schema_of layout) has.schema _ (text.meta_rows_is layout) (text.meta_rows_plain layout) (text.meta_rows_unlisted layout) rows h in
-    let stored = one_row (old.now.trees 0) (held 0) m (has.rows 0 (meta_there layout)) marked in
+    let stored = one_row (old.now.trees 0) (content 0) m (has.rows 0 (meta_there layout)) marked in
     let answer = asked [] 0 [] text.meta_rows_project old.now.trees rows (got.answer Null) in
     one_permutation (meta_shown m) rows (subst (λ rs. IsPermutation (map (shows [] text.meta_rows_project) (filter (passes [] []) rs)) rows) stored answer)
 
@@ -48,11 +48,11 @@ meters_shown (z ∷ all) = ap (λ rs. meter_shown z.1 ∷ rs) (meters_shown all)
 installations_there : HasTree (schema_of First).tables 7
 installations_there = inr (inr (inr (inr (inl refl))))
 
-pub meter_answer : (old new : State) (held : Content) (rows : List Row) → AreTablesIn (schema_of First) old.now held → Shown text.meter_rows [] old new rows
-    → (is : List Installed) → HasRows installations installed_columns is held → IsPermutation (map meter_shown is) rows
-meter_answer old new held rows has h is are =
+pub meter_answer : (old new : State) (content : Content) (rows : List Row) → AreTablesIn (schema_of First) old.now content → Shown text.meter_rows [] old new rows
+    → (is : List Installed) → HasRows installations installed_columns is content → IsPermutation (map meter_shown is) rows
+meter_answer old new content rows has h is are =
     let got = reads_as text.meter_rows [] old new (schema_of First) has.schema _ text.meter_rows_is text.meter_rows_plain text.meter_rows_unlisted rows h in
-    let lies = laid_from true installed_columns (old.now.trees 7) (held 7) is (has.apart 7 installations_there).keyed (has.rows 7 installations_there) are in
+    let lies = laid_from true installed_columns (old.now.trees 7) (content 7) is (has.apart 7 installations_there).keyed (has.rows 7 installations_there) are in
     let answer = asked [] 7 [] text.meter_rows_project old.now.trees rows (got.answer Null) in
     let shown = ap (map (shows [] text.meter_rows_project)) (all_pass (old.now.trees 7) ∙ lies.rows) ∙ meters_shown lies.all in
     IsPermutation-trans _ _ _ (IsPermutation-map meter_shown _ _ (IsPermutation-sym _ _ lies.same)) (subst (λ rs. IsPermutation rs rows) shown answer)

@@ -33,7 +33,7 @@ none_given x z same = record {
 }
 
 pub begun : (a : State) → Steps {X = Unit {0}} {E = Error} a a (Ok tt) (GivesRanges [])
-begun a = weaker a a (Ok tt) (Turns (λ held after. after ≡ held)) (Turns (GivesRanges [])) (λ turns held has. let it = turns held has in (it.0, none_given held it.0 it.1, it.2)) (no_steps a tt)
+begun a = weaker a a (Ok tt) (Turns (λ content after. after ≡ content)) (Turns (GivesRanges [])) (λ turns content has. let it = turns content has in (it.0, none_given content it.0 it.1, it.2)) (no_steps a tt)
 
 -- the range of the meter that a row shows
 pub range_is : (row : Row) (meter : List ℕ) → column row 0 ≡ Text meter → ◌≡◌ {A = Ranged} (record { meter = meter; range = 4294967296 }) (range_in row)

@@ -25,4 +25,4 @@ with_version n m = record m { version = n }
 
 -- the file tells this version and this zone
 abbrev pub IsMarked : Meta → Content → Type 0
-IsMarked m held = HasRows meta meta_columns (m ∷ []) held
+IsMarked m content = HasRows meta meta_columns (m ∷ []) content

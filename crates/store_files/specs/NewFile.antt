@@ -6,11 +6,11 @@ use Rattle.store_files.specs.Layouts.{no_schema}
 use Rattle.store_files.specs.Meta.{meta, IsMarked}
 
 -- version 3 and this zone, and no other row
-pub record IsNew (zone : List ℕ) (held : Content) : Type 0 where
-  pub marked : IsMarked (record { version = 3; zone = zone }) held
-  pub empty : (t : ℕ) → t ≢ meta → held t ≡ []
+pub record IsNew (zone : List ℕ) (content : Content) : Type 0 where
+  pub marked : IsMarked (record { version = 3; zone = zone }) content
+  pub empty : (t : ℕ) → t ≢ meta → content t ≡ []
 
 -- a database without tables becomes one with new tables
 abbrev pub Makes : (zone : List ℕ) → Database → Database → Type 0
 Makes zone old new = old.schema ≡ no_schema
-    → (held : Content) × IsNew zone held × AreTables new held
+    → (content : Content) × IsNew zone content × AreTables new content

@@ -20,9 +20,9 @@ pub record Tells (version : ℕ) (m : Meta) (result : Result Zone OpenFault) : T
   pub none : (IsZone m.zone → ⊥) → OnOk result ⊥
 
 -- The zone is asked for where the tables are those of this layout. The question changes nothing and commits nothing.
-pub record FindsZone (layout : Layout) (held : Content) (old new : State)
+pub record FindsZone (layout : Layout) (content : Content) (old new : State)
     (result : Result Zone OpenFault) : Type 0 where
   pub kept : KeepsCommit old new
   pub unchanged : OnOk result (IsUnchanged old new)
   pub survives : Survives old new (λ _. ⊥)
-  pub told : (m : Meta) → IsMarked m held → Tells (version_of layout) m result
+  pub told : (m : Meta) → IsMarked m content → Tells (version_of layout) m result

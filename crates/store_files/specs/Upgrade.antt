@@ -19,38 +19,40 @@ abbrev pub voids : ℕ
 voids = 20
 
 -- The database has the tables of this layout with these rows, tells its version, and this zone.
-pub record IsFile (layout : Layout) (zone : List ℕ) (db : Database) (held : Content) : Type 0 where
-  pub tables : AreTablesIn (schema_of layout) db held
-  pub marked : IsMarked (record { version = version_of layout; zone = zone }) held
+pub record IsFile (layout : Layout) (zone : List ℕ) (db : Database)
+    (content : Content) : Type 0 where
+  pub tables : AreTablesIn (schema_of layout) db content
+  pub marked : IsMarked (record { version = version_of layout; zone = zone }) content
 
 -- the counter of a meter of version 1 counts to 2^32
 abbrev pub full_range : Installed → Ranged
 full_range i = record { meter = i.meter; range = 4294967296 }
 
 -- a range for each installation, where there were none
-abbrev pub HasRanges : Layout → (held after : Content) → Type 0
-HasRanges First held after = (is : List Installed) → HasRows installations installed_columns is held
+abbrev pub HasRanges : Layout → (content after : Content) → Type 0
+HasRanges First content after =
+    (is : List Installed) → HasRows installations installed_columns is content
     → HasRows ranges ranged_columns (map full_range is) after
-HasRanges Second held after = after ranges ≡ held ranges
-HasRanges Third held after = after ranges ≡ held ranges
+HasRanges Second content after = after ranges ≡ content ranges
+HasRanges Third content after = after ranges ≡ content ranges
 
 -- no voids, where there was no table of them
-abbrev pub HasVoids : Layout → (held after : Content) → Type 0
-HasVoids First held after = after voids ≡ []
-HasVoids Second held after = after voids ≡ []
-HasVoids Third held after = after voids ≡ held voids
+abbrev pub HasVoids : Layout → (content after : Content) → Type 0
+HasVoids First content after = after voids ≡ []
+HasVoids Second content after = after voids ≡ []
+HasVoids Third content after = after voids ≡ content voids
 
 -- Version 3 and the same zone. All else is as it was.
-pub record IsBrought (layout : Layout) (zone : List ℕ) (held after : Content) : Type 0 where
+pub record IsBrought (layout : Layout) (zone : List ℕ) (content after : Content) : Type 0 where
   pub marked : IsMarked (record { version = 3; zone = zone }) after
-  pub with_ranges : HasRanges layout held after
-  pub with_voids : HasVoids layout held after
-  pub others : (t : ℕ) → t ≢ meta → t ≢ ranges → t ≢ voids → after t ≡ held t
+  pub with_ranges : HasRanges layout content after
+  pub with_voids : HasVoids layout content after
+  pub others : (t : ℕ) → t ≢ meta → t ≢ ranges → t ≢ voids → after t ≡ content t
 
 -- a file of this layout becomes one of version 3
 abbrev pub Brings : Layout → (zone : List ℕ) → Database → Database → Type 0
-Brings layout zone old new = (held : Content) → IsFile layout zone old held
-    → (after : Content) × IsBrought layout zone held after × AreTables new after
+Brings layout zone old new = (content : Content) → IsFile layout zone old content
+    → (after : Content) × IsBrought layout zone content after × AreTables new after
 
 -- ---- the meters of a file of version 1, as a question shows them
 
@@ -80,27 +82,27 @@ GivesRanges shown = Edits ranges ranged_columns (with_ranges shown)
 -- what the statements of an opening of a file of version 1 do, where these rows show its meters
 abbrev pub BringsFirst : (shown : List Row) → Database → Database → Type 0
 BringsFirst shown old new =
-    (zone : List ℕ) (held : Content) → IsFile First zone old held
-    → ((is : List Installed) → HasRows installations installed_columns is held
+    (zone : List ℕ) (content : Content) → IsFile First zone old content
+    → ((is : List Installed) → HasRows installations installed_columns is content
     → IsPermutation (map meter_shown is) shown)
-    → (after : Content) × IsBrought First zone held after × AreTables new after
+    → (after : Content) × IsBrought First zone content after × AreTables new after
 
 abbrev pub BringsSecond : Database → Database → Type 0
 BringsSecond old new = (zone : List ℕ) → Brings Second zone old new
 
 -- What an opening leaves of a connection to a file: the file of version 3, or what there was. A stop leaves one or the other.
-pub record OpensFile {X E : Type 0} (layout : Layout) (zone : List ℕ) (held : Content)
+pub record OpensFile {X E : Type 0} (layout : Layout) (zone : List ℕ) (content : Content)
     (old new : State) (result : Result X E) : Type 0 where
   pub ok : OnOk result
-      (IsTrue new.is_open × (after : Content) × IsBrought layout zone held after
+      (IsTrue new.is_open × (after : Content) × IsBrought layout zone content after
       × AreTables new.committed after)
   pub err : OnErr result (KeepsCommit old new)
   pub survives : Survives old new
-      (λ trees. (after : Content) × IsBrought layout zone held after × (db : Database)
+      (λ trees. (after : Content) × IsBrought layout zone content after × (db : Database)
       × AreTables db after × (trees ≡ db.trees))
 
 -- an open connection to such a file, with nothing that waits for a commit
-pub record IsOpenTo (layout : Layout) (zone : List ℕ) (held : Content) (s : State) : Type 0 where
+pub record IsOpenTo (layout : Layout) (zone : List ℕ) (content : Content) (s : State) : Type 0 where
   pub is_open : IsTrue s.is_open
   pub settled : s.now ≡ s.committed
-  pub file : IsFile layout zone s.committed held
+  pub file : IsFile layout zone s.committed content

@@ -24,15 +24,15 @@ use store_tables::{RowFault, text, touch, whole};
 fn meta_rows<S: Alter>(conn: &mut Connection<S>) -> Result<Vec<Row>, Error>
     ensures clean { HasCleanDisk (state S.Store conn.new) → HasCleanDisk (state S.Store conn.old) }
     ensures mode { conn.old.in_transaction ≡ false → conn.new.in_transaction ≡ false }
-    ensures kept { HasCleanDisk (state S.Store conn.new) → (layout : TheLayout) (held : Content)
-        → AreTablesIn (schema_of layout) (state S.Store conn.old).now held
+    ensures kept { HasCleanDisk (state S.Store conn.new) → (layout : TheLayout) (content : Content)
+        → AreTablesIn (schema_of layout) (state S.Store conn.old).now content
         → KeepsCommit (state S.Store conn.old) (state S.Store conn.new) }
-    ensures shows { HasCleanDisk (state S.Store conn.new) → (layout : TheLayout) (held : Content)
-        → AreTablesIn (schema_of layout) (state S.Store conn.old).now held
+    ensures shows { HasCleanDisk (state S.Store conn.new) → (layout : TheLayout) (content : Content)
+        → AreTablesIn (schema_of layout) (state S.Store conn.old).now content
         → IfOk result (λ rows. IsUnchanged (state S.Store conn.old) (state S.Store conn.new)
-        × ((m : Meta) → IsMarked m held → rows.items ≡ meta_shown m ∷ [])) }
-    ensures survives { (layout : TheLayout) (held : Content)
-        → AreTablesIn (schema_of layout) (state S.Store conn.old).now held
+        × ((m : Meta) → IsMarked m content → rows.items ≡ meta_shown m ∷ [])) }
+    ensures survives { (layout : TheLayout) (content : Content)
+        → AreTablesIn (schema_of layout) (state S.Store conn.old).now content
         → Survives (state S.Store conn.old) (state S.Store conn.new) (λ _. ⊥) }
 {
     conn.query_all("SELECT version, zone FROM meta", &[])
@@ -80,9 +80,9 @@ fn zone_in(rows: &[Row], version: u64) -> Result<Zone, OpenFault>
 fn stored_zone<S: Alter>(conn: &mut Connection<S>, layout: Layout) -> Result<Zone, OpenFault>
     ensures clean { HasCleanDisk (state S.Store conn.new) → HasCleanDisk (state S.Store conn.old) }
     ensures mode { conn.old.in_transaction ≡ false → conn.new.in_transaction ≡ false }
-    ensures finds { HasCleanDisk (state S.Store conn.new) → (held : Content)
-        → AreTablesIn (schema_of layout) (state S.Store conn.old).now held
-        → FindsZone layout held (state S.Store conn.old) (state S.Store conn.new) result }
+    ensures finds { HasCleanDisk (state S.Store conn.new) → (content : Content)
+        → AreTablesIn (schema_of layout) (state S.Store conn.old).now content
+        → FindsZone layout content (state S.Store conn.old) (state S.Store conn.new) result }
 {
     match meta_rows(conn) {
         Ok(rows) => zone_in(&rows, layout.version()),
@@ -96,9 +96,9 @@ fn brought<S: Alter>(conn: &mut Connection<S>, layout: Layout) -> Result<(), Ope
     ensures autocommit { conn.new.in_transaction ≡ false }
     ensures clean { HasCleanDisk (state S.Store conn.new) → HasCleanDisk (state S.Store conn.old) }
     ensures fault { IfErr result (λ e. (e ≡ OpenFault.Store) ⊎ (e ≡ OpenFault.Memory)) }
-    ensures opened { HasCleanDisk (state S.Store conn.new) → (zone : _) (held : Content)
-        → IsOpenTo layout zone held (state S.Store conn.old)
-        → OpensFile layout zone held (state S.Store conn.old) (state S.Store conn.new) result }
+    ensures opened { HasCleanDisk (state S.Store conn.new) → (zone : _) (content : Content)
+        → IsOpenTo layout zone content (state S.Store conn.old)
+        → OpensFile layout zone content (state S.Store conn.old) (state S.Store conn.new) result }
 {
     match bring(conn, layout) {
         Ok(()) => Ok(()),
@@ -111,12 +111,12 @@ fn open_settled<S: Alter>(conn: &mut Connection<S>, layout: Layout) -> Result<Zo
     requires autocommit { conn.old.in_transaction ≡ false }
     ensures autocommit { conn.new.in_transaction ≡ false }
     ensures clean { HasCleanDisk (state S.Store conn.new) → HasCleanDisk (state S.Store conn.old) }
-    ensures told { HasCleanDisk (state S.Store conn.new) → (held : Content)
-        → AreTablesIn (schema_of layout) (state S.Store conn.old).now held
-        → (m : Meta) → IsMarked m held → Tells (version_of layout) m result }
-    ensures opened { HasCleanDisk (state S.Store conn.new) → (zone : _) (held : Content)
-        → IsOpenTo layout zone held (state S.Store conn.old)
-        → OpensFile layout zone held (state S.Store conn.old) (state S.Store conn.new) result }
+    ensures told { HasCleanDisk (state S.Store conn.new) → (content : Content)
+        → AreTablesIn (schema_of layout) (state S.Store conn.old).now content
+        → (m : Meta) → IsMarked m content → Tells (version_of layout) m result }
+    ensures opened { HasCleanDisk (state S.Store conn.new) → (zone : _) (content : Content)
+        → IsOpenTo layout zone content (state S.Store conn.old)
+        → OpensFile layout zone content (state S.Store conn.old) (state S.Store conn.new) result }
 {
     let zone = stored_zone(conn, layout)?;
     brought(conn, layout)?;
@@ -132,14 +132,14 @@ fn open_as<S: Alter>(conn: &mut Connection<S>, found: Layout) -> Result<Zone, Op
     ensures autocommit { conn.new.in_transaction ≡ false }
     ensures clean { HasCleanDisk (state S.Store conn.new) → HasCleanDisk (state S.Store conn.old) }
     ensures told { HasCleanDisk (state S.Store conn.new) → IsTrue (state S.Store conn.old).is_open
-        → (layout : TheLayout) (held : Content)
-        → AreTablesIn (schema_of layout) (state S.Store conn.old).committed held
-        → (m : Meta) → IsMarked m held → Tells (version_of layout) m result }
+        → (layout : TheLayout) (content : Content)
+        → AreTablesIn (schema_of layout) (state S.Store conn.old).committed content
+        → (m : Meta) → IsMarked m content → Tells (version_of layout) m result }
     ensures opened { HasCleanDisk (state S.Store conn.new)
-        → (layout : TheLayout) (zone : _) (held : Content)
+        → (layout : TheLayout) (zone : _) (content : Content)
         → (IsTrue (state S.Store conn.old).is_open
-        → IsFile layout zone (state S.Store conn.old).committed held)
-        → OpensFile layout zone held (state S.Store conn.old) (state S.Store conn.new) result }
+        → IsFile layout zone (state S.Store conn.old).committed content)
+        → OpensFile layout zone content (state S.Store conn.old) (state S.Store conn.new) result }
 {
     match touch(conn) {
         Ok(()) => open_settled(conn, found),
@@ -161,14 +161,14 @@ pub fn open<S: Alter>(conn: &mut Connection<S>) -> Result<Zone, OpenFault>
     ensures clean { HasCleanDisk (state S.Store conn.new) → HasCleanDisk (state S.Store conn.old) }
     ensures told { HasCleanDisk (state S.Store conn.new) → conn.old.in_transaction ≡ false
         → IsTrue (state S.Store conn.old).is_open
-        → (layout : TheLayout) (held : Content)
-        → AreTablesIn (schema_of layout) (state S.Store conn.old).committed held
-        → (m : Meta) → IsMarked m held → Tells (version_of layout) m result }
+        → (layout : TheLayout) (content : Content)
+        → AreTablesIn (schema_of layout) (state S.Store conn.old).committed content
+        → (m : Meta) → IsMarked m content → Tells (version_of layout) m result }
     ensures opened { HasCleanDisk (state S.Store conn.new)
-        → (layout : TheLayout) (zone : _) (held : Content)
+        → (layout : TheLayout) (zone : _) (content : Content)
         → (IsTrue (state S.Store conn.old).is_open
-        → IsFile layout zone (state S.Store conn.old).committed held)
-        → OpensFile layout zone held (state S.Store conn.old) (state S.Store conn.new) result }
+        → IsFile layout zone (state S.Store conn.old).committed content)
+        → OpensFile layout zone content (state S.Store conn.old) (state S.Store conn.new) result }
 {
     if !conn.is_autocommit() {
         return Err(OpenFault::NotOurs);

@@ -25,16 +25,16 @@ use store_meters::insert_range;
 fn meter_rows<S: Alter>(conn: &mut Connection<S>) -> Result<Vec<Row>, Error>
     ensures clean { HasCleanDisk (state S.Store conn.new) → HasCleanDisk (state S.Store conn.old) }
     ensures mode { conn.old.in_transaction ≡ false → conn.new.in_transaction ≡ false }
-    ensures kept { HasCleanDisk (state S.Store conn.new) → (held : Content)
-        → AreTablesIn (schema_of TheFirst) (state S.Store conn.old).now held
+    ensures kept { HasCleanDisk (state S.Store conn.new) → (content : Content)
+        → AreTablesIn (schema_of TheFirst) (state S.Store conn.old).now content
         → KeepsCommit (state S.Store conn.old) (state S.Store conn.new) }
-    ensures shows { HasCleanDisk (state S.Store conn.new) → (held : Content)
-        → AreTablesIn (schema_of TheFirst) (state S.Store conn.old).now held
+    ensures shows { HasCleanDisk (state S.Store conn.new) → (content : Content)
+        → AreTablesIn (schema_of TheFirst) (state S.Store conn.old).now content
         → IfOk result (λ rows. IsUnchanged (state S.Store conn.old) (state S.Store conn.new)
-        × ((is : List Installed) → HasRows installations installed_columns is held
+        × ((is : List Installed) → HasRows installations installed_columns is content
         → IsPermutation (map meter_shown is) rows.items)) }
-    ensures survives { (held : Content)
-        → AreTablesIn (schema_of TheFirst) (state S.Store conn.old).now held
+    ensures survives { (content : Content)
+        → AreTablesIn (schema_of TheFirst) (state S.Store conn.old).now content
         → Survives (state S.Store conn.old) (state S.Store conn.new) (λ _. ⊥) }
 {
     conn.query_all("SELECT meter FROM installations", &[])
@@ -108,9 +108,9 @@ fn open_first<S: Alter>(conn: &mut Connection<S>) -> Result<(), Error>
     requires autocommit { conn.old.in_transaction ≡ false }
     ensures autocommit { conn.new.in_transaction ≡ false }
     ensures clean { HasCleanDisk (state S.Store conn.new) → HasCleanDisk (state S.Store conn.old) }
-    ensures opened { HasCleanDisk (state S.Store conn.new) → (zone : _) (held : Content)
-        → IsOpenTo TheFirst zone held (state S.Store conn.old)
-        → OpensFile TheFirst zone held (state S.Store conn.old) (state S.Store conn.new) result }
+    ensures opened { HasCleanDisk (state S.Store conn.new) → (zone : _) (content : Content)
+        → IsOpenTo TheFirst zone content (state S.Store conn.old)
+        → OpensFile TheFirst zone content (state S.Store conn.old) (state S.Store conn.new) result }
 {
     let meters = meter_rows(conn)?;
     add_ranges(conn, &meters)
@@ -121,9 +121,9 @@ pub(crate) fn bring<S: Alter>(conn: &mut Connection<S>, layout: Layout) -> Resul
     requires autocommit { conn.old.in_transaction ≡ false }
     ensures autocommit { conn.new.in_transaction ≡ false }
     ensures clean { HasCleanDisk (state S.Store conn.new) → HasCleanDisk (state S.Store conn.old) }
-    ensures opened { HasCleanDisk (state S.Store conn.new) → (zone : _) (held : Content)
-        → IsOpenTo layout zone held (state S.Store conn.old)
-        → OpensFile layout zone held (state S.Store conn.old) (state S.Store conn.new) result }
+    ensures opened { HasCleanDisk (state S.Store conn.new) → (zone : _) (content : Content)
+        → IsOpenTo layout zone content (state S.Store conn.old)
+        → OpensFile layout zone content (state S.Store conn.old) (state S.Store conn.new) result }
 {
     match layout {
         Layout::First => open_first(conn),

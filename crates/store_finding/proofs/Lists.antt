@@ -136,9 +136,9 @@ point_found a r is x seen =
 
 -- ---- the list of a device
 
-pub points_shown : (facts : List Fact) (device : List ℕ) (held : Content) (rows : List Row) (a : ArePoints facts held) → Shows (is_point_of device) (FirstFirst point_place) point_shown a.rows rows
+pub points_shown : (facts : List Fact) (device : List ℕ) (content : Content) (rows : List Row) (a : ArePoints facts content) → Shows (is_point_of device) (FirstFirst point_place) point_shown a.rows rows
     → rows ≡ map point_shown (placed_on (listed device) 0 (points_of facts device))
-points_shown facts device held rows a h =
+points_shown facts device content rows a h =
     h.2 ∙ ap (map point_shown) (one_order point_place (placed_on (listed device) 0 (points_of facts device)) h.0 (on_rises (listed device) point_place (λ place p. refl) 0 (points_of facts device))
     (IsPermutation-trans _ _ _ (IsPermutation-sym _ _ (a.each device)) h.1.all) h.1.order)
 

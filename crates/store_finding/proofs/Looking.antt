@@ -54,14 +54,14 @@ pub record Touched {S : Type 0} (g : Ghosts S) (old mid : Held S) : Type 0 where
 
 -- what is seen has the tables of the facts
 pub record HasSeen {S : Type 0} (g : Ghosts S) (zone : List ℕ) (mid : Held S) (facts : List Fact) : Type 0 where
-  pub held : Content
-  pub tables : AreTables (state g mid).now held
-  pub are : AreOf zone facts held
+  pub content : Content
+  pub tables : AreTables (state g mid).now content
+  pub are : AreOf zone facts content
 
 -- The rows of one table tell what is said of the facts, and can be read where those of the facts can.
-pub record IsTold {A X : Type 0} (facts : List Fact) (held : Content) (tree : ℕ) (columns : X → Row) (IsSound : X → Type 0) (Answers : List X → A → Type 0) (Says : List Fact → A → Type 0) (AreSound : List Fact → Type 0) : Type 0 where
+pub record IsTold {A X : Type 0} (facts : List Fact) (content : Content) (tree : ℕ) (columns : X → Row) (IsSound : X → Type 0) (Answers : List X → A → Type 0) (Says : List Fact → A → Type 0) (AreSound : List Fact → Type 0) : Type 0 where
   pub rows : List X
-  pub there : HasRows tree columns rows held
+  pub there : HasRows tree columns rows content
   pub tells : (a : A) → Answers rows a → Says facts a
   pub sound : AreSound facts → AllByRecursion IsSound rows
 
@@ -109,8 +109,8 @@ module _ {S : Type 0} (g : Ghosts S) (old mid : Held S) where
         let early : HasCleanDisk (state g old) = omega (arith, touched.survives.clean) in
         let has = holds early (k.was_open opened.0) in
         record {
-          held = has.held;
-          tables = subst (λ d. AreTables d has.held) (sym (opened.1 ∙ k.committed opened.0)) has.tables;
+          content = has.content;
+          tables = subst (λ d. AreTables d has.content) (sym (opened.1 ∙ k.committed opened.0)) has.tables;
           are = has.are;
         }
 
@@ -123,18 +123,18 @@ module _ {S : Type 0} (g : Ghosts S) (old mid : Held S) where
             mode = λ idle. asks.mode touched.mode;
             kept = λ facts holds clean.
                 let s = seen zone facts holds (asks.clean clean) in
-                kept_then (state g old) (state g mid) (state g new) (touched.kept (asks.clean clean)) (asks.kept clean s.held s.tables);
+                kept_then (state g old) (state g mid) (state g new) (touched.kept (asks.clean clean)) (asks.kept clean s.content s.tables);
             left = λ facts holds clean trees left.
                 let s = seen zone facts holds (asks.clean clean) in
-                first.left facts holds (asks.clean clean) trees (left_or_none ((asks.survives s.held s.tables).crash clean trees left));
+                first.left facts holds (asks.clean clean) trees (left_or_none ((asks.survives s.content s.tables).crash clean trees left));
           }
 
       -- it was answered
       pub asked : {A : Type 0} (a : A) (Says : List Fact → A → Type 0) (AreSound : List Fact → Type 0)
-          → (HasCleanDisk (state g new) → (held : Content) → AreTables (state g mid).now held → (zone : List ℕ) (facts : List Fact) → AreOf zone facts held → Says facts a)
+          → (HasCleanDisk (state g new) → (content : Content) → AreTables (state g mid).now content → (zone : List ℕ) (facts : List Fact) → AreOf zone facts content → Says facts a)
           → Finds g old new (Ok a) Says AreSound
       asked a Says AreSound tells = record {
-        answer = λ zone facts holds clean. let s = seen zone facts holds (asks.clean clean) in tells clean s.held s.tables zone facts s.are;
+        answer = λ zone facts holds clean. let s = seen zone facts holds (asks.clean clean) in tells clean s.content s.tables zone facts s.are;
         fault = λ zone facts holds clean sound. tt;
         looks = looks_asked;
       }
@@ -152,31 +152,31 @@ module _ {S : Type 0} (g : Ghosts S) (old mid : Held S) where
     -- a look-up of the rows of one table
     pub looked_up : {A X : Type 0} (new : Held S) (tree : ℕ) (columns : X → Row) (IsSound : X → Type 0) (r : Result A RowFault) (Answers : List X → A → Type 0)
         → LooksUp g mid new tree columns IsSound r Answers → (stored : List Fact → List X)
-        → ((zone : List ℕ) (facts : List Fact) (held : Content) → AreOf zone facts held → HasRows tree columns (stored facts) held)
+        → ((zone : List ℕ) (facts : List Fact) (content : Content) → AreOf zone facts content → HasRows tree columns (stored facts) content)
         → Finds g old new r (OfLawful (λ facts. Answers (stored facts))) (λ facts. AllByRecursion IsSound (stored facts))
     looked_up new tree columns IsSound r Answers it stored rows = record {
       answer = λ zone facts holds clean.
           let s = seen zone facts holds (it.asks.clean clean) in
-          lawfully _ r s.are.lawful (it.answer clean s.held s.tables (stored facts) (rows zone facts s.held s.are));
+          lawfully _ r s.are.lawful (it.answer clean s.content s.tables (stored facts) (rows zone facts s.content s.are));
       fault = λ zone facts holds clean sound.
-          let s = seen zone facts holds (it.asks.clean clean) in it.fault clean s.held s.tables (stored facts) (rows zone facts s.held s.are) sound;
+          let s = seen zone facts holds (it.asks.clean clean) in it.fault clean s.content s.tables (stored facts) (rows zone facts s.content s.are) sound;
       looks = looks_asked new it.asks;
     }
 
     -- a look-up of the rows of one table, which tell of the facts
     pub told_of : {A X : Type 0} (new : Held S) (tree : ℕ) (columns : X → Row) (IsSound : X → Type 0) (r : Result A RowFault) (Answers : List X → A → Type 0)
         → LooksUp g mid new tree columns IsSound r Answers → (Says : List Fact → A → Type 0) (AreSound : List Fact → Type 0)
-        → ((zone : List ℕ) (facts : List Fact) (held : Content) → AreOf zone facts held → IsTold facts held tree columns IsSound Answers Says AreSound)
+        → ((zone : List ℕ) (facts : List Fact) (content : Content) → AreOf zone facts content → IsTold facts content tree columns IsSound Answers Says AreSound)
         → Finds g old new r Says AreSound
     told_of new tree columns IsSound r Answers it Says AreSound told = record {
       answer = λ zone facts holds clean.
           let s = seen zone facts holds (it.asks.clean clean) in
-          let t = told zone facts s.held s.are in
-          weaker_ok (Answers t.rows) (Says facts) r t.tells (it.answer clean s.held s.tables t.rows t.there);
+          let t = told zone facts s.content s.are in
+          weaker_ok (Answers t.rows) (Says facts) r t.tells (it.answer clean s.content s.tables t.rows t.there);
       fault = λ zone facts holds clean sound.
           let s = seen zone facts holds (it.asks.clean clean) in
-          let t = told zone facts s.held s.are in
-          it.fault clean s.held s.tables t.rows t.there (t.sound sound);
+          let t = told zone facts s.content s.are in
+          it.fault clean s.content s.tables t.rows t.there (t.sound sound);
       looks = looks_asked new it.asks;
     }
 

@@ -49,8 +49,8 @@ fn scale(text: String) -> Result<PointScale, RowFault>
 
 /// The point of a row.
 fn point_from(row: store_lists::Point) -> Result<ListedPoint, RowFault>
-    ensures { result ≡
-        point_with (string_bytes row.name) (string_bytes row.kind) (string_bytes row.scale) row.row }
+    ensures { result ≡ point_with (string_bytes row.name) (string_bytes row.kind)
+        (string_bytes row.scale) row.row }
 {
     let name = point_name(row.name)?;
     let kind = kind(row.kind.as_str())?;

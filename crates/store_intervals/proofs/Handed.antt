@@ -51,8 +51,8 @@ sound_share row share is =
 
 -- a query that is refused commits nothing
 pub refused_asks : {S X : Type 0} (g : Ghosts S) (sql : List ℕ) (params : Row) (old new : Held S) (r : Result X Error) (e : Error) → r ≡ Err e → OnErr r (IsRefused g sql params old r new) → IsPlain (understood books_schema sql) → Asks g old new
-refused_asks g sql params old new (Ok x) e is held plain = absurd (let f = is in cc)
-refused_asks {X = X} g sql params old new (Err d) e is held plain = asks {X = X} g sql params old new (Err d) (λ x. []) plain (λ clean. tt) held.err held.mode held.survives
+refused_asks g sql params old new (Ok x) e is content plain = absurd (let f = is in cc)
+refused_asks {X = X} g sql params old new (Err d) e is content plain = asks {X = X} g sql params old new (Err d) (λ x. []) plain (λ clean. tt) content.err content.mode content.survives
 
 module _ {S K : Type 0} (g : Ghosts S) (sql : List ℕ) (params : Row) (old : Held S) (takes : K → Share → K → Type 0) (before : K) where
   -- rows were read so far, and handed on

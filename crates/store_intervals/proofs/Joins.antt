@@ -39,15 +39,15 @@ all_found P p xs found same all = recursion_from_All P found (All-permutation P 
 
 -- ---- the rows of a meter
 
-pub of_meter : (meter : List ℕ) (db : Database) (held : Content) (is : List Interval) (rows : List Row) → AreTables db held → HaveIntervals is held
+pub of_meter : (meter : List ℕ) (db : Database) (content : Content) (is : List Interval) (rows : List Row) → AreTables db content → HaveIntervals is content
     → IsAnswer (scan 14 text.meter_intervals_tests text.shares_project text.meter_intervals_order no_limit) (overlay db.trees []) (Text meter ∷ []) rows
     → (found : List Interval) × (rows ≡ map share_shown found) × AreSharesOfMeter meter is (map (λ i. i.share) found) × (AreSoundIntervals is → AllByRecursion IsSoundInterval found)
-of_meter meter db held is rows has have a =
+of_meter meter db content is rows has have a =
     let there = tree_at books_schema.tables 9 intervals_table refl in
     let apart = has.apart intervals there in
     let it = selected intervals text.meter_intervals_tests text.shares_project text.meter_intervals_order no_limit (Text meter ∷ []) interval_columns (is_of meter) share_shown (FirstFirst start_of)
     (λ n i. rw (text_is i.meter meter, and_true (bytes_eq i.meter meter)) refl) (λ n i. refl) (λ m n i j le. in_order i.share.start j.share.start le)
-    db.trees rows is (laid_from false interval_columns (db.trees intervals) (held intervals) is apart.keyed (has.rows intervals there) have) a in
+    db.trees rows is (laid_from false interval_columns (db.trees intervals) (content intervals) is apart.keyed (has.rows intervals there) have) a in
     (it.0, it.2, (it.0, it.1, refl), λ sound. all_found IsSoundInterval (is_of meter) is it.0 it.1.all sound)
 
 -- ---- the order of two numbers
@@ -136,14 +136,14 @@ module _ (register : List ℕ) where
   sound_pairs [] rows sound = tt
   sound_pairs (i ∷ is) rows sound = all-append (λ (p : Installed × Interval). IsSoundInterval p.1) (map (λ r. (i, r)) rows) (pairs is rows) (all_map (λ (p : Installed × Interval). IsSoundInterval p.1) (λ r. (i, r)) rows sound) (sound_pairs is rows sound)
 
-  pub at_register : (db : Database) (held : Content) (lying : Lying) (rows : List Row) → AreTables db held → HaveLying lying held → IsAnswer query (overlay db.trees []) params rows
+  pub at_register : (db : Database) (content : Content) (lying : Lying) (rows : List Row) → AreTables db content → HaveLying lying content → IsAnswer query (overlay db.trees []) params rows
       → (found : List (Installed × Interval)) × (rows ≡ map (λ p. share_shown p.1) found) × AreSharesAt register lying (map (λ p. p.1.share) found)
       × (AreSoundLying lying → AllByRecursion (λ p. IsSoundInterval p.1) found)
-  at_register db held lying rows has have a =
+  at_register db content lying rows has have a =
       let first = tree_at books_schema.tables 4 installations_table refl in
       let second = tree_at books_schema.tables 9 intervals_table refl in
-      let one = laid_from true installed_columns (db.trees installations) (held installations) lying.installed (has.apart installations first).keyed (has.rows installations first) have.installed in
-      let two = laid_from false interval_columns (db.trees intervals) (held intervals) lying.rows (has.apart intervals second).keyed (has.rows intervals second) have.rows in
+      let one = laid_from true installed_columns (db.trees installations) (content installations) lying.installed (has.apart installations first).keyed (has.rows installations first) have.installed in
+      let two = laid_from false interval_columns (db.trees intervals) (content intervals) lying.rows (has.apart intervals second).keyed (has.rows intervals second) have.rows in
       let chosen = filter passes_both (pairs one.all two.all) in
       let staged : a.staged ≡ map env_of chosen =
       a.grouped ∙ (ap₂ (λ (rs ss : List Row). flat_map (λ r. flat_map (step r) ss) rs) (overlay_none db.trees installations ∙ one.rows) (overlay_none db.trees intervals ∙ two.rows) ∙ all_are one.all two.all) in

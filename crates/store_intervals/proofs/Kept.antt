@@ -108,14 +108,14 @@ taken_share meter share (i ∷ is) small has = elim (cases_Bool (is_at meter sha
 columns_of : (is : List Interval) → map kept_columns (map kept_of is) ≡ map interval_columns is
 columns_of is = map-map kept_columns kept_of is
 
-pub of_intervals : (May : List Interval → Type 0) (edit : List Interval → List Interval) (Edit : List Kept → List Kept) (held after : Content)
-    → ((is : List Interval) → May is → Edit (map kept_of is) ≡ map kept_of (edit is)) → Edits intervals kept_columns Edit held after → EditsIf May edit held after
-of_intervals May edit Edit held after same e = record {
+pub of_intervals : (May : List Interval → Type 0) (edit : List Interval → List Interval) (Edit : List Kept → List Kept) (content after : Content)
+    → ((is : List Interval) → May is → Edit (map kept_of is) ≡ map kept_of (edit is)) → Edits intervals kept_columns Edit content after → EditsIf May edit content after
+of_intervals May edit Edit content after same e = record {
   rows = λ is has may.
-      let had = subst (λ rs. IsPermutation rs (held intervals)) (sym (columns_of is)) has in
+      let had = subst (λ rs. IsPermutation rs (content intervals)) (sym (columns_of is)) has in
       subst (λ rs. IsPermutation rs (after intervals)) (ap (map kept_columns) (same is may) ∙ columns_of (edit is)) (e.rows (map kept_of is) had);
   others = e.others;
 }
 
-pub turns_weaker : (P Q : Content → Content → Type 0) (old new : Database) → ((held after : Content) → P held after → Q held after) → Turns P old new → Turns Q old new
-turns_weaker P Q old new tells turned held has = let it = turned held has in (it.0, tells held it.0 it.1, it.2)
+pub turns_weaker : (P Q : Content → Content → Type 0) (old new : Database) → ((content after : Content) → P content after → Q content after) → Turns P old new → Turns Q old new
+turns_weaker P Q old new tells turned content has = let it = turned content has in (it.0, tells content it.0 it.1, it.2)

@@ -52,8 +52,8 @@ edits_then May One Two all one two goes x y z first second = record {
   others = λ t off. second.others t off ∙ first.others t off;
 }
 
-no_edit : (May : List Interval → Type 0) (held after : Content) → after ≡ held → EditsIf May (λ is. is) held after
-no_edit May held after same = record {
+no_edit : (May : List Interval → Type 0) (content after : Content) → after ≡ content → EditsIf May (λ is. is) content after
+no_edit May content after same = record {
   rows = λ is has may. subst (HasRows intervals interval_columns is) (sym same) has;
   others = λ t off. ap (λ (f : Content). f t) same;
 }

@@ -99,47 +99,47 @@ unless_damaged (Err d) none = λ is. none (ap Err is)
 module _ {S K X Tables : Type 0} (g : Ghosts S) (sql : List ℕ) (params : Row) (q : Query) (names : List (List ℕ)) (old new : Held S) (takes : K → Share → K → Type 0) (before after : K) (result : Result (Unit {0}) RowFault)
     (Have : Tables → Content → Type 0) (Are : Tables → List Share → Type 0) (AreSound : Tables → Type 0) (of : X → Interval)
     (is : command_of (understood books_schema sql) ≡ Select (record { lets = []; body = q }) names) (unlisted : reads_listing books_schema sql ≡ false) (plain : IsPlain (understood books_schema sql))
-    (finds : (db : Database) (held : Content) (t : Tables) (rows : List Row) → AreTables db held → Have t held → IsAnswer q (overlay db.trees []) params rows
+    (finds : (db : Database) (content : Content) (t : Tables) (rows : List Row) → AreTables db content → Have t content → IsAnswer q (overlay db.trees []) params rows
     → (found : List X) × (rows ≡ map (λ x. share_shown (of x)) found) × Are t (map (λ x. (of x).share) found) × (AreSound t → AllByRecursion (λ x. IsSoundInterval (of x)) found)) where
   abbrev Found : Tables → List Row → Type 0
   Found t rows = (found : List X) × (rows ≡ map (λ x. share_shown (of x)) found) × Are t (map (λ x. (of x).share) found) × (AreSound t → AllByRecursion (λ x. IsSoundInterval (of x)) found)
 
-  begins_with : (asked : Held S) (given : List Row) (held : Content) (t : Tables) → AreTables (state g old).now held → Have t held → IsAsked g sql params old asked given → (tail : List Row) × Found t (given ++ tail)
-  begins_with asked given held t has have h =
-      let here : AreTables (state g asked).now held = subst (λ d. AreTables d held) (sym h.0.0.now_is) has in
+  begins_with : (asked : Held S) (given : List Row) (content : Content) (t : Tables) → AreTables (state g old).now content → Have t content → IsAsked g sql params old asked given → (tail : List Row) × Found t (given ++ tail)
+  begins_with asked given content t has have h =
+      let here : AreTables (state g asked).now content = subst (λ d. AreTables d content) (sym h.0.0.now_is) has in
       let first = begins_as sql params (state g asked) (state g asked) books_schema here.schema _ is plain unlisted given h.1 in
-      (first.1.0, finds (state g asked).now held t (given ++ first.1.0) here have (first.1.1 Null))
+      (first.1.0, finds (state g asked).now content t (given ++ first.1.0) here have (first.1.1 Null))
 
-  shows_all : (asked end : Held S) (given : List Row) (held : Content) (t : Tables) → AreTables (state g old).now held → Have t held → IsUnchanged (state g old) (state g asked) → Shown sql params (state g asked) (state g end) given → Found t given
-  shows_all asked end given held t has have same shown =
-      let here : AreTables (state g asked).now held = subst (λ d. AreTables d held) (sym same.0.now_is) has in
+  shows_all : (asked end : Held S) (given : List Row) (content : Content) (t : Tables) → AreTables (state g old).now content → Have t content → IsUnchanged (state g old) (state g asked) → Shown sql params (state g asked) (state g end) given → Found t given
+  shows_all asked end given content t has have same shown =
+      let here : AreTables (state g asked).now content = subst (λ d. AreTables d content) (sym same.0.now_is) has in
       let read = reads_as sql params (state g asked) (state g end) books_schema here.schema _ is plain unlisted given shown in
-      finds (state g asked).now held t given here have (read.answer Null)
+      finds (state g asked).now content t given here have (read.answer Null)
 
   pub hands_on : (IsPlain (understood books_schema sql) → Asks g old new) → TookSome takes before after
       → (HasCleanDisk (state g new) → IsPlain (understood old.schema sql) → HandsOnQuery g sql params old takes before after result) → HandsOn g old new takes before after result Have Are AreSound
   hands_on asks some reads = record {
     asks = asks plain;
-    begun = λ clean held has t have.
+    begun = λ clean content has t have.
         let it = reads clean (plain_in books_schema sql (state g old).now has.schema plain) in
         elim it.begun [
           | inl none ↦ inl (nothing takes before after it.given it.shares none it.read it.taken)
           | inr on ↦ (
-              let found = begins_with on.0 it.given held t has have on.1 in
+              let found = begins_with on.0 it.given content t has have on.1 in
               let first = first_shares of it.given found.0 it.shares found.1.0 it.read found.1.1 in
               inr (map (λ x. (of x).share) found.1.0, found.1.2, (length it.shares, subst (λ ss. TakesAll takes before ss after) (sym first) it.taken))
               )
         ];
-    whole = λ clean held has t have.
+    whole = λ clean content has t have.
         let it = reads clean (plain_in books_schema sql (state g old).now has.schema plain) in
         on_ok result (λ w.
-        let found = shows_all w.0 w.1 it.given held t has have w.2 w.3 in
+        let found = shows_all w.0 w.1 it.given content t has have w.2 w.3 in
         (map (λ x. (of x).share) found.0, found.2, subst (λ ss. TakesAll takes before ss after) (all_shares of it.given it.shares found.0 it.read found.1) it.taken)) it.whole;
     some = some;
-    fault = λ clean held has t have sound.
+    fault = λ clean content has t have sound.
         let it = reads clean (plain_in books_schema sql (state g old).now has.schema plain) in
         unless_damaged result (λ damaged.
         let bad = it.damaged damaged in
-        let found = begins_with bad.0 (it.given ++ bad.1 ∷ []) held t has have bad.2 in
+        let found = begins_with bad.0 (it.given ++ bad.1 ∷ []) content t has have bad.2 in
         none_damaged of it.given bad.1 found.0 found.1.0 (found.1.3 sound) found.1.1 bad.3);
   }

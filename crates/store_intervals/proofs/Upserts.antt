@@ -321,7 +321,7 @@ module _ (meter : List ℕ) (start mwh : ℕ) where
 
   pub upserts : (old after : State) (r : Result ℕ Error) → Executes text.add_share columns old after r → OnOk r (Turns (Edits intervals kept_columns edit) old.now after.now)
   upserts old after (Err why) h = tt
-  upserts old after (Ok count) h = λ held has.
+  upserts old after (Ok count) h = λ content has.
       let db = old.now.trees in
       let command = InsertOr 9 Abort (Values text.add_share_terms 4) (text.add_share_clause ∷ []) in
       let w = runs_as text.add_share columns old after books_schema has.schema command text.add_share_is text.add_share_plain count h in
@@ -347,4 +347,4 @@ module _ (meter : List ℕ) (start mwh : ℕ) where
         others = λ t there off. ap (λ (f : Trees). f t) all ∙ frame books_schema.tables intervals db each.0.trees it.others t there off;
       } in
       turns books_schema intervals kept_columns edit old.now after.now (tree_at books_schema.tables 9 intervals_table refl) rewrites
-      (λ _ ks lies. subst (λ rs. IsLaid false kept_columns rs (edit ks)) (sym (ap (λ (f : Trees). f intervals) all)) (it.lays ks lies)) held has
+      (λ _ ks lies. subst (λ rs. IsLaid false kept_columns rs (edit ks)) (sym (ap (λ (f : Trees). f intervals) all)) (it.lays ks lies)) content has

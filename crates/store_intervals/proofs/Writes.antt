@@ -31,7 +31,7 @@ use Rattle.store_intervals.proofs.Texts as text
 module _ (meter : List ℕ) (share : Share) where
   pub add_share : (old new : State) (r : Result ℕ Error) → Executes text.add_share (columns meter share.start share.mwh) old new r → OnOk r (Turns (BooksShares meter (share ∷ [])) old.now new.now)
   add_share old new r h =
-      on_ok r (turns_weaker _ _ old.now new.now (λ held after. of_intervals (λ is. AreSmall (with_shares meter (share ∷ []) is)) (with_shares meter (share ∷ [])) (upserted meter share.start share.mwh) held after (added_share meter share)))
+      on_ok r (turns_weaker _ _ old.now new.now (λ content after. of_intervals (λ is. AreSmall (with_shares meter (share ∷ []) is)) (with_shares meter (share ∷ [])) (upserted meter share.start share.mwh) content after (added_share meter share)))
       (upserts meter share.start share.mwh old new r h)
 
   kept_taken : (old new : State) (r : Result ℕ Error) → Executes text.take_share (columns meter share.start share.mwh) old new r → OnOk r (Turns (Edits intervals kept_columns (changed_where (is_kept meter share.start) (takes share.mwh))) old.now new.now)
@@ -42,7 +42,7 @@ module _ (meter : List ℕ) (share : Share) where
 
   pub take_share : (old new : State) (r : Result ℕ Error) → Executes text.take_share (columns meter share.start share.mwh) old new r → OnOk r (Turns (TakesShares meter (share ∷ [])) old.now new.now)
   take_share old new r h =
-      on_ok r (turns_weaker _ _ old.now new.now (λ held after. of_intervals (λ is. AreSmall is × AreTherein meter (share ∷ []) is) (without_shares meter (share ∷ [])) (changed_where (is_kept meter share.start) (takes share.mwh)) held after (λ is may. taken_share meter share is may.0 may.1.0)))
+      on_ok r (turns_weaker _ _ old.now new.now (λ content after. of_intervals (λ is. AreSmall is × AreTherein meter (share ∷ []) is) (without_shares meter (share ∷ [])) (changed_where (is_kept meter share.start) (takes share.mwh)) content after (λ is may. taken_share meter share is may.0 may.1.0)))
       (kept_taken old new r h)
 
 -- ---- drop_from

@@ -31,16 +31,16 @@ pub record HandsOn {S K Tables : Type 0} (g : Ghosts S) (old new : Held S)
     (AreSharesOf : Tables → List Share → Type 0)
     (AreSound : Tables → Type 0) : Type 0 where
   pub asks : Asks g old new
-  pub begun : HasCleanDisk (state g new) → (held : Content) → AreTables (state g old).now held
-      → (rows : Tables) → Have rows held
+  pub begun : HasCleanDisk (state g new) → (content : Content) → AreTables (state g old).now content
+      → (rows : Tables) → Have rows content
       → (after ≡ before)
       ⊎ ((all : List Share) × AreSharesOf rows all × TakesFirst takes before all after)
-  pub whole : HasCleanDisk (state g new) → (held : Content) → AreTables (state g old).now held
-      → (rows : Tables) → Have rows held
+  pub whole : HasCleanDisk (state g new) → (content : Content) → AreTables (state g old).now content
+      → (rows : Tables) → Have rows content
       → OnOk result ((all : List Share) × AreSharesOf rows all × TakesAll takes before all after)
   pub some : TookSome takes before after
-  pub fault : HasCleanDisk (state g new) → (held : Content) → AreTables (state g old).now held
-      → (rows : Tables) → Have rows held → AreSound rows → IfErr result (λ e. e ≢ Damaged)
+  pub fault : HasCleanDisk (state g new) → (content : Content) → AreTables (state g old).now content
+      → (rows : Tables) → Have rows content → AreSound rows → IfErr result (λ e. e ≢ Damaged)
 
 -- ---- the rows of a meter, by their starts
 
@@ -61,9 +61,9 @@ pub record Lying : Type 0 where
   pub installed : List Installed
   pub rows : List Interval
 
-pub record HaveLying (lying : Lying) (held : Content) : Type 0 where
-  pub installed : HasRows installations installed_columns lying.installed held
-  pub rows : HasRows intervals interval_columns lying.rows held
+pub record HaveLying (lying : Lying) (content : Content) : Type 0 where
+  pub installed : HasRows installations installed_columns lying.installed content
+  pub rows : HasRows intervals interval_columns lying.rows content
 
 -- the row is of a meter that was installed at the register
 abbrev pub lies_at : (register : List ℕ) → Installed × Interval → Bool

@@ -52,10 +52,10 @@ AreTherein meter (share ∷ shares) rows =
 
 -- Whatever rows the table had, if they may be edited so, it has what the edit makes of them. Every other table stays.
 pub record EditsIf (May : List Interval → Type 0) (edit : List Interval → List Interval)
-    (held after : Content) : Type 0 where
-  pub rows : (is : List Interval) → HasRows intervals interval_columns is held → May is
+    (content after : Content) : Type 0 where
+  pub rows : (is : List Interval) → HasRows intervals interval_columns is content → May is
       → HasRows intervals interval_columns (edit is) after
-  pub others : (t : ℕ) → t ≢ intervals → after t ≡ held t
+  pub others : (t : ℕ) → t ≢ intervals → after t ≡ content t
 
 -- Shares of a meter are booked, where no row comes to have more than a meter can have.
 abbrev pub BooksShares : (meter : List ℕ) → List Share → Content → Content → Type 0

@@ -23,13 +23,13 @@ use Rattle.store_facts.specs.Tables.{meta_tree, meta_columns, AreOf}
 use Rattle.store_laws.specs.Laws.{TablesTellTheirFacts, DatabasesTellTheirFacts}
 
 -- the same rows, told in another order
-module _ (db : Database) (held after : Content) (had : AreTables db held) (has : AreTables db after) where
-  same_rows : {X : Type 0} (tree : ℕ) (columns : X → Row) (rows : List X) → HasTree books_schema.tables tree → HasRows tree columns rows held → HasRows tree columns rows after
+module _ (db : Database) (content after : Content) (had : AreTables db content) (has : AreTables db after) where
+  same_rows : {X : Type 0} (tree : ℕ) (columns : X → Row) (rows : List X) → HasTree books_schema.tables tree → HasRows tree columns rows content → HasRows tree columns rows after
   same_rows tree columns rows there are =
-      IsPermutation-trans (map columns rows) (held tree) (after tree) are
-      (IsPermutation-trans (held tree) _ (after tree) (IsPermutation-sym _ (held tree) (had.rows tree there)) (has.rows tree there))
+      IsPermutation-trans (map columns rows) (content tree) (after tree) are
+      (IsPermutation-trans (content tree) _ (after tree) (IsPermutation-sym _ (content tree) (had.rows tree there)) (has.rows tree there))
 
-  told_again : (zone : List ℕ) (facts : List Fact) → AreOf zone facts held → AreOf zone facts after
+  told_again : (zone : List ℕ) (facts : List Fact) → AreOf zone facts content → AreOf zone facts after
   told_again zone facts a = record {
     lawful = a.lawful;
     meta = same_rows meta_tree meta_columns (zone ∷ []) (tree_at books_schema.tables 0 meta_table refl) a.meta;
@@ -62,4 +62,4 @@ module _ (db : Database) (held after : Content) (had : AreTables db held) (has :
 
 pub databases_tell_their_facts : TablesTellTheirFacts → DatabasesTellTheirFacts
 databases_tell_their_facts law zone others_zone facts others db a b =
-    law zone others_zone facts others a.held a.are (told_again db b.held a.held b.tables a.tables others_zone others b.are)
+    law zone others_zone facts others a.content a.are (told_again db b.content a.content b.tables a.tables others_zone others b.are)

@@ -34,58 +34,58 @@ use Rattle.store_laws.proofs.Facts.{last_put, number_of, polls_fall, IsInstalled
 one_zone : IsInjective meta_columns
 one_zone a b e = cc
 
-module _ (stand : RowsStand) (once : ListsArePlannedOnce) (zone others_zone : List ℕ) (facts others : List Fact) (held : Content)
-    (a : AreOf zone facts held) (b : AreOf others_zone others held) where
+module _ (stand : RowsStand) (once : ListsArePlannedOnce) (zone others_zone : List ℕ) (facts others : List Fact) (content : Content)
+    (a : AreOf zone facts content) (b : AreOf others_zone others content) where
   same_zone : zone ≡ others_zone
   same_zone = elim (there.0) [ inl is ↦ is | inr none ↦ absurd none ]
     where
       there : AllByRecursion (λ (z : List ℕ). Among z (others_zone ∷ [])) (zone ∷ [])
-      there = among_permuted (zone ∷ []) (others_zone ∷ []) (one_table meta_columns one_zone (zone ∷ []) (others_zone ∷ []) (held meta_tree) a.meta b.meta)
+      there = among_permuted (zone ∷ []) (others_zone ∷ []) (one_table meta_columns one_zone (zone ∷ []) (others_zone ∷ []) (content meta_tree) a.meta b.meta)
 
   -- ---- tables whose rows are those of one kind of fact
 
   same_devices : devices_in facts ≡ devices_in others
   same_devices =
       placed_same added one_device device_place (λ place x. refl) (devices_in facts) (devices_in others)
-      (one_table device_columns columns.one_device (placed added (devices_in facts)) (placed added (devices_in others)) (held list_tree.devices) a.devices b.devices)
+      (one_table device_columns columns.one_device (placed added (devices_in facts)) (placed added (devices_in others)) (content list_tree.devices) a.devices b.devices)
 
   same_registers : registers_in facts ≡ registers_in others
   same_registers =
       placed_same registered one_register register_place (λ place x. refl) (registers_in facts) (registers_in others)
-      (one_table register_columns columns.one_register (placed registered (registers_in facts)) (placed registered (registers_in others)) (held list_tree.registers)
+      (one_table register_columns columns.one_register (placed registered (registers_in facts)) (placed registered (registers_in others)) (content list_tree.registers)
       a.registers b.registers)
 
   same_holds : holds_in facts ≡ holds_in others
   same_holds =
       placed_same held_row one_hold hold_place (λ place x. refl) (holds_in facts) (holds_in others)
-      (one_table hold_columns columns.one_hold (placed held_row (holds_in facts)) (placed held_row (holds_in others)) (held poll_tree.holds) a.holds b.holds)
+      (one_table hold_columns columns.one_hold (placed held_row (holds_in facts)) (placed held_row (holds_in others)) (content poll_tree.holds) a.holds b.holds)
 
   same_voids : IsPermutation (voids_in facts) (voids_in others)
   same_voids =
       permuted_back voided one_void (voids_in facts) (voids_in others)
-      (one_table voided_columns columns.one_void (map voided (voids_in facts)) (map voided (voids_in others)) (held entry_tree.voids) a.voids b.voids)
+      (one_table voided_columns columns.one_void (map voided (voids_in facts)) (map voided (voids_in others)) (content entry_tree.voids) a.voids b.voids)
 
   same_ends : IsPermutation (ended_in facts) (ended_in others)
   same_ends =
       permuted_back outcome_row one_end (ended_in facts) (ended_in others)
-      (one_table outcome_columns columns.one_end (map outcome_row (ended_in facts)) (map outcome_row (ended_in others)) (held poll_tree.outcomes) a.outcomes b.outcomes)
+      (one_table outcome_columns columns.one_end (map outcome_row (ended_in facts)) (map outcome_row (ended_in others)) (content poll_tree.outcomes) a.outcomes b.outcomes)
 
   same_replies : IsPermutation (replies_in facts) (replies_in others)
   same_replies =
       permuted_back kept one_reply (replies_in facts) (replies_in others)
-      (one_table reply_columns columns.one_reply (map kept (replies_in facts)) (map kept (replies_in others)) (held poll_tree.replies) a.replies b.replies)
+      (one_table reply_columns columns.one_reply (map kept (replies_in facts)) (map kept (replies_in others)) (content poll_tree.replies) a.replies b.replies)
 
   same_polls : polls_in facts ≡ polls_in others
   same_polls =
       same_in_order (Falls number_of) (falls_one_way number_of) (polls_in facts) (polls_in others) (polls_fall facts a.lawful) (polls_fall others b.lawful)
       (permuted_back started one_poll (polls_in facts) (polls_in others)
-      (one_table poll_columns columns.one_poll (map started (polls_in facts)) (map started (polls_in others)) (held poll_tree.polls) a.polls b.polls))
+      (one_table poll_columns columns.one_poll (map started (polls_in facts)) (map started (polls_in others)) (content poll_tree.polls) a.polls b.polls))
 
   same_lists : (device : List ℕ) → list_of facts device ≡ list_of others device
   same_lists device =
       same_list once device _ _ (last_put facts device a.lawful) (last_put others device b.lawful)
       (of_passing (is_point_of device) a.points.rows b.points.rows _ _
-      (one_table point_columns columns.one_point a.points.rows b.points.rows (held list_tree.points) a.points.there b.points.there)
+      (one_table point_columns columns.one_point a.points.rows b.points.rows (content list_tree.points) a.points.there b.points.there)
       (a.points.each device) (b.points.each device))
 
   -- ---- meters
@@ -93,7 +93,7 @@ module _ (stand : RowsStand) (once : ListsArePlannedOnce) (zone others_zone : Li
   same_entries : (meter : List ℕ) → IsPermutation (entries_of facts meter) (entries_of others meter)
   same_entries meter =
       of_passing (is_of meter) a.entries.rows b.entries.rows (entries_of facts meter) (entries_of others meter)
-      (one_table entry_columns columns.one_entry a.entries.rows b.entries.rows (held entry_tree.entries) a.entries.there b.entries.there)
+      (one_table entry_columns columns.one_entry a.entries.rows b.entries.rows (content entry_tree.entries) a.entries.there b.entries.there)
       (a.entries.each meter) (b.entries.each meter)
 
   -- the entries of a meter that both have
@@ -143,7 +143,7 @@ module _ (stand : RowsStand) (once : ListsArePlannedOnce) (zone others_zone : Li
       (λ o here range. record { here = here; range = range }) (openings_in facts) (all_installed facts a.lawful)
       (all_unmap (λ r. Among r (map ranged (openings_in others))) ranged (openings_in facts)
       (among_permuted (map ranged (openings_in facts)) (map ranged (openings_in others))
-      (one_table ranged_columns columns.one_range (map ranged (openings_in facts)) (map ranged (openings_in others)) (held meter_tree.ranges) a.ranges b.ranges)))
+      (one_table ranged_columns columns.one_range (map ranged (openings_in facts)) (map ranged (openings_in others)) (content meter_tree.ranges) a.ranges b.ranges)))
 
   same_openings : openings_in facts ≡ openings_in others
   same_openings =
@@ -152,7 +152,7 @@ module _ (stand : RowsStand) (once : ListsArePlannedOnce) (zone others_zone : Li
       (λ m n o p e. record { meter = λ i. (e i).meter; register = λ i. (e i).register; ceiling = λ i. (e i).row.ceiling })
       installed_place (λ place o. refl) (λ place o. refl) (openings_in facts) (openings_in others)
       (one_table installed_columns columns.one_installation (placed (installed_row facts) (openings_in facts)) (placed (installed_row others) (openings_in others))
-      (held meter_tree.installations) a.installations b.installations))
+      (content meter_tree.installations) a.installations b.installations))
       all_known (all_installed others b.lawful)
 
   voids_agree : (meter : List ℕ) → SameVoids (journal_of facts meter) (journal_of others meter)
@@ -186,5 +186,5 @@ module _ (stand : RowsStand) (once : ListsArePlannedOnce) (zone others_zone : Li
   }
 
 pub tables_tell_their_facts : RowsStand → ListsArePlannedOnce → TablesTellTheirFacts
-tables_tell_their_facts stand once zone others_zone facts others held a b =
-    (same_books stand once zone others_zone facts others held a b, same_zone stand once zone others_zone facts others held a b)
+tables_tell_their_facts stand once zone others_zone facts others content a b =
+    (same_books stand once zone others_zone facts others content a b, same_zone stand once zone others_zone facts others content a b)

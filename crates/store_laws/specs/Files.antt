@@ -11,16 +11,17 @@ use Rattle.store_facts.specs.Holding.{HasFacts}
 
 -- New tables are those of no facts.
 abbrev pub NewFilesHaveNone : Type 0
-NewFilesHaveNone = (zone : List ℕ) (held : Content) → IsNew zone held → AreOf zone [] held
+NewFilesHaveNone = (zone : List ℕ) (content : Content) → IsNew zone content → AreOf zone [] content
 
 -- It is a file of the newest version, and what an opening makes of that has these facts.
-pub record IsOpenable (zone : List ℕ) (facts : List Fact) (db : Database) (held : Content) : Type 0
+pub record IsOpenable (zone : List ℕ) (facts : List Fact) (db : Database)
+    (content : Content) : Type 0
   where
-    pub file : IsFile Third zone db held
-    pub kept : (after : Content) → IsBrought Third zone held after → AreOf zone facts after
+    pub file : IsFile Third zone db content
+    pub kept : (after : Content) → IsBrought Third zone content after → AreOf zone facts after
 
 -- A database that has facts is a file, and keeps them where it is opened.
 abbrev pub OpenedFilesKeepTheirs : Type 0
 OpenedFilesKeepTheirs =
     (zone : List ℕ) (facts : List Fact) (db : Database) (it : HasFacts zone facts db)
-    → IsOpenable zone facts db it.held
+    → IsOpenable zone facts db it.content

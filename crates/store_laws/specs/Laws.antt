@@ -10,8 +10,8 @@ use Rattle.store_facts.specs.Holding.{HasFacts, IsLeft}
 
 -- All facts that tables are of are the same books, and the zone is one.
 abbrev pub TablesTellTheirFacts : Type 0
-TablesTellTheirFacts = (zone others_zone : List ℕ) (facts others : List Fact) (held : Content)
-    → AreOf zone facts held → AreOf others_zone others held
+TablesTellTheirFacts = (zone others_zone : List ℕ) (facts others : List Fact) (content : Content)
+    → AreOf zone facts content → AreOf others_zone others content
     → AreSame facts others × (zone ≡ others_zone)
 
 -- The same of all facts that a database has.

@@ -36,7 +36,7 @@ module _ (device : List ℕ) where
   }
 
   pub begun : (a : State) → Steps {X = Unit {0}} {E = Error} a a (Ok tt) (Came [])
-  begun a = weaker a a (Ok tt) (Turns (λ held after. after ≡ held)) (Turns (Came [])) (λ turns held has. let it = turns held has in (it.0, none_came held it.0 it.1, it.2)) (no_steps a tt)
+  begun a = weaker a a (Ok tt) (Turns (λ content after. after ≡ content)) (Turns (Came [])) (λ turns content has. let it = turns content has in (it.0, none_came content it.0 it.1, it.2)) (no_steps a tt)
 
   pub came : (all : List Point) (i : ℕ) (p d : Point) (a b c : State) (n : ℕ) → i < length all → p ≡ get_or all i d → Steps {X = Unit {0}} {E = Error} a b (Ok tt) (Came (take i all))
       → Steps {X = ℕ} {E = Error} b c (Ok n) (Edits points point_columns (with_row (listed_at device p))) → Steps {X = Unit {0}} {E = Error} a c (Ok tt) (Came (take (i + 1) all))

@@ -13,7 +13,7 @@ use Rattle.store_intervals.specs.Handing as tables
 use Rattle.store_facts.specs.Holding.{OnlyLooks}
 use Rattle.store_facts.specs.Tables.{AreOf}
 use Rattle.store_metering.specs.Looking.{HandsOn}
-use Rattle.store_metering.proofs.Looked.{IsSettled, still_held, seen, asked, looks_then}
+use Rattle.store_metering.proofs.Looked.{IsSettled, still_there, seen, asked, looks_then}
 
 module _ {S K : Type 0} (g : Ghosts S) (takes : K → Share → K → Type 0) (says : List Fact → List Share) where
   -- a call failed before it asked
@@ -28,9 +28,9 @@ module _ {S K : Type 0} (g : Ghosts S) (takes : K → Share → K → Type 0) (s
   }
 
   -- the tables are those of the facts, and say these shares
-  pub record Tells {Tables : Type 0} (Have : Tables → Content → Type 0) (AreSharesOf : Tables → List Share → Type 0) (shares : List Share) (held : Content) : Type 0 where
+  pub record Tells {Tables : Type 0} (Have : Tables → Content → Type 0) (AreSharesOf : Tables → List Share → Type 0) (shares : List Share) (content : Content) : Type 0 where
     pub rows : Tables
-    pub there : Have rows held
+    pub there : Have rows content
     pub says_so : (all : List Share) → AreSharesOf rows all → all ≡ shares
 
   begun_so : (before after : K) (shares : List Share) (AreShares : List Share → Type 0) → ((all : List Share) → AreShares all → all ≡ shares)
@@ -40,19 +40,19 @@ module _ {S K : Type 0} (g : Ghosts S) (takes : K → Share → K → Type 0) (s
 
   pub handed : {Tables : Type 0} (old mid new : Held S) (before after : K) (r : Result (Unit {0}) RowFault) (Have : Tables → Content → Type 0) (AreSharesOf : Tables → List Share → Type 0) (AreSound : Tables → Type 0)
       → ((zone : List ℕ) → OnlyLooks g zone old mid) → (HasCleanDisk (state g mid) → IsSettled g mid) → tables.HandsOn g mid new takes before after r Have AreSharesOf AreSound
-      → ((zone : List ℕ) (facts : List Fact) (held : Content) → AreOf zone facts held → Tells Have AreSharesOf (says facts) held) → HandsOn g old new takes before after r says
+      → ((zone : List ℕ) (facts : List Fact) (content : Content) → AreOf zone facts content → Tells Have AreSharesOf (says facts) content) → HandsOn g old new takes before after r says
   handed old mid new before after r Have AreSharesOf AreSound first settled hands tells = record {
     begun = λ zone facts holds clean.
         let early = hands.asks.clean clean in
-        let has = seen g zone mid facts settled (still_held g zone old mid facts (first zone) holds early) early in
-        let told = tells zone facts has.held has.are in
-        begun_so before after (says facts) (AreSharesOf told.rows) told.says_so (hands.begun clean has.held has.tables told.rows told.there);
+        let has = seen g zone mid facts settled (still_there g zone old mid facts (first zone) holds early) early in
+        let told = tells zone facts has.content has.are in
+        begun_so before after (says facts) (AreSharesOf told.rows) told.says_so (hands.begun clean has.content has.tables told.rows told.there);
     whole = λ zone facts holds clean.
         let early = hands.asks.clean clean in
-        let has = seen g zone mid facts settled (still_held g zone old mid facts (first zone) holds early) early in
-        let told = tells zone facts has.held has.are in
+        let has = seen g zone mid facts settled (still_there g zone old mid facts (first zone) holds early) early in
+        let told = tells zone facts has.content has.are in
         on_ok r (λ (h : (all : List Share) × AreSharesOf told.rows all × TakesAll takes before all after). subst (λ (l : List Share). TakesAll takes before l after) (told.says_so h.0 h.1) h.2)
-        (hands.whole clean has.held has.tables told.rows told.there);
+        (hands.whole clean has.content has.tables told.rows told.there);
     some = (hands.some.0, hands.some.2);
     looks = λ zone. looks_then g zone old mid new (first zone) (asked g zone mid new settled hands.asks);
     mode = λ is. hands.asks.mode ((first []).mode is);

@@ -77,10 +77,10 @@ entered_if : (b : Bool) (place : ℕ) (k : EntryKind) (e : Entry) (lines : Rattl
 entered_if true place k e lines = refl
 entered_if false place k e lines = refl
 
-held_if : (b : Bool) (place : ℕ) (reading : Rattle.energy_core.specs.declared.verdicts.Reading.Reading) (cause : Rattle.energy_core.specs.declared.verdicts.Cause.Cause) (lines : Rattle.meter_journal.specs.Journal.Journal)
+there_if : (b : Bool) (place : ℕ) (reading : Rattle.energy_core.specs.declared.verdicts.Reading.Reading) (cause : Rattle.energy_core.specs.declared.verdicts.Cause.Cause) (lines : Rattle.meter_journal.specs.Journal.Journal)
     → is_voided place (cons_option (cond b (Some (Rattle.meter_journal.specs.Journal.Held reading cause)) None) lines) ≡ is_voided place lines
-held_if true place reading cause lines = refl
-held_if false place reading cause lines = refl
+there_if true place reading cause lines = refl
+there_if false place reading cause lines = refl
 
 module _ (meter : List ℕ) (place : ℕ) where
   abbrev named : List Fact → Bool
@@ -93,7 +93,7 @@ module _ (meter : List ℕ) (place : ℕ) where
   voids_are (fact.Register r ∷ facts) = voids_are facts
   voids_are (fact.Opening o ∷ facts) = voids_are facts
   voids_are (fact.Entry b ∷ facts) = voids_are facts ∙ sym (entered_if (same b.meter meter) place b.kind b.entry (journal_of facts meter))
-  voids_are (fact.Hold h ∷ facts) = voids_are facts ∙ sym (held_if (same h.meter meter) place (record { at = h.at; raw = h.raw; sf = h.sf }) h.cause (journal_of facts meter))
+  voids_are (fact.Hold h ∷ facts) = voids_are facts ∙ sym (there_if (same h.meter meter) place (record { at = h.at; raw = h.raw; sf = h.sf }) h.cause (journal_of facts meter))
   voids_are (fact.Void v ∷ facts) =
       if_step (same v.meter meter) (names place) (voided v) (filter (is_void_of meter) (map voided (voids_in facts))) (is_voided place (journal_of facts meter)) (voids_are facts)
       ∙ sym (voided_if (same v.meter meter) place v.place (journal_of facts meter))

@@ -24,9 +24,9 @@ module _ {S : Type 0} (g : Ghosts S) where
 
   module _ (zone : List ℕ) where
     -- the facts are held after a look-up too
-    pub still_held : (old new : Held S) (facts : List Fact) → OnlyLooks g zone old new → HoldsFacts g zone old facts → HasCleanDisk (state g new) → HoldsFacts g zone new facts
+    pub still_there : (old new : Held S) (facts : List Fact) → OnlyLooks g zone old new → HoldsFacts g zone old facts → HasCleanDisk (state g new) → HoldsFacts g zone new facts
     unfolding HoldsFacts
-    still_held old new facts looks holds clean = λ again is_open.
+    still_there old new facts looks holds clean = λ again is_open.
         let kept = looks.kept facts holds clean in
         subst (HasFacts zone facts) (sym (kept.committed is_open)) (holds (looks.clean clean) (kept.was_open is_open))
 
@@ -36,10 +36,10 @@ module _ {S : Type 0} (g : Ghosts S) where
       mode = λ is. two.mode (one.mode is);
       kept = λ facts holds clean.
           let early = two.clean clean in
-          kept_then (state g a) (state g b) (state g c) (one.kept facts holds early) (two.kept facts (still_held a b facts one holds early) clean);
+          kept_then (state g a) (state g b) (state g c) (one.kept facts holds early) (two.kept facts (still_there a b facts one holds early) clean);
       left = λ facts holds clean trees leaves.
           let early = two.clean clean in
-          one.left facts holds early trees (two.left facts (still_held a b facts one holds early) clean trees leaves);
+          one.left facts holds early trees (two.left facts (still_there a b facts one holds early) clean trees leaves);
     }
 
     -- nothing was asked
@@ -72,10 +72,10 @@ module _ {S : Type 0} (g : Ghosts S) where
       clean = asks.clean;
       mode = asks.mode;
       kept = λ facts holds clean.
-          let has = seen mid facts settled holds (asks.clean clean) in asks.kept clean has.held has.tables;
+          let has = seen mid facts settled holds (asks.clean clean) in asks.kept clean has.content has.tables;
       left = λ facts holds clean trees leaves.
           let has = seen mid facts settled holds (asks.clean clean) in
-          elim ((asks.survives has.held has.tables).crash clean trees leaves) [ inl was ↦ was | inr none ↦ absurd none ];
+          elim ((asks.survives has.content has.tables).crash clean trees leaves) [ inl was ↦ was | inr none ↦ absurd none ];
     }
 
   -- ---- one question
@@ -86,20 +86,20 @@ module _ {S : Type 0} (g : Ghosts S) where
   not_asked a b (Err e) T says looks is = record { found = λ zone facts holds clean. tt; looks = looks; mode = (looks []).mode }
 
   -- the rows of a table are those of the facts, and say this
-  pub record Tells {A X : Type 0} (tree : ℕ) (columns : X → Row) (Answers : List X → A → Type 0) (says : A → Type 0) (held : Content) : Type 0 where
+  pub record Tells {A X : Type 0} (tree : ℕ) (columns : X → Row) (Answers : List X → A → Type 0) (says : A → Type 0) (content : Content) : Type 0 where
     pub rows : List X
-    pub there : HasRows tree columns rows held
+    pub there : HasRows tree columns rows content
     pub says_so : (a : A) → Answers rows a → says a
 
   pub looked : {A X : Type 0} (old mid new : Held S) (tree : ℕ) (columns : X → Row) (IsSound : X → Type 0) (r : Result A RowFault) (Answers : List X → A → Type 0) (says : List Fact → A → Type 0)
       → ((zone : List ℕ) → OnlyLooks g zone old mid) → (HasCleanDisk (state g mid) → IsSettled mid) → LooksUp g mid new tree columns IsSound r Answers
-      → ((zone : List ℕ) (facts : List Fact) (held : Content) → AreOf zone facts held → Tells tree columns Answers (says facts) held) → Finds g old new r says
+      → ((zone : List ℕ) (facts : List Fact) (content : Content) → AreOf zone facts content → Tells tree columns Answers (says facts) content) → Finds g old new r says
   looked old mid new tree columns IsSound r Answers says before settled look tells = record {
     found = λ zone facts holds clean.
         let early = look.asks.clean clean in
-        let has = seen zone mid facts settled (still_held zone old mid facts (before zone) holds early) early in
-        let told = tells zone facts has.held has.are in
-        IfOk-weaker r (Answers told.rows) (says facts) told.says_so (look.answer clean has.held has.tables told.rows told.there);
+        let has = seen zone mid facts settled (still_there zone old mid facts (before zone) holds early) early in
+        let told = tells zone facts has.content has.are in
+        IfOk-weaker r (Answers told.rows) (says facts) told.says_so (look.answer clean has.content has.tables told.rows told.there);
     looks = λ zone. looks_then zone old mid new (before zone) (asked zone mid new settled look.asks);
     mode = λ is. look.asks.mode ((before []).mode is);
   }
@@ -110,13 +110,13 @@ module _ {S : Type 0} (g : Ghosts S) where
 
   pub shown : {A X : Type 0} (old mid new : Held S) (tree : ℕ) (columns : X → Row) (x : A) (Answers : List X → A → Type 0) (says : List Fact → A → Type 0)
       → ((zone : List ℕ) → OnlyLooks g zone old mid) → (HasCleanDisk (state g mid) → IsSettled mid) → Asks g mid new → asking.Tells {E = Error} g mid new tree columns (Ok x) Answers
-      → ((zone : List ℕ) (facts : List Fact) (held : Content) → AreOf zone facts held → Tells tree columns Answers (says facts) held) → Finds g old new (Ok x) says
+      → ((zone : List ℕ) (facts : List Fact) (content : Content) → AreOf zone facts content → Tells tree columns Answers (says facts) content) → Finds g old new (Ok x) says
   shown old mid new tree columns x Answers says before settled asks answer tells = record {
     found = λ zone facts holds clean.
         let early = asks.clean clean in
-        let has = seen zone mid facts settled (still_held zone old mid facts (before zone) holds early) early in
-        let told = tells zone facts has.held has.are in
-        told.says_so x (answer clean has.held has.tables told.rows told.there);
+        let has = seen zone mid facts settled (still_there zone old mid facts (before zone) holds early) early in
+        let told = tells zone facts has.content has.are in
+        told.says_so x (answer clean has.content has.tables told.rows told.there);
     looks = asked_after old mid new before settled asks;
     mode = λ is. asks.mode ((before []).mode is);
   }
@@ -133,7 +133,7 @@ module _ {S : Type 0} (g : Ghosts S) where
   then_told a b c x y z P Q R one two tells = record {
     found = λ zone facts holds clean.
         let early = (two.looks zone).clean clean in
-        tells facts (one.found zone facts holds early) (two.found zone facts (still_held zone a b facts (one.looks zone) holds early) clean);
+        tells facts (one.found zone facts holds early) (two.found zone facts (still_there zone a b facts (one.looks zone) holds early) clean);
     looks = λ zone. looks_then zone a b c (one.looks zone) (two.looks zone);
     mode = λ is. two.mode (one.mode is);
   }
@@ -143,7 +143,7 @@ module _ {S : Type 0} (g : Ghosts S) where
   then_made a b c x y r P Q R one two tells = record {
     found = λ zone facts holds clean.
         let early = (two.looks zone).clean clean in
-        tells facts (one.found zone facts holds early) (two.found zone facts (still_held zone a b facts (one.looks zone) holds early) clean);
+        tells facts (one.found zone facts holds early) (two.found zone facts (still_there zone a b facts (one.looks zone) holds early) clean);
     looks = λ zone. looks_then zone a b c (one.looks zone) (two.looks zone);
     mode = λ is. two.mode (one.mode is);
   }

@@ -105,12 +105,12 @@ module _ (db : Trees) where
           a.shown ∙ (ap (map (λ (o : Output). o.1)) moved.2 ∙ shown_all moved.0),
         )
 
-pub pending : (old new : State) (held : Content) (started : List Started) (ended : List OutcomeRow) (rows : List Row) → AreTables old.now held → HasRows polls poll_columns started held → HasRows outcomes outcome_columns ended held
+pub pending : (old new : State) (content : Content) (started : List Started) (ended : List OutcomeRow) (rows : List Row) → AreTables old.now content → HasRows polls poll_columns started content → HasRows outcomes outcome_columns ended content
     → Shown text.pending [] old new rows → Shows (is_pending ended) (FirstFirst poll_number) poll_shown started rows
-pending old new held started ended rows has started_are ended_are h =
+pending old new content started ended rows has started_are ended_are h =
     let got = reads_as text.pending [] old new books_schema has.schema _ text.pending_is text.pending_plain text.pending_unlisted rows h in
     let here = tree_at books_schema.tables 6 polls_table refl in
     let there = tree_at books_schema.tables 8 outcomes_table refl in
     let db = old.now.trees in
-    selected db ended (laid_from true outcome_columns (db outcomes) (held outcomes) ended (has.apart outcomes there).keyed (has.rows outcomes there) ended_are)
-    rows started (laid_from true poll_columns (db polls) (held polls) started (has.apart polls here).keyed (has.rows polls here) started_are) (got.answer Null)
+    selected db ended (laid_from true outcome_columns (db outcomes) (content outcomes) ended (has.apart outcomes there).keyed (has.rows outcomes there) ended_are)
+    rows started (laid_from true poll_columns (db polls) (content polls) started (has.apart polls here).keyed (has.rows polls here) started_are) (got.answer Null)

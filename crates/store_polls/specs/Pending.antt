@@ -20,8 +20,8 @@ is_pending ended p = not (list_any (is_outcome_of p.row.number) ended)
 abbrev pub ShowsPending : {S A E : Type 0} → Ghosts S → (old new : Held S) → (result : Result A E)
     → (rows : A → List Row) → Type 0
 ShowsPending g old new result rows =
-    HasCleanDisk (state g new) → (held : Content) → AreTables (state g old).now held
-    → (started : List Started) → HasRows polls poll_columns started held
-    → (ended : List OutcomeRow) → HasRows outcomes outcome_columns ended held
+    HasCleanDisk (state g new) → (content : Content) → AreTables (state g old).now content
+    → (started : List Started) → HasRows polls poll_columns started content
+    → (ended : List OutcomeRow) → HasRows outcomes outcome_columns ended content
     → IfOk result
     (λ answer. Shows (is_pending ended) (FirstFirst poll_number) poll_shown started (rows answer))

@@ -22,14 +22,14 @@ other : (t k : ℕ) → (t == k) ≡ false → t ≢ k
 other t k e is = grind (arith, nat_tests)
 
 abbrev pub Told : Trees → Content → ℕ → Type 0
-Told db held t = IsPermutation (map (told (is_numbered t)) (db t)) (held t)
+Told db content t = IsPermutation (map (told (is_numbered t)) (db t)) (content t)
 
 module _ (schema : Schema) where
-  pub framed : (k : ℕ) (db next : Trees) (rows : List Row) (held : Content) → ((t : ℕ) → HasTree schema.tables t → t ≢ k → next t ≡ db t) → IsPermutation (map (told (is_numbered k)) (next k)) rows
-      → ((t : ℕ) → HasTree schema.tables t → Told db held t) → (t : ℕ) → HasTree schema.tables t → Told next (with_rows k rows held) t
-  framed k db next rows held stay here has t there = elim (cases_Bool (t == k)) [
+  pub framed : (k : ℕ) (db next : Trees) (rows : List Row) (content : Content) → ((t : ℕ) → HasTree schema.tables t → t ≢ k → next t ≡ db t) → IsPermutation (map (told (is_numbered k)) (next k)) rows
+      → ((t : ℕ) → HasTree schema.tables t → Told db content t) → (t : ℕ) → HasTree schema.tables t → Told next (with_rows k rows content) t
+  framed k db next rows content stay here has t there = elim (cases_Bool (t == k)) [
     | inl is ↦ rw is (subst (λ n. IsPermutation (map (told (is_numbered n)) (next n)) rows) (sym (same t k is)) here)
-    | inr off ↦ rw off (subst (λ (rs : List Row). IsPermutation (map (told (is_numbered t)) rs) (held t)) (sym (stay t there (other t k off))) (has t there))
+    | inr off ↦ rw off (subst (λ (rs : List Row). IsPermutation (map (told (is_numbered t)) rs) (content t)) (sym (stay t there (other t k off))) (has t there))
   ]
 
   pub framed_apart : (k : ℕ) (db next : Trees) → ((t : ℕ) → HasTree schema.tables t → t ≢ k → next t ≡ db t) → AreApart (next k) → ((t : ℕ) → HasTree schema.tables t → AreApart (db t)) → (t : ℕ) → HasTree schema.tables t → AreApart (next t)
@@ -38,14 +38,14 @@ module _ (schema : Schema) where
     | inr off ↦ subst AreApart (sym (stay t there (other t k off))) (has t there)
   ]
 
-pub with_here : (k : ℕ) (rows : List Row) (held : Content) → with_rows k rows held k ≡ rows
-with_here k rows held = elim (cases_Bool (k == k)) [
+pub with_here : (k : ℕ) (rows : List Row) (content : Content) → with_rows k rows content k ≡ rows
+with_here k rows content = elim (cases_Bool (k == k)) [
   | inl is ↦ rw is refl
   | inr off ↦ absurd (other k k off refl)
 ]
 
-pub with_others : (k : ℕ) (rows : List Row) (held : Content) (t : ℕ) → t ≢ k → with_rows k rows held t ≡ held t
-with_others k rows held t off = elim (cases_Bool (t == k)) [
+pub with_others : (k : ℕ) (rows : List Row) (content : Content) (t : ℕ) → t ≢ k → with_rows k rows content t ≡ content t
+with_others k rows content t off = elim (cases_Bool (t == k)) [
   | inl is ↦ absurd (off (same t k is))
   | inr away ↦ rw away refl
 ]

@@ -91,12 +91,12 @@ module _ (t : Table) (at : ℕ) (place : slice_get books_schema.tables at ≡ So
         → ((rows : List Row) → Sourced old.step_limit (record { schema = books_schema; trees = old.now.trees }) (stamped table params) (Values terms width) (Ok rows) → rows ≡ source ∷ [])
         → Executes text params old new r → OnOk r (Turns (Edits t.tree columns (with_row x)) old.now new.now)
     inserts old new terms width text params (Err why) is plain one h = tt
-    inserts old new terms width text params (Ok count) is plain one h = λ held has.
+    inserts old new terms width text params (Ok count) is plain one h = λ content has.
         let came = comes old new source terms width text params count has.schema is plain one h in
         let number = stored (old.now.trees t.tree) in
         turns books_schema t.tree columns (with_row x) old.now new.now (tree_at books_schema.tables at table place) came.rewrites
         (λ apart xs lies. laid_permuted (is_numbered t.tree) columns _ (new.now.trees t.tree) (x ∷ xs) (subst (λ (r : Row). IsPermutation (r ∷ old.now.trees t.tree) (new.now.trees t.tree)) number.1 came.row)
-        (laid_more (is_numbered t.tree) columns (old.now.trees t.tree) xs number.0 x lies)) held has
+        (laid_more (is_numbered t.tree) columns (old.now.trees t.tree) xs number.0 x lies)) content has
 
 -- where SQLite chooses the rowid
 pub chosen_rowid : (row columns : Row) → row ≡ Null ∷ columns → (rows : List Row) → (n : ℤ) × (with_rowid Chosen rows row ≡ laid false n columns)

@@ -16,7 +16,7 @@ use Rattle.store_tables.specs.Asking.{Asks, Tells, ShowsFirst, ReadsRow, LooksUp
 module _ {S A X : Type 0} (g : Ghosts S) (old new : Held S) (tree : ℕ) (columns : X → Row) (IsSound : X → Type 0) (Answers : List X → A → Type 0) (asks : Asks g old new) where
   -- the query failed
   pub refused : (e : Error) → LooksUp g old new tree columns IsSound (Err (Sql e)) Answers
-  refused e = record { asks = asks; answer = λ clean held has rows of. tt; fault = λ clean held has rows of sound is. let f = is in cc }
+  refused e = record { asks = asks; answer = λ clean content has rows of. tt; fault = λ clean content has rows of sound is. let f = is in cc }
 
 module _ {S A X : Type 0} (g : Ghosts S) (old new : Held S) (tree : ℕ) (columns : X → Row) (IsSound : X → Type 0) (asks : Asks g old new) (passes : X → Bool) (Later : X → X → Type 0) (shown : X → Row)
     (items : List Row) (shows : Tells {E = Error} g old new tree columns (Ok items) (ShowsFirst passes Later shown)) (Answers : List X → Option A → Type 0) where
@@ -36,8 +36,8 @@ module _ {S A X : Type 0} (g : Ghosts S) (old new : Held S) (tree : ℕ) (column
   pub looked_none : slice_get items 0 ≡ None → ((xs found : List X) → AreFound passes Later xs found → slice_get found 0 ≡ None → Answers xs None) → LooksUp g old new tree columns IsSound (Ok None) Answers
   looked_none is tells = record {
     asks = asks;
-    answer = λ clean held has rows of. let it = shows clean held has rows of in tells rows it.0 it.1 (none_shown it.0 (sym (is_empty items is) ∙ it.2));
-    fault = λ clean held has rows of sound. tt;
+    answer = λ clean content has rows of. let it = shows clean content has rows of in tells rows it.0 it.1 (none_shown it.0 (sym (is_empty items is) ∙ it.2));
+    fault = λ clean content has rows of sound. tt;
   }
 
   -- the first row is read
@@ -45,11 +45,11 @@ module _ {S A X : Type 0} (g : Ghosts S) (old new : Held S) (tree : ℕ) (column
       → ((xs found : List X) (x : X) → AreFound passes Later xs found → slice_get found 0 ≡ Some x → IsSeen x a → Answers xs (Some a)) → LooksUp g old new tree columns IsSound (Ok (Some a)) Answers
   looked_some IsSeen row a is reads tells = record {
     asks = asks;
-    answer = λ clean held has rows of.
-        let it = shows clean held has rows of in
+    answer = λ clean content has rows of.
+        let it = shows clean content has rows of in
         let one = some_shown row it.0 is it.2 in
         tells rows it.0 one.0 it.1 one.1 (reads.read one.0 one.2);
-    fault = λ clean held has rows of sound. tt;
+    fault = λ clean content has rows of sound. tt;
   }
 
   one_sound : (xs found : List X) (x : X) → AreFound passes Later xs found → AllByRecursion IsSound xs → slice_get found 0 ≡ Some x → IsSound x
@@ -64,9 +64,9 @@ module _ {S A X : Type 0} (g : Ghosts S) (old new : Held S) (tree : ℕ) (column
   looked_fault IsSeen row e (Ok a) is reads fails = absurd fails
   looked_fault IsSeen row e (Err d) is reads fails = record {
     asks = asks;
-    answer = λ clean held has rows of. tt;
-    fault = λ clean held has rows of sound.
-        let it = shows clean held has rows of in
+    answer = λ clean content has rows of. tt;
+    fault = λ clean content has rows of sound.
+        let it = shows clean content has rows of in
         let one = some_shown row it.0 is it.2 in
         subst (λ f. f ≢ Damaged) (sym fails) (reads.fault one.0 one.2 (one_sound rows it.0 one.0 it.1 sound one.1));
   }

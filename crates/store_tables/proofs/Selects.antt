@@ -90,13 +90,13 @@ module _ {X : Type 0} (tree : ℕ) (tests project : List Term) (order : List (Te
       )
 
   -- a text with this meaning, over the tables of the books
-  pub selects : (old new : State) (text : List ℕ) (names : List (List ℕ)) (held : Content) (xs : List X) (rows : List Row) → HasTree books_schema.tables tree → AreTables old.now held → HasRows tree columns xs held
+  pub selects : (old new : State) (text : List ℕ) (names : List (List ℕ)) (content : Content) (xs : List X) (rows : List Row) → HasTree books_schema.tables tree → AreTables old.now content → HasRows tree columns xs content
       → command_of (understood books_schema text) ≡ Select (record { lets = []; body = query }) names → reads_listing books_schema text ≡ false → IsPlain (understood books_schema text)
       → Shown text params old new rows → (found : List X) × AreFound p R xs found × (rows ≡ page query params (map shown found))
-  selects old new text names held xs rows there has are is unlisted plain h =
+  selects old new text names content xs rows there has are is unlisted plain h =
       let got = reads_as text params old new books_schema has.schema _ is plain unlisted rows h in
       let apart = has.apart tree there in
-      selected old.now.trees rows xs (laid_from (is_numbered tree) columns (old.now.trees tree) (held tree) xs apart.keyed (has.rows tree there) are) (got.answer Null)
+      selected old.now.trees rows xs (laid_from (is_numbered tree) columns (old.now.trees tree) (content tree) xs apart.keyed (has.rows tree there) are) (got.answer Null)
 
 -- ---- the first row of an answer
 

@@ -57,10 +57,10 @@ on_ok (Err e) f h = tt
 
 -- two turns of the tables, one after the other
 pub turns_then : (schema : Schema) (a b c : Database) (P Q R : Content → Content → Type 0) → ((x y z : Content) → P x y → Q y z → R x z) → TurnsIn schema P a b → TurnsIn schema Q b c → TurnsIn schema R a c
-turns_then schema a b c P Q R goes one two held has =
-    let first = one held has in
+turns_then schema a b c P Q R goes one two content has =
+    let first = one content has in
     let second = two first.0 first.2 in
-    (second.0, goes held first.0 second.0 first.1 second.1, second.2)
+    (second.0, goes content first.0 second.0 first.1 second.1, second.2)
 
 -- two steps, of which the first went well
 pub goes_then : {X Y D E : Type 0} (a b c : State) (x : X) (r : Result Y E) (P Q R : Database → Database → Type 0) → StepsTo {X = X} {E = D} a b (Ok x) P → StepsTo b c r Q
@@ -79,11 +79,11 @@ pub steps_then : {X Y D E : Type 0} (a b c : State) (x : X) (r : Result Y E) (P 
 steps_then a b c x r P Q R one two goes = goes_then a b c x r (Turns P) (Turns Q) (Turns R) one two (turns_then _ a.now b.now c.now P Q R goes)
 
 -- nothing is done
-pub no_steps : {X E : Type 0} (a : State) (x : X) → StepsTo {X = X} {E = E} a a (Ok x) (Turns (λ held after. after ≡ held))
+pub no_steps : {X E : Type 0} (a : State) (x : X) → StepsTo {X = X} {E = E} a a (Ok x) (Turns (λ content after. after ≡ content))
 no_steps a x = record {
   kept = λ clean inside. record { was_open = λ still. still; committed = λ still. refl };
   inside = λ clean inside. inside;
-  rows = λ clean inside held has. (held, refl, has);
+  rows = λ clean inside content has. (content, refl, has);
   survives = record { clean = omega arith; shield = λ is. is; counts = omega arith; limit = refl; closes = λ clean is. inl is; crash = λ clean db left. inl left };
 }
 
@@ -181,8 +181,8 @@ pub asks : {S X : Type 0} (g : Ghosts S) (sql : List ℕ) (params : Row) (old ne
 asks g sql params old new r rows plain ok err mode survives = record {
   clean = λ clean. omega (arith, survives.clean);
   mode = mode;
-  kept = λ clean held has. asked_kept sql params (state g old) (state g new) r rows (plain_in books_schema sql (state g old).now has.schema plain) (ok clean) (err clean);
-  survives = λ held has. shown_survives sql params (state g old) (state g new) (plain_in books_schema sql (state g old).now has.schema plain) survives;
+  kept = λ clean content has. asked_kept sql params (state g old) (state g new) r rows (plain_in books_schema sql (state g old).now has.schema plain) (ok clean) (err clean);
+  survives = λ content has. shown_survives sql params (state g old) (state g new) (plain_in books_schema sql (state g old).now has.schema plain) survives;
 }
 
 asked_inside : {X : Type 0} (sql : List ℕ) (params : Row) (old new : State) (r : Result X Error) (rows : X → List Row) → IsPlain (understood old.now.schema sql)
@@ -202,7 +202,7 @@ pub asks_inside : {S X : Type 0} (g : Ghosts S) (sql : List ℕ) (params : Row) 
     → (HasCleanDisk (state g new) → IfErr r (λ e. FailsToQuery sql params (state g old) (state g new) e ⊎ IsTooLate sql params (state g old) (state g new) e))
     → Survives (state g old) (state g new) (λ _. ⊥) → AsksInside g old new r
 asks_inside g sql params old new r rows plain ok err survives = record {
-  kept = λ clean held has. asked_inside sql params (state g old) (state g new) r rows (plain_in books_schema sql (state g old).now has.schema plain) (ok clean) (err clean);
-  unchanged = λ clean held has inside. shown_still sql params (state g old) (state g new) r rows (plain_in books_schema sql (state g old).now has.schema plain) (ok clean) inside;
+  kept = λ clean content has. asked_inside sql params (state g old) (state g new) r rows (plain_in books_schema sql (state g old).now has.schema plain) (ok clean) (err clean);
+  unchanged = λ clean content has inside. shown_still sql params (state g old) (state g new) r rows (plain_in books_schema sql (state g old).now has.schema plain) (ok clean) inside;
   survives = survives;
 }

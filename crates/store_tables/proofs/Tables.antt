@@ -63,18 +63,18 @@ pub record Rewrites (form : Schema) (k : ℕ) (old new : Database) : Type 0 wher
 
 pub turns : {X : Type 0} (form : Schema) (k : ℕ) (columns : X → Row) (edit : List X → List X) (old new : Database) → HasTree form.tables k → Rewrites form k old new
     → (AreApart (old.trees k) → (xs : List X) → IsLaid (is_numbered k) columns (old.trees k) xs → IsLaid (is_numbered k) columns (new.trees k) (edit xs)) → TurnsIn form (Edits k columns edit) old new
-turns form k columns edit old new there rewrites lays held has =
+turns form k columns edit old new there rewrites lays content has =
     let here = map (told (is_numbered k)) (new.trees k) in
     let apart = has.apart k there in (
-      with_rows k here held,
+      with_rows k here content,
       record {
-        rows = λ xs of. subst (IsPermutation (map columns (edit xs))) (sym (with_here k here held))
-            (laid_told (is_numbered k) columns (new.trees k) (edit xs) (lays apart xs (laid_from (is_numbered k) columns (old.trees k) (held k) xs apart.keyed (has.rows k there) of)));
-        others = with_others k here held;
+        rows = λ xs of. subst (IsPermutation (map columns (edit xs))) (sym (with_here k here content))
+            (laid_told (is_numbered k) columns (new.trees k) (edit xs) (lays apart xs (laid_from (is_numbered k) columns (old.trees k) (content k) xs apart.keyed (has.rows k there) of)));
+        others = with_others k here content;
       },
       record {
         schema = rewrites.schema;
-        rows = framed form k old.trees new.trees here held rewrites.others (IsPermutation-refl here) has.rows;
+        rows = framed form k old.trees new.trees here content rewrites.others (IsPermutation-refl here) has.rows;
         apart = framed_apart form k old.trees new.trees rewrites.others (rewrites.apart apart) has.apart;
         sound = rewrites.sound;
       },

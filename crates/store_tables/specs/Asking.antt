@@ -14,17 +14,18 @@ use Rattle.store_tables.specs.Answer.{AreFound}
 pub record Asks {S : Type 0} (g : Ghosts S) (old new : Held S) : Type 0 where
   pub clean : HasCleanDisk (state g new) → HasCleanDisk (state g old)
   pub mode : old.in_transaction ≡ false → new.in_transaction ≡ false
-  pub kept : HasCleanDisk (state g new) → (held : Content) → AreTables (state g old).now held
+  pub kept : HasCleanDisk (state g new) → (content : Content) → AreTables (state g old).now content
       → KeepsCommit (state g old) (state g new)
-  pub survives : (held : Content) → AreTables (state g old).now held
+  pub survives : (content : Content) → AreTables (state g old).now content
       → Survives (state g old) (state g new) (λ _. ⊥)
 
 -- the same inside a transaction, which a question that is answered leaves as it was
 pub record AsksInside {S X E : Type 0} (g : Ghosts S) (old new : Held S) (result : Result X E) :
     Type 0 where
-  pub kept : HasCleanDisk (state g new) → (held : Content) → AreTables (state g old).now held
+  pub kept : HasCleanDisk (state g new) → (content : Content) → AreTables (state g old).now content
       → KeepsCommit (state g old) (state g new)
-  pub unchanged : HasCleanDisk (state g new) → (held : Content) → AreTables (state g old).now held
+  pub unchanged : HasCleanDisk (state g new) → (content : Content)
+      → AreTables (state g old).now content
       → IsTrue old.in_transaction
       → OnOk result (IsTrue new.in_transaction × ((state g new).now ≡ (state g old).now))
   pub survives : Survives (state g old) (state g new) (λ _. ⊥)
@@ -45,8 +46,8 @@ ShowsFirst {X} passes Later shown rows answer =
 abbrev pub Tells : {S A E X : Type 0} → Ghosts S → (old new : Held S) → (tree : ℕ)
     → (columns : X → Row) → (result : Result A E) → (Answers : List X → A → Type 0) → Type 0
 Tells {S} {A} {E} {X} g old new tree columns result Answers =
-    HasCleanDisk (state g new) → (held : Content) → AreTables (state g old).now held
-    → (rows : List X) → HasRows tree columns rows held → IfOk result (Answers rows)
+    HasCleanDisk (state g new) → (content : Content) → AreTables (state g old).now content
+    → (rows : List X) → HasRows tree columns rows content → IfOk result (Answers rows)
 
 -- A row that stands for a value is read as that value. Damage is told only where the value is out of its ranges.
 pub record ReadsRow {A X : Type 0} (row : Row) (shown : X → Row) (IsSeen : X → A → Type 0)
@@ -60,6 +61,7 @@ pub record LooksUp {S A X : Type 0} (g : Ghosts S) (old new : Held S) (tree : �
   where
     pub asks : Asks g old new
     pub answer : Tells g old new tree columns result Answers
-    pub fault : HasCleanDisk (state g new) → (held : Content) → AreTables (state g old).now held
-        → (rows : List X) → HasRows tree columns rows held → AllByRecursion IsSound rows
+    pub fault : HasCleanDisk (state g new) → (content : Content)
+        → AreTables (state g old).now content
+        → (rows : List X) → HasRows tree columns rows content → AllByRecursion IsSound rows
         → IfErr result (λ e. e ≢ Damaged)

@@ -43,10 +43,10 @@ pub record AreApart (rows : List Row) : Type 0 where
   pub distinct : IsDistinct same_id (map id_of rows)
 
 -- A database of this schema has these rows.
-pub record AreTablesIn (form : Schema) (db : Database) (held : Content) : Type 0 where
+pub record AreTablesIn (form : Schema) (db : Database) (content : Content) : Type 0 where
   pub schema : db.schema ≡ form
   pub rows : (t : ℕ) → HasTree form.tables t
-      → IsPermutation (map (told (is_numbered t)) (db.trees t)) (held t)
+      → IsPermutation (map (told (is_numbered t)) (db.trees t)) (content t)
   pub apart : (t : ℕ) → HasTree form.tables t → AreApart (db.trees t)
   pub sound : IsDatabase db
 
@@ -55,17 +55,17 @@ AreTables = AreTablesIn books_schema
 
 -- one table has other rows
 abbrev pub with_rows : ℕ → List Row → Content → Content
-with_rows k rows held t = if t == k then rows else held t
+with_rows k rows content t = if t == k then rows else content t
 
 -- One table has these rows, in any order.
 abbrev pub HasRows : {X : Type 0} → (tree : ℕ) → (columns : X → Row) → List X → Content → Type 0
-HasRows tree columns xs held = IsPermutation (map columns xs) (held tree)
+HasRows tree columns xs content = IsPermutation (map columns xs) (content tree)
 
 -- Whatever rows the table had, it has what the edit makes of them. Every other table stays.
 pub record Edits {X : Type 0} (tree : ℕ) (columns : X → Row) (edit : List X → List X)
-    (held after : Content) : Type 0 where
-  pub rows : (xs : List X) → HasRows tree columns xs held → HasRows tree columns (edit xs) after
-  pub others : (t : ℕ) → t ≢ tree → after t ≡ held t
+    (content after : Content) : Type 0 where
+  pub rows : (xs : List X) → HasRows tree columns xs content → HasRows tree columns (edit xs) after
+  pub others : (t : ℕ) → t ≢ tree → after t ≡ content t
 
 -- The three edits: a row comes, the rows that pass a test change, and those that pass it go.
 abbrev pub with_row : {X : Type 0} → X → List X → List X

@@ -8,8 +8,8 @@ use Rattle.store_tables.specs.Content.{Content, AreTablesIn}
 
 -- the tables hold what is made of what they held
 abbrev pub TurnsIn : Schema → (Content → Content → Type 0) → Database → Database → Type 0
-TurnsIn schema Makes old new = (held : Content) → AreTablesIn schema old held
-    → (after : Content) × Makes held after × AreTablesIn schema new after
+TurnsIn schema Makes old new = (content : Content) → AreTablesIn schema old content
+    → (after : Content) × Makes content after × AreTablesIn schema new after
 
 abbrev pub Turns : (Content → Content → Type 0) → Database → Database → Type 0
 Turns = TurnsIn books_schema

@@ -37,16 +37,16 @@ module _ {S : Type 0} (g : Ghosts S) where
 
   -- the report of a register, HTTP on a port, and a round, over such books
   abbrev pub Reports : (past : History) → (register : List ℕ)
-      → (moments later held holds : Option (List ℕ)) → Status → Type 0
-  Reports past register moments later held holds status = OverBooks past (λ found left.
-      TellsReport ledger_in past register moments later found left held holds status)
+      → (moments later had holds : Option (List ℕ)) → Status → Type 0
+  Reports past register moments later had holds status = OverBooks past (λ found left.
+      TellsReport ledger_in past register moments later found left had holds status)
 
   abbrev pub Serves : (past : History) → (connections : ℕ)
-      → (moments later held holds : Option (List ℕ)) → Serving → Type 0
-  Serves past connections moments later held holds end = OverBooks past (λ found left.
-      TellsServing ledger_in past connections moments later found left held holds end)
+      → (moments later had holds : Option (List ℕ)) → Serving → Type 0
+  Serves past connections moments later had holds end = OverBooks past (λ found left.
+      TellsServing ledger_in past connections moments later found left had holds end)
 
   abbrev pub Polls : (past : History) → (device : List ℕ)
-      → (moments later held holds : Option (List ℕ)) → Polling → Type 0
-  Polls past device moments later held holds end = OverBooks past (λ found left.
-      TellsPolling ledger_in past device moments later found left held holds end)
+      → (moments later had holds : Option (List ℕ)) → Polling → Type 0
+  Polls past device moments later had holds end = OverBooks past (λ found left.
+      TellsPolling ledger_in past device moments later found left had holds end)

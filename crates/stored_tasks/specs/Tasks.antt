@@ -23,13 +23,13 @@ module _ {S : Type 0} (g : Ghosts S) where
   Runs past = OverBooks g past (λ found left. BooksRun (ledger_in g left) past)
 
   -- The task that was asked for was done, and so it ended.
-  unfoldable pub Does : (past : History) → (moments later held holds : Option (List ℕ)) → Task → Done
+  unfoldable pub Does : (past : History) → (moments later had holds : Option (List ℕ)) → Task → Done
       → Type 0
-  Does past moments later held holds (task.Report register) (Reported end) =
-      Reports g past register.now moments later held holds end
-  Does past moments later held holds (task.Serve host port connections) (Served end) =
-      Serves g past connections moments later held holds end
-  Does past moments later held holds (task.Round device host port) (Polled end) =
-      Polls g past device.now moments later held holds end
-  Does past moments later held holds (task.Run settings sites) (Ran end) = Runs past
-  Does past moments later held holds _ _ = ⊥
+  Does past moments later had holds (task.Report register) (Reported end) =
+      Reports g past register.now moments later had holds end
+  Does past moments later had holds (task.Serve host port connections) (Served end) =
+      Serves g past connections moments later had holds end
+  Does past moments later had holds (task.Round device host port) (Polled end) =
+      Polls g past device.now moments later had holds end
+  Does past moments later had holds (task.Run settings sites) (Ran end) = Runs past
+  Does past moments later had holds _ _ = ⊥

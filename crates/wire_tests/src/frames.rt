@@ -17,7 +17,7 @@ struct Feed {
     bytes: &'static [u8],
     taken: usize,
     what: Framing,
-    held: bool,
+    buffered: bool,
 }
 
 static FEEDS: [Feed; 6] = [
@@ -27,21 +27,21 @@ static FEEDS: [Feed; 6] = [
         bytes: &[0, 1, 0, 0, 0, 9, 17, 3, 6, 2, 43, 0, 0, 0, 100, 0, 1, 0, 0],
         taken: 15,
         what: Framing::Whole,
-        held: true,
+        buffered: true,
     },
     Feed {
         anew: false,
         bytes: &[0],
         taken: 1,
         what: Framing::Need,
-        held: false,
+        buffered: false,
     },
     Feed {
         anew: false,
         bytes: &[1, 0, 0, 0, 9, 17, 3, 6, 2, 43, 0, 0, 0, 100],
         taken: 14,
         what: Framing::Whole,
-        held: true,
+        buffered: true,
     },
     // Another protocol.
     Feed {
@@ -49,7 +49,7 @@ static FEEDS: [Feed; 6] = [
         bytes: &[0, 1, 0, 1, 0, 6, 17, 3, 0, 107, 0, 3, 0],
         taken: 12,
         what: Framing::Foreign,
-        held: false,
+        buffered: false,
     },
     // A length of 1 garbles for good.
     Feed {
@@ -57,14 +57,14 @@ static FEEDS: [Feed; 6] = [
         bytes: &[0, 1, 0, 0, 0, 1, 9],
         taken: 6,
         what: Framing::Garbled,
-        held: false,
+        buffered: false,
     },
     Feed {
         anew: false,
         bytes: &[0, 1, 0, 0, 0, 9, 17, 3, 6, 2, 43, 0, 0, 0, 100],
         taken: 0,
         what: Framing::Garbled,
-        held: false,
+        buffered: false,
     },
 ];
 
@@ -83,7 +83,7 @@ fn a_feed_ends_with_a_frame(rt: HostRuntime) {
             },
             "feed {i}"
         );
-        assert!(rt; reader.frame().is_some() == feed.held, "feed {i}");
+        assert!(rt; reader.frame().is_some() == feed.buffered, "feed {i}");
     }
 }
 

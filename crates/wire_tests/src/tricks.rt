@@ -77,7 +77,7 @@ static ON_BOTH: [(&[(u64, Trick)], &[u8]); 16] = [
             0, 7, 0, 0, 0, 5, 1, 3, 2, 0, 5, 0, 7, 0, 0, 0, 5, 1, 3, 2, 0, 5,
         ],
     ),
-    // An answer that is held comes behind the next frame, however that is dealt with.
+    // An answer that is buffered comes behind the next frame, however that is dealt with.
     (
         &[(1, Trick::Later)],
         &[
@@ -95,7 +95,7 @@ static ON_BOTH: [(&[(u64, Trick)], &[u8]); 16] = [
             6, 0, 0, 0, 5,
         ],
     ),
-    // A second one sends the first, and is held itself.
+    // A second one sends the first, and is buffered itself.
     (
         &[(1, Trick::Later), (2, Trick::Later)],
         &[0, 2, 0, 0, 0, 6, 2, 6, 0, 0, 0, 5],
@@ -135,7 +135,7 @@ static ON_BOTH: [(&[(u64, Trick)], &[u8]); 16] = [
             0, 2, 0, 0, 0, 6, 2, 6, 0, 0, 0, 5, 0, 7, 0, 0, 0, 5, 1, 3, 2, 0, 5,
         ],
     ),
-    // The last frame is cut off: an answer that is held is not sent.
+    // The last frame is cut off: an answer that is buffered is not sent.
     (
         &[(2, Trick::Cut(4))],
         &[0, 2, 0, 0, 0, 6, 2, 6, 0, 0, 0, 5, 0, 7, 0, 0],

@@ -28,8 +28,8 @@ each_of-append f [] x = refl
 each_of-append f (z ∷ zs) x = ap (with_first (f z)) (each_of-append f zs x) ∙ first_and_last (f z) (each_of f zs) (f x)
 
 each_more : {A B : Type 0} (f : A → Option B) (xs : List A) (x : A) (ys : List B) (y : B) → Some ys ≡ each_of f xs → Some y ≡ f x → Some (ys ++ y ∷ []) ≡ each_of f (xs ++ x ∷ [])
-each_more f xs x ys y held next =
-    ap (λ r. with_last (Some ys) r) next ∙ (ap (λ e. with_last e (f x)) held ∙ sym (each_of-append f xs x))
+each_more f xs x ys y earlier next =
+    ap (λ r. with_last (Some ys) r) next ∙ (ap (λ e. with_last e (f x)) earlier ∙ sym (each_of-append f xs x))
 
 nothing_first : {B : Type 0} (a : Option B) (e : Option (List B)) → None ≡ e → None ≡ with_first a e
 nothing_first None e none = refl
@@ -45,10 +45,10 @@ each_none f (x ∷ xs) (suc i) d within none = nothing_first (f x) (each_of f xs
 pub devices_more : (parts : List (Bor Text)) (i : ℕ) (d : Bor Text) (old new : List Device) (device : Device) → i < length parts
     → Some (map place_of old) ≡ each_of device_in (texts (take i parts)) → Some (place_of device) ≡ device_in (get_or parts i d).now → new ≡ old ++ device ∷ []
     → Some (map place_of new) ≡ each_of device_in (texts (take (i + 1) parts))
-devices_more parts i d old new device within held next is =
+devices_more parts i d old new device within earlier next is =
     ap (λ l. Some (map place_of l)) is
     ∙ (ap Some (map-append place_of old (device ∷ []))
-    ∙ (each_more device_in (texts (take i parts)) (get_or parts i d).now (map place_of old) (place_of device) held next
+    ∙ (each_more device_in (texts (take i parts)) (get_or parts i d).now (map place_of old) (place_of device) earlier next
     ∙ ap (each_of device_in) (sym (map_more (λ part. part.now) parts i d within))))
 
 pub devices_none : (parts : List (Bor Text)) (i : ℕ) (d : Bor Text) → i < length parts → None ≡ device_in (get_or parts i d).now → None ≡ each_of device_in (texts parts)

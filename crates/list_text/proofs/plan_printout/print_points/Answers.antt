@@ -25,7 +25,7 @@ loop-index-preserved g c =
       points_next c.args.points.now c.args.points.now c.args.plan.now.reads c.loop-index.invariant.0 c.loop-index.index placed (omega arith) c.index-points-index.is
           c.loop-index.invariant.2
           (record {
-            first = subst (λ (held : Run). IsFirstHolding (read_runs c.args.plan.now.reads) held c.place.result.read) same (c.place.ensures.first item);
+            first = subst (λ (contained : Run). IsFirstHolding (read_runs c.args.plan.now.reads) contained c.place.result.read) same (c.place.ensures.first item);
             offset = λ d. c.place.ensures.offset d ∙ start;
           }),
     )

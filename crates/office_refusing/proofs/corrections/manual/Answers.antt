@@ -5,9 +5,9 @@ use Rattle.office_refusing.proofs.AtMeters.{or_false, refused_as}
 use Rattle.office_refusing.proofs.corrections.manual.Goals as goal
 
 pub returns-clause-found : goal.returns-clause-found
-returns-clause-found g c held holds clean slots =
+returns-clause-found g c known holds clean slots =
     c.refusal_of_entry.ensures.found
-    ∙ refused_as slots held c.args.arrival.now (command.Manual c.args.manual.now) c.in-Some.row _ _ _ (sym c.in-Some.is ∙ c.in_ok-row.ensures.found held holds clean) (record {
+    ∙ refused_as slots known c.args.arrival.now (command.Manual c.args.manual.now) c.in-Some.row _ _ _ (sym c.in-Some.is ∙ c.in_ok-row.ensures.found known holds clean) (record {
       unknown = refl;
       taken = refl;
       scale = refl;

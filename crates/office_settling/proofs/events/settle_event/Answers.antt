@@ -35,7 +35,7 @@ returns-in_err-book_all-clause-settles g c = λ past next.
     (c.in_ok-settle_slots.ensures.adds (next_poll (facts_of past)) (slots_of past) (reaches_all past _ _ _ next)) in
     settles_not past _ _ _ _ _ _ _
     (moves_after _ _ _ c.settle_slots.new.draft.facts.items (facts_of past) _ _ _ c.in_ok-settle_slots.ensures.reads
-    (λ held clean. ((grown held clean).facts, (grown held clean).lawful))
+    (λ known clean. ((grown known clean).facts, (grown known clean).lawful))
     (c.in_err-book_all.ensures.moves (facts_of past)) (c.in_err-book_all.ensures.refused (facts_of past)) c.in_err-book_all.ensures.goes)
     c.from_residual-in_err-book_all.ensures.1
 
@@ -52,7 +52,7 @@ returns-clause-settles g c = λ past next.
       books =
           moves_as _ _ _ _ _ _
           (moves_after _ _ _ c.settle_slots.new.draft.facts.items (facts_of past) _ _ _ c.in_ok-settle_slots.ensures.reads
-          (λ held clean. ((grown held clean).facts, (grown held clean).lawful))
+          (λ known clean. ((grown known clean).facts, (grown known clean).lawful))
           (c.in_ok-book_all.ensures.moves (facts_of past)) (c.in_ok-book_all.ensures.refused (facts_of past)) c.in_ok-book_all.ensures.goes);
-      notes = λ held clean. (grown held (c.in_ok-book_all.ensures.goes.clean clean)).notes;
+      notes = λ known clean. (grown known (c.in_ok-book_all.ensures.goes.clean clean)).notes;
     }

@@ -10,5 +10,5 @@ pub returns-in-Some-clause-adds : goal.returns-in-Some-clause-adds
 returns-in-Some-clause-adds g c =
     on_ok_weaker c.add_reply.result
     (λ on. outcome_read _ _ _ _ c.args.draft.now c.add.new.self c.add_reply.new.draft c.args.at c.args.settled.now c.in-Some.reply c.requires c.in-Some.is
-    c.in_ok-add.ensures.ok (λ held h. h) (λ clean. c.add_reply.ensures.reads.goes.clean clean) on)
+    c.in_ok-add.ensures.ok (λ known h. h) (λ clean. c.add_reply.ensures.reads.goes.clean clean) on)
     c.add_reply.ensures.adds

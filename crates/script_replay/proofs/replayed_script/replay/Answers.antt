@@ -20,11 +20,11 @@ returns g c =
       | in-Ok w ↦
           rw w.status-is (rw c.into_output.ensures (rw (sym c.new-buffered.ensures.output)
           (run_whole c.args.zone all status (g.W.Write.contents begun.output) (g.W.Write.contents ended.output) (g.W.Write.contents flushed.output)
-          (take begun.filled begun.held) (take ended.filled ended.held) (take flushed.filled flushed.held) c.new-buffered.ensures.empty runs
+          (take begun.filled begun.buffered) (take ended.filled ended.buffered) (take flushed.filled flushed.buffered) c.new-buffered.ensures.empty runs
           c.flush.ensures.bytes w.in-Ok.ensures.given)))
       | in-Err w ↦
           rw w.status-is (rw c.into_output.ensures (rw (sym c.new-buffered.ensures.output)
           (run_part c.args.zone all status (g.W.Write.contents begun.output) (g.W.Write.contents ended.output) (g.W.Write.contents flushed.output)
-          (take begun.filled begun.held) (take ended.filled ended.held) (take flushed.filled flushed.held) c.new-buffered.ensures.empty runs
+          (take begun.filled begun.buffered) (take ended.filled ended.buffered) (take flushed.filled flushed.buffered) c.new-buffered.ensures.empty runs
           c.flush.ensures.bytes)))
     ])

@@ -16,4 +16,4 @@ pub returns-clause-does : goal.returns-clause-does
 returns-clause-does g c =
     said g.S.Store c.args.tx.now.conn.now c.entry_rows_inside.new.tx.conn.now tree.entries entry_columns c.in_ok-rows.rows (λ xs answer. Shows (is_of c.args.meter.now) (FirstFirst entry_place) entry_shown xs answer.items)
     (λ facts answer. ShowsEntries c.args.meter.now facts answer.items) c.in_ok-rows.ensures.asks c.in_ok-rows.ensures.shows
-    (λ zone facts held are. record { rows = are.entries.rows; there = are.entries.there; so = λ answer shows. shows_entries c.journals_fit.ensures c.rows_stand.ensures facts c.args.meter.now are.entries.rows answer.items are.lawful are.entries.each shows })
+    (λ zone facts content are. record { rows = are.entries.rows; there = are.entries.there; so = λ answer shows. shows_entries c.journals_fit.ensures c.rows_stand.ensures facts c.args.meter.now are.entries.rows answer.items are.lawful are.entries.each shows })

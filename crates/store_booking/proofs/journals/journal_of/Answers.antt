@@ -67,7 +67,7 @@ returns-clause-does g c =
     let b = state g.S.Store c.entries_of.new.tx.conn.now in
     let d = state g.S.Store c.voids_of.new.tx.conn.now in
     let e = state g.S.Store c.range_of.new.tx.conn.now in
-    told_less a e c.in_ok-range.range it (IsSaidIn (λ facts. IsJournalOf meter facts it)) (IsSaidIn (λ facts. IsJournalOf meter facts it)) (λ held after is. is)
+    told_less a e c.in_ok-range.range it (IsSaidIn (λ facts. IsJournalOf meter facts it)) (IsSaidIn (λ facts. IsJournalOf meter facts it)) (λ content after is. is)
     (goes_then a d e c.in_ok-voids.voids (Ok c.in_ok-range.range) (Then P Q) R (IsSaidIn (λ facts. IsJournalOf meter facts it))
     (goes_then a b d c.in_ok-entries.entries (Ok c.in_ok-voids.voids) P Q (Then P Q) c.in_ok-entries.ensures.does c.in_ok-voids.ensures.does (λ before mid after p q. (mid, p, q)))
     c.in_ok-range.ensures.does (λ before mid after p r.

@@ -19,4 +19,4 @@ pub returns-clause-does : goal.returns-clause-does
 returns-clause-does g c =
     said g.S.Store c.args.tx.now.conn.now c.void_rows_inside.new.tx.conn.now tree.voids voided_columns c.in_ok-rows.rows (λ xs answer. Shows (is_void_of c.args.meter.now) (FirstFirst voided_place) voided_shown xs answer.items)
     (λ facts answer. ShowsVoids c.args.meter.now facts answer.items) c.in_ok-rows.ensures.asks c.in_ok-rows.ensures.shows
-    (λ zone facts held are. record { rows = map voided (voids_in facts); there = are.voids; so = λ answer shows. shows_voids facts c.args.meter.now answer.items are.lawful shows })
+    (λ zone facts content are. record { rows = map voided (voids_in facts); there = are.voids; so = λ answer shows. shows_voids facts c.args.meter.now answer.items are.lawful shows })

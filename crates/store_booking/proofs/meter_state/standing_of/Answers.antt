@@ -41,7 +41,7 @@ returns-clause-does g c =
     let b = state g.S.Store c.next_entry.new.tx.conn.now in
     let d = state g.S.Store c.last_of.new.tx.conn.now in
     let e = state g.S.Store c.range_of.new.tx.conn.now in
-    told_less a e c.in_ok-range.range it (IsStanding meter it) (IsStanding meter it) (λ held after is. is)
+    told_less a e c.in_ok-range.range it (IsStanding meter it) (IsStanding meter it) (λ content after is. is)
     (goes_then a d e c.in_ok-last.last (Ok c.in_ok-range.range) (Then P Q) R (IsStanding meter it)
     (goes_then a b d c.in_ok-place.place (Ok c.in_ok-last.last) P Q (Then P Q) c.in_ok-place.ensures.does c.in_ok-last.ensures.does (λ before mid after p q. (mid, p, q)))
     c.in_ok-range.ensures.does (λ before mid after p r. stands meter it before p.0 mid after p.1 p.2 r))

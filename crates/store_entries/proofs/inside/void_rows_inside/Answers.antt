@@ -10,5 +10,5 @@ returns-clause-asks g c =
     asks_inside g.S.Store text.void_rows _ c.args.tx.now.conn.now c.query_all.new.self.conn.now c.query_all.result (λ rows. rows.items) text.void_rows_plain c.query_all.ensures.ok c.query_all.ensures.err c.query_all.ensures.survives
 
 pub returns-clause-shows : goal.returns-clause-shows
-returns-clause-shows g c clean held has xs are =
-    IfOk-weaker c.query_all.result _ _ (λ rows h. asking.void_rows c.args.meter.now (state g.S.Store c.args.tx.now.conn.now) (state g.S.Store c.query_all.new.self.conn.now) held xs rows.items has are (rw (c.params-to_sql.ensures) at h)) (c.query_all.ensures.ok clean)
+returns-clause-shows g c clean content has xs are =
+    IfOk-weaker c.query_all.result _ _ (λ rows h. asking.void_rows c.args.meter.now (state g.S.Store c.args.tx.now.conn.now) (state g.S.Store c.query_all.new.self.conn.now) content xs rows.items has are (rw (c.params-to_sql.ensures) at h)) (c.query_all.ensures.ok clean)

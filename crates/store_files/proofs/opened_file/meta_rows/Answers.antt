@@ -8,20 +8,20 @@ use Rattle.store_files.proofs.Questions.{meta_answer}
 use Rattle.store_files.proofs.opened_file.meta_rows.Goals as goal
 
 pub returns-clause-kept : goal.returns-clause-kept
-returns-clause-kept g c clean layout held has =
+returns-clause-kept g c clean layout content has =
     let old = state g.S.Store c.args.conn.now in
     asked_kept text.meta_rows [] old (state g.S.Store c.query_all.new.self) c.query_all.result (λ rows. rows.items) (plain_in (schema_of layout) text.meta_rows old.now has.schema (text.meta_rows_plain layout))
     (c.query_all.ensures.ok clean) (c.query_all.ensures.err clean)
 
 pub returns-clause-shows : goal.returns-clause-shows
-returns-clause-shows g c clean layout held has =
+returns-clause-shows g c clean layout content has =
     let old = state g.S.Store c.args.conn.now in
     let new = state g.S.Store c.query_all.new.self in
     IfOk-weaker c.query_all.result _ _
-    (λ rows h. (shown_same text.meta_rows [] old new rows.items (plain_in (schema_of layout) text.meta_rows old.now has.schema (text.meta_rows_plain layout)) h, λ m marked. meta_answer layout old new held m rows.items has marked h))
+    (λ rows h. (shown_same text.meta_rows [] old new rows.items (plain_in (schema_of layout) text.meta_rows old.now has.schema (text.meta_rows_plain layout)) h, λ m marked. meta_answer layout old new content m rows.items has marked h))
     (c.query_all.ensures.ok clean)
 
 pub returns-clause-survives : goal.returns-clause-survives
-returns-clause-survives g c layout held has =
+returns-clause-survives g c layout content has =
     let old = state g.S.Store c.args.conn.now in
     shown_survives text.meta_rows [] old (state g.S.Store c.query_all.new.self) (plain_in (schema_of layout) text.meta_rows old.now has.schema (text.meta_rows_plain layout)) c.query_all.ensures.survives

@@ -10,20 +10,20 @@ use Rattle.store_files.proofs.Brought.{after_kept, given_up}
 use Rattle.store_files.proofs.opened_file.open_as.Goals as goal
 
 pub returns-in-Ok-clause-told : goal.returns-in-Ok-clause-told
-returns-in-Ok-clause-told g c clean is_open layout held has m marked =
+returns-in-Ok-clause-told g c clean is_open layout content has m marked =
     let old = state g.S.Store c.args.conn.now in
     let mid = state g.S.Store c.touch.new.conn in
     let early = c.open_settled.ensures.clean clean in
     let answers = c.in-Ok.ensures.opened early in
     let same : c.args.found ≡ layout = one_layout c.args.found layout (sym c.requires.named ∙ ap names_of (ap (λ (d : Database). d.schema) (c.requires.settled is_open) ∙ has.schema)) in
-    let here = subst (λ d. AreTablesIn (schema_of layout) d held) (sym (answers.1 ∙ (c.in-Ok.ensures.kept early).committed answers.0)) has in
-    subst (λ l. Tells (version_of l) m c.open_settled.result) same (c.open_settled.ensures.told clean held (subst (λ l. AreTablesIn (schema_of l) mid.now held) (sym same) here) m marked)
+    let here = subst (λ d. AreTablesIn (schema_of layout) d content) (sym (answers.1 ∙ (c.in-Ok.ensures.kept early).committed answers.0)) has in
+    subst (λ l. Tells (version_of l) m c.open_settled.result) same (c.open_settled.ensures.told clean content (subst (λ l. AreTablesIn (schema_of l) mid.now content) (sym same) here) m marked)
 
 pub returns-in-Err-clause-told : goal.returns-in-Err-clause-told
-returns-in-Err-clause-told g c clean is_open layout held has m marked = tells_fault (version_of layout) m c.fault_of.result c.fault_of.ensures.kind
+returns-in-Err-clause-told g c clean is_open layout content has m marked = tells_fault (version_of layout) m c.fault_of.result c.fault_of.ensures.kind
 
 pub returns-in-Ok-clause-opened : goal.returns-in-Ok-clause-opened
-returns-in-Ok-clause-opened g c clean layout zone held file =
+returns-in-Ok-clause-opened g c clean layout zone content file =
     let old = state g.S.Store c.args.conn.now in
     let mid = state g.S.Store c.touch.new.conn in
     let end = state g.S.Store c.open_settled.new.conn in
@@ -33,10 +33,10 @@ returns-in-Ok-clause-opened g c clean layout zone held file =
     let was = kept.was_open answers.0 in
     let here = file was in
     let same : c.args.found ≡ layout = one_layout c.args.found layout (sym c.requires.named ∙ ap names_of (ap (λ (d : Database). d.schema) (c.requires.settled was) ∙ here.tables.schema)) in
-    let there : IsOpenTo layout zone held mid = record { is_open = answers.0; settled = answers.1; file = subst (λ d. IsFile layout zone d held) (sym (kept.committed answers.0)) here } in
-    after_kept layout zone held old mid end c.open_settled.result kept c.in-Ok.ensures.survives
-    (subst (λ l. OpensFile l zone held mid end c.open_settled.result) same (c.open_settled.ensures.opened clean zone held (subst (λ l. IsOpenTo l zone held mid) (sym same) there)))
+    let there : IsOpenTo layout zone content mid = record { is_open = answers.0; settled = answers.1; file = subst (λ d. IsFile layout zone d content) (sym (kept.committed answers.0)) here } in
+    after_kept layout zone content old mid end c.open_settled.result kept c.in-Ok.ensures.survives
+    (subst (λ l. OpensFile l zone content mid end c.open_settled.result) same (c.open_settled.ensures.opened clean zone content (subst (λ l. IsOpenTo l zone content mid) (sym same) there)))
 
 pub returns-in-Err-clause-opened : goal.returns-in-Err-clause-opened
-returns-in-Err-clause-opened g c clean layout zone held file =
-    given_up layout zone held (state g.S.Store c.args.conn.now) (state g.S.Store c.touch.new.conn) c.fault_of.result (c.in-Err.ensures.kept clean) c.in-Err.ensures.survives
+returns-in-Err-clause-opened g c clean layout zone content file =
+    given_up layout zone content (state g.S.Store c.args.conn.now) (state g.S.Store c.touch.new.conn) c.fault_of.result (c.in-Err.ensures.kept clean) c.in-Err.ensures.survives

@@ -6,32 +6,32 @@ use Rattle.store_files.proofs.Brought.{after_question, ended, passed_on, told_as
 use Rattle.store_files.proofs.opened_file.open_settled.Goals as goal
 
 pub returns-in_err-zone-clause-told : goal.returns-in_err-zone-clause-told
-returns-in_err-zone-clause-told g c clean held has m marked =
-    tells_err (version_of c.args.layout) m c.in_err-zone.field-0.0 c.from_residual.result c.from_residual.ensures.1 ((c.in_err-zone.ensures.finds clean held has).told m marked)
+returns-in_err-zone-clause-told g c clean content has m marked =
+    tells_err (version_of c.args.layout) m c.in_err-zone.field-0.0 c.from_residual.result c.from_residual.ensures.1 ((c.in_err-zone.ensures.finds clean content has).told m marked)
 
 pub returns-in_err-zone-clause-opened : goal.returns-in_err-zone-clause-opened
-returns-in_err-zone-clause-opened g c clean zone held it =
+returns-in_err-zone-clause-opened g c clean zone content it =
     let old = state g.S.Store c.args.conn.now in
-    let finds = c.in_err-zone.ensures.finds clean held (seen c.args.layout zone held old it).tables in
-    ended c.args.layout zone held old (state g.S.Store c.stored_zone.new.conn) c.from_residual.result _ c.from_residual.ensures.1 finds.kept finds.survives
+    let finds = c.in_err-zone.ensures.finds clean content (seen c.args.layout zone content old it).tables in
+    ended c.args.layout zone content old (state g.S.Store c.stored_zone.new.conn) c.from_residual.result _ c.from_residual.ensures.1 finds.kept finds.survives
 
 pub returns-in_err-brought-clause-opened : goal.returns-in_err-brought-clause-opened
-returns-in_err-brought-clause-opened g c clean zone held it =
+returns-in_err-brought-clause-opened g c clean zone content it =
     let old = state g.S.Store c.args.conn.now in
     let mid = state g.S.Store c.stored_zone.new.conn in
     let end = state g.S.Store c.brought.new.conn in
-    let finds = c.in_ok-zone.ensures.finds (c.brought.ensures.clean clean) held (seen c.args.layout zone held old it).tables in
-    passed_on c.args.layout zone held old end c.in_err-brought.field-0.0 c.from_residual-in_err-brought.result _ c.from_residual-in_err-brought.ensures.1
-    (after_question c.args.layout zone held old mid end (Err c.in_err-brought.field-0.0) finds.unchanged finds.survives (c.in_err-brought.ensures.opened clean zone held (still_open c.args.layout zone held old mid finds.unchanged it)))
+    let finds = c.in_ok-zone.ensures.finds (c.brought.ensures.clean clean) content (seen c.args.layout zone content old it).tables in
+    passed_on c.args.layout zone content old end c.in_err-brought.field-0.0 c.from_residual-in_err-brought.result _ c.from_residual-in_err-brought.ensures.1
+    (after_question c.args.layout zone content old mid end (Err c.in_err-brought.field-0.0) finds.unchanged finds.survives (c.in_err-brought.ensures.opened clean zone content (still_open c.args.layout zone content old mid finds.unchanged it)))
 
 pub returns-clause-told : goal.returns-clause-told
-returns-clause-told g c clean held has m marked = (c.in_ok-zone.ensures.finds (c.brought.ensures.clean clean) held has).told m marked
+returns-clause-told g c clean content has m marked = (c.in_ok-zone.ensures.finds (c.brought.ensures.clean clean) content has).told m marked
 
 pub returns-clause-opened : goal.returns-clause-opened
-returns-clause-opened g c clean zone held it =
+returns-clause-opened g c clean zone content it =
     let old = state g.S.Store c.args.conn.now in
     let mid = state g.S.Store c.stored_zone.new.conn in
     let end = state g.S.Store c.brought.new.conn in
-    let finds = c.in_ok-zone.ensures.finds (c.brought.ensures.clean clean) held (seen c.args.layout zone held old it).tables in
-    told_as c.args.layout zone held old end tt c.in_ok-zone.zone
-    (after_question c.args.layout zone held old mid end (Ok tt) finds.unchanged finds.survives (c.in_ok-brought.ensures.opened clean zone held (still_open c.args.layout zone held old mid finds.unchanged it)))
+    let finds = c.in_ok-zone.ensures.finds (c.brought.ensures.clean clean) content (seen c.args.layout zone content old it).tables in
+    told_as c.args.layout zone content old end tt c.in_ok-zone.zone
+    (after_question c.args.layout zone content old mid end (Ok tt) finds.unchanged finds.survives (c.in_ok-brought.ensures.opened clean zone content (still_open c.args.layout zone content old mid finds.unchanged it)))

@@ -6,19 +6,19 @@ use Rattle.store_files.proofs.Told.{tells_fault, any_ok, unchanged_kept}
 use Rattle.store_files.proofs.opened_file.stored_zone.Goals as goal
 
 pub returns-in-Ok-clause-finds : goal.returns-in-Ok-clause-finds
-returns-in-Ok-clause-finds g c clean held has =
-    let shown = c.in-Ok.ensures.shows clean c.args.layout held has in
+returns-in-Ok-clause-finds g c clean content has =
+    let shown = c.in-Ok.ensures.shows clean c.args.layout content has in
     record {
       kept = unchanged_kept (state g.S.Store c.args.conn.now) (state g.S.Store c.meta_rows.new.conn) shown.0;
       unchanged = any_ok c.zone_in.result shown.0;
-      survives = c.in-Ok.ensures.survives c.args.layout held has;
+      survives = c.in-Ok.ensures.survives c.args.layout content has;
       told = λ m marked. subst (λ v. Tells v m c.zone_in.result) c.version.ensures (c.zone_in.ensures.tells m (c.deref.ensures.value ∙ shown.1 m marked));
     }
 
 pub returns-in-Err-clause-finds : goal.returns-in-Err-clause-finds
-returns-in-Err-clause-finds g c clean held has = record {
-  kept = c.in-Err.ensures.kept clean c.args.layout held has;
+returns-in-Err-clause-finds g c clean content has = record {
+  kept = c.in-Err.ensures.kept clean c.args.layout content has;
   unchanged = tt;
-  survives = c.in-Err.ensures.survives c.args.layout held has;
+  survives = c.in-Err.ensures.survives c.args.layout content has;
   told = λ m marked. tells_fault (version_of c.args.layout) m c.fault_of.result c.fault_of.ensures.kind;
 }

@@ -6,15 +6,15 @@ use Rattle.store_files.proofs.Brought.{transacted, seen}
 use Rattle.store_files.proofs.upgrade.bring.Goals as goal
 
 pub returns-in-First-clause-opened : goal.returns-in-First-clause-opened
-returns-in-First-clause-opened g c clean zone held it =
+returns-in-First-clause-opened g c clean zone content it =
     let old = state g.S.Store c.args.conn.now in
-    subst (λ l. OpensFile l zone held old (state g.S.Store c.open_first.new.conn) c.open_first.result) (sym c.in-First.is)
-    (c.open_first.ensures.opened clean zone held (subst (λ l. IsOpenTo l zone held old) c.in-First.is it))
+    subst (λ l. OpensFile l zone content old (state g.S.Store c.open_first.new.conn) c.open_first.result) (sym c.in-First.is)
+    (c.open_first.ensures.opened clean zone content (subst (λ l. IsOpenTo l zone content old) c.in-First.is it))
 
 pub returns-in-Second-clause-opened : goal.returns-in-Second-clause-opened
-returns-in-Second-clause-opened g c clean zone held it =
+returns-in-Second-clause-opened g c clean zone content it =
     let old = state g.S.Store c.args.conn.now in
     let end = state g.S.Store c.add_voids.new.conn in
-    let here = subst (λ l. IsOpenTo l zone held old) c.in-Second.is it in
-    subst (λ l. OpensFile l zone held old end c.add_voids.result) (sym c.in-Second.is)
-    (transacted Second zone held old end c.add_voids.result BringsSecond clean c.add_voids.ensures.does (λ db goes. goes zone held (seen Second zone held old here)))
+    let here = subst (λ l. IsOpenTo l zone content old) c.in-Second.is it in
+    subst (λ l. OpensFile l zone content old end c.add_voids.result) (sym c.in-Second.is)
+    (transacted Second zone content old end c.add_voids.result BringsSecond clean c.add_voids.ensures.does (λ db goes. goes zone content (seen Second zone content old here)))

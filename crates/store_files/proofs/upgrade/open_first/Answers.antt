@@ -7,19 +7,19 @@ use Rattle.store_files.proofs.Brought.{after_question, ended, transacted, seen}
 use Rattle.store_files.proofs.upgrade.open_first.Goals as goal
 
 pub returns-in_err-meters-clause-opened : goal.returns-in_err-meters-clause-opened
-returns-in_err-meters-clause-opened g c clean zone held it =
+returns-in_err-meters-clause-opened g c clean zone content it =
     let old = state g.S.Store c.args.conn.now in
-    let file = seen First zone held old it in
-    ended First zone held old (state g.S.Store c.meter_rows.new.conn) c.from_residual.result _ c.from_residual.ensures.1 (c.in_err-meters.ensures.kept clean held file.tables) (c.in_err-meters.ensures.survives held file.tables)
+    let file = seen First zone content old it in
+    ended First zone content old (state g.S.Store c.meter_rows.new.conn) c.from_residual.result _ c.from_residual.ensures.1 (c.in_err-meters.ensures.kept clean content file.tables) (c.in_err-meters.ensures.survives content file.tables)
 
 pub returns-clause-opened : goal.returns-clause-opened
-returns-clause-opened g c clean zone held it =
+returns-clause-opened g c clean zone content it =
     let old = state g.S.Store c.args.conn.now in
     let mid = state g.S.Store c.meter_rows.new.conn in
     let end = state g.S.Store c.add_ranges.new.conn in
-    let file = seen First zone held old it in
+    let file = seen First zone content old it in
     let early : HasCleanDisk mid = omega (arith, c.add_ranges.ensures.does.survives.clean) in
-    let shown = c.in_ok-meters.ensures.shows early held file.tables in
+    let shown = c.in_ok-meters.ensures.shows early content file.tables in
     let done = rw (c.deref.ensures.value) at c.add_ranges.ensures.does in
-    after_question First zone held old mid end c.add_ranges.result shown.0 (c.in_ok-meters.ensures.survives held file.tables)
-    (transacted First zone held mid end c.add_ranges.result (BringsFirst c.in_ok-meters.meters.items) clean done (λ db goes. goes zone held (subst (λ d. IsFile First zone d held) (sym shown.0.0.now_is) file) shown.1))
+    after_question First zone content old mid end c.add_ranges.result shown.0 (c.in_ok-meters.ensures.survives content file.tables)
+    (transacted First zone content mid end c.add_ranges.result (BringsFirst c.in_ok-meters.meters.items) clean done (λ db goes. goes zone content (subst (λ d. IsFile First zone d content) (sym shown.0.0.now_is) file) shown.1))

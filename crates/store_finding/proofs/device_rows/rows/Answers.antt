@@ -13,4 +13,4 @@ pub returns : goal.returns
 returns g c =
     asked g.S.Store c.args.conn.now c.touch.new.conn (record { mode = c.in_ok-touch.ensures.autocommit; opened = c.in_ok-touch.ensures.opened; kept = c.in_ok-touch.ensures.kept; survives = c.in_ok-touch.ensures.survives })
     c.device_rows.new.conn c.in_ok-device_rows.ensures.asks c.in_ok-device_rows.field-0 _ _
-    (λ clean held has zone facts are. devices_shown facts c.in_ok-device_rows.field-0.items (c.in_ok-device_rows.ensures.shows clean held has (placed added (devices_in facts)) are.devices))
+    (λ clean content has zone facts are. devices_shown facts c.in_ok-device_rows.field-0.items (c.in_ok-device_rows.ensures.shows clean content has (placed added (devices_in facts)) are.devices))

@@ -11,5 +11,5 @@ pub returns : goal.returns
 returns g c =
     asked g.S.Store c.args.conn.now c.touch.new.conn (record { mode = c.in_ok-touch.ensures.autocommit; opened = c.in_ok-touch.ensures.opened; kept = c.in_ok-touch.ensures.kept; survives = c.in_ok-touch.ensures.survives })
     c.point_rows.new.conn c.in_ok-point_rows.ensures.asks c.in_ok-point_rows.field-0 _ _
-    (λ clean held has zone facts are.
-    (are.lawful, points_shown facts c.args.device.now held c.in_ok-point_rows.field-0.items are.points (c.in_ok-point_rows.ensures.shows clean held has are.points.rows are.points.there)))
+    (λ clean content has zone facts are.
+    (are.lawful, points_shown facts c.args.device.now content c.in_ok-point_rows.field-0.items are.points (c.in_ok-point_rows.ensures.shows clean content has are.points.rows are.points.there)))

@@ -14,6 +14,6 @@ pub returns : goal.returns
 returns g c =
     asked g.S.Store c.args.conn.now c.touch.new.conn (record { mode = c.in_ok-touch.ensures.autocommit; opened = c.in_ok-touch.ensures.opened; kept = c.in_ok-touch.ensures.kept; survives = c.in_ok-touch.ensures.survives })
     c.pending_rows.new.conn c.in_ok-pending_rows.ensures.asks c.in_ok-pending_rows.field-0 _ _
-    (λ clean held has zone facts are.
+    (λ clean content has zone facts are.
     pending_shown facts c.in_ok-pending_rows.field-0.items are.lawful
-    (c.in_ok-pending_rows.ensures.shows clean held has (map started (polls_in facts)) are.polls (map outcome_row (ended_in facts)) are.outcomes))
+    (c.in_ok-pending_rows.ensures.shows clean content has (map started (polls_in facts)) are.polls (map outcome_row (ended_in facts)) are.outcomes))

@@ -14,6 +14,6 @@ pub returns : goal.returns
 returns g c =
     asked g.S.Store c.args.conn.now c.touch.new.conn (record { mode = c.in_ok-touch.ensures.autocommit; opened = c.in_ok-touch.ensures.opened; kept = c.in_ok-touch.ensures.kept; survives = c.in_ok-touch.ensures.survives })
     c.register_count.new.conn c.in_ok-register_count.ensures.asks c.in_ok-register_count.field-0 _ _
-    (λ clean held has zone facts are.
-    c.in_ok-register_count.ensures.counts clean held has (placed registered (registers_in facts)) are.registers
+    (λ clean content has zone facts are.
+    c.in_ok-register_count.ensures.counts clean content has (placed registered (registers_in facts)) are.registers
     ∙ (registers_counted facts c.in_ok-device.device.now ∙ ap (λ device. length (registers_of facts device)) c.in_ok-device.ensures.text))

@@ -13,5 +13,5 @@ pub returns : goal.returns
 returns g c =
     asked g.S.Store c.args.conn.now c.touch.new.conn (record { mode = c.in_ok-touch.ensures.autocommit; opened = c.in_ok-touch.ensures.opened; kept = c.in_ok-touch.ensures.kept; survives = c.in_ok-touch.ensures.survives })
     c.register_rows.new.conn c.in_ok-register_rows.ensures.asks c.in_ok-register_rows.field-0 _ _
-    (λ clean held has zone facts are.
-    registers_shown facts c.args.device.now c.in_ok-register_rows.field-0.items (c.in_ok-register_rows.ensures.shows clean held has (placed registered (registers_in facts)) are.registers))
+    (λ clean content has zone facts are.
+    registers_shown facts c.args.device.now c.in_ok-register_rows.field-0.items (c.in_ok-register_rows.ensures.shows clean content has (placed registered (registers_in facts)) are.registers))

@@ -10,5 +10,5 @@ returns-clause-asks g c =
     asks g.S.Store text.places_of _ c.args.conn.now c.query_all.new.self c.query_all.result (λ rows. rows.items) text.places_of_plain c.query_all.ensures.ok c.query_all.ensures.err c.query_all.ensures.mode c.query_all.ensures.survives
 
 pub returns-clause-shows : goal.returns-clause-shows
-returns-clause-shows g c clean held has xs are =
-    IfOk-weaker c.query_all.result _ _ (λ rows h. asking.places_of c.args.device.now (state g.S.Store c.args.conn.now) (state g.S.Store c.query_all.new.self) held xs rows.items has are (rw (c.params-to_sql.ensures) at h)) (c.query_all.ensures.ok clean)
+returns-clause-shows g c clean content has xs are =
+    IfOk-weaker c.query_all.result _ _ (λ rows h. asking.places_of c.args.device.now (state g.S.Store c.args.conn.now) (state g.S.Store c.query_all.new.self) content xs rows.items has are (rw (c.params-to_sql.ensures) at h)) (c.query_all.ensures.ok clean)

@@ -6,6 +6,6 @@ use Rattle.store_lists.proofs.Counts.{counted}
 use Rattle.store_lists.proofs.registers.register_count.Goals as goal
 
 pub returns-clause-counts : goal.returns-clause-counts
-returns-clause-counts g c clean held has rows of =
+returns-clause-counts g c clean content has rows of =
     let same : vec_len c.in_ok-rows.rows ≡ length c.in_ok-rows.rows.items = omega arith in
-    c.len.ensures ∙ (same ∙ counted (is_register_of c.args.device.now) AnyOrder register_place_shown rows c.in_ok-rows.rows.items (c.in_ok-rows.ensures.shows clean held has rows of))
+    c.len.ensures ∙ (same ∙ counted (is_register_of c.args.device.now) AnyOrder register_place_shown rows c.in_ok-rows.rows.items (c.in_ok-rows.ensures.shows clean content has rows of))

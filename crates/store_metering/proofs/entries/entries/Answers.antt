@@ -16,4 +16,4 @@ pub returns : goal.returns
 returns g c =
     shown g.S.Store c.args.conn.now c.touch.new.conn c.entry_rows.new.conn tree.entries entry_columns c.in_ok-rows.rows (λ xs answer. Shows (is_of c.args.meter.now) (FirstFirst entry_place) entry_shown xs answer.items) (λ facts answer. ShowsEntries c.args.meter.now facts answer.items)
     (λ zone. touched g.S.Store zone c.args.conn.now c.touch.new.conn c.in_ok-touch.ensures.autocommit c.in_ok-touch.ensures.kept c.in_ok-touch.ensures.survives) c.in_ok-touch.ensures.opened c.in_ok-rows.ensures.asks c.in_ok-rows.ensures.shows
-    (λ zone facts held are. record { rows = are.entries.rows; there = are.entries.there; says_so = λ answer shows. shows_entries c.journals_fit.ensures c.rows_stand.ensures facts c.args.meter.now are.entries.rows answer.items are.lawful are.entries.each shows })
+    (λ zone facts content are. record { rows = are.entries.rows; there = are.entries.there; says_so = λ answer shows. shows_entries c.journals_fit.ensures c.rows_stand.ensures facts c.args.meter.now are.entries.rows answer.items are.lawful are.entries.each shows })

@@ -17,4 +17,4 @@ pub returns : goal.returns
 returns g c =
     looked g.S.Store c.args.conn.now c.touch.new.conn c.last_installation.new.conn installations installed_columns IsSoundInstalled c.last_installation.result (IsLast every HasInstalledPlace installed_place) CountsOpenings
     (λ zone. touched g.S.Store zone c.args.conn.now c.touch.new.conn c.in_ok-touch.ensures.autocommit c.in_ok-touch.ensures.kept c.in_ok-touch.ensures.survives) c.in_ok-touch.ensures.opened c.last_installation.ensures.finds
-    (λ zone facts held are. record { rows = placed (installed_row facts) (openings_in facts); there = are.installations; says_so = counted facts })
+    (λ zone facts content are. record { rows = placed (installed_row facts) (openings_in facts); there = are.installations; says_so = counted facts })

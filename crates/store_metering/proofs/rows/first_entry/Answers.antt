@@ -15,4 +15,4 @@ pub returns : goal.returns
 returns g c =
     looked g.S.Store c.args.conn.now c.touch.new.conn c.entry_at.new.conn entries entry_columns IsSoundEntered c.entry_at.result (IsFound (is_entry c.args.meter.now 1) IsRow) (FindsFirst c.args.meter.now)
     (λ zone. touched g.S.Store zone c.args.conn.now c.touch.new.conn c.in_ok-touch.ensures.autocommit c.in_ok-touch.ensures.kept c.in_ok-touch.ensures.survives) c.in_ok-touch.ensures.opened c.entry_at.ensures.finds
-    (λ zone facts held are. record { rows = are.entries.rows; there = are.entries.there; says_so = first_found c.voids_leave_no_trace.ensures facts c.args.meter.now are.entries.rows are.lawful are.entries.each })
+    (λ zone facts content are. record { rows = are.entries.rows; there = are.entries.there; says_so = first_found c.voids_leave_no_trace.ensures facts c.args.meter.now are.entries.rows are.lawful are.entries.each })

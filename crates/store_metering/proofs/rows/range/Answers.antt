@@ -18,4 +18,4 @@ pub returns : goal.returns
 returns g c =
     looked g.S.Store c.args.conn.now c.touch.new.conn c.range_of.new.conn ranges ranged_columns IsSoundRanged c.range_of.result (IsFound (is_range_of c.args.meter.now) HasRange) (FindsRange c.args.meter.now)
     (λ zone. touched g.S.Store zone c.args.conn.now c.touch.new.conn c.in_ok-touch.ensures.autocommit c.in_ok-touch.ensures.kept c.in_ok-touch.ensures.survives) c.in_ok-touch.ensures.opened c.range_of.ensures.finds
-    (λ zone facts held are. record { rows = map ranged (openings_in facts); there = are.ranges; says_so = range_found facts c.args.meter.now are.lawful })
+    (λ zone facts content are. record { rows = map ranged (openings_in facts); there = are.ranges; says_so = range_found facts c.args.meter.now are.lawful })

@@ -17,4 +17,4 @@ pub returns : goal.returns
 returns g c =
     looked g.S.Store c.args.conn.now c.touch.new.conn c.installation_at.new.conn installations installed_columns IsSoundInstalled c.installation_at.result (IsLast (is_at c.args.register.now) IsInstalled installed_place) (λ facts found. FindsRow facts (installed_at facts c.args.register.now) found)
     (λ zone. touched g.S.Store zone c.args.conn.now c.touch.new.conn c.in_ok-touch.ensures.autocommit c.in_ok-touch.ensures.kept c.in_ok-touch.ensures.survives) c.in_ok-touch.ensures.opened c.installation_at.ensures.finds
-    (λ zone facts held are. record { rows = placed (installed_row facts) (openings_in facts); there = are.installations; says_so = row_found_at facts c.args.register.now are.lawful })
+    (λ zone facts content are. record { rows = placed (installed_row facts) (openings_in facts); there = are.installations; says_so = row_found_at facts c.args.register.now are.lawful })

@@ -17,4 +17,4 @@ pub returns : goal.returns
 returns g c =
     looked g.S.Store c.args.conn.now c.touch.new.conn c.installation_of.new.conn installations installed_columns IsSoundInstalled c.installation_of.result (IsFound (is_meter c.args.meter.now) IsInstalled) (λ facts found. FindsRow facts (opening_of facts c.args.meter.now) found)
     (λ zone. touched g.S.Store zone c.args.conn.now c.touch.new.conn c.in_ok-touch.ensures.autocommit c.in_ok-touch.ensures.kept c.in_ok-touch.ensures.survives) c.in_ok-touch.ensures.opened c.installation_of.ensures.finds
-    (λ zone facts held are. record { rows = placed (installed_row facts) (openings_in facts); there = are.installations; says_so = row_found facts c.args.meter.now are.lawful })
+    (λ zone facts content are. record { rows = placed (installed_row facts) (openings_in facts); there = are.installations; says_so = row_found facts c.args.meter.now are.lawful })

@@ -19,4 +19,4 @@ pub returns : goal.returns
 returns g c =
     handed g.S.Store g.K.RowSink.takes (λ facts. rows_of_meter facts c.args.meter.now) c.args.conn.now c.touch.new.conn c.meter_intervals.new.conn c.args.sink.now c.meter_intervals.new.sink c.meter_intervals.result HaveIntervals (AreSharesOfMeter c.in_ok-meter.meter.now) AreSoundIntervals
     (λ zone. touched g.S.Store zone c.args.conn.now c.touch.new.conn c.in_ok-touch.ensures.autocommit c.in_ok-touch.ensures.kept c.in_ok-touch.ensures.survives) c.in_ok-touch.ensures.opened c.meter_intervals.ensures
-    (λ zone facts held are. record { rows = are.intervals.rows; there = are.intervals.there; says_so = λ all is. of_meter c.meters_are_kept.ensures facts are.lawful c.args.meter.now are.intervals.rows all are.intervals.each (rw c.in_ok-meter.ensures.text at is) })
+    (λ zone facts content are. record { rows = are.intervals.rows; there = are.intervals.there; says_so = λ all is. of_meter c.meters_are_kept.ensures facts are.lawful c.args.meter.now are.intervals.rows all are.intervals.each (rw c.in_ok-meter.ensures.text at is) })

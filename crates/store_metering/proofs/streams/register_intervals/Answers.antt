@@ -21,7 +21,7 @@ pub returns : goal.returns
 returns g c =
     handed g.S.Store g.K.RowSink.takes (λ facts. rows_of_register facts c.args.register.now) c.args.conn.now c.touch.new.conn c.register_intervals.new.conn c.args.sink.now c.register_intervals.new.sink c.register_intervals.result HaveLying (AreSharesAt c.in_ok-register.register.now) AreSoundLying
     (λ zone. touched g.S.Store zone c.args.conn.now c.touch.new.conn c.in_ok-touch.ensures.autocommit c.in_ok-touch.ensures.kept c.in_ok-touch.ensures.survives) c.in_ok-touch.ensures.opened c.register_intervals.ensures
-    (λ zone facts held are. record {
+    (λ zone facts content are. record {
       rows = record { installed = placed (installed_row facts) (openings_in facts); rows = are.intervals.rows };
       there = record { installed = are.installations; rows = are.intervals.there };
       says_so = λ all is. at_register c.meters_are_kept.ensures facts are.lawful c.args.register.now are.intervals.rows all are.intervals.each (rw c.in_ok-register.ensures.text at is);

@@ -15,11 +15,11 @@ use Rattle.list_tables.proofs.Known.{known}
 use Rattle.list_tables.proofs.meter.Meter.hand_on.Goals as goal
 
 pub returns-clause-whole : goal.returns-clause-whole
-returns-clause-whole g c = λ held o lawful there said.
-    let all = known c.journals_fit.ensures c.journals_are_kept.ensures c.installations_are_in_range.ensures held o lawful there in
+returns-clause-whole g c = λ facts o lawful there said.
+    let all = known c.journals_fit.ensures c.journals_are_kept.ensures c.installations_are_in_range.ensures facts o lawful there in
     let opening_is : c.args.self.now.row.opening ≡ o = ap (λ (row : Installation). row.opening) said.row in
     let rows : List EntryRow = lists.latest_first c.deref.result.now in
-    let is : rows ≡ rows_of held o = ap lists.latest_first c.deref.ensures.value ∙ said.rows in
+    let is : rows ≡ rows_of facts o = ap lists.latest_first c.deref.ensures.value ∙ said.rows in
     let es : List Entry = entries_in rows in
     let P : List Share → Type 0 = λ shares. TakesAll g.K.RowSink.takes c.args.sink.now shares c.hand_on.new.sink in
     subst P

@@ -10,9 +10,9 @@ use Rattle.list_tables.proofs.MetersComing.{stands_at}
 use Rattle.list_tables.proofs.meters.Meters.entry.Goals as goal
 
 pub returns-clause-found : goal.returns-clause-found
-returns-clause-found c = λ held lawful are.
-    let stands = stands_at held c.args.self.now c.args.name.now c.named-key.result c.in-Some.meter.now c.named-key.ensures c.in-Some.ensures.value are in
-    let recorded : IsRecorded held stands.opening =
-    found_is_there (λ (o : Opening). same o.meter c.args.name.now) (openings_in held) stands.opening stands.there in
-    c.placed.ensures.found held stands.opening lawful recorded (record { row = stands.row; rows = stands.rows })
-    ∙ sym (ap (option_and_then (λ (o : Opening). option_map (place_in held o) (row_at c.args.place (rows_of held o)))) stands.there)
+returns-clause-found c = λ known lawful are.
+    let stands = stands_at known c.args.self.now c.args.name.now c.named-key.result c.in-Some.meter.now c.named-key.ensures c.in-Some.ensures.value are in
+    let recorded : IsRecorded known stands.opening =
+    found_is_there (λ (o : Opening). same o.meter c.args.name.now) (openings_in known) stands.opening stands.there in
+    c.placed.ensures.found known stands.opening lawful recorded (record { row = stands.row; rows = stands.rows })
+    ∙ sym (ap (option_and_then (λ (o : Opening). option_map (place_in known o) (row_at c.args.place (rows_of known o)))) stands.there)

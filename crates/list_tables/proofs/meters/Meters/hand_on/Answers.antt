@@ -10,10 +10,10 @@ use Rattle.list_tables.proofs.MetersComing.{stands_at}
 use Rattle.list_tables.proofs.meters.Meters.hand_on.Goals as goal
 
 pub returns-clause-whole : goal.returns-clause-whole
-returns-clause-whole g c = λ held lawful are.
-    let stands = stands_at held c.args.self.now c.args.name.now c.named-key.result c.in-Some.meter.now c.named-key.ensures c.in-Some.ensures.value are in
-    let recorded : IsRecorded held stands.opening =
-    found_is_there (λ (o : Opening). same o.meter c.args.name.now) (openings_in held) stands.opening stands.there in
+returns-clause-whole g c = λ known lawful are.
+    let stands = stands_at known c.args.self.now c.args.name.now c.named-key.result c.in-Some.meter.now c.named-key.ensures c.in-Some.ensures.value are in
+    let recorded : IsRecorded known stands.opening =
+    found_is_there (λ (o : Opening). same o.meter c.args.name.now) (openings_in known) stands.opening stands.there in
     let P : List Share → Type 0 = λ shares. TakesAll g.K.RowSink.takes c.args.sink.now shares c.hand_on.new.sink in
-    subst P (ap (rows_of_installed held) (sym stands.there))
-    (c.hand_on.ensures.whole held stands.opening lawful recorded (record { row = stands.row; rows = stands.rows }))
+    subst P (ap (rows_of_installed known) (sym stands.there))
+    (c.hand_on.ensures.whole known stands.opening lawful recorded (record { row = stands.row; rows = stands.rows }))

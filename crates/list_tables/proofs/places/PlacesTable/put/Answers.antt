@@ -8,17 +8,17 @@ use Rattle.list_tables.proofs.PlacesComing.{place_comes, on_ok_then, on_err_then
 use Rattle.list_tables.proofs.places.PlacesTable.put.Goals as goal
 
 pub returns-in-Some-clause-ok : goal.returns-in-Some-clause-ok
-returns-in-Some-clause-ok c = λ held lawful long says.
+returns-in-Some-clause-ok c = λ known lawful long says.
     let before : Key → List ℕ = λ key. under (get key_cmp c.args.self.now.places key) in
     let after : Key → List ℕ = λ key. under (get key_cmp c.add.new.self.places key) in
     on_ok_then c.add.result
     (λ adds key.
-    place_comes c.args.self.now.kind held c.args.fact.now c.in-Some.key c.args.place before after long (sym c.in-Some.ensures) says adds key
-    ∙ ap (λ (kind : Kind). reverse (places_of (has_key kind key) (c.args.fact.now ∷ held))) (sym c.add.ensures.kind))
+    place_comes c.args.self.now.kind known c.args.fact.now c.in-Some.key c.args.place before after long (sym c.in-Some.ensures) says adds key
+    ∙ ap (λ (kind : Kind). reverse (places_of (has_key kind key) (c.args.fact.now ∷ known))) (sym c.add.ensures.kind))
     c.add.ensures.ok
 
 pub returns-in-Some-clause-err : goal.returns-in-Some-clause-err
-returns-in-Some-clause-err c = λ held says.
+returns-in-Some-clause-err c = λ known says.
     on_err_then c.add.result
-    (λ same key. same key ∙ says key ∙ ap (λ (kind : Kind). reverse (places_of (has_key kind key) held)) (sym c.add.ensures.kind))
+    (λ same key. same key ∙ says key ∙ ap (λ (kind : Kind). reverse (places_of (has_key kind key) known)) (sym c.add.ensures.kind))
     c.add.ensures.err

@@ -8,13 +8,13 @@ use Rattle.list_tables.proofs.PollRows.{polls_wait, ends_pending}
 use Rattle.list_tables.proofs.polls.PendingTable.put.Goals as goal
 
 pub returns-in_ok-push-in-Poll-clause-ok : goal.returns-in_ok-push-in-Poll-clause-ok
-returns-in_ok-push-in-Poll-clause-ok c = λ held lawful long says.
+returns-in_ok-push-in-Poll-clause-ok c = λ known lawful long says.
     let items : List Poll = c.push.new.self.items in
-    subst (λ (f : Fact). AreLawful (f ∷ held) → items ≡ pending_in (f ∷ held)) (sym c.in-Poll.is)
-    (λ h. c.in_ok-push-in-Poll.ensures.items ∙ ap (λ (ps : List Poll). ps ++ c.in-Poll.poll ∷ []) says ∙ polls_wait held c.in-Poll.poll h) lawful
+    subst (λ (f : Fact). AreLawful (f ∷ known) → items ≡ pending_in (f ∷ known)) (sym c.in-Poll.is)
+    (λ h. c.in_ok-push-in-Poll.ensures.items ∙ ap (λ (ps : List Poll). ps ++ c.in-Poll.poll ∷ []) says ∙ polls_wait known c.in-Poll.poll h) lawful
 
 pub returns-in-Outcome-clause-ok : goal.returns-in-Outcome-clause-ok
-returns-in-Outcome-clause-ok c = λ held lawful long says.
+returns-in-Outcome-clause-ok c = λ known lawful long says.
     let items : List Poll = c.take.new.self.polls.items in
-    subst (λ (f : Fact). items ≡ pending_in (f ∷ held)) (sym c.in-Outcome.is)
-    (c.take.ensures ∙ ap (polls_but c.in-Outcome.ended.poll) says ∙ ends_pending held c.in-Outcome.ended)
+    subst (λ (f : Fact). items ≡ pending_in (f ∷ known)) (sym c.in-Outcome.is)
+    (c.take.ensures ∙ ap (polls_but c.in-Outcome.ended.poll) says ∙ ends_pending known c.in-Outcome.ended)

@@ -8,7 +8,7 @@ use Rattle.list_tables.proofs.tables.Tables.hand_on_all.Given as goal
 
 abbrev pub invariant-loop-place : goal.invariant-loop-place
 invariant-loop-place g l = record {
-  whole : (held : List Fact) → l.facts ≡ reverse held → AreLawful held → AreWhole l.self held
-      → TakesAll g.K.RowSink.takes l.fn.sink (rows_at held l.facts (take l.place-index l.places)) l.sink;
+  whole : (known : List Fact) → l.facts ≡ reverse known → AreLawful known → AreWhole l.self known
+      → TakesAll g.K.RowSink.takes l.fn.sink (rows_at known l.facts (take l.place-index l.places)) l.sink;
   some : TakesSome g.K.RowSink.takes l.fn.sink l.sink;
 }

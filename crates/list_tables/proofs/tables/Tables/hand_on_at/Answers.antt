@@ -5,6 +5,6 @@ use Rattle.list_tables.proofs.Joined.{rows_there}
 use Rattle.list_tables.proofs.tables.Tables.hand_on_at.Goals as goal
 
 pub returns-in-Some-clause-whole : goal.returns-in-Some-clause-whole
-returns-in-Some-clause-whole g c = λ held is lawful whole.
+returns-in-Some-clause-whole g c = λ known is lawful whole.
     let P : List Share → Type 0 = λ rows. TakesAll g.K.RowSink.takes c.args.sink.now rows c.intervals.new.sink in
-    subst P (rows_there held c.args.facts.now c.args.place c.in-Some.opening lawful is (sym c.in-Some.ensures)) (c.intervals.ensures.whole held lawful whole)
+    subst P (rows_there known c.args.facts.now c.args.place c.in-Some.opening lawful is (sym c.in-Some.ensures)) (c.intervals.ensures.whole known lawful whole)

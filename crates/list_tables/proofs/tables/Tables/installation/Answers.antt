@@ -9,9 +9,9 @@ use Rattle.list_tables.proofs.Known.{found_is_there}
 use Rattle.list_tables.proofs.tables.Tables.installation.Goals as goal
 
 pub returns-in-Some-clause-found : goal.returns-in-Some-clause-found
-returns-in-Some-clause-found c = λ held facts_are lawful whole.
-    let is : Some c.in-Some.opening ≡ installed_at held c.args.register.now = c.in-Some.ensures held facts_are whole in
-    let there : Contains (openings_in held) c.in-Some.opening =
-    found_is_there (λ (o : Opening). same o.register c.args.register.now) (openings_in held) c.in-Some.opening (sym is) in
-    c.meter.ensures.found held lawful whole
-    ∙ ap (option_map (installation_of held)) (found held c.in-Some.opening lawful there ∙ is)
+returns-in-Some-clause-found c = λ known facts_are lawful whole.
+    let is : Some c.in-Some.opening ≡ installed_at known c.args.register.now = c.in-Some.ensures known facts_are whole in
+    let there : Contains (openings_in known) c.in-Some.opening =
+    found_is_there (λ (o : Opening). same o.register c.args.register.now) (openings_in known) c.in-Some.opening (sym is) in
+    c.meter.ensures.found known lawful whole
+    ∙ ap (option_map (installation_of known)) (found known c.in-Some.opening lawful there ∙ is)

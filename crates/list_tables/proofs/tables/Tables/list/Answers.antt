@@ -7,16 +7,16 @@ use Rattle.list_tables.proofs.Found.{if_ok_then, looked_up, list_found}
 use Rattle.list_tables.proofs.tables.Tables.list.Goals as goal
 
 pub returns-in-Some : goal.returns-in-Some
-returns-in-Some c = λ held is whole.
+returns-in-Some c = λ known is whole.
     if_ok_then c.list_at.result
     (λ (list : Option Planned) at. at
-    ∙ looked_up list_at c.args.facts.now held (Some c.in-Some.place) c.named.result (named c.args.device.now) DeviceLists is
-    (c.in-Some.ensures DeviceLists held whole.lists) c.named.ensures
-    ∙ list_found held c.args.device.now)
+    ∙ looked_up list_at c.args.facts.now known (Some c.in-Some.place) c.named.result (named c.args.device.now) DeviceLists is
+    (c.in-Some.ensures DeviceLists known whole.lists) c.named.ensures
+    ∙ list_found known c.args.device.now)
     c.list_at.ensures
 
 pub returns-in-None : goal.returns-in-None
-returns-in-None c = λ held is whole.
-    looked_up list_at c.args.facts.now held None c.named.result (named c.args.device.now) DeviceLists is
-    (c.in-None.ensures DeviceLists held whole.lists) c.named.ensures
-    ∙ list_found held c.args.device.now
+returns-in-None c = λ known is whole.
+    looked_up list_at c.args.facts.now known None c.named.result (named c.args.device.now) DeviceLists is
+    (c.in-None.ensures DeviceLists known whole.lists) c.named.ensures
+    ∙ list_found known c.args.device.now

@@ -6,8 +6,8 @@ use Rattle.list_tables.proofs.Found.{registers_counted}
 use Rattle.list_tables.proofs.tables.Tables.register_count.Goals as goal
 
 pub returns : goal.returns
-returns c = λ held whole.
+returns c = λ known whole.
     ap (λ (ps : List ℕ). length ps)
-    (c.all.ensures DeviceRegisters held whole.device_registers
-    ∙ ap (λ (key : Key). reverse (places_of (has_key DeviceRegisters key) held)) c.named.ensures)
-    ∙ registers_counted held c.args.device.now
+    (c.all.ensures DeviceRegisters known whole.device_registers
+    ∙ ap (λ (key : Key). reverse (places_of (has_key DeviceRegisters key) known)) c.named.ensures)
+    ∙ registers_counted known c.args.device.now

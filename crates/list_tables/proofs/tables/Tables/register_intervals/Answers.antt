@@ -12,12 +12,12 @@ use Rattle.list_tables.proofs.Found.{openings_found}
 use Rattle.list_tables.proofs.tables.Tables.register_intervals.Goals as goal
 
 pub returns-clause-whole : goal.returns-clause-whole
-returns-clause-whole g c = λ held is lawful whole.
+returns-clause-whole g c = λ known is lawful whole.
     let P : List Share → Type 0 = λ rows. TakesAll g.K.RowSink.takes c.args.sink.now rows c.hand_on_all.new.sink in
     subst P
-    (ap (λ (fs : List Fact). rows_at held fs c.all.result.now) is
-    ∙ ap (rows_at held (reverse held))
-    (c.all.ensures RegisterOpenings held whole.openings
-    ∙ ap (λ (key : Key). reverse (places_of (has_key RegisterOpenings key) held)) c.named.ensures)
-    ∙ ap (flat_map (rows_of_opening held)) (openings_found held c.args.register.now))
-    (c.hand_on_all.ensures.whole held is lawful whole)
+    (ap (λ (fs : List Fact). rows_at known fs c.all.result.now) is
+    ∙ ap (rows_at known (reverse known))
+    (c.all.ensures RegisterOpenings known whole.openings
+    ∙ ap (λ (key : Key). reverse (places_of (has_key RegisterOpenings key) known)) c.named.ensures)
+    ∙ ap (flat_map (rows_of_opening known)) (openings_found known c.args.register.now))
+    (c.hand_on_all.ensures.whole known is lawful whole)

@@ -9,12 +9,12 @@ use Rattle.list_tables.proofs.Found.{if_ok_then, registers_found}
 use Rattle.list_tables.proofs.tables.Tables.registers.Goals as goal
 
 pub returns : goal.returns
-returns c = λ held is whole.
+returns c = λ known is whole.
     if_ok_then c.registers_at.result
     (λ v at.
     at ∙ ap (λ (fs : List Fact). filter_map (register_at fs) c.all.result.now) is
-    ∙ ap (filter_map (register_at (reverse held)))
-    (c.all.ensures DeviceRegisters held whole.device_registers
-    ∙ ap (λ (key : Key). reverse (places_of (has_key DeviceRegisters key) held)) c.named.ensures)
-    ∙ registers_found held c.args.device.now)
+    ∙ ap (filter_map (register_at (reverse known)))
+    (c.all.ensures DeviceRegisters known whole.device_registers
+    ∙ ap (λ (key : Key). reverse (places_of (has_key DeviceRegisters key) known)) c.named.ensures)
+    ∙ registers_found known c.args.device.now)
     c.registers_at.ensures

@@ -6,14 +6,14 @@ use Rattle.list_tables.proofs.Found.{looked_up, repeat_found}
 use Rattle.list_tables.proofs.tables.Tables.repeat.Goals as goal
 
 pub returns-in-Some : goal.returns-in-Some
-returns-in-Some c = λ held is whole.
+returns-in-Some c = λ known is whole.
     c.repeat_at.ensures
-    ∙ looked_up (repeat_at c.args.request.now) c.args.facts.now held (Some c.in-Some.place) (numbered c.args.caller.now c.args.number)
-    (numbered c.args.caller.now c.args.number) Replies is (c.in-Some.ensures Replies held whole.replies) refl
-    ∙ repeat_found held c.args.caller.now c.args.number c.args.request.now
+    ∙ looked_up (repeat_at c.args.request.now) c.args.facts.now known (Some c.in-Some.place) (numbered c.args.caller.now c.args.number)
+    (numbered c.args.caller.now c.args.number) Replies is (c.in-Some.ensures Replies known whole.replies) refl
+    ∙ repeat_found known c.args.caller.now c.args.number c.args.request.now
 
 pub returns-in-None : goal.returns-in-None
-returns-in-None c = λ held is whole.
-    looked_up (repeat_at c.args.request.now) c.args.facts.now held None (numbered c.args.caller.now c.args.number)
-    (numbered c.args.caller.now c.args.number) Replies is (c.in-None.ensures Replies held whole.replies) refl
-    ∙ repeat_found held c.args.caller.now c.args.number c.args.request.now
+returns-in-None c = λ known is whole.
+    looked_up (repeat_at c.args.request.now) c.args.facts.now known None (numbered c.args.caller.now c.args.number)
+    (numbered c.args.caller.now c.args.number) Replies is (c.in-None.ensures Replies known whole.replies) refl
+    ∙ repeat_found known c.args.caller.now c.args.number c.args.request.now

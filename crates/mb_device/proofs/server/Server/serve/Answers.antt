@@ -8,7 +8,7 @@ pub loop-turn-init : goal.loop-turn-init
 loop-turn-init g c =
     let serving = has_not_failed c.args.self.now c.has_failed.result c.is_over.result c.has_failed.ensures.failed c.if-has_failed.false c.is_over.ensures c.if-is_over.false in
     record {
-      served = λ held course e. let is = c.has_failed.ensures.held held course e in Served-none held course _ c.args.self.now is.0 is.1 e;
+      served = λ buffered course e. let is = c.has_failed.ensures.buffered buffered course e in Served-none buffered course _ c.args.self.now is.0 is.1 e;
       serving = serving;
       from_serving = serving;
       going = λ some. absurd (omega (arith, some));
@@ -25,7 +25,7 @@ loop-turn-preserved g c =
     let taken : g.L.Link.taken c.turn.new.link ≡ min (g.L.Link.taken c.loop-turn.link + 1) (2 ^ 64 - 1) =
     c.turn.ensures.takes ∙ ap (λ (b : Bool). risen b (g.L.Link.taken c.loop-turn.link)) so_far.serving in
     record {
-      served = λ held course e. Served-more held course c.loop-turn.answered c.in_ok-turned.turned _ _ _ c.loop-turn.self c.turn.new.self (so_far.served held course e) so_far.serving c.in_ok-turned.ensures.serving;
+      served = λ buffered course e. Served-more buffered course c.loop-turn.answered c.in_ok-turned.turned _ _ _ c.loop-turn.self c.turn.new.self (so_far.served buffered course e) so_far.serving c.in_ok-turned.ensures.serving;
       serving = turn_serves c.in_ok-turned.turned _ _ c.loop-turn.self c.turn.new.self so_far.serving c.in_ok-turned.ensures.serving c.if-turned.false;
       from_serving = so_far.from_serving;
       going = λ _. goes_on c.turn.result c.in_ok-turned.turned c.turn.new.self _ (c.turn.ensures.take so_far.serving) c.in_ok-turned.was c.if-turned.false;
@@ -37,14 +37,14 @@ loop-turn-preserved g c =
     }
 
 pub returns-in_err-turned-clause-serving : goal.returns-in_err-turned-clause-serving
-returns-in_err-turned-clause-serving g c = λ held course e.
+returns-in_err-turned-clause-serving g c = λ buffered course e.
     let fault = c.in_err-turned.field-0.0 in
     let is : c.from_residual.result ≡ Err fault = search rules in
     let old = around (g.L.Link.remaining c.args.link.now) (g.L.Link.given c.args.link.now) c.args.bank.now in
     let mid = around (g.L.Link.remaining c.loop-turn.link) (g.L.Link.given c.loop-turn.link) c.loop-turn.bank in
     let new = around (g.L.Link.remaining c.turn.new.link) (g.L.Link.given c.turn.new.link) c.turn.new.bank in
-    subst (λ x. Serves held course x old new c.turn.new.self) (sym is)
-    (Serves-fault fault held course c.loop-turn.answered old mid new c.loop-turn.self c.turn.new.self (c.loop-turn.invariant.served held course e) c.loop-turn.invariant.serving c.in_err-turned.ensures.serving)
+    subst (λ x. Serves buffered course x old new c.turn.new.self) (sym is)
+    (Serves-fault fault buffered course c.loop-turn.answered old mid new c.loop-turn.self c.turn.new.self (c.loop-turn.invariant.served buffered course e) c.loop-turn.invariant.serving c.in_err-turned.ensures.serving)
 
 pub returns-in_err-turned-clause-turns_used : goal.returns-in_err-turned-clause-turns_used
 returns-in_err-turned-clause-turns_used g c = λ used below.
@@ -53,9 +53,9 @@ returns-in_err-turned-clause-turns_used g c = λ used below.
     absurd (turn_is_no_end fault _ _ c.loop-turn.self c.turn.new.self c.loop-turn.invariant.serving c.in_err-turned.ensures.serving (cc (is, used)))
 
 pub returns-then-turned-clause-serving : goal.returns-then-turned-clause-serving
-returns-then-turned-clause-serving g c = λ held course e.
-    Serves-end held course c.loop-turn.answered c.in_ok-turned.turned _ _ _ c.loop-turn.self c.turn.new.self (c.loop-turn.invariant.served held course e) c.loop-turn.invariant.serving c.in_ok-turned.ensures.serving c.if-turned.true
+returns-then-turned-clause-serving g c = λ buffered course e.
+    Serves-end buffered course c.loop-turn.answered c.in_ok-turned.turned _ _ _ c.loop-turn.self c.turn.new.self (c.loop-turn.invariant.served buffered course e) c.loop-turn.invariant.serving c.in_ok-turned.ensures.serving c.if-turned.true
 
 pub returns-clause-serving : goal.returns-clause-serving
-returns-clause-serving g c = λ held course e.
-    subst (Serves held course _ _ _) (sym c.fail.ensures) (Serves-used held course c.loop-turn.answered _ _ c.loop-turn.self (c.loop-turn.invariant.served held course e) c.loop-turn.invariant.serving)
+returns-clause-serving g c = λ buffered course e.
+    subst (Serves buffered course _ _ _) (sym c.fail.ensures) (Serves-used buffered course c.loop-turn.answered _ _ c.loop-turn.self (c.loop-turn.invariant.served buffered course e) c.loop-turn.invariant.serving)

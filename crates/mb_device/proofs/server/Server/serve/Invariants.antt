@@ -5,7 +5,7 @@ use Rattle.mb_device.proofs.server.Server.serve.Given as goal
 
 abbrev pub invariant-loop-turn : goal.invariant-loop-turn
 invariant-loop-turn g l = record {
-  served : (held : List ℕ) (course : Course) → l.fn.self ≡ Holds held course → Served held course l.answered
+  served : (buffered : List ℕ) (course : Course) → l.fn.self ≡ Holds buffered course → Served buffered course l.answered
       (around (g.L.Link.remaining l.fn.link) (g.L.Link.given l.fn.link) l.fn.bank)
       (around (g.L.Link.remaining l.link) (g.L.Link.given l.link) l.bank)
       l.self;

@@ -4,8 +4,8 @@ use Rattle.office_lists.proofs.Counting.{figures_after}
 use Rattle.office_lists.proofs.figures.Figures.after.Goals as goal
 
 pub returns : goal.returns
-returns c = λ held are few.
+returns c = λ known are few.
     let old : Figures = c.args.self.now in
-    figures_after old _ c.args.fact.now held are few
+    figures_after old _ c.args.fact.now known are few
     (c.saturating_add.ensures ∙ ap (λ (n : ℕ). min (old.installations + n) 18446744073709551615) c.openings.ensures)
     (c.max.ensures ∙ ap (λ (n : ℕ). max n old.latest) c.moment.ensures)

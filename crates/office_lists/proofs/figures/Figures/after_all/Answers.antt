@@ -6,8 +6,8 @@ use Rattle.office_lists.proofs.Counting.{with_more, few_with}
 use Rattle.office_lists.proofs.figures.Figures.after_all.Goals as goal
 
 pub loop-fact-preserved : goal.loop-fact-preserved
-loop-fact-preserved c = λ held are few.
-    let before : List Fact = with_facts (take c.loop-fact.fact-index c.args.facts.now) held in
+loop-fact-preserved c = λ known are few.
+    let before : List Fact = with_facts (take c.loop-fact.fact-index c.args.facts.now) known in
     subst (AreFigures c.after-figures.result)
-    (ap (λ (f : Fact). f ∷ before) c.fact-item.is ∙ sym (with_more c.args.facts.now held c.loop-fact.fact-index c.fact-item.result c.loop-fact-test.true))
-    (c.after-figures.ensures before (c.loop-fact.invariant held are few) (few_with c.args.facts.now held c.loop-fact.fact-index c.loop-fact-test.true few))
+    (ap (λ (f : Fact). f ∷ before) c.fact-item.is ∙ sym (with_more c.args.facts.now known c.loop-fact.fact-index c.fact-item.result c.loop-fact-test.true))
+    (c.after-figures.ensures before (c.loop-fact.invariant known are few) (few_with c.args.facts.now known c.loop-fact.fact-index c.loop-fact-test.true few))

@@ -6,5 +6,5 @@ use Rattle.office_lists.proofs.figures.Figures.after_all.Given as goal
 
 abbrev pub invariant-loop-fact : goal.invariant-loop-fact
 invariant-loop-fact l =
-    (held : List Fact) → AreFigures l.self held → length held + length l.facts ≤ 18446744073709551615
-    → AreFigures l.figures (with_facts (take l.fact-index l.facts) held)
+    (known : List Fact) → AreFigures l.self known → length known + length l.facts ≤ 18446744073709551615
+    → AreFigures l.figures (with_facts (take l.fact-index l.facts) known)

@@ -6,10 +6,10 @@ use Rattle.office_lists.specs.Figures.{AreFigures}
 use Rattle.office_lists.proofs.list_books.ListBooks.add.Goals as goal
 
 pub returns-clause-figures : goal.returns-clause-figures
-returns-clause-figures c = λ held is are.
+returns-clause-figures c = λ known is are.
     let same : c.deref.result.now ≡ c.args.facts.items = c.deref.ensures.value in
-    subst (λ (fs : List Fact). AreFigures c.after_all-figures.result (with_facts fs held)) same
-    (c.after_all-figures.ensures held are
+    subst (λ (fs : List Fact). AreFigures c.after_all-figures.result (with_facts fs known)) same
+    (c.after_all-figures.ensures known are
     (omega (
       arith,
       ap length same,
@@ -19,5 +19,5 @@ returns-clause-figures c = λ held is are.
       ap length c.in_ok-append.ensures.items,
       length-append c.args.self.now.facts.items c.args.facts.items,
       ap length is,
-      length-reverse held,
+      length-reverse known,
     )))

@@ -14,5 +14,5 @@ returns-clause-keeps c =
     keeps_facts c.args.self.now new c.deref.result.now refl refl c.deref.ensures.value c.catch_up.ensures.kept
 
 pub returns-clause-whole : goal.returns-clause-whole
-returns-clause-whole c = λ held listed.
-    all_said c.args.self.now c.catch_up.new.self c.deref.result.now held c.deref.ensures.value c.in_ok-catch_up.ensures.whole listed
+returns-clause-whole c = λ known listed.
+    all_said c.args.self.now c.catch_up.new.self c.deref.result.now known c.deref.ensures.value c.in_ok-catch_up.ensures.whole listed

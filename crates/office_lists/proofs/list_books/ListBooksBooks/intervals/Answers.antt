@@ -6,5 +6,5 @@ use Rattle.office_lists.proofs.list_books.ListBooksBooks.intervals.Goals as goal
 pub returns-clause-rows : goal.returns-clause-rows
 returns-clause-rows g c =
     handed_on g.K.RowSink.takes (ledger_of c.args.self.now) (ledger_of c.catch_up.new.self) c.args.sink.now c.intervals.new.sink
-    (λ held. rows_of_meter held c.args.meter.now)
-    (λ held listed. c.intervals.ensures.whole held listed.lawful (c.in_ok-catch_up.ensures.whole held listed)) c.intervals.ensures.some
+    (λ known. rows_of_meter known c.args.meter.now)
+    (λ known listed. c.intervals.ensures.whole known listed.lawful (c.in_ok-catch_up.ensures.whole known listed)) c.intervals.ensures.some

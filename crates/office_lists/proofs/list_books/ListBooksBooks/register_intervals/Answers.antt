@@ -7,8 +7,8 @@ use Rattle.office_lists.proofs.list_books.ListBooksBooks.register_intervals.Goal
 pub returns-clause-rows : goal.returns-clause-rows
 returns-clause-rows g c =
     handed_on g.K.RowSink.takes (ledger_of c.args.self.now) (ledger_of c.catch_up.new.self) c.args.sink.now c.register_intervals.new.sink
-    (λ held. rows_of_register held c.args.register.now)
-    (λ held listed.
-    c.register_intervals.ensures.whole held (c.deref.ensures.value ∙ ap (λ v. v.items) c.catch_up.ensures.facts ∙ listed.facts) listed.lawful
-    (c.in_ok-catch_up.ensures.whole held listed))
+    (λ known. rows_of_register known c.args.register.now)
+    (λ known listed.
+    c.register_intervals.ensures.whole known (c.deref.ensures.value ∙ ap (λ v. v.items) c.catch_up.ensures.facts ∙ listed.facts) listed.lawful
+    (c.in_ok-catch_up.ensures.whole known listed))
     c.register_intervals.ensures.some
