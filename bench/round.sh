@@ -1,8 +1,8 @@
 #!/bin/sh
-# Measures how many booked polls a second `sunreg round` has over a file, beside a plain Python office (tests/peers/plain_office.py:
-# sockets, and Python's sqlite3 with synchronous FULL) over the same tables, each polling a plain device in C; the median of nine rounds,
+# Measures how many booked polls a second `sunreg round` has over a file, beside two offices in Python over the same tables, with Python's
+# sqlite3 and synchronous FULL (tests/peers/plain_office.py by sockets, pymodbus_office.py by pymodbus), each polling a plain device in C; the median of nine rounds,
 # the start of the process and the opening of the file counted: `bench/round.sh [PROGRAM [ROUNDS]]`, out/sunreg by default, which
-# `./sunreg-build` makes. It needs a C compiler, python3 and sqlite3. The files stand in TMPDIR: give a folder of a real disk.
+# `./sunreg-build` makes. It needs a C compiler, python3 and sqlite3, and pymodbus for the second. The files stand in TMPDIR: give a folder of a real disk.
 set -eu
 here=$(dirname "$(readlink -f "$0")")
 peers=$here/../tests/peers

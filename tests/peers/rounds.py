@@ -1,6 +1,6 @@
-"""Booked polls a second of rounds over a file, beside a plain Python office: rounds.py PROGRAM SERVER [TURNS]
+"""Booked polls a second of rounds over a file, beside offices in Python: rounds.py PROGRAM SERVER [TURNS]
 
-bench/round.sh calls it. Each office has a file and a device of its own; both must have booked the same in the end.
+bench/round.sh calls it. Each office has a file and a device of its own; all must have booked the same in the end.
 """
 import os
 import statistics
@@ -12,7 +12,19 @@ from room import HERE, ROOM, free_port, sql, start
 
 METERS = 32
 APART = 128
-OFFICE = [sys.executable, str(HERE / "plain_office.py")]
+PLAIN = [sys.executable, str(HERE / "plain_office.py")]
+
+
+def offices():
+    """The offices in Python that can be measured here, by their names."""
+    found = {"Python by sockets": PLAIN}
+    for it in (sys.executable, "/usr/bin/python3"):
+        if subprocess.run([it, "-c", "import pymodbus"], stderr=subprocess.DEVNULL).returncode == 0:
+            found["Python by pymodbus"] = [it, "-B", str(HERE / "pymodbus_office.py")]
+            break
+    else:
+        print("rounds.py: pymodbus is not installed, so an office by it is not measured", file=sys.stderr)
+    return found
 
 
 def office(db, reads):
@@ -58,24 +70,28 @@ def booked(db):
 
 
 def compare(program, server, reads, turns):
-    files = [str(ROOM / f"{name}{reads}.db") for name in ("ours", "plain")]
+    others = offices()
+    files = [str(ROOM / f"office{at}_{reads}.db") for at in range(1 + len(others))]
     runs = []
-    ports = [free_port(), free_port()]
+    ports = [free_port() for _ in files]
     for db, port in zip(files, ports):
         office(db, reads)
         start([server, str(port)], port)
     for _ in range(turns):
         time.sleep(1.1)
-        words = [program, "round", "--db", files[0], "--device", "inv", "--port", str(ports[0])]
-        runs.append((measured(words), measured([*OFFICE, files[1], "inv", str(ports[1])])))
-    ours, plain = map(booked, files)
-    if ours != plain:
-        where = next(at for at, both in enumerate(zip(ours, plain)) if both[0] != both[1])
-        sys.exit(f"rounds.py: they have not booked the same: {ours[where][:3]}, {plain[where][:3]}")
-    (mine, cost), (theirs, price) = (tuple(statistics.median(it[part] for it in side) for part in (0, 1)) for side in zip(*runs))
-    print(f"{reads} polls, {METERS} meters: sunreg {reads / mine:.0f} booked polls a second,"
-          f" Python {reads / theirs:.0f}, ratio {theirs / mine:.2f};"
-          f" of the processor {1000 * cost:.0f} ms, {1000 * price:.0f} ms, ratio {price / max(cost, 1e-6):.2f}", flush=True)
+        ours = [program, "round", "--db", files[0], "--device", "inv", "--port", str(ports[0])]
+        theirs = [[*words, db, "inv", str(port)] for words, db, port in zip(others.values(), files[1:], ports[1:])]
+        runs.append([measured(it) for it in (ours, *theirs)])
+    ours, *rest = map(booked, files)
+    for name, it in zip(others, rest):
+        if ours != it:
+            where = next(at for at, both in enumerate(zip(ours, it)) if both[0] != both[1])
+            sys.exit(f"rounds.py: {name} has not booked the same: {ours[where][:3]}, {it[where][:3]}")
+    (mine, cost), *sides = (tuple(statistics.median(it[part] for it in side) for part in (0, 1)) for side in zip(*runs))
+    print(f"{reads} polls, {METERS} meters: sunreg {reads / mine:.0f} booked polls a second, of the processor {1000 * cost:.0f} ms")
+    for name, (took, price) in zip(others, sides):
+        print(f"  {name} {reads / took:.0f}, ratio {took / mine:.2f};"
+              f" of the processor {1000 * price:.0f} ms, ratio {price / max(cost, 1e-6):.2f}", flush=True)
 
 
 def main():

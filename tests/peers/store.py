@@ -11,7 +11,7 @@ import time
 
 from plain_office import shares
 from room import HERE, ROOM, free_port, sql, start
-from rounds import OFFICE, booked, measured
+from rounds import PLAIN, booked, measured
 
 APART = 128
 QUARTER = 900
@@ -62,7 +62,7 @@ def compare(program, server, meters, window, quarters, turns):
     for _ in range(turns):
         time.sleep(1.1)
         ours = [program, "round", "--db", files[0], "--device", "inv", "--port", str(ports[0])]
-        whole.append((measured(ours), measured([*OFFICE, files[1], "inv", str(ports[1])])))
+        whole.append((measured(ours), measured([*PLAIN, files[1], "inv", str(ports[1])])))
     time.sleep(0.1)
     if booked(files[0]) != booked(files[1]):
         sys.exit("store.py: they have not booked the same")
