@@ -1,5 +1,5 @@
 -- The lines that tell a device's words: an address, and the words from there on in hex.
-use Rattle.std.specs.Prelude.{ℕ, ◌+◌, ◌*◌, ◌%◌, ◌==◌, nat_le, if◌then◌else◌, List, [], ◌∷◌, length, Some, None, Ok, Err, option_and_then}
+use Rattle.std.specs.Prelude.{ℕ, ◌+◌, ◌*◌, ◌%◌, ◌==◌, nat_le, if◌then◌else◌, List, [], ◌∷◌, length, Some, None, Ok, Err, option_and_then, option_map, ◌≡◌, Vec}
 use Rattle.std.specs.declared.option.Option.{Option}
 use Rattle.std.specs.declared.result.Result.{Result}
 use Rattle.sun_chain.specs.Image.{Words, put_words}
@@ -23,6 +23,10 @@ words_of_bytes bytes = if length bytes % 2 == 0 then Some (words_spelled bytes) 
 
 abbrev pub words_of_hex : List ℕ → Option (List ℕ)
 words_of_hex hex = option_and_then words_of_bytes (bytes_of hex)
+
+-- the words found are those that the hex digits spell; none are, where they spell none
+abbrev pub SpellsWords : {Z : Type 0} → (hex : List ℕ) → (found : Option (Vec ℕ Z)) → Type 0
+SpellsWords hex found = option_map (λ words. words.items) found ≡ words_of_hex hex
 
 -- an address of a register
 abbrev pub register_address : ℕ → Option ℕ

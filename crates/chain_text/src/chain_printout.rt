@@ -8,7 +8,7 @@ ghost use Rattle.chain_text.specs.ChainText.{ChainPrints, LinesPrint, WordsPrint
 ghost use Rattle.chain_text.specs.ChainText.{fault_line, model_line, model_lines, point_line};
 ghost use Rattle.chain_text.specs.ImageLines.{nothing_read, words_told};
 ghost use Rattle.command_io.specs.Lines.{speaking_lines};
-ghost use Rattle.command_io.specs.Printing.{PrintsAs};
+ghost use Rattle.command_io.specs.Printing.{PrintsAs, PrintsFor};
 
 use crate::image_lines::{LoadFault, load};
 use command_io::{Status, read_input};
@@ -22,8 +22,8 @@ use sun_chain::{Chain, ChainFault, Image, Model, NamedPoint, walk};
 /// or only `fault N`. A line that is none, or whose words end past address 65535, prints `bad line N` alone,
 /// an input of more than `MOST_BYTES` bytes `too long`.
 pub fn chain_text<R: Read, W: Write>(alloc: Global, input: &mut R, output: &mut W) -> Status
-    ensures { IfSome (R.remaining input.old) (λ all.
-        PrintsAs (ChainPrints all) result (W.contents output.old) (W.contents output.new)) }
+    ensures { IfSome (R.remaining input.old)
+        (PrintsFor ChainPrints result (W.contents output.old) (W.contents output.new)) }
 {
     match read_input(alloc, input, output) {
         Ok(text) => print_lines(alloc, &text, output),

@@ -1,10 +1,10 @@
 //! The lines that tell a device's words: an address, and the words from there on in hex.
-ghost use Rattle.std.specs.Prelude.{◌≡◌, IfOk, IfErr, OnOk, Ok, Some, option_map};
+ghost use Rattle.std.specs.Prelude.{◌≡◌, IfOk, IfErr, OnOk, Some, option_map};
 ghost use Rattle.sun_chain.specs.Image.{word_in};
-ghost use Rattle.chain_text.specs.ImageLines.{address_of, nothing_read, put_of, words_after};
-ghost use Rattle.chain_text.specs.ImageLines.{words_of_hex, words_spelled, words_told};
-ghost use Rattle.command_io.specs.Lines.{seen_line, speaking_lines};
-ghost use Rattle.chain_text.specs.Seen.{Explains, ExplainsLine, seen_put};
+ghost use Rattle.chain_text.specs.ImageLines.{SpellsWords, address_of, put_of, words_after};
+ghost use Rattle.chain_text.specs.ImageLines.{words_spelled};
+ghost use Rattle.command_io.specs.Lines.{seen_line};
+ghost use Rattle.chain_text.specs.Seen.{ExplainsLine, ExplainsText, TellsImage, seen_put};
 
 use command_io::{InputLine, InputLines};
 use script_words::{Words, hex_bytes, number};
@@ -28,10 +28,8 @@ pub(crate) struct Put {
 
 /// The image that the lines of a text tell.
 pub(crate) fn load(alloc: Global, text: &[u8]) -> Result<Image, LoadFault>
-    ensures image { IfOk result (λ image.
-        words_told nothing_read (speaking_lines text.now) ≡ Ok (word_in image)) }
-    ensures fault { IfErr result (λ fault.
-        Explains fault (words_told nothing_read (speaking_lines text.now))) }
+    ensures image { IfOk result (TellsImage text.now) }
+    ensures fault { IfErr result (ExplainsText text.now) }
 {
     let mut image = Image::new(alloc);
     let mut lines = InputLines::of(text);
@@ -45,8 +43,8 @@ pub(crate) fn load(alloc: Global, text: &[u8]) -> Result<Image, LoadFault>
 fn put_line(alloc: Global, image: &mut Image, line: InputLine<'_>) -> Result<(), LoadFault>
     ensures put { OnOk result
         (words_after (word_in image.old) line.entry.text.now ≡ Some (word_in image.new)) }
-    ensures bad { IfErr result (λ fault.
-        ExplainsLine fault (word_in image.old) (seen_line line.entry)) }
+    ensures bad { IfErr result
+        (λ fault. ExplainsLine fault (word_in image.old) (seen_line line.entry)) }
 {
     let Ok(said) = read_put(alloc, line.text) else {
         return Err(LoadFault::Memory);
@@ -94,8 +92,7 @@ fn address(word: &[u8]) -> Option<u16>
 }
 
 fn words_in_hex(alloc: Global, hex: &[u8]) -> Result<Option<Vec<u16>>, AllocError>
-    ensures { IfOk result (λ words.
-        option_map (λ words. words.items) words ≡ words_of_hex hex.now) }
+    ensures { IfOk result (SpellsWords hex.now) }
 {
     match hex_bytes(alloc, hex)? {
         Some(bytes) if bytes.len() % 2 == 0 => Ok(Some(words_in(alloc, &bytes)?)),

@@ -1,6 +1,8 @@
 -- The whole input of a command.
-use Rattle.std.specs.Prelude.{◌≡◌, ℕ, List, [], Option, ◌<◌, ◌⊎◌, codes, length}
+use Rattle.std.specs.Prelude.{◌≡◌, ℕ, List, [], Option, Vec, IfSome, ◌<◌, ◌⊎◌, codes, length}
 use Rattle.std.specs.Io.KnownBytes.{Appends}
+use Rattle.command_io.specs.declared.input.ReadFault.{ReadFault}
+use Rattle.command_io.specs.declared.input.ReadFault.TheVariants.{TooLong}
 use Rattle.command_io.specs.declared.status.Status.{Status}
 use Rattle.command_io.specs.declared.status.Status.TheVariants.{Fine, Refused, Failed}
 use Rattle.sun_points.specs.Writing.{GotPart}
@@ -8,6 +10,15 @@ use Rattle.sun_points.specs.Writing.{GotPart}
 -- the most bytes of an input
 abbrev pub most_bytes : ℕ
 most_bytes = 4194304
+
+-- the bytes are all that an input had left, where that is known
+abbrev pub AreWholeOf : {Z : Type 0} → (remaining : Option (List ℕ)) → (bytes : Vec ℕ Z) → Type 0
+AreWholeOf remaining bytes = IfSome remaining (λ all. bytes.items ≡ all)
+
+-- that an input is too long is its fault only where it is longer, if that is known
+abbrev pub BlamesLengthRightly : (remaining : Option (List ℕ)) → ReadFault → Type 0
+BlamesLengthRightly remaining fault =
+    fault ≡ TooLong → IfSome remaining (λ all. most_bytes < length all)
 
 -- what is printed of an input that is longer
 abbrev pub too_long : List ℕ
@@ -25,3 +36,9 @@ abbrev pub EndsUnread : (input : List ℕ) → Status → (old new : Option (Lis
 EndsUnread input status old new =
     ((most_bytes < length input) × TellsTooLong status old new)
     ⊎ ((status ≡ Failed) × Appends old new [])
+
+-- the same of what an input had left, where that is known
+abbrev pub LeavesUnread : (remaining : Option (List ℕ)) → (old new : Option (List ℕ)) → Status
+    → Type 0
+LeavesUnread remaining old new status =
+    IfSome remaining (λ input. EndsUnread input status old new)

@@ -9,3 +9,8 @@ abbrev pub PrintsAs : (Prints : List ℕ → Status → Type 0) → Status → (
     → Type 0
 PrintsAs Prints status old new =
     status ≢ Failed → (printed : List ℕ) × Appends old new printed × Prints printed status
+
+-- the same where what is printed depends on the input
+abbrev pub PrintsFor : (Prints : (input printed : List ℕ) → Status → Type 0) → Status
+    → (old new : Option (List ℕ)) → (input : List ℕ) → Type 0
+PrintsFor Prints status old new input = PrintsAs (Prints input) status old new

@@ -69,8 +69,8 @@ impl<W: Write> Buffered<W> {
         ensures less { OnOk result (self.new.filled < self.old.filled) }
         ensures bytes { Keeps (contents_of W.contents self.old) (contents_of W.contents self.new) }
         ensures stuck { self.old.failed ≡ true → IsErr result × (self.new ≡ self.old) }
-        ensures failed { IfErr result (λ error.
-            error_kind error ≢ ErrorKind.Interrupted → self.new.failed ≡ true) }
+        ensures failed { IfErr result
+            (λ error. error_kind error ≢ ErrorKind.Interrupted → self.new.failed ≡ true) }
     {
         if self.failed {
             return Err(io::Error::from(ErrorKind::BrokenPipe));

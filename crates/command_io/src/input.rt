@@ -1,6 +1,7 @@
 //! Reading a whole input.
-ghost use Rattle.std.specs.Prelude.{◌≡◌, ◌≢◌, ◌≤◌, ◌<◌, ◌↔◌, Err, false, true, IfOk, IfErr, IfSome, length};
-ghost use Rattle.command_io.specs.Input.{EndsUnread, TellsTooLong, most_bytes};
+ghost use Rattle.std.specs.Prelude.{◌≡◌, ◌≢◌, ◌≤◌, ◌↔◌, Err, false, true, IfOk, IfErr, length};
+ghost use Rattle.command_io.specs.Input.{AreWholeOf, BlamesLengthRightly, LeavesUnread};
+ghost use Rattle.command_io.specs.Input.{TellsTooLong, most_bytes};
 
 use crate::calls::Calls;
 use crate::status::Status;
@@ -42,11 +43,9 @@ impl Error for ReadFault {}
 /// Reads an input to its end, by at most one call of `read` more than it may have bytes. No call is
 /// made after one that failed.
 pub fn read_whole<R: Read>(alloc: Global, input: &mut R) -> Result<Vec<u8>, ReadFault>
-    ensures whole { IfOk result (λ bytes.
-        IfSome (R.remaining input.old) (λ all. bytes.items ≡ all)) }
+    ensures whole { IfOk result (AreWholeOf (R.remaining input.old)) }
     ensures fits { IfOk result (λ bytes. length bytes.items ≤ most_bytes) }
-    ensures long { IfErr result (λ fault. fault ≡ ReadFault.TooLong
-        → IfSome (R.remaining input.old) (λ all. most_bytes < length all)) }
+    ensures long { IfErr result (BlamesLengthRightly (R.remaining input.old)) }
 {
     let mut calls = Calls::of(input);
     read_by(alloc, &mut calls)
@@ -58,11 +57,9 @@ fn read_by<R: Read>(alloc: Global, calls: &mut Calls<'_, R>) -> Result<Vec<u8>, 
     requires works { calls.old.failed ≡ false }
     ensures few { calls.new.made ≤ 4194305 }
     ensures failed { (calls.new.failed ≡ true) ↔ (result ≡ Err ReadFault.Failed) }
-    ensures whole { IfOk result (λ bytes.
-        IfSome (R.remaining calls.old.input.now) (λ all. bytes.items ≡ all)) }
+    ensures whole { IfOk result (AreWholeOf (R.remaining calls.old.input.now)) }
     ensures fits { IfOk result (λ bytes. length bytes.items ≤ most_bytes) }
-    ensures long { IfErr result (λ fault. fault ≡ ReadFault.TooLong
-        → IfSome (R.remaining calls.old.input.now) (λ all. most_bytes < length all)) }
+    ensures long { IfErr result (BlamesLengthRightly (R.remaining calls.old.input.now)) }
 {
     let mut whole = Vec::new(alloc);
     let mut piece = [0u8; PIECE];
@@ -90,13 +87,12 @@ pub fn read_input<R: Read, W: Write>(
     input: &mut R,
     output: &mut W,
 ) -> Result<Vec<u8>, Status>
-    ensures whole { IfOk result (λ text.
-        IfSome (R.remaining input.old) (λ all. text.items ≡ all)) }
+    ensures whole { IfOk result (AreWholeOf (R.remaining input.old)) }
     ensures fits { IfOk result (λ text. length text.items ≤ most_bytes) }
     ensures silent { IfOk result (λ text. output.new ≡ output.old) }
     ensures ends { IfErr result (λ status. status ≢ Status.Fine) }
-    ensures unread { IfErr result (λ status. IfSome (R.remaining input.old) (λ all.
-        EndsUnread all status (W.contents output.old) (W.contents output.new))) }
+    ensures unread { IfErr result (LeavesUnread (R.remaining input.old)
+        (W.contents output.old) (W.contents output.new)) }
 {
     match read_whole(alloc, input) {
         Ok(text) => Ok(text),

@@ -85,8 +85,8 @@ fn with_commands<'a>(
     program: Command<'a>,
     commands: &'a [CommandText<'a>],
 ) -> Result<Command<'a>, AllocError>
-    ensures { IfOk result (λ c. app_of c
-        ≡ with_commands (app_of program.entry) commands.entry.now) }
+    ensures { IfOk result
+        (λ c. app_of c ≡ with_commands (app_of program.entry) commands.entry.now) }
 {
     let mut program = program;
     for command in commands {

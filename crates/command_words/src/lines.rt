@@ -1,8 +1,6 @@
 //! The command of what was found.
-ghost use Rattle.std.specs.Prelude.{◌≡◌};
 ghost use Rattle.clap.specs.Words.{subcommand_rows_of};
 ghost use Rattle.word_values.specs.Devices.{places_of};
-ghost use Rattle.word_values.specs.Given.{given};
 ghost use Rattle.command_words.specs.Lines.{command_in, create_in, devices_at, line_in, report_in};
 ghost use Rattle.command_words.specs.Lines.{round_in, run_in, seen, serve_in, stand_in_in};
 ghost use Rattle.command_words.specs.Options.{Reads, rows_in};

@@ -1,5 +1,5 @@
 //! The command that the words spell.
-ghost use Rattle.std.specs.Prelude.{◌≡◌, IfErr, IfOk};
+ghost use Rattle.std.specs.Prelude.{IfErr, IfOk};
 ghost use Rattle.clap.specs.Words.{FailsBy, kind_of};
 ghost use Rattle.command_table.specs.Table.{texts};
 ghost use Rattle.command_words.specs.Faults.{IsMisreading, IsRefusal};

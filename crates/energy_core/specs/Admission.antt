@@ -8,7 +8,7 @@ use Rattle.energy_core.specs.declared.entries.Entry.{Entry}
 use Rattle.energy_core.specs.declared.entries.Entry.TheVariants as entry
 use Rattle.energy_core.specs.declared.admission.TermFault.{TermFault}
 use Rattle.energy_core.specs.declared.admission.TermFault.TheVariants as fault
-use Rattle.energy_core.specs.Account.{intervals_touched, moment_of, after, reached, energy_of, step_to, Follows}
+use Rattle.energy_core.specs.Account.{intervals_touched, moment_of, after, reached, energy_of, step_to, Follows, IsAccount}
 
 -- the number of a fault
 abbrev pub fault_number : TermFault → ℕ
@@ -57,6 +57,10 @@ answered range last e None = Ok (after last e, step_to range last e)
 -- What a load can draw is not looked at.
 abbrev pub entered : (range total : ℕ) → Last → Entry → Result (Last × Step) TermFault
 entered range total last e = answered range last e (find (refuses range total last e) faults)
+
+-- the account goes on from such a total: after these entries the counter stands so, with the step more
+abbrev pub GoesOn : (range : ℕ) → Last → List Entry → (total : ℕ) → Last × Step → Type 0
+GoesOn range opening es total r = IsAccount range opening es r.0 (total + r.1.mwh)
 
 -- An entry that may follow was booked: the counter stands then where the entry says, the step goes up to it, and the
 -- whole energy is within its limit.

@@ -1,7 +1,7 @@
 //! Whether an entry by hand is booked, and why one is refused.
-ghost use Rattle.std.specs.Prelude.{◌≡◌, ℕ, ◌≤◌, ◌<◌, ◌+◌, pos, negsuc, ◌≤ℤ◌, List, ◌∷◌};
+ghost use Rattle.std.specs.Prelude.{◌≡◌, ◌≤◌, ◌<◌, ◌+◌, pos, negsuc, ◌≤ℤ◌, List, ◌∷◌};
 ghost use Rattle.std.specs.Prelude.{IfOk};
-ghost use Rattle.energy_core.specs.Admission.{entered, is_beyond, has_bad_scale, fault_number};
+ghost use Rattle.energy_core.specs.Admission.{GoesOn, entered, is_beyond, has_bad_scale, fault_number};
 ghost use Rattle.energy_core.specs.Account.{moment_of, reached, after, energy_of, IsAccount};
 ghost use Rattle.energy_core.specs.Account.{intervals_touched};
 ghost use Rattle.energy_core.specs.declared.entries.Last.{Last};
@@ -131,8 +131,7 @@ pub fn enter<C: Counter>(
     ensures booked { result ≡ entered (C.range counter.now) terms.now.total last.now entry.now }
     ensures account { let range = C.range counter.now in
         (opening : Last) (es : List Entry) → IsAccount range opening es last.now terms.now.total
-        → IfOk result (λ r. IsAccount range opening (entry.now ∷ es) r.0
-        (terms.now.total + r.1.mwh)) }
+        → IfOk result (GoesOn range opening (entry.now ∷ es) terms.now.total) }
 
     // what the next call requires
     ensures total { IfOk result (λ r. terms.now.total + r.1.mwh ≤ MAX_TOTAL) }

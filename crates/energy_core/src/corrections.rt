@@ -1,5 +1,5 @@
 //! Corrections of a counter: readings by hand and at closing, resets and rescales.
-ghost use Rattle.std.specs.Prelude.{◌≡◌, ℕ, ◌≤◌, ◌<◌, pos, negsuc, ◌≤ℤ◌};
+ghost use Rattle.std.specs.Prelude.{◌≡◌, ◌≤◌, ◌<◌, pos, negsuc, ◌≤ℤ◌};
 ghost use Rattle.energy_core.specs.declared.entries.Entry.TheVariants as entry;
 ghost use Rattle.energy_core.specs.Admission.{entered};
 

@@ -50,8 +50,8 @@ impl FailingBooks {
             → (ledger_of self.new.books).holds known }
         ensures zone { (ledger_of self.new.books).zone ≡ (ledger_of self.old.books).zone }
         ensures ok { OnOk result (self.new.faults ≡ self.old.faults) }
-        ensures refused { IfErr result (λ fault.
-            (fault ≡ Store Refused) × (self.new.faults ≡ one_more self.old.faults)) }
+        ensures refused { IfErr result
+            (λ fault. (fault ≡ Store Refused) × (self.new.faults ≡ one_more self.old.faults)) }
     {
         self.calls = self.calls.saturating_add(1);
         if self.calls == self.failing {

@@ -1,8 +1,7 @@
 //! Runs from nothing.
 ghost use Rattle.std.specs.Prelude.{[], IfOk};
 ghost use Rattle.office_lists.specs.Listed.{ledger_of};
-ghost use Rattle.office_core.specs.EventRun.{IsRecorded, accepted_by};
-ghost use Rattle.office_core.specs.Standing.{books_in};
+ghost use Rattle.office_core.specs.EventRun.{RecordsAccepted};
 
 use interval_core::Zone;
 use office_core::{Run, run};
@@ -17,8 +16,7 @@ pub fn run_anew(
     opened: u64,
     events: &[(u64, Event)],
 ) -> Result<Run<ListBooks>, Refusal>
-    ensures { IfOk result (λ run.
-        IsRecorded (ledger_of (books_in run.office)) (accepted_by [] opened events.now run)) }
+    ensures { IfOk result (RecordsAccepted ledger_of opened events.now []) }
 {
     match run(alloc, ListBooks::new(alloc, zone), opened, events) {
         Ok(done) => Ok(done),

@@ -21,7 +21,7 @@ pub struct Counts {
 }
 
 impl Counts {
-    ghost use Rattle.std.specs.Prelude.{◌≡◌, replicate};
+    ghost use Rattle.std.specs.Prelude.{◌≡◌};
     ghost use Rattle.hub_status.specs.Counts as counting;
 
     /// Nothing was counted.

@@ -1,6 +1,6 @@
 //! The plan of a point list's text.
 ghost use Rattle.std.specs.Prelude.{IfSome};
-ghost use Rattle.command_io.specs.Printing.{PrintsAs};
+ghost use Rattle.command_io.specs.Printing.{PrintsAs, PrintsFor};
 ghost use Rattle.list_text.specs.ListText.{ListPrints, TextPrints};
 
 use crate::plan_printout::print_plan;
@@ -14,8 +14,8 @@ use std::io::{Read, Write};
 /// K from 1, for each read, then `point NAME K OFFSET` for each point; or only `row R fault N` for each
 /// faulty row, the header being row 1. An input of more than `MOST_BYTES` bytes prints `too long` alone.
 pub fn plan_text<R: Read, W: Write>(alloc: Global, input: &mut R, output: &mut W) -> Status
-    ensures { IfSome (R.remaining input.old) (λ all.
-        PrintsAs (ListPrints all) result (W.contents output.old) (W.contents output.new)) }
+    ensures { IfSome (R.remaining input.old)
+        (PrintsFor ListPrints result (W.contents output.old) (W.contents output.new)) }
 {
     match read_input(alloc, input, output) {
         Ok(text) => print_text(alloc, &text, output),

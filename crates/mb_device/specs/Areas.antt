@@ -1,9 +1,9 @@
 -- Areas of a device, and the maps that begin with them.
-use Rattle.std.specs.Prelude.{◌≡◌, ℕ, ◌+◌, ◌==◌, ◌&&◌, ◌||◌, nat_le, nat_lt, min, max, Bool, true, false, if◌then◌else◌, List, [], ◌∷◌, ◌++◌, length, take, drop, replicate, is_some, Some, None, Ok, Err}
+use Rattle.std.specs.Prelude.{◌≡◌, ℕ, ◌+◌, ◌<◌, ◌==◌, ◌&&◌, ◌||◌, nat_le, nat_lt, min, max, Bool, true, false, if◌then◌else◌, List, [], ◌∷◌, ◌++◌, length, take, drop, replicate, is_some, Some, None, Ok, Err}
 use Rattle.std.specs.List.{list_any}
 use Rattle.std.specs.declared.option.Option.{Option}
 use Rattle.std.specs.declared.result.Result.{Result}
-use Rattle.mb_device.specs.Maps.{values_at}
+use Rattle.mb_device.specs.Maps.{Maps, value_at, value_in, values_at}
 use Rattle.mb_device.specs.declared.kinds.Area.{Area}
 use Rattle.mb_device.specs.declared.kinds.BankFault.{BankFault}
 use Rattle.mb_device.specs.declared.kinds.BankFault.TheVariants.{AreasOverlap, OutOfRange, Memory}
@@ -40,6 +40,16 @@ is_out_of_range area = area.count == 0 || nat_lt 65536 (area.start + area.count)
 abbrev pub first_value : List Area → Kind → ℕ → Option ℕ
 first_value areas kind address =
     if list_any (λ area. contains kind address area) areas then Some 0 else None
+
+-- a table, and the maps, as they are in the beginning
+abbrev pub BeginsAs : List Area → Kind → List (Option ℕ) → Type 0
+BeginsAs areas kind table =
+    (address : ℕ) → address < 65536 → value_in table address ≡ first_value areas kind address
+
+abbrev pub AllBeginAs : List Area → Maps → Type 0
+AllBeginAs areas maps =
+    (kind : Kind) (address : ℕ) → address < 65536
+    → value_at maps kind address ≡ first_value areas kind address
 
 abbrev pub bank_fault_number : BankFault → ℕ
 bank_fault_number AreasOverlap = 1

@@ -1,6 +1,6 @@
 -- The four maps of a device (Modbus Application Protocol V1.1b3, section 4.3): from an address to a
 -- value, where the device has one there.
-use Rattle.std.specs.Prelude.{ℕ, ◌+◌, ◌==◌, ◌&&◌, nat_le, Bool, if◌then◌else◌, List, [], ◌∷◌, length, take, drop, is_some, slice_index_or, slice_set, Some, None}
+use Rattle.std.specs.Prelude.{◌≡◌, ℕ, ◌+◌, ◌==◌, ◌&&◌, nat_le, Bool, if◌then◌else◌, List, [], ◌∷◌, length, take, drop, is_some, slice_index_or, slice_set, Some, None}
 use Rattle.std.specs.List.{list_all}
 use Rattle.std.specs.declared.option.Option.{Option}
 use Rattle.mb_device.specs.declared.kinds.Kind.{Kind}
@@ -25,6 +25,10 @@ value_in table address = slice_index_or table address None
 
 abbrev pub value_at : Maps → Kind → ℕ → Option ℕ
 value_at maps kind address = value_in (table_of maps kind) address
+
+-- so many addresses as there are stand in each table, whether a value is there or not
+abbrev pub HasAllAddresses : Maps → Type 0
+HasAllAddresses maps = (kind : Kind) → length (table_of maps kind) ≡ 65536
 
 -- what is kept for a value: a coil or a discrete input is on or off
 abbrev pub kept : Kind → ℕ → ℕ

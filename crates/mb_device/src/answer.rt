@@ -1,5 +1,5 @@
 //! What a device answers to a request, and what becomes of a table.
-ghost use Rattle.std.specs.Prelude.{◌≡◌, ◌≤◌, ◌+◌, ◌/◌, ◌∷◌, [], ℕ, List, map, length, take};
+ghost use Rattle.std.specs.Prelude.{◌≡◌, ◌≤◌, ◌+◌, ◌/◌, ◌∷◌, [], map, length, take};
 ghost use Rattle.std.specs.Prelude.{if◌then◌else◌, is_some, true};
 ghost use Rattle.std.specs.List.{list_all};
 ghost use Rattle.mb_wire.specs.Bytes.{words_of};

@@ -1,13 +1,13 @@
 //! A device's values.
-ghost use Rattle.std.specs.Prelude.{◌≡◌, ◌≤◌, ◌<◌, ◌+◌, ℕ, List, ◌↔◌, IsTrue, IfOk, Ok, Err, take};
-ghost use Rattle.std.specs.Prelude.{true, false, is_some, if◌then◌else◌, slice_index_or, length};
+ghost use Rattle.std.specs.Prelude.{◌≡◌, ◌≤◌, ◌<◌, ◌+◌, ◌↔◌, IfOk, Ok, Err, take};
+ghost use Rattle.std.specs.Prelude.{true, false, is_some, if◌then◌else◌, length};
 ghost use Rattle.std.specs.Prelude.{None};
 ghost use Rattle.std.specs.List.{list_any};
-ghost use Rattle.mb_device.specs.Areas.{Adds, any_overlap, begun_from, contains, first_value};
-ghost use Rattle.mb_device.specs.Areas.{is_out_of_range, overlap};
+ghost use Rattle.mb_device.specs.Areas.{Adds, AllBeginAs, BeginsAs, any_overlap, begun_from};
+ghost use Rattle.mb_device.specs.Areas.{contains, first_value, is_out_of_range, overlap};
 ghost use Rattle.mb_wire.specs.Requests.{IsLawful, query_of};
 ghost use Rattle.mb_device.specs.Device.{answer_to, maps_after, maps_for, reply_for};
-ghost use Rattle.mb_device.specs.Maps.{Maps, kept, table_of, value_at, value_in, values_at};
+ghost use Rattle.mb_device.specs.Maps.{HasAllAddresses, Maps, kept, table_of, value_at, value_in, values_at};
 ghost use Rattle.mb_device.specs.Maps.{with_table, written};
 
 use crate::answer::{
@@ -84,8 +84,7 @@ fn begin(areas: &[Area], kind: Kind, address: u64) -> Option<u16>
 
 // The table of one kind.
 fn begin_table(alloc: Global, areas: &[Area], kind: Kind) -> Result<Vec<Option<u16>>, AllocError>
-    ensures values { IfOk result (λ table. (address : ℕ) → address < 65536 →
-        value_in table.items address ≡ first_value areas.now kind address) }
+    ensures values { IfOk result (λ table. BeginsAs areas.now kind table.items) }
     ensures end { IfOk result (λ table. length table.items ≡ 65536) }
 {
     let mut table = Vec::with_capacity(alloc, 65536)?;
@@ -158,10 +157,8 @@ impl Bank {
         ensures overlap { (result ≡ Err BankFault.AreasOverlap) ↔ (any_overlap areas.now ≡ true) }
         ensures range { (result ≡ Err BankFault.OutOfRange) ↔
             ((any_overlap areas.now ≡ false) × (list_any is_out_of_range areas.now ≡ true)) }
-        ensures values { IfOk result (λ bank. (kind : Kind) (address : ℕ) → address < 65536 →
-            value_at bank kind address ≡ first_value areas.now kind address) }
-        ensures addresses { IfOk result (λ bank. (kind : Kind) →
-            length (table_of bank kind) ≡ 65536) }
+        ensures values { IfOk result (AllBeginAs areas.now) }
+        ensures addresses { IfOk result HasAllAddresses }
     {
         if has_overlap(areas) {
             return Err(BankFault::AreasOverlap);
@@ -173,10 +170,8 @@ impl Bank {
     }
 
     fn begin(alloc: Global, areas: &[Area]) -> Result<Bank, AllocError>
-        ensures values { IfOk result (λ bank. (kind : Kind) (address : ℕ) → address < 65536 →
-            value_at bank kind address ≡ first_value areas.now kind address) }
-        ensures addresses { IfOk result (λ bank. (kind : Kind) →
-            length (table_of bank kind) ≡ 65536) }
+        ensures values { IfOk result (AllBeginAs areas.now) }
+        ensures addresses { IfOk result HasAllAddresses }
     {
         Ok(Bank {
             coils: begin_table(alloc, areas, Kind::Coil)?,

@@ -1,5 +1,5 @@
 //! Values as the bytes of a reply, and the bytes of a request as values.
-ghost use Rattle.std.specs.Prelude.{◌≡◌, ◌≤◌, ◌<◌, ◌+◌, ◌*◌, ◌/◌, ◌^◌, ◌++◌, slice_get, ℕ, List};
+ghost use Rattle.std.specs.Prelude.{◌≡◌, ◌≤◌, ◌<◌, ◌+◌, ◌*◌, ◌/◌, ◌^◌, ◌++◌, slice_get};
 ghost use Rattle.std.specs.Prelude.{map, length, take};
 ghost use Rattle.std.specs.Option.{option_map};
 ghost use Rattle.mb_wire.specs.Bytes.{word, word_bytes, words_of};

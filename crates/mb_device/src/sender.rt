@@ -1,6 +1,5 @@
 //! The answers of a connection, on their way to the peer.
-ghost use Rattle.std.specs.Prelude.{◌≡◌, ◌≤◌, ◌++◌, ℕ, List, [], length, take, min, false, is_err};
-ghost use Rattle.std.specs.Prelude.{IfOk};
+ghost use Rattle.std.specs.Prelude.{◌≡◌, ◌≤◌, ◌++◌, length, take, false, is_err};
 ghost use Rattle.std.specs.Io.KnownBytes.{Keeps};
 ghost use Rattle.mb_wire.specs.Links.{risen};
 ghost use Rattle.mb_device.specs.Server.{Gives};

@@ -154,8 +154,8 @@ fn answer_piece<L: Link>(
         (around (L.remaining link.new) (L.given link.new) bank.new) }
     ensures tells { PieceTells result
         (stretch sender.old bank.old (reader.old.rest ++ piece.now)) reader.new.rest }
-    ensures after { IfOk result (λ count. sender.new ≡
-        course_behind sender.old bank.old (own_frames (reader.old.rest ++ piece.now))) }
+    ensures after { let frames = own_frames (reader.old.rest ++ piece.now) in
+        IfOk result (λ count. sender.new ≡ course_behind sender.old bank.old frames) }
     ensures few { IfOk result (λ count. count ≤ length piece.now) }
     ensures remaining { Keeps (L.remaining link.old) (L.remaining link.new) }
     ensures failures { L.failed link.new ≡ risen (is_link_fault result) (L.failed link.old) }

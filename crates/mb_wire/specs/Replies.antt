@@ -193,6 +193,10 @@ abbrev pub reply_cleared : Query → List ℕ → List ℕ
 reply_cleared query pdu =
     if is_exception query pdu then pdu else cleared_reply (wanted_by query) pdu
 
+-- the one spelling of a reply is this PDU, its spare bits being 0
+abbrev pub SpellsBack : Query → List ℕ → Reply → Type 0
+SpellsBack query pdu reply = answer_bytes query (answer_of reply) ≡ reply_cleared query pdu
+
 -- the number of a fault, as it is printed and kept
 abbrev pub fault_number : ReplyFault → ℕ
 fault_number WrongFunction = 1

@@ -1,5 +1,5 @@
 //! Bytes at the front of a PDU, and numbers in them.
-ghost use Rattle.std.specs.Prelude.{◌≡◌, ℕ, ◌+◌, ◌*◌, ◌/◌, ◌%◌, ◌^◌, ◌≤◌, ◌<◌, ◌∷◌, ◌++◌, List};
+ghost use Rattle.std.specs.Prelude.{◌≡◌, ◌+◌, ◌*◌, ◌/◌, ◌%◌, ◌^◌, ◌≤◌, ◌<◌, ◌++◌};
 ghost use Rattle.std.specs.Prelude.{length, take};
 ghost use Rattle.mb_wire.specs.Bytes.{number_at, word_bytes, words_of};
 ghost use Rattle.mb_wire.specs.Coils.{bytes_for, coils_of, packed};

@@ -1,9 +1,9 @@
 //! Frames: an MBAP header and a PDU.
-ghost use Rattle.std.specs.Prelude.{◌≡◌, ◌≢◌, ℕ, ◌+◌, ◌*◌, ◌≤◌, ◌<◌, List, [], ◌∷◌, ◌++◌, length};
-ghost use Rattle.std.specs.Prelude.{take, drop, slice_index, IfSome, IsSome, MatchOption, ◌⊎◌, ◌↔◌};
+ghost use Rattle.std.specs.Prelude.{◌≡◌, ℕ, ◌+◌, ◌≤◌, ◌<◌, List, [], ◌∷◌, ◌++◌, length};
+ghost use Rattle.std.specs.Prelude.{take, ◌⊎◌};
 ghost use Rattle.std.specs.Option.{option_map};
 ghost use Rattle.mb_wire.specs.Frames.{IsOpen, IsBad, IsGoodSpan, span_of, tid_of, unit_of, pdu_of};
-ghost use Rattle.mb_wire.specs.Frames.{protocol_of, IsFrame, IsOwn, Reads, frames, rest};
+ghost use Rattle.mb_wire.specs.Frames.{IsFrame, IsOwn, Reads, frames, rest};
 ghost use Rattle.mb_wire.specs.Reader.{Buffered, Tells, IsEnd, buffered_after, ended, fields_of, spelled};
 ghost use Rattle.mb_wire.specs.Reader.{spelling};
 ghost use Rattle.mb_wire.specs.Bytes.{AreBytes, word};

@@ -1,7 +1,7 @@
 //! A link over slices, which fails where it is told to.
-ghost use Rattle.std.specs.Prelude.{◌≡◌, ◌≤◌, ◌+◌, ◌-◌, ◌==◌, ℕ, List, [], length, min, take, true};
+ghost use Rattle.std.specs.Prelude.{◌≡◌, ◌≤◌, ◌+◌, ◌-◌, ◌==◌, length, take};
 ghost use Rattle.std.specs.Prelude.{is_err, Some, None, IfOk};
-ghost use Rattle.mb_wire.specs.Links.{TakeConsumes, TakesAtMost, is_call, is_end, is_failed_give};
+ghost use Rattle.mb_wire.specs.Links.{TakeConsumes, TakesAtMost, is_call, is_end};
 ghost use Rattle.mb_wire.specs.Links.{risen};
 
 use crate::link::{LastTake, Link, LinkFailed, Took};

@@ -1,14 +1,13 @@
 //! Replies and their PDUs.
-ghost use Rattle.std.specs.Prelude.{◌≡◌, ◌≤◌, ◌+◌, ℕ, ◌↔◌, ◌++◌, List, length, take, false, Ok};
+ghost use Rattle.std.specs.Prelude.{◌≡◌, ◌≤◌, ◌+◌, length, take, false, Ok};
 ghost use Rattle.std.specs.Prelude.{None, IfOk};
-ghost use Rattle.mb_wire.specs.Bytes.{AreBytes};
-ghost use Rattle.mb_wire.specs.Requests.{Query, IsLawful, query_of, function_of};
-ghost use Rattle.mb_wire.specs.Replies.{Answer, AnswersRequest, FitsRequest, SpellsReply};
-ghost use Rattle.mb_wire.specs.Replies.{answer_bytes, answer_from, answer_in, answer_of, bit_at};
-ghost use Rattle.mb_wire.specs.Replies.{brings_bytes, byte_count, echo_of, fault_number};
+ghost use Rattle.mb_wire.specs.Requests.{IsLawful, query_of};
+ghost use Rattle.mb_wire.specs.Replies.{AnswersRequest, FitsRequest, SpellsBack, SpellsReply};
+ghost use Rattle.mb_wire.specs.Replies.{answer_bytes, answer_from, answer_of, bit_at};
+ghost use Rattle.mb_wire.specs.Replies.{brings_bytes, byte_count, fault_number};
 ghost use Rattle.mb_wire.specs.Replies.{is_exception, is_wrong_byte_count, is_wrong_echo};
-ghost use Rattle.mb_wire.specs.Replies.{is_wrong_function, is_wrong_length, read_as, reply_cleared};
-ghost use Rattle.mb_wire.specs.Replies.{reply_fault, reply_of, wanted_by, word_at};
+ghost use Rattle.mb_wire.specs.Replies.{is_wrong_function, is_wrong_length, read_as, reply_fault};
+ghost use Rattle.mb_wire.specs.Replies.{reply_of, word_at};
 
 use crate::bytes::{append, append_coils, append_words, head, read_number};
 use crate::limits::MAX_PDU;
@@ -167,9 +166,7 @@ pub fn decode_reply<'a>(request: &Request<'_>, pdu: &'a [u8]) -> Result<Reply<'a
     ensures exact { read_as result ≡ reply_of request.now pdu.now }
     ensures answers { IfOk result (AnswersRequest request.now) }
     ensures fits { IsLawful request.now → IfOk result (FitsRequest request.now) }
-    ensures writes_back { IfOk result (λ reply.
-        answer_bytes (query_of request.now) (answer_of reply)
-        ≡ reply_cleared (query_of request.now) pdu.now) }
+    ensures writes_back { IfOk result (SpellsBack (query_of request.now) pdu.now) }
 {
     match find_fault(request, pdu) {
         Some(fault) => Err(fault),

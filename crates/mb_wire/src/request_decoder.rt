@@ -1,6 +1,5 @@
 //! What a PDU asks for.
-ghost use Rattle.std.specs.Prelude.{◌≡◌, ◌≤◌, ◌<◌, ◌+◌, ℕ, length, false, None, IfOk};
-ghost use Rattle.mb_wire.specs.Bytes.{AreBytes, number_at};
+ghost use Rattle.std.specs.Prelude.{◌≡◌, ◌≤◌, ◌<◌, ◌+◌, length, false, None, IfOk};
 ghost use Rattle.mb_wire.specs.Requests.{IsLawful, query_of, request_bytes};
 ghost use Rattle.mb_wire.specs.RequestFaults.{asked_as, bytes_of, carries_bytes, function_in};
 ghost use Rattle.mb_wire.specs.RequestFaults.{is_known, is_unknown_function};

@@ -1,15 +1,12 @@
 //! Requests and their PDUs.
-ghost use Rattle.std.specs.Prelude.{◌≡◌, ◌≤◌, ◌<◌, ◌+◌, ℕ, List, ◌↔◌, ◌++◌, length, take, true};
-ghost use Rattle.std.specs.Prelude.{false, Ok, None, IfOk};
-ghost use Rattle.mb_wire.specs.Bytes.{AreBytes, words_of};
+ghost use Rattle.std.specs.Prelude.{◌≡◌, ◌≤◌, ◌<◌, ◌+◌, ◌++◌, length, take};
+ghost use Rattle.std.specs.Prelude.{Ok};
+ghost use Rattle.mb_wire.specs.Bytes.{words_of};
 ghost use Rattle.mb_wire.specs.Coils.{coils_of};
-ghost use Rattle.mb_wire.specs.Requests.{Query, IsLawful, IsLawfulQuery, SpellsRequest, query_of};
+ghost use Rattle.mb_wire.specs.Requests.{IsLawful, SpellsRequest, query_of};
 ghost use Rattle.mb_wire.specs.Requests.{function_of, address_of, field_of, carried_by, coil_value};
-ghost use Rattle.mb_wire.specs.Requests.{head_bytes, query_bytes, request_bytes};
-ghost use Rattle.mb_wire.specs.RequestFaults.{asked_as, function_in, is_known, is_unknown_function};
-ghost use Rattle.mb_wire.specs.RequestFaults.{is_wrong_request_length, is_wrong_quantity};
-ghost use Rattle.mb_wire.specs.RequestFaults.{is_wrong_carried_count, is_wrong_coil_value, most_of};
-ghost use Rattle.mb_wire.specs.RequestFaults.{query_from, query_in, request_cleared, request_fault};
+ghost use Rattle.mb_wire.specs.Requests.{request_bytes};
+ghost use Rattle.mb_wire.specs.RequestFaults.{query_in};
 ghost use Rattle.mb_wire.specs.RequestFaults.{request_fault_number};
 ghost use Rattle.mb_wire.specs.Replies.{wanted_by};
 

@@ -142,3 +142,29 @@ WhereStarted kept so = (slot : sessions.Slot) (known : List Fact) → KeepsSlot 
 abbrev pub start_answer : (at : ℕ) → sessions.Slot → List Fact → Command → Answer
 start_answer at slot known c =
     answer.Started (next_poll known) (length (sends_by at slot known c)) (reads_in_all known c)
+
+-- Where the facts after a start are lawful, its polls are booked, and what is kept of the request behind them.
+abbrev pub BooksStart : (at : ℕ) → Command → (replies : List Fact) → (old new : Ledger)
+    → Result Done BooksFault → sessions.Slot → (known : List Fact) → Type 0
+BooksStart at c replies old new result slot known =
+    let later = facts_started at slot known c replies in
+    AreLawful later → Moves old new known later result
+
+-- The slot then stands behind them, the start is answered, and its frames are to be sent.
+abbrev pub StandsStarted : (at : ℕ) → Command → (old new : Ledger) → (after : Slot)
+    → Result Done BooksFault → sessions.Slot → (known : List Fact) → Type 0
+StandsStarted at c old new after result slot known =
+    starts.IsBefore at slot → old.holds known → new.is_clean
+    → OnOk result (KeepsSlot after (slot_by at slot known c))
+
+abbrev pub AnswersStart : (at : ℕ) → Command → (old new : Ledger)
+    → Result Done BooksFault → sessions.Slot → (known : List Fact) → Type 0
+AnswersStart at c old new result slot known =
+    old.holds known → new.is_clean
+    → IfOk result (λ done. done.answer ≡ start_answer at slot known c)
+
+abbrev pub SendsStart : (at : ℕ) → Command → (old new : Ledger)
+    → Result Done BooksFault → sessions.Slot → (known : List Fact) → Type 0
+SendsStart at c old new result slot known =
+    starts.IsBefore at slot → old.holds known → new.is_clean
+    → IfOk result (λ done. done.outgoing ≡ frames_by at slot known c)

@@ -1,13 +1,10 @@
 //! Commands that start polls.
-ghost use Rattle.std.specs.Prelude.{◌≡◌, ◌≤◌, true, OnOk, OnErr, IfOk};
+ghost use Rattle.std.specs.Prelude.{◌≡◌, ◌≤◌, true, OnErr};
 ghost use Rattle.std.specs.Option.{option_to_list};
-ghost use Rattle.office_rules.specs.Lawful.{AreLawful};
 ghost use Rattle.office_rules.specs.Refusals.{is_start};
-ghost use Rattle.office_lines.specs.Keeping.{KeepsSlot};
-ghost use Rattle.office_books.specs.Ledgers.{GoesOn, Moves};
-ghost use Rattle.office_starting.specs.Starts.{IsBefore};
-ghost use Rattle.office_commands.specs.Effects.{WhereStarted, facts_started, start_answer};
-ghost use Rattle.office_commands.specs.Effects.{frames_by, slot_by};
+ghost use Rattle.office_books.specs.Ledgers.{GoesOn};
+ghost use Rattle.office_commands.specs.Effects.{WhereStarted, BooksStart, StandsStarted};
+ghost use Rattle.office_commands.specs.Effects.{AnswersStart, SendsStart};
 
 use crate::effects::Done;
 use crate::records::book;
@@ -30,18 +27,14 @@ pub fn start<B: Books>(
 ) -> Result<Done, BooksFault>
     requires start { is_start command.now ≡ true }
     requires limit { moment ≤ LAST_MOMENT }
-    ensures books { WhereStarted slot.old (λ kept known.
-        let later = facts_started moment kept known command.now (option_to_list reply) in
-        AreLawful later → Moves (B.ledger books.old) (B.ledger books.new) known later result) }
-    ensures stands { WhereStarted slot.old (λ kept known. IsBefore moment kept
-        → (B.ledger books.old).holds known → (B.ledger books.new).is_clean
-        → OnOk result (KeepsSlot slot.new (slot_by moment kept known command.now))) }
-    ensures answer { WhereStarted slot.old (λ kept known.
-        (B.ledger books.old).holds known → (B.ledger books.new).is_clean
-        → IfOk result (λ done. done.answer ≡ start_answer moment kept known command.now)) }
-    ensures sent { WhereStarted slot.old (λ kept known. IsBefore moment kept
-        → (B.ledger books.old).holds known → (B.ledger books.new).is_clean
-        → IfOk result (λ done. done.outgoing ≡ frames_by moment kept known command.now)) }
+    ensures books { WhereStarted slot.old (BooksStart moment command.now (option_to_list reply)
+        (B.ledger books.old) (B.ledger books.new) result) }
+    ensures stands { WhereStarted slot.old (StandsStarted moment command.now
+        (B.ledger books.old) (B.ledger books.new) slot.new result) }
+    ensures answer { WhereStarted slot.old (AnswersStart moment command.now
+        (B.ledger books.old) (B.ledger books.new) result) }
+    ensures sent { WhereStarted slot.old (SendsStart moment command.now
+        (B.ledger books.old) (B.ledger books.new) result) }
     ensures goes { GoesOn (B.ledger books.old) (B.ledger books.new) result }
     ensures unchanged { OnErr result (slot.new ≡ slot.old) }
 {

@@ -103,6 +103,23 @@ pub record IsRecorded (books : Ledger) (history : History) : Type 0 where
   pub headline : HeadlineHolds history
   pub laws : AreTrue history
 
+-- The books that a run leaves record what was accepted by its end,
+abbrev pub RecordsAccepted : {B : Type 0} → (B → Ledger) → (opened : ℕ) → List (ℕ × Event)
+    → History → Run B → Type 0
+RecordsAccepted ledger opened events past run =
+    IsRecorded (ledger (books_in run.office)) (accepted_by past opened events run)
+
+-- ... or do if no wrong answer of a store was taken as true.
+abbrev pub RecordsIfClean : {B : Type 0} → (B → Ledger) → (opened : ℕ) → List (ℕ × Event)
+    → History → Run B → Type 0
+RecordsIfClean ledger opened events past run =
+    (ledger (books_in run.office)).is_clean → RecordsAccepted ledger opened events past run
+
+-- A wrong answer of a store that was taken as true before the run stays one.
+abbrev pub IsCleanOnlyIfWas : {B : Type 0} → (B → Ledger) → (books : B) → Run B → Type 0
+IsCleanOnlyIfWas ledger books run =
+    (ledger (books_in run.office)).is_clean → (ledger books).is_clean
+
 -- Whatever the books hold, each event has its answer, none is refused since a row has no civil day, and the office stops
 -- and counts failures with each; a wrong answer of a store that was taken as true stays one, and so does the zone.
 pub record EndsInTurn {B : Type 0} (ledger : B → Ledger)

@@ -18,6 +18,12 @@ pub record IsNotOpened (past : History) (at : ℕ) (old new : Ledger) (why : Ref
       ((opening_refusal_of (facts_of past) at ≡ Some why) × (new.fault_count ≡ old.fault_count))
       ⊎ IsOutside old.fault_count new.fault_count why
 
+-- So it is of books that are handed back with the reason, if no wrong answer of a store was taken as true.
+abbrev pub HandsBackUnopened : {B : Type 0} → (B → Ledger) → (books : B) → (at : ℕ) → History
+    → B × Refusal → Type 0
+HandsBackUnopened ledger books at past back =
+    (ledger back.0).is_clean → IsNotOpened past at (ledger books) (ledger back.0) back.1
+
 -- The books stand after the opening, and there is a slot for each device.
 pub record IsReopened (past : History) (at : ℕ) (new : Ledger) (slots : List Slot) : Type 0 where
   pub books : BooksStand new (Opened at ∷ past)

@@ -31,6 +31,10 @@ pub record Stands {B : Type 0} (ledger : B → Ledger) (past : History)
   pub books : BooksStand (ledger office.books) past
   pub goes : office.stopped ≡ false → Goes past office
 
+-- It stands so, if no wrong answer of a store was taken as true.
+abbrev pub StandsIfClean : {B : Type 0} → (B → Ledger) → History → Office B → Type 0
+StandsIfClean ledger past office = (ledger (books_in office)).is_clean → Stands ledger past office
+
 -- An office that was just opened goes on, and tells nothing.
 pub record IsFresh {B : Type 0} (office : Office B) : Type 0 where
   pub goes : is_stopped office ≡ false

@@ -27,6 +27,12 @@ abbrev pub IsAnswer : History → (at : ℕ) → Event → (before after : ℕ) 
 IsAnswer past at e before after result =
     ((result ≡ decision_of past at e) × (after ≡ before)) ⊎ FailsOutside before after result
 
+-- So an office answers an event, by how often its books had failed before and have after it.
+abbrev pub AnswersEvent : {B : Type 0} → (B → Ledger) → (at : ℕ) → Event → (old new : Office B)
+    → Result Answer Refusal → History → Type 0
+AnswersEvent ledger at e old new result past =
+    IsAnswer past at e (failures_of ledger old) (failures_of ledger new) result
+
 -- What the office tells is of this event alone: its outcomes and readings, and the frames that it wants sent.
 pub record IsTold {B : Type 0} (past : History) (at : ℕ) (e : Event)
     (result : Result Answer Refusal) (office : Office B) : Type 0 where

@@ -62,8 +62,8 @@ pub fn decide<B: Books>(
         event.now result }
     ensures reads { OnlyReads (B.ledger books.old) (B.ledger books.new) result }
     ensures in_range { IfOk result (λ given. given ≡ None → IsInRange latest moment event.now) }
-    ensures there { IfOk result (λ given. given ≡ None
-        → AsksOnSlot slots.now (command_in event.now)) }
+    ensures there { IfOk result
+        (λ given. given ≡ None → AsksOnSlot slots.now (command_in event.now)) }
     ensures unchanged { IfOk result (λ given. IfSome given IsNoChange) }
     ensures alone { events.is_command event.now ≡ false
         → DecidesAlone books.old books.new slots.now latest moment event.now result }

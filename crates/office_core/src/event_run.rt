@@ -2,10 +2,9 @@
 ghost use Rattle.std.specs.Prelude.{◌∷◌, Err, IfOk, IfErr};
 ghost use Rattle.office_rules.specs.History.{History, Opened};
 ghost use Rattle.office_core.specs.Leaving.{BooksStand};
-ghost use Rattle.office_core.specs.Reopening.{IsNotOpened, Passed};
-ghost use Rattle.office_core.specs.Standing.{books_in};
-ghost use Rattle.office_core.specs.EventRun.{AnswersEach, EndsInTurn, IsRecorded, Ran, StandsAfter};
-ghost use Rattle.office_core.specs.EventRun.{accepted_by};
+ghost use Rattle.office_core.specs.Reopening.{HandsBackUnopened, Passed};
+ghost use Rattle.office_core.specs.EventRun.{AnswersEach, EndsInTurn, Ran, RecordsAccepted};
+ghost use Rattle.office_core.specs.EventRun.{StandsAfter};
 
 use crate::office::Office;
 use crate::results::Run;
@@ -24,18 +23,16 @@ pub fn run<B: Books>(
     opened: u64,
     events: &[(u64, Event)],
 ) -> Result<Run<B>, (B, Refusal)>
-    ensures headline { Ran B.ledger books result (λ past run.
-        IsRecorded (B.ledger (books_in run.office)) (accepted_by past opened events.now run)) }
-    ensures stands { Ran B.ledger books result (λ past run.
-        StandsAfter B.ledger (Opened opened ∷ past) events.now run) }
-    ensures answers { Ran B.ledger books result (λ past run.
-        AnswersEach B.ledger books (Opened opened ∷ past) events.now run) }
+    ensures headline { Ran B.ledger books result (RecordsAccepted B.ledger opened events.now) }
+    ensures stands { Ran B.ledger books result
+        (λ past run. StandsAfter B.ledger (Opened opened ∷ past) events.now run) }
+    ensures answers { Ran B.ledger books result
+        (λ past run. AnswersEach B.ledger books (Opened opened ∷ past) events.now run) }
     ensures ends { IfOk result (λ run. EndsInTurn B.ledger books events.now run) }
     ensures refused { (past : History) → BooksStand (B.ledger books) past
-        → IfErr result (λ e. (B.ledger e.0).is_clean
-        → IsNotOpened past opened (B.ledger books) (B.ledger e.0) e.1) }
-    ensures counted { IfErr result (λ e.
-        Passed {T = B} (B.ledger books) (B.ledger e.0) (Err e.1)) }
+        → IfErr result (HandsBackUnopened B.ledger books opened past) }
+    ensures counted { IfErr result
+        (λ e. Passed {T = B} (B.ledger books) (B.ledger e.0) (Err e.1)) }
 {
     books_are_true();
     let Ok(mut results) = Vec::with_capacity(alloc, events.len()) else {

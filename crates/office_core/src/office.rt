@@ -15,11 +15,11 @@ ghost use Rattle.office_core.specs.Asking.{Tells, TellsDays, TellsRows};
 ghost use Rattle.office_core.specs.Events as events;
 ghost use Rattle.office_core.specs.Failing.{IsNotForWantOfDay};
 ghost use Rattle.office_core.specs.Leaving.{BooksStand};
-ghost use Rattle.office_core.specs.Reopening.{IsNotOpened, Passed};
-ghost use Rattle.office_core.specs.Standing.{After, IsFresh, Stands};
+ghost use Rattle.office_core.specs.Reopening.{HandsBackUnopened, Passed};
+ghost use Rattle.office_core.specs.Standing.{After, IsFresh, Stands, StandsIfClean};
 ghost use Rattle.office_core.specs.Standing.{books_in, is_stopped, notes_in, outgoing_in};
-ghost use Rattle.office_core.specs.Taking.{Ends, IsAnswer, IsQuiet, IsTold, SettlesNothing};
-ghost use Rattle.office_core.specs.Taking.{MayTake, Passes, TakesAccepted, TakesAny, failures_of};
+ghost use Rattle.office_core.specs.Taking.{AnswersEvent, Ends, IsQuiet, IsTold, SettlesNothing};
+ghost use Rattle.office_core.specs.Taking.{MayTake, Passes, TakesAccepted, TakesAny};
 
 use crate::decisions::{asks_planned, decide, is_command, is_failure};
 use crate::questions;
@@ -51,12 +51,10 @@ impl<B: Books> Office<B> {
     /// the books back. Moments are seconds since 1970-01-01 UTC.
     pub fn open(alloc: Global, mut books: B, moment: u64) -> Result<Office<B>, (B, Refusal)>
         ensures opened { (past : History) → BooksStand (B.ledger books) past
-            → IfOk result (λ office. (B.ledger (books_in office)).is_clean
-            → Stands B.ledger (Opened moment ∷ past) office) }
+            → IfOk result (StandsIfClean B.ledger (Opened moment ∷ past)) }
         ensures fresh { IfOk result (λ office. IsFresh office) }
         ensures refused { (past : History) → BooksStand (B.ledger books) past
-            → IfErr result (λ e. (B.ledger e.0).is_clean
-            → IsNotOpened past moment (B.ledger books) (B.ledger e.0) e.1) }
+            → IfErr result (HandsBackUnopened B.ledger books moment past) }
         ensures passed { MatchResult result
             (λ office. Passed (B.ledger books) (B.ledger (books_in office)) (Ok office))
             (λ e. Passed {T = B} (B.ledger books) (B.ledger e.0) (Err e.1)) }
@@ -139,12 +137,12 @@ impl<B: Books> Office<B> {
     /// stops, and refuses whatever comes until it is opened again. An event of a device that settles no poll takes no
     /// memory. Moments are seconds since 1970-01-01 UTC.
     pub fn feed(&mut self, moment: u64, event: &Event) -> Result<Answer, Refusal>
-        ensures answers { After B.ledger self.old self.new (λ past. IsAnswer past moment event.now
-            (failures_of B.ledger self.old) (failures_of B.ledger self.new) result) }
-        ensures stands { After B.ledger self.old self.new (λ past.
-            Stands B.ledger (with_answer past moment event.now result) self.new) }
-        ensures told { After B.ledger self.old self.new (λ past.
-            IsTold past moment event.now result self.new) }
+        ensures answers { After B.ledger self.old self.new
+            (AnswersEvent B.ledger moment event.now self.old self.new result) }
+        ensures stands { After B.ledger self.old self.new
+            (λ past. Stands B.ledger (with_answer past moment event.now result) self.new) }
+        ensures told { After B.ledger self.old self.new
+            (λ past. IsTold past moment event.now result self.new) }
         ensures quiet { (past : History) → Stands B.ledger past self.old
             → is_stopped self.old ≡ false → SettlesNothing past moment event.now
             → IsQuiet self.old self.new result }

@@ -1,11 +1,11 @@
 //! The opening of a file.
-ghost use Rattle.std.specs.Prelude.{◌≡◌, ◌≢◌, codes, false, Err, IfOk, IfErr};
+ghost use Rattle.std.specs.Prelude.{◌≡◌, ◌≢◌, codes, Err, IfOk, IfErr};
 ghost use Rattle.sqlite_wal.specs.Files.{image_at};
 ghost use Rattle.sqlite.specs.State.{HasCleanDisk};
 ghost use Rattle.sqlite.specs.Held.{IsNew};
 ghost use Rattle.sqlite.specs.Start.{FindsIn};
-ghost use Rattle.sqlite.specs.Files.{file_state, IsBlankAs, IsOpened};
-ghost use Rattle.sqlite_store.specs.FileStore.{view};
+ghost use Rattle.sqlite.specs.Files.{file_state, IsOpened};
+ghost use Rattle.office_files.specs.Blank.{HasNoSumsIfBlank};
 
 use crate::faults::{FileFault, fault_of};
 use sqlite::{Connection, FileFrom, FileStore, Start};
@@ -22,10 +22,9 @@ pub fn make_file<S: Start>(
 ) -> Result<FileConnection<S>, FileFault>
     ensures fresh { IfOk result IsNew }
     ensures opened { IfOk result (λ c. HasCleanDisk (file_state c) → IsOpened c) }
-    ensures found { IfOk result (λ c. HasCleanDisk (file_state c)
-        → FindsIn (image_at S.Start) (file_state c)) }
-    ensures plain { IfOk result (λ c. HasCleanDisk (file_state c)
-        → IsBlankAs false (image_at S.Start) → (view c.store).has_sums ≡ false) }
+    ensures found { IfOk result
+        (λ c. HasCleanDisk (file_state c) → FindsIn (image_at S.Start) (file_state c)) }
+    ensures plain { IfOk result (HasNoSumsIfBlank (image_at S.Start)) }
     ensures there { IfErr result (λ fault. fault ≢ FileFault.Missing) }
     ensures memory { path.now ≡ codes ":memory:" → result ≡ Err FileFault.Unreadable }
 {
@@ -43,8 +42,8 @@ pub fn open_file<S: Start>(
 ) -> Result<FileConnection<S>, FileFault>
     ensures fresh { IfOk result IsNew }
     ensures opened { IfOk result (λ c. HasCleanDisk (file_state c) → IsOpened c) }
-    ensures found { IfOk result (λ c. HasCleanDisk (file_state c)
-        → FindsIn (image_at S.Start) (file_state c)) }
+    ensures found { IfOk result
+        (λ c. HasCleanDisk (file_state c) → FindsIn (image_at S.Start) (file_state c)) }
 {
     match fs::exists(rt, path) {
         Ok(true) => make_file(rt, path, start),

@@ -103,14 +103,21 @@ pub record GivesReply {B : Type 0} (ledger : B → Ledger) (past : History) (at 
   pub serves : Serves ledger past at read old new cut put
   pub gives : Gives sent given later_given put
 
+-- So it is of a reply to these bytes, after what was accepted.
+abbrev pub GivesReplyTo : {B : Type 0} → (read : List ℕ) → (B → Ledger) → (at : ℕ)
+    → (old new : Office B) → (given later_given : Option (List ℕ)) → Result (Unit {0}) HandleFault
+    → History → Type 0
+GivesReplyTo read ledger at old new given later_given result past =
+    GivesReply ledger past at old new given later_given read result
+
 -- What was read holds a head, or a bad one; nothing more was taken once it buffered a whole request, or a bad head; and a reply
 -- was given.
 pub record Replies {B : Type 0} (ledger : B → Ledger) (at : ℕ) (old new : Office B) (link : Passage)
     (read : List ℕ) (result : Result (Unit {0}) HandleFault) : Type 0 where
   pub head : HasHead read
   pub stops : StopsReading read link.last
-  pub replies : After ledger old new (λ past.
-      GivesReply ledger past at old new link.given link.later_given read result)
+  pub replies : After ledger old new
+      (GivesReplyTo read ledger at old new link.given link.later_given result)
 
 -- What was read holds no request and no bad head: nothing was given, and the office is as it was.
 pub record ReadsOn {B : Type 0} (old new : Office B) (link : Passage) (read : List ℕ) : Type 0 where

@@ -5,7 +5,8 @@ ghost use Rattle.mb_wire.specs.Links.{risen};
 ghost use Rattle.http_route.specs.Routes.{routes};
 ghost use Rattle.http_wants.specs.Wanting.{HasFewFaults, Wants};
 ghost use Rattle.office_core.specs.Standing.{After};
-ghost use Rattle.office_http.specs.Exchange.{CountsLink, GivesReply, Handles, HandlesBare, IsEnd, ended, is_link_fault, passage};
+ghost use Rattle.office_http.specs.Exchange.{CountsLink, GivesReplyTo, Handles, HandlesBare, IsEnd};
+ghost use Rattle.office_http.specs.Exchange.{ended, is_link_fault, passage};
 ghost use Rattle.office_http.specs.Serving.{Lasts};
 
 use crate::answers::put_reply;
@@ -62,8 +63,8 @@ fn reply<L: Link, B: Books>(
 ) -> Result<(), HandleFault>
     requires wants { Wants routes bytes.now want }
     requires few { HasFewFaults want }
-    ensures gives { After B.ledger office.old office.new (λ past. GivesReply B.ledger past moment
-        office.old office.new (L.given link.old) (L.given link.new) bytes.now result) }
+    ensures gives { After B.ledger office.old office.new (GivesReplyTo bytes.now B.ledger moment
+        office.old office.new (L.given link.old) (L.given link.new) result) }
     ensures ends { IsEnd result }
     ensures remaining { Keeps (L.remaining link.old) (L.remaining link.new) }
     ensures last { L.last link.new ≡ L.last link.old }

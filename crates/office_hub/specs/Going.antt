@@ -4,6 +4,7 @@ use Rattle.office_rules.specs.History.{History}
 use Rattle.office_books.specs.Ledgers.{Ledger}
 use Rattle.office_core.specs.EventRun.{Answered}
 use Rattle.office_core.specs.Standing.{Stands, books_in}
+use Rattle.office_core.specs.Taking.{failures_of}
 use Rattle.office_core.specs.declared.office.Office.{Office}
 use Rattle.office_rounds.specs.Rounds.{IsFed, desk}
 use Rattle.hub_rounds.specs.declared.round.Round.{Round}
@@ -75,3 +76,11 @@ pub record TakesTurn {B V : Type 0} (ledger : B → Ledger) (sees : V → Shown 
   pub fed : List Answered
   pub going : Going ledger sees past begun at fed None now
   pub settled : IsSettled now.rounds [] fed
+
+-- So it does over an office, from what was to be fed as it began; the rounds and the witness come to be these.
+abbrev pub TurnsOver : {B V : Type 0} → (B → Ledger) → (V → Shown → V → Type 0) → (at : ℕ)
+    → (old new : Office B) → (begun : Table) → (rounds : List Round) → (from to : V)
+    → History → Type 0
+TurnsOver ledger sees at old new begun rounds from to past =
+    TakesTurn ledger sees past (start (failures_of ledger old) begun from) at
+    (scene new (failures_of ledger new) rounds to)

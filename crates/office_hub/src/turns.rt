@@ -4,7 +4,7 @@ ghost use Rattle.office_core.specs.Standing.{After};
 ghost use Rattle.office_core.specs.Taking.{failures_of};
 ghost use Rattle.office_rounds.specs.Passing.{Lasts};
 ghost use Rattle.office_hub.specs.Turns.{at_place, came, came_from, opened, table, wished};
-ghost use Rattle.office_hub.specs.Going.{GoesOn, TakesTurn, scene, start};
+ghost use Rattle.office_hub.specs.Going.{GoesOn, TurnsOver, scene};
 ghost use Rattle.hub_rounds.specs.Rounds.{joined, leaving};
 
 use crate::feed::{feed_one, first_wish};
@@ -66,10 +66,9 @@ fn begin<B: Books, V: Witness>(
     at: u64,
     witness: &mut V,
 )
-    ensures turns { After B.ledger office.old office.new (λ past. TakesTurn B.ledger V.sees past
-        (start (failures_of B.ledger office.old)
-        (table (Some (wished place event.now)) rounds.old) witness.old) at
-        (scene office.new (failures_of B.ledger office.new) rounds.new witness.new)) }
+    ensures turns { After B.ledger office.old office.new (TurnsOver B.ledger V.sees at
+        office.old office.new (table (Some (wished place event.now)) rounds.old)
+        rounds.new witness.old witness.new) }
     ensures lasts { Lasts B.ledger office.old office.new }
 {
     feed_one(rounds, place, event, office, at, witness);
@@ -83,9 +82,8 @@ fn go_on<B: Books, V: Witness>(
     at: u64,
     witness: &mut V,
 )
-    ensures turns { After B.ledger office.old office.new (λ past. TakesTurn B.ledger V.sees past
-        (start (failures_of B.ledger office.old) (table None rounds.old) witness.old) at
-        (scene office.new (failures_of B.ledger office.new) rounds.new witness.new)) }
+    ensures turns { After B.ledger office.old office.new (TurnsOver B.ledger V.sees at
+        office.old office.new (table None rounds.old) rounds.new witness.old witness.new) }
     ensures lasts { Lasts B.ledger office.old office.new }
 {
     settle(rounds, office, at, witness);
@@ -114,10 +112,9 @@ fn take_bytes<B: Books, V: Witness>(
     at: u64,
     witness: &mut V,
 )
-    ensures turns { After B.ledger office.old office.new (λ past. TakesTurn B.ledger V.sees past
-        (start (failures_of B.ledger office.old)
-        (table (came place (slice_get rounds.old place) piece) rounds.old) witness.old) at
-        (scene office.new (failures_of B.ledger office.new) rounds.new witness.new)) }
+    ensures turns { After B.ledger office.old office.new (TurnsOver B.ledger V.sees at
+        office.old office.new (table (came place (slice_get rounds.old place) piece) rounds.old)
+        rounds.new witness.old witness.new) }
     ensures lasts { Lasts B.ledger office.old office.new }
 {
     match waiting_at(rounds, place) {
@@ -138,9 +135,8 @@ pub fn turn<B: Books, V: Witness>(
     at: u64,
     witness: &mut V,
 )
-    ensures turns { After B.ledger office.old office.new (λ past. TakesTurn B.ledger V.sees past
-        (start (failures_of B.ledger office.old) (opened happening rounds.old) witness.old) at
-        (scene office.new (failures_of B.ledger office.new) rounds.new witness.new)) }
+    ensures turns { After B.ledger office.old office.new (TurnsOver B.ledger V.sees at
+        office.old office.new (opened happening rounds.old) rounds.new witness.old witness.new) }
     ensures lasts { Lasts B.ledger office.old office.new }
 {
     match happening {

@@ -4,7 +4,7 @@ use office_events::{Answer, Event, Note, Refusal};
 /// Is shown each event that an office is fed, for whose round it was, what it was answered, what the office told of it, and
 /// the frames that it wants sent.
 pub trait Witness {
-    ghost use Rattle.std.specs.Prelude.{ℕ, List, Option};
+    ghost use Rattle.std.specs.Prelude.{Option};
     ghost use Rattle.office_hub.specs.Showing.{Shown, shown};
 
     // What a showing leaves.

@@ -37,6 +37,13 @@ PollsPort ledger device later had holds Unconnected behind then opened left =
     IsLeft had holds opened left
 PollsPort ledger device later had holds (Unopened status) behind then opened left = ⊥
 
+-- the same, told of a past that the office had accepted
+abbrev pub PollsPortBehind : {B : Type 0} → (B → Ledger) → (device : List ℕ)
+    → (then later had holds : Option (List ℕ)) → Polling → (opened left : Office B)
+    → (behind : History) → Type 0
+PollsPortBehind ledger device then later had holds end opened left behind =
+    PollsPort ledger device later had holds end behind then opened left
+
 -- The opening was refused, and that alone was printed; or the office was opened, and polled.
 abbrev pub TellsPolling : {B : Type 0} → (B → Ledger) → (past : History) → (device : List ℕ)
     → (moments later : Option (List ℕ)) → (books back : B) → (had holds : Option (List ℕ))

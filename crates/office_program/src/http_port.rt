@@ -1,5 +1,4 @@
 //! HTTP on a port.
-ghost use Rattle.std.specs.Prelude.{◌≡◌};
 ghost use Rattle.office_core.specs.Leaving.{BooksStand};
 ghost use Rattle.office_core.specs.Standing.{After};
 ghost use Rattle.office_http.specs.Serving as http;
@@ -40,8 +39,8 @@ fn serve_port<R: Net, B: Books, C: Clock>(
     connections: u32,
     clock: &mut C,
 ) -> Serving
-    ensures serves { After B.ledger office.old office.new (λ past.
-        ServesPort connections B.ledger past office.old office.new result) }
+    ensures serves { After B.ledger office.old office.new
+        (λ past. ServesPort connections B.ledger past office.old office.new result) }
     ensures lasts { http.Lasts B.ledger office.old office.new }
 {
     let Ok(listener) = TcpListener::bind(net, place) else {

@@ -2,10 +2,9 @@
 ghost use Rattle.office_core.specs.Leaving.{BooksStand};
 ghost use Rattle.office_rounds.specs.Passing as rounds;
 ghost use Rattle.office_core.specs.Standing.{After};
-ghost use Rattle.office_core.specs.Taking.{failures_of};
 ghost use Rattle.office_rules.specs.History.{History};
 ghost use Rattle.office_text.specs.Passing.{Lasts};
-ghost use Rattle.office_program.specs.PortRound.{PollsPort, TellsPolling};
+ghost use Rattle.office_program.specs.PortRound.{PollsPortBehind, TellsPolling};
 
 use crate::command_end::Ended;
 use command_io::Status;
@@ -58,9 +57,9 @@ fn poll_port<R: Net, B: Books, C: Clock, W: Write>(
     clock: &mut C,
     output: &mut W,
 ) -> Polling
-    ensures polls { After B.ledger office.old office.new (λ past.
-        PollsPort B.ledger device.now (C.moments clock.new) (W.contents output.old)
-        (W.contents output.new) result past (C.moments clock.old) office.old office.new) }
+    ensures polls { After B.ledger office.old office.new
+        (PollsPortBehind B.ledger device.now (C.moments clock.old) (C.moments clock.new)
+        (W.contents output.old) (W.contents output.new) result office.old office.new) }
     ensures lasts { rounds.Lasts B.ledger office.old office.new }
 {
     let Ok(mut link) = connect(net, place) else {

@@ -1,5 +1,5 @@
 -- Requests that were asked before.
-use Rattle.std.specs.Prelude.{Result, Ok, Err}
+use Rattle.std.specs.Prelude.{◌≡◌, Option, Result, Ok, Err, IfSome, IfErr}
 use Rattle.office_events.specs.declared.answers.CommandKind.{CommandKind}
 use Rattle.office_events.specs.declared.events.Event.{Event}
 use Rattle.office_events.specs.declared.events.Event.TheVariants as event
@@ -11,6 +11,10 @@ use Rattle.office_books.specs.declared.books.Repeat.TheVariants.{Same, Other}
 abbrev pub kept_as : Repeat → Result CommandKind Refusal
 kept_as (Same kind) = Ok kind
 kept_as Other = Err Reused
+
+-- Where a request is refused by what is kept, it is since another was asked under its number.
+abbrev pub IsReusedIfRefused : Option (Result CommandKind Refusal) → Type 0
+IsReusedIfRefused answer = IfSome answer (λ r. IfErr r (λ why. why ≡ Reused))
 
 -- Of such an event nothing is kept.
 abbrev pub IsNoRequest : Event → Type 0

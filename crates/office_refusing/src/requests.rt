@@ -1,9 +1,8 @@
 //! How a request is answered that was asked before.
-ghost use Rattle.std.specs.Prelude.{◌≡◌, IsOk, IfOk, IfSome, IfErr};
-ghost use Rattle.office_events.specs.declared.refusals.Refusal.TheVariants as refusal;
+ghost use Rattle.std.specs.Prelude.{◌≡◌, IsOk, IfOk};
 ghost use Rattle.office_rules.specs.Refusals.{kept_of};
 ghost use Rattle.office_books.specs.Ledgers.{Finds, OnlyReads};
-ghost use Rattle.office_refusing.specs.Kept.{kept_as, IsNoRequest};
+ghost use Rattle.office_refusing.specs.Kept.{kept_as, IsNoRequest, IsReusedIfRefused};
 
 use office_books::{Books, BooksFault, Repeat};
 use office_events::{CommandKind, Event, Refusal};
@@ -27,8 +26,7 @@ pub fn kept<B: Books>(
     ensures found { Finds (B.ledger books.old) (B.ledger books.new) result
         (λ known answer. answer ≡ kept_of known event.now) }
     ensures reads { OnlyReads (B.ledger books.old) (B.ledger books.new) result }
-    ensures reused { IfOk result (λ answer.
-        IfSome answer (λ r. IfErr r (λ why. why ≡ refusal.Reused))) }
+    ensures reused { IfOk result IsReusedIfRefused }
     ensures quiet { IsNoRequest event.now → (books.new ≡ books.old) × IsOk result }
 {
     let Event::Asked(asked) = event else {

@@ -82,8 +82,8 @@ pub fn start_poll<B: Books>(
         (IsWhyAmong slots.now arrival.now (command.StartPoll start.now)) }
     ensures reads { OnlyReads (B.ledger books.old) (B.ledger books.new) result }
     ensures befits { IfOk result (Befits arrival.now (command.StartPoll start.now)) }
-    ensures there { IfOk result (λ why. why ≡ None
-        → StartsOnSlot slots.now (command.StartPoll start.now)) }
+    ensures there { IfOk result
+        (λ why. why ≡ None → StartsOnSlot slots.now (command.StartPoll start.now)) }
 {
     let Some(room) = room(slots, &start.device) else {
         return Ok(Some(Refusal::NotFound));
@@ -114,8 +114,8 @@ pub fn start_round<B: Books>(
         (IsWhyAmong slots.now arrival.now (command.StartRound start.now)) }
     ensures reads { OnlyReads (B.ledger books.old) (B.ledger books.new) result }
     ensures befits { IfOk result (Befits arrival.now (command.StartRound start.now)) }
-    ensures there { IfOk result (λ why. why ≡ None
-        → StartsOnSlot slots.now (command.StartRound start.now)) }
+    ensures there { IfOk result
+        (λ why. why ≡ None → StartsOnSlot slots.now (command.StartRound start.now)) }
 {
     let Some(room) = room(slots, &start.device) else {
         return Ok(Some(Refusal::NotFound));

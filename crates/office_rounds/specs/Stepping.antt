@@ -18,10 +18,11 @@ use Rattle.office_core.specs.Standing.{Stands, books_in, is_stopped, outgoing_in
 use Rattle.office_core.specs.Taking.{IsAnswer, IsTold}
 use Rattle.office_core.specs.declared.office.Office.{Office}
 use Rattle.sun_points.specs.Writing.{GotPart}
-use Rattle.office_rounds.specs.Course.{AreNext, Next, endings_of, first_poll, next_in, polls_ended, reads_planned, reads_started}
+use Rattle.office_rounds.specs.Course.{AreNext, Next, endings_of, first_poll, next_in, next_left, polls_ended, reads_planned, reads_started}
 use Rattle.office_rounds.specs.Faults.{AreGiven, IsPrinted}
 use Rattle.office_rounds.specs.Rounds.{BreaksOff, Desk, IsFed, IsGoneAt, IsSettled, IsToldOf, Wire}
 use Rattle.office_rounds.specs.FedEvents.{AreTimed, frames_behind, history_behind, pieces_behind, text_behind, told_text}
+use Rattle.office_rounds.specs.Taking.{next_by}
 use Rattle.office_rounds.specs.declared.fault.RoundFault.{RoundFault}
 use Rattle.office_rounds.specs.declared.fault.RoundFault.TheVariants.{Refused, Link, Output, TurnsUsed}
 use Rattle.office_rounds.specs.declared.progress.Progress.{Progress}
@@ -62,6 +63,12 @@ Feeds ledger past at e begun now office (Err Output) = IsUnprinted ledger past a
 Feeds ledger past at e begun now office (Err Link) = ⊥
 Feeds ledger past at e begun now office (Err TurnsUsed) = ⊥
 
+-- the same, told of a past that the office had accepted
+abbrev pub FeedsBehind : {B : Type 0} → (B → Ledger) → (at : ℕ) → Event → (begun now : Desk)
+    → Office B → Result Answer RoundFault → (past : History) → Type 0
+FeedsBehind ledger at e begun now office result past =
+    Feeds ledger past at e begun now office result
+
 -- Where an event of a device is refused since the office has stopped, it had; it stops where such an event fails.
 pub record Stops (was : Bool) (e : Event) (reply : Result Answer Refusal) (now : Bool) : Type 0
   where
@@ -93,6 +100,18 @@ pub record EndsUnprinted {B : Type 0} (ledger : B → Ledger) (past : History) (
   pub reply : Result Answer Refusal
   pub taken : IsTaken ledger past at e reply begun now new
   pub stops : RefusedStops (is_stopped old) e reply (is_stopped new)
+
+-- the same, told of a past that the office had accepted
+abbrev pub EndsPrintedBehind : {B : Type 0} → (B → Ledger) → (at : ℕ) → Event
+    → (cause : RoundFault) → (begun now : Desk) → (old new : Office B) → (fault : RoundFault)
+    → (past : History) → Type 0
+EndsPrintedBehind ledger at e cause begun now old new fault past =
+    EndsPrinted ledger past at e cause begun now old new fault
+
+abbrev pub EndsUnprintedBehind : {B : Type 0} → (B → Ledger) → (at : ℕ) → Event
+    → (begun now : Desk) → (old new : Office B) → (past : History) → Type 0
+EndsUnprintedBehind ledger at e begun now old new past =
+    EndsUnprinted ledger past at e begun now old new
 
 -- the fault that is told: that a writing has failed now, or the one that broke the round off
 abbrev pub fault_behind : (cause fault : RoundFault) → RoundFault
@@ -228,6 +247,17 @@ StepsFrom ledger old new now result next =
     → (later : List Answered)
     × Steps ledger device past begun new.desk from new.wire new.office later new.round result next
 
+-- what is next where the reads that are left are started
+abbrev pub next_left_in : Progress → List Answered → History → Next
+next_left_in round fed past =
+    next_left (reads_started fed) (polls_ended past fed) (reads_planned fed)
+
+-- what is next behind an event that was taken, with which so many polls have ended
+abbrev pub next_behind_taken : (is_end : Bool) → (endings : ℕ) → Progress → List Answered → History
+    → Next
+next_behind_taken is_end endings round fed past =
+    next_by is_end endings (next_left_in round fed past)
+
 -- what the connection of a device does
 abbrev pub Connects : {B : Type 0} → (B → Ledger) → (device : Option (List ℕ)) → History
     → (begun now : Desk) → Office B → Progress
@@ -246,6 +276,13 @@ Connects ledger device past begun now office round (Err Output) =
     Output)
 Connects ledger device past begun now office round (Err Link) = ⊥
 Connects ledger device past begun now office round (Err TurnsUsed) = ⊥
+
+-- the same, told of a past that the office had accepted
+abbrev pub ConnectsBehind : {B : Type 0} → (B → Ledger) → (device : Option (List ℕ))
+    → (begun now : Desk) → Office B → Progress → Result (Unit {0}) RoundFault → (past : History)
+    → Type 0
+ConnectsBehind ledger device begun now office round result past =
+    Connects ledger device past begun now office round result
 
 -- A round that was broken off is closed: the last thing that was fed is that the device is gone.
 pub record Closes {B : Type 0} (ledger : B → Ledger) (device : Option (List ℕ)) (past : History)

@@ -9,7 +9,7 @@ ghost use Rattle.office_rounds.specs.Faults.{OfOffice};
 ghost use Rattle.office_rounds.specs.Passing.{Lasts};
 ghost use Rattle.office_rounds.specs.Rounds.{Desk, desk};
 ghost use Rattle.office_rounds.specs.Stepping as stepping;
-ghost use Rattle.office_rounds.specs.Stepping.{FeedStops, Feeds, Going, Prints, Told};
+ghost use Rattle.office_rounds.specs.Stepping.{FeedStops, FeedsBehind, Going, Prints, Told};
 ghost use Rattle.script_text.specs.AnswerText.{accepted_text};
 
 use crate::fault::RoundFault;
@@ -46,7 +46,7 @@ pub(crate) fn feed<B: Books, W: Write>(
     output: &mut W,
 ) -> Result<Answer, RoundFault>
     ensures feeds { (moments later : Option (List ℕ))
-        → After B.ledger office.old office.new (λ past. Feeds B.ledger past at event.now
+        → After B.ledger office.old office.new (FeedsBehind B.ledger at event.now
         (desk (W.contents output.old) moments (failures_of B.ledger office.old))
         (desk (W.contents output.new) later (failures_of B.ledger office.new))
         office.new result) }

@@ -8,8 +8,8 @@ ghost use Rattle.office_core.specs.Taking.{failures_of};
 ghost use Rattle.office_rounds.specs.Course.{Over, StartFrom, Take, next_in};
 ghost use Rattle.office_rounds.specs.Faults.{OfOffice, is_link_fault};
 ghost use Rattle.office_rounds.specs.Passing.{AreAtMost, AreTakes, CountsFailures, Lasts};
-ghost use Rattle.office_rounds.specs.Rounds.{Desk, IsToldOf, Rounds, Wire, desk, passage, wire};
-ghost use Rattle.office_rounds.specs.Stepping.{Connects, Going, IsNew, IsWired, StepsFrom, scene};
+ghost use Rattle.office_rounds.specs.Rounds.{Desk, IsToldOf, Rounds, RoundsBehind, Wire, desk, passage, wire};
+ghost use Rattle.office_rounds.specs.Stepping.{Connects, ConnectsBehind, Going, IsNew, IsWired, StepsFrom, scene};
 
 use crate::fault::RoundFault;
 use crate::fed_events::{feed, latest_behind};
@@ -35,8 +35,8 @@ fn connect<B: Books, C: Clock, W: Write>(
     output: &mut W,
 ) -> Result<(), RoundFault>
     requires { IsNew round.old }
-    ensures connects { After B.ledger office.old office.new (λ past.
-        Connects B.ledger round.old.device past
+    ensures connects { After B.ledger office.old office.new
+        (ConnectsBehind B.ledger round.old.device
         (desk (W.contents output.old) (C.moments clock.old) (failures_of B.ledger office.old))
         (desk (W.contents output.new) (C.moments clock.new) (failures_of B.ledger office.new))
         office.new round.new result) }
@@ -192,7 +192,7 @@ pub fn round_over<L: Link, B: Books, C: Clock, W: Write>(
     clock: &mut C,
     output: &mut W,
 ) -> Result<(), RoundFault>
-    ensures rounds { After B.ledger office.old office.new (λ past. Rounds B.ledger device past
+    ensures rounds { After B.ledger office.old office.new (RoundsBehind B.ledger device
         (passage
         (desk (W.contents output.old) (C.moments clock.old) (failures_of B.ledger office.old))
         (desk (W.contents output.new) (C.moments clock.new) (failures_of B.ledger office.new))

@@ -8,7 +8,7 @@ ghost use Rattle.office_rounds.specs.Passing.{Lasts};
 ghost use Rattle.office_rounds.specs.Rounds as rounds;
 ghost use Rattle.office_rounds.specs.Rounds.{Desk, IsToldOf, desk};
 ghost use Rattle.office_rounds.specs.Stepping as stepping;
-ghost use Rattle.office_rounds.specs.Stepping.{Broken, Closes, EndsPrinted, EndsUnprinted};
+ghost use Rattle.office_rounds.specs.Stepping.{Broken, Closes, EndsPrintedBehind, EndsUnprintedBehind};
 
 use crate::fault::RoundFault;
 use crate::fed_events::feed;
@@ -64,8 +64,8 @@ fn end_printed<B: Books, W: Write>(
     office: &mut Office<B>,
     output: &mut W,
 ) -> RoundFault
-    ensures ends { (moments later : Option (List ℕ)) → After B.ledger office.old office.new (λ past.
-        EndsPrinted B.ledger past at gone.now cause
+    ensures ends { (moments later : Option (List ℕ))
+        → After B.ledger office.old office.new (EndsPrintedBehind B.ledger at gone.now cause
         (desk (W.contents output.old) moments (failures_of B.ledger office.old))
         (desk (W.contents output.new) later (failures_of B.ledger office.new))
         office.old office.new result) }
@@ -81,7 +81,7 @@ fn end_printed<B: Books, W: Write>(
 // Tells the end, and prints nothing.
 fn end_unprinted<B: Books>(at: u64, gone: &Event, office: &mut Office<B>)
     ensures ends { (printed moments later : Option (List ℕ))
-        → After B.ledger office.old office.new (λ past. EndsUnprinted B.ledger past at gone.now
+        → After B.ledger office.old office.new (EndsUnprintedBehind B.ledger at gone.now
         (desk printed moments (failures_of B.ledger office.old))
         (desk printed later (failures_of B.ledger office.new)) office.old office.new) }
     ensures lasts { Lasts B.ledger office.old office.new }

@@ -6,14 +6,14 @@ ghost use Rattle.office_rules.specs.History.{History};
 ghost use Rattle.office_core.specs.EventRun.{Answered};
 ghost use Rattle.office_core.specs.Standing.{books_in};
 ghost use Rattle.office_core.specs.Taking.{failures_of};
-ghost use Rattle.office_rounds.specs.Course.{IsTaken, Leave, StartFrom, Take, next_in, next_left, polls_ended, reads_planned, reads_started};
+ghost use Rattle.office_rounds.specs.Course.{IsTaken, Leave, StartFrom, Take, next_in};
 ghost use Rattle.office_rounds.specs.Faults.{AreGiven, OfOffice, OnlyLink, TakesOn, is_link_fault};
 ghost use Rattle.office_rounds.specs.Passing.{Lasts};
 ghost use Rattle.office_rounds.specs.Rounds.{Desk, Wire, desk, wire};
-ghost use Rattle.office_rounds.specs.Stepping.{Going, Steps, StepsFrom, scene};
+ghost use Rattle.office_rounds.specs.Stepping.{Going, Steps, StepsFrom, next_behind_taken, next_left_in, scene};
 ghost use Rattle.office_rounds.specs.FedEvents.{frames_behind, piece_in, pieces_behind};
 ghost use Rattle.office_rounds.specs.Taking as taking;
-ghost use Rattle.office_rounds.specs.Taking.{Brings, TurnTakes, brought, next_by, over_or_take};
+ghost use Rattle.office_rounds.specs.Taking.{Brings, TurnTakes, brought, over_or_take};
 
 use crate::fault::RoundFault;
 use crate::fed_events::tell;
@@ -180,8 +180,7 @@ fn follow<L: Link, B: Books, C: Clock, W: Write>(
         (scene office.new (desk (W.contents output.new) (C.moments clock.new)
         (failures_of B.ledger office.new))
         (wire (L.remaining link.new) (L.given link.new)) round.new)
-        (λ round fed past. next_left (reads_started fed) (polls_ended past fed)
-        (reads_planned fed)) result over_or_take }
+        next_left_in result over_or_take }
     ensures failures { L.failed link.new ≡ risen (is_link_fault result) (L.failed link.old) }
     ensures takes { L.taken link.new ≡ L.taken link.old }
     ensures on { TakesOn result }
@@ -216,8 +215,7 @@ fn go_on<L: Link, B: Books, C: Clock, W: Write>(
         (scene office.new (desk (W.contents output.new) (C.moments clock.new)
         (failures_of B.ledger office.new))
         (wire (L.remaining link.new) (L.given link.new)) round.new)
-        (λ round fed past. next_by is_end endings (next_left (reads_started fed)
-        (polls_ended past fed) (reads_planned fed))) result over_or_take }
+        (next_behind_taken is_end endings) result over_or_take }
     ensures failures { L.failed link.new ≡ risen (is_link_fault result) (L.failed link.old) }
     ensures takes { L.taken link.new ≡ L.taken link.old }
     ensures on { TakesOn result }

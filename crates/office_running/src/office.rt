@@ -1,5 +1,4 @@
 //! A run over books.
-ghost use Rattle.std.specs.Prelude.{◌≡◌};
 ghost use Rattle.office_core.specs.Leaving.{BooksStand};
 ghost use Rattle.office_rules.specs.History.{History};
 ghost use Rattle.office_text.specs.Passing.{Lasts};

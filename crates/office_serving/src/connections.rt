@@ -21,8 +21,8 @@ fn serve_connection<S: Read + Write + OpenStream + Drop, B: Books, C: Clock>(
     office: &mut Office<B>,
     clock: &mut C,
 )
-    ensures serves { After B.ledger office.old office.new (λ past.
-        ServesUpTo 1 B.ledger past office.new) }
+    ensures serves { After B.ledger office.old office.new
+        (λ past. ServesUpTo 1 B.ledger past office.new) }
     ensures lasts { Lasts B.ledger office.old office.new }
 {
     let moment = clock.now();
@@ -54,8 +54,8 @@ pub fn serve_on<L: OpenListener, B: Books, C: Clock>(
 ) -> io::Result<()>
 where
     L::Stream: Read + Write + OpenStream + Drop,
-    ensures serves { After B.ledger office.old office.new (λ past.
-        ServesUpTo connections B.ledger past office.new) }
+    ensures serves { After B.ledger office.old office.new
+        (λ past. ServesUpTo connections B.ledger past office.new) }
     ensures lasts { Lasts B.ledger office.old office.new }
 {
     for _connection in 0..connections {

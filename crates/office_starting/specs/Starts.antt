@@ -1,5 +1,5 @@
 -- The reads that are started on the session of a device: what is recorded, what is sent, and where the session then stands.
-use Rattle.std.specs.Prelude.{◌≡◌, ◌≤◌, ℕ, List, map, length, Option, Some, None, Result, IfOk}
+use Rattle.std.specs.Prelude.{◌≡◌, ◌≤◌, ℕ, List, ◌++◌, map, length, Option, Some, None, Result, IfOk}
 use Rattle.std.specs.List.{flat_map}
 use Rattle.std.specs.declared.alloc.AllocError.{AllocError}
 use Rattle.std.specs.declared.alloc.Global.{Global}
@@ -55,6 +55,12 @@ abbrev pub WhereSent : (device : Device) (kept : State) → (number at : ℕ) �
 WhereSent device kept number at spans so =
     (events : List session.Event) → KeepsSession device kept events → last_moment events ≤ at
     → so events (sends_on number at device events spans)
+
+-- The session is kept as it stands once these reads more were started on it at this moment.
+abbrev pub KeepsStarts : (device : Device) (at : ℕ) (kept : State) → List session.Event → List Send
+    → Type 0
+KeepsStarts device at kept events sends =
+    KeepsSession device kept (events ++ map (start_by at device) sends)
 
 -- nothing on the session of the slot is later than this moment
 abbrev pub IsBefore : ℕ → Slot → Type 0

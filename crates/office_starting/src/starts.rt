@@ -1,12 +1,11 @@
 //! The reads of a list that the session of a device lets through, one after the other.
-ghost use Rattle.std.specs.Prelude.{◌≡◌, ◌+◌, ◌≤◌, ◌++◌, None, map, length, IfOk};
+ghost use Rattle.std.specs.Prelude.{◌≡◌, ◌+◌, ◌≤◌, None, length, IfOk};
 ghost use Rattle.std.specs.List.{flat_map};
 ghost use Rattle.office_rules.specs.Sessions as sessions;
-ghost use Rattle.office_rules.specs.Sessions.{start_by};
 ghost use Rattle.office_rules.specs.Notes.{frame_of};
-ghost use Rattle.office_lines.specs.Keeping.{KeepsSlot, KeepsSession};
-ghost use Rattle.office_starting.specs.Starts.{CountsSends, GivesPolls, IsBefore, WhereSent};
-ghost use Rattle.office_starting.specs.Starts.{polls_of, frames_of, slot_sent};
+ghost use Rattle.office_lines.specs.Keeping.{KeepsSlot};
+ghost use Rattle.office_starting.specs.Starts.{CountsSends, GivesPolls, IsBefore, KeepsStarts};
+ghost use Rattle.office_starting.specs.Starts.{WhereSent, polls_of, frames_of, slot_sent};
 
 use crate::output::Outgoing;
 use mb_wire::ReadSpan;
@@ -85,10 +84,10 @@ fn start_each(
     requires number { number ≤ MAX_POLLS + 1 }
     requires limit { moment ≤ LAST_MOMENT }
     requires rests { kept.old.settling ≡ None }
-    ensures keeps { WhereSent device.now kept.old number moment spans.now (λ events sends.
-        KeepsSession device.now kept.new (events ++ map (start_by moment device.now) sends)) }
-    ensures sent { WhereSent device.now kept.old number moment spans.now (λ events sends.
-        result ≡ flat_map (frame_of device.now) sends) }
+    ensures keeps { WhereSent device.now kept.old number moment spans.now
+        (KeepsStarts device.now moment kept.new) }
+    ensures sent { WhereSent device.now kept.old number moment spans.now
+        (λ events sends. result ≡ flat_map (frame_of device.now) sends) }
     ensures rests { kept.new.settling ≡ None }
 {
     let mut outgoing = Outgoing::none();

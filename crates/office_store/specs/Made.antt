@@ -1,9 +1,10 @@
 -- What the making or the opening of books answers, and what becomes of the connection.
-use Rattle.std.specs.Prelude.{Result, Ok, Err}
+use Rattle.std.specs.Prelude.{◌≡◌, ◌⊎◌, Result, Ok, Err}
 use Rattle.sqlite.specs.Store.{Ghosts}
 use Rattle.sqlite.specs.Held.{Held}
 use Rattle.interval_core.specs.declared.zone.Zone.{Zone}
 use Rattle.store_files.specs.declared.faults.OpenFault.{OpenFault}
+use Rattle.store_files.specs.declared.faults.OpenFault.TheVariants.{NotOurs, Zone as NoZone}
 use Rattle.office_store.specs.declared.books.SqlBooks.{SqlBooks}
 use Rattle.office_store.specs.declared.books.Unopened.{Unopened}
 
@@ -17,3 +18,9 @@ told_by (Err unopened) = Err unopened.fault
 abbrev pub connection_in : {S : Type 0} {g : Ghosts S} → Result (SqlBooks S g) (Unopened S) → Held S
 connection_in (Ok books) = books.connection
 connection_in (Err unopened) = unopened.connection
+
+-- A connection is handed back as it was where its database is not ours to take, or the text is no zone.
+abbrev pub HandsBackUntouched : {S : Type 0} → Held S → Unopened S → Type 0
+HandsBackUntouched connection unopened =
+    (unopened.fault ≡ NotOurs) ⊎ (unopened.fault ≡ NoZone)
+    → unopened.connection ≡ connection

@@ -13,7 +13,7 @@ ghost use Rattle.store_files.specs.NewFile.{Makes};
 ghost use Rattle.store_files.specs.Meta.{Meta, IsMarked};
 ghost use Rattle.store_files.specs.OpenedFile.{Tells};
 ghost use Rattle.store_files.specs.Zones.{IsZone};
-ghost use Rattle.office_store.specs.Made.{connection_in, told_by};
+ghost use Rattle.office_store.specs.Made.{HandsBackUntouched, connection_in, told_by};
 ghost use Rattle.office_store.specs.Database.{HasFile, HoldsAlone, HoldsYet};
 
 use crate::books::{SqlBooks, Unopened};
@@ -38,13 +38,10 @@ impl<S: Alter> SqlBooks<S> {
         ensures ours { connection.in_transaction ≡ false → connection.schema ≡ no_schema
             → IsZone zone.now
             → IfErr result (λ e. (e.fault ≡ OpenFault.Store) ⊎ (e.fault ≡ OpenFault.Memory)) }
-        ensures refused { IfErr result (λ e.
-            (e.fault ≡ OpenFault.NotOurs) ⊎ (e.fault ≡ OpenFault.Zone)
-            → e.connection ≡ connection) }
+        ensures refused { IfErr result (HandsBackUntouched connection) }
         ensures zone { IfOk result (λ books. HasRule zone.now books.zone) }
         ensures faults { IfOk result (λ books. books.faults ≡ 0) }
-        ensures none { IfOk result (λ books.
-            HoldsAlone S.Store zone.now books.connection []) }
+        ensures none { IfOk result (λ books. HoldsAlone S.Store zone.now books.connection []) }
         ensures does { TransactsTo (state S.Store connection)
             (state S.Store (connection_in result)) (told_by result) (Makes zone.now) }
     {

@@ -14,6 +14,7 @@ use Rattle.office_core.specs.Asking.{AreDaysNamed, IsFound, OnlyAsks, is_there}
 use Rattle.office_core.specs.declared.office.Office.{Office}
 use Rattle.report_lines.specs.Lines.{days_text, end_line}
 use Rattle.script_text.specs.AnswerText.{refused_line}
+use Rattle.office_text.specs.EndTexts.{Tells}
 
 -- a report that is told is a success, and one that is refused is a refusal
 abbrev pub meant_by : Result (Unit {0}) Refusal → Status
@@ -43,6 +44,12 @@ pub record ReportPrints (zone : Zone) (past : History) (register : Option (List 
       after reply
   pub is : IsReport zone past register reply text
   pub means : meant ≡ meant_by reply
+
+-- It is printed so, or a part of it, since a write failed; told of a past that the office had accepted.
+abbrev pub ReportsBehind : Zone → (register : Option (List ℕ)) → (before after : ℕ) → Status
+    → (old new : Option (List ℕ)) → (past : History) → Type 0
+ReportsBehind zone register before after status old new past =
+    Tells (ReportPrints zone past register before after) status old new
 
 -- The office was only asked.
 pub record Asks {B : Type 0} (ledger : B → Ledger) (old new : Office B) : Type 0 where

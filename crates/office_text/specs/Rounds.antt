@@ -39,6 +39,12 @@ pub record PollsRound {B : Type 0} (ledger : B → Ledger) (device : Option (Lis
   pub round : one.Rounds ledger device past (without_cause through printed) office done
   pub told : IsRefusalTold done result printed through.ended.printed
 
+-- the same, told of a past that the office had accepted
+abbrev pub PollsRoundBehind : {B : Type 0} → (B → Ledger) → (device : Option (List ℕ)) → Passage
+    → Office B → Result (Unit {0}) RoundFault → (past : History) → Type 0
+PollsRoundBehind ledger device through office result past =
+    PollsRound ledger device past through office result
+
 -- how the command ends
 abbrev pub round_status : Result (Unit {0}) RoundFault → Status
 round_status (Ok x) = status.Fine

@@ -3,7 +3,7 @@ ghost use Rattle.std.specs.Prelude.{◌≡◌, ◌≢◌, IfOk, IfErr, MatchResu
 ghost use Rattle.office_core.specs.Leaving.{BooksStand};
 ghost use Rattle.office_core.specs.Standing.{IsFresh, books_in};
 ghost use Rattle.office_rules.specs.History.{History};
-ghost use Rattle.office_text.specs.OpenedOffice.{Opens, TellsUnopened};
+ghost use Rattle.office_text.specs.OpenedOffice.{OpensWhereClean, TellsWhereClean};
 ghost use Rattle.office_text.specs.Passing.{Lasts};
 
 use crate::end_texts::print_refusal;
@@ -30,14 +30,13 @@ pub fn open_office<B: Books, C: Clock, W: Write>(
     output: &mut W,
 ) -> Result<Office<B>, Unopened<B>>
     ensures opened { (past : History) → BooksStand (B.ledger books) past
-        → IfOk result (λ office. (B.ledger (books_in office)).is_clean
-        → Opens B.ledger past (C.moments clock.old) (C.moments clock.new) office) }
+        → IfOk result
+        (OpensWhereClean B.ledger past (C.moments clock.old) (C.moments clock.new)) }
     ensures fresh { IfOk result (λ office. IsFresh office) }
     ensures silent { IfOk result (λ office. output.new ≡ output.old) }
     ensures refused { (past : History) → BooksStand (B.ledger books) past
-        → IfErr result (λ e. (B.ledger e.books).is_clean
-        → TellsUnopened past (C.moments clock.old) (C.moments clock.new)
-        (B.ledger books) (B.ledger e.books) e.status
+        → IfErr result
+        (TellsWhereClean B.ledger past (C.moments clock.old) (C.moments clock.new) books
         (W.contents output.old) (W.contents output.new)) }
     ensures ends { IfErr result (λ e. e.status ≢ Status.Fine) }
     ensures lasts { MatchResult result

@@ -1,8 +1,8 @@
 //! The report of a register.
 ghost use Rattle.office_core.specs.Standing.{After, books_in};
 ghost use Rattle.office_core.specs.Taking.{failures_of};
-ghost use Rattle.office_text.specs.Reports.{Asks, ReportPrints, last_line, meant_by};
-ghost use Rattle.office_text.specs.EndTexts.{IsTold, Tells};
+ghost use Rattle.office_text.specs.Reports.{Asks, ReportsBehind, last_line, meant_by};
+ghost use Rattle.office_text.specs.EndTexts.{IsTold};
 
 use crate::end_texts::{ended, print_refusal};
 use crate::lines::DayLines;
@@ -34,9 +34,9 @@ pub fn report_days<B: Books, W: Write>(
     register: &Option<Name>,
     output: &mut W,
 ) -> Status
-    ensures prints { After B.ledger office.old office.new (λ past. Tells
-        (ReportPrints (B.ledger (books_in office.old)).zone past register.now
-        (failures_of B.ledger office.old) (failures_of B.ledger office.new))
+    ensures prints { After B.ledger office.old office.new
+        (ReportsBehind (B.ledger (books_in office.old)).zone register.now
+        (failures_of B.ledger office.old) (failures_of B.ledger office.new)
         result (W.contents output.old) (W.contents output.new)) }
     ensures asks { Asks B.ledger office.old office.new }
 {

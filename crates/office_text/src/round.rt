@@ -5,7 +5,7 @@ ghost use Rattle.office_core.specs.Taking.{failures_of};
 ghost use Rattle.office_rounds.specs.Passing.{AreAtMost, AreTakes, CountsFailures, Lasts};
 ghost use Rattle.office_rounds.specs.Rounds.{desk, passage, wire};
 ghost use Rattle.office_text.specs.Rounds as rounds;
-ghost use Rattle.office_text.specs.Rounds.{IsRefusalTold, PollsRound};
+ghost use Rattle.office_text.specs.Rounds.{IsRefusalTold, PollsRoundBehind};
 
 use crate::end_texts::print_refusal;
 use command_io::Status;
@@ -41,7 +41,7 @@ pub fn poll_round<L: Link, B: Books, C: Clock, W: Write>(
     clock: &mut C,
     output: &mut W,
 ) -> Result<(), RoundFault>
-    ensures rounds { After B.ledger office.old office.new (λ past. PollsRound B.ledger device past
+    ensures rounds { After B.ledger office.old office.new (PollsRoundBehind B.ledger device
         (passage
         (desk (W.contents output.old) (C.moments clock.old) (failures_of B.ledger office.old))
         (desk (W.contents output.new) (C.moments clock.new) (failures_of B.ledger office.new))

@@ -1,5 +1,5 @@
 -- The point list of a chain of models.
-use Rattle.std.specs.Prelude.{ℕ, ◌+◌, nat_le, if◌then◌else◌, List, [], ◌∷◌, ◌++◌, length, map, codes, Some, None}
+use Rattle.std.specs.Prelude.{ℕ, ◌+◌, nat_le, if◌then◌else◌, List, [], ◌∷◌, ◌++◌, length, map, codes, Some, None, IfSome, IsTrue}
 use Rattle.std.specs.declared.option.Option.{Option}
 use Rattle.std.specs.Fmt.{decimal}
 use Rattle.std.specs.List.{list_any}
@@ -11,6 +11,7 @@ use Rattle.sun_chain.specs.Points.{Named as ModelPoint}
 use Rattle.sun_chain.specs.Tables.{scale_name_in, table_of}
 use Rattle.sun_chain.specs.declared.chain.Chain.{Chain}
 use Rattle.sun_chain.specs.declared.model.Model.{Model}
+use Rattle.point_list.specs.Names.{is_name}
 use Rattle.point_list.specs.declared.fault.FaultyRow.{FaultyRow}
 use Rattle.point_list.specs.declared.fault.RowFault.TheVariants.{TooMany}
 use Rattle.point_list.specs.declared.point.ListedPoint.{ListedPoint}
@@ -39,6 +40,12 @@ listed place id others point = record {
   kind = point.ty;
   scale = chain_scale place others (scale_name_in (table_of id) point.name);
 }
+
+-- the scale point of a point, where it has one, has a name that a list may have
+abbrev pub HasScaleName : (place id : ℕ) → ModelPoint → Type 0
+HasScaleName place id point =
+    IfSome (scale_name_in (table_of id) point.name)
+    (λ name. IsTrue (is_name (chain_name place name)))
 
 abbrev pub model_points : Words → ℕ → Model → List ListedPoint
 model_points word place model =

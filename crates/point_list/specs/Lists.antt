@@ -101,11 +101,17 @@ abbrev pub or_else : List FaultyRow → List FaultyRow → List FaultyRow
 or_else [] others = others
 or_else (row ∷ rows) others = row ∷ rows
 
--- the faulty rows below the header; the header is row 1
+-- the faulty ones of the first rows below the header, which is row 1, but for those of their scale points
+abbrev pub faulty_first : List (List (List ℕ)) → (count : ℕ) → List FaultyRow
+faulty_first rows count = faulty_rows 2 (row_faults rows count)
+
+-- the rows whose points lack something of their scale points
+abbrev pub faulty_points : List ListedPoint → List FaultyRow
+faulty_points points = faulty_rows 2 (scale_faults points points)
+
+-- the faulty rows below the header
 abbrev pub faults_below : List (List (List ℕ)) → List FaultyRow
-faults_below rows =
-    or_else (faulty_rows 2 (row_faults rows (length rows)))
-    (faulty_rows 2 (scale_faults (points_of rows) (points_of rows)))
+faults_below rows = or_else (faulty_first rows (length rows)) (faulty_points (points_of rows))
 
 -- name,function,area,address,type,scale
 abbrev pub is_header_text : RowText → Bool
@@ -133,6 +139,10 @@ rows_read text = take 514 (csv_rows text)
 -- rows spell points, one each, in order
 abbrev pub SpellEach : List (List (List ℕ)) → List ListedPoint → Type 0
 SpellEach rows points = map point_of_row rows ≡ map (λ point. Some point) points
+
+-- rows below the header spell points, and none is faulty
+abbrev pub SpellsBelow : List (List (List ℕ)) → List ListedPoint → Type 0
+SpellsBelow rows points = (faults_below rows ≡ []) × SpellEach rows points
 
 -- a text spells a list: no row of it is faulty, and each one below the header spells a point
 pub record SpellsList (text : List ℕ) (points : List ListedPoint) : Type 0 where

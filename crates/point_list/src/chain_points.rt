@@ -6,9 +6,8 @@ ghost use Rattle.std.specs.Option.{option_map};
 ghost use Rattle.std.specs.Str.{bytes_eq};
 ghost use Rattle.sun_chain.specs.Chain.{words_of};
 ghost use Rattle.sun_chain.specs.Points.{seen};
-ghost use Rattle.sun_chain.specs.Tables.{scale_name_in, table_of};
-ghost use Rattle.point_list.specs.ChainPoints.{chain_faults, chain_name, chain_scale, listed};
-ghost use Rattle.point_list.specs.ChainPoints.{model_points, points_of_chain};
+ghost use Rattle.point_list.specs.ChainPoints.{HasScaleName, chain_faults, chain_name, chain_scale};
+ghost use Rattle.point_list.specs.ChainPoints.{listed, model_points, points_of_chain};
 ghost use Rattle.point_list.specs.Lists.{ExplainsList};
 ghost use Rattle.point_list.specs.Names.{is_name};
 
@@ -70,8 +69,8 @@ fn chain_scale(
     scale: Option<&str>,
 ) -> Result<PointScale, AllocError>
     requires { IfSome scale (λ name. IsTrue (is_name (chain_name place name.now))) }
-    ensures { IfOk result (λ made. made ≡ chain_scale place (map seen others.now)
-        (option_map (λ name. name.now) scale.entry)) }
+    ensures { let named = option_map (λ name. name.now) scale.entry in
+        IfOk result (λ made. made ≡ chain_scale place (map seen others.now) named) }
 {
     match scale {
         Some(name) => scale_there(alloc, place, others, name),
@@ -88,8 +87,7 @@ fn listed(
     point: &NamedPoint<'_>,
 ) -> Result<ListedPoint, AllocError>
     requires named { IsTrue (is_name (chain_name place (seen point.now).name)) }
-    requires scaled { IfSome (scale_name_in (table_of id) (seen point.now).name)
-        (λ name. IsTrue (is_name (chain_name place name))) }
+    requires scaled { HasScaleName place id (seen point.now) }
     ensures { IfOk result (λ made. made ≡ listed place id (map seen others.now) (seen point.now)) }
 {
     let name = chain_name(alloc, place, point.name())?;
@@ -114,8 +112,7 @@ fn add_points(
 ) -> Result<(), AllocError>
     requires named { All
         (λ point. IsTrue (is_name (chain_name place (seen point).name))) found.now }
-    requires scaled { All (λ point. IfSome (scale_name_in (table_of id) (seen point).name)
-        (λ name. IsTrue (is_name (chain_name place name)))) found.now }
+    requires scaled { All (λ point. HasScaleName place id (seen point)) found.now }
     ensures { OnOk result (points.new.items ≡ points.old.items
         ++ map (λ point. listed place id (map seen found.now) (seen point)) found.now) }
 {

@@ -1,5 +1,5 @@
 //! What the fields of a row spell.
-ghost use Rattle.std.specs.Prelude.{◌≡◌, ◌≤◌, IsTrue, length, pos};
+ghost use Rattle.std.specs.Prelude.{◌≡◌, ◌≤◌, length, pos};
 ghost use Rattle.sun_points.specs.Scale.{scale_of};
 ghost use Rattle.point_list.specs.Fields.{fixed_scale_of, minus, number_of, number_within};
 ghost use Rattle.point_list.specs.Fields.{function_of, text_type_of, type_of};

@@ -1,5 +1,5 @@
 //! Whether points make a list.
-ghost use Rattle.std.specs.Prelude.{◌≡◌, ◌≢◌, ◌+◌, ◌≤◌, ◌↔◌, IsTrue, length};
+ghost use Rattle.std.specs.Prelude.{◌≡◌, ◌≢◌, ◌+◌, ◌≤◌, ◌↔◌, IsTrue};
 ghost use Rattle.std.specs.List.{All, AllPairs};
 ghost use Rattle.point_list.specs.Names.{is_name};
 ghost use Rattle.point_list.specs.Points.{HasLawfulScale, IsGroup, IsPointList, end_of};

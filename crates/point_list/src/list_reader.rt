@@ -1,12 +1,10 @@
 //! Reading a point list.
 ghost use Rattle.std.specs.Prelude.{◌≡◌, ◌+◌, ◌≤◌, ◌++◌, ◌∷◌, IfOk, IfErr, OnOk, [], length, map};
-ghost use Rattle.std.specs.Option.{option_map};
 ghost use Rattle.csv.specs.Records.{fields_of};
 ghost use Rattle.point_list.specs.Faults.{seen_row};
-ghost use Rattle.point_list.specs.Lists.{ExplainsList, SpellEach, SpellsList, faults_below};
-ghost use Rattle.point_list.specs.Lists.{faulty_rows, is_header, is_header_text, list_faults};
-ghost use Rattle.point_list.specs.Lists.{points_of, row_faults, rows_read, scale_fault};
-ghost use Rattle.point_list.specs.Lists.{scale_faults};
+ghost use Rattle.point_list.specs.Lists.{ExplainsList, SpellsBelow, SpellsList, faults_below};
+ghost use Rattle.point_list.specs.Lists.{faulty_first, faulty_points, faulty_rows, is_header};
+ghost use Rattle.point_list.specs.Lists.{is_header_text, list_faults, rows_read, scale_fault};
 ghost use Rattle.point_list.specs.Points.{IsPointList};
 
 use crate::fault::{FaultyRow, FaultyRows, ListFault, RowFault};
@@ -76,8 +74,8 @@ fn add_fault(
 // The faulty ones of the rows below the header, but for those of their scale points.
 fn faulty_rows(alloc: Global, rows: &[ByteRecord]) -> Result<Vec<FaultyRow>, AllocError>
     requires { length rows.now ≤ 513 }
-    ensures { IfOk result (λ faults. faults.items
-        ≡ faulty_rows 2 (row_faults (map fields_of rows.now) (length rows.now))) }
+    ensures { IfOk result
+        (λ faults. faults.items ≡ faulty_first (map fields_of rows.now) (length rows.now)) }
 {
     let mut faults = Vec::new(alloc);
     for place in 0..rows.len() {
@@ -90,8 +88,7 @@ fn faulty_rows(alloc: Global, rows: &[ByteRecord]) -> Result<Vec<FaultyRow>, All
 // The rows whose points lack something of their scale points.
 fn scale_faults(alloc: Global, points: &[ListedPoint]) -> Result<Vec<FaultyRow>, AllocError>
     requires { length points.now ≤ 513 }
-    ensures { IfOk result (λ faults. faults.items
-        ≡ faulty_rows 2 (scale_faults points.now points.now)) }
+    ensures { IfOk result (λ faults. faults.items ≡ faulty_points points.now) }
 {
     let mut faults = Vec::new(alloc);
     for place in 0..points.len() {
@@ -119,12 +116,10 @@ fn no_header(alloc: Global) -> ListFault
 // The list of points of which none lacks anything but of its scale point.
 fn list_of_points(alloc: Global, points: Vec<ListedPoint>) -> Result<PointList, ListFault>
     requires few { length points.items ≤ 513 }
-    requires lawful { faulty_rows 2 (scale_faults points.items points.items) ≡ []
-        → IsPointList points.items }
-    ensures list { IfOk result (λ list. (list ≡ points.items)
-        × (faulty_rows 2 (scale_faults points.items points.items) ≡ [])) }
-    ensures faults { IfErr result
-        (ExplainsList (faulty_rows 2 (scale_faults points.items points.items))) }
+    requires lawful { faulty_points points.items ≡ [] → IsPointList points.items }
+    ensures list { IfOk result
+        (λ list. (list ≡ points.items) × (faulty_points points.items ≡ [])) }
+    ensures faults { IfErr result (ExplainsList (faulty_points points.items)) }
 {
     let faults = scale_faults(alloc, &points)?;
     if !faults.is_empty() {
@@ -136,8 +131,7 @@ fn list_of_points(alloc: Global, points: Vec<ListedPoint>) -> Result<PointList, 
 // The list that rows below the header spell.
 fn list_below(alloc: Global, rows: &[ByteRecord]) -> Result<PointList, ListFault>
     requires { length rows.now ≤ 513 }
-    ensures list { IfOk result (λ list. (faults_below (map fields_of rows.now) ≡ [])
-        × SpellEach (map fields_of rows.now) list) }
+    ensures list { IfOk result (SpellsBelow (map fields_of rows.now)) }
     ensures faults { IfErr result (ExplainsList (faults_below (map fields_of rows.now))) }
 {
     let faults = faulty_rows(alloc, rows)?;

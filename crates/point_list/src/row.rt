@@ -1,12 +1,11 @@
 //! The least fault of a row.
-ghost use Rattle.std.specs.Prelude.{◌≡◌, ◌+◌, map};
+ghost use Rattle.std.specs.Prelude.{◌≡◌, map};
 ghost use Rattle.std.specs.List.{list_any};
 ghost use Rattle.std.specs.Option.{option_map};
 ghost use Rattle.csv.specs.Records.{fields_of};
 ghost use Rattle.point_list.specs.Faults.{conditions_where, seen_row, first_of, has_name};
 ghost use Rattle.point_list.specs.Faults.{is_bad_scale, is_fixed_scale, least_fault, reaches_past};
 ghost use Rattle.point_list.specs.Faults.{six_fields};
-ghost use Rattle.point_list.specs.Fields.{number_within, type_of};
 
 use crate::fault::RowFault;
 use crate::fields::{fixed_scale, function, number_in, point_type};

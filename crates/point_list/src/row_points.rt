@@ -1,8 +1,7 @@
 //! The points that rows spell.
 ghost use Rattle.std.specs.Prelude.{◌≡◌, IfOk, map};
-ghost use Rattle.std.specs.Option.{option_and_then, option_map};
 ghost use Rattle.csv.specs.Records.{fields_of};
-ghost use Rattle.point_list.specs.Faults.{seen_row, six_fields};
+ghost use Rattle.point_list.specs.Faults.{seen_row};
 ghost use Rattle.point_list.specs.Lists.{name_spelled, named_scale, point_of_row, point_spelled};
 ghost use Rattle.point_list.specs.Lists.{points_of, scale_spelled, spelled_with};
 

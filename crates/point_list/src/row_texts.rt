@@ -87,8 +87,8 @@ fn header(alloc: Global) -> Result<ByteRecord, AllocError>
 
 /// The rows of points, below the header.
 pub fn point_rows(alloc: Global, points: &[ListedPoint]) -> Result<Vec<ByteRecord>, AllocError>
-    ensures rows { IfOk result (λ rows. map fields_of rows.items
-        ≡ header_row ∷ map row_of points.now) }
+    ensures rows { IfOk result
+        (λ rows. map fields_of rows.items ≡ header_row ∷ map row_of points.now) }
     ensures areas { OnOk result (All (λ point. point.area ≤ 255) points.now) }
 {
     let mut rows = Vec::new(alloc);

@@ -1,14 +1,16 @@
 -- What a session holds, from its fields.
-use Rattle.std.specs.Prelude.{ℕ, ◌≤◌, Bool, if◌then◌else◌, List, length, Some, None}
+use Rattle.std.specs.Prelude.{ℕ, ◌≤◌, Bool, if◌then◌else◌, List, length, take, Some, None}
 use Rattle.std.specs.declared.option.Option.{Option}
 use Rattle.std.specs.Option.{option_map}
-use Rattle.poll_core.specs.Settling.{Settlement}
+use Rattle.poll_core.specs.Settling.{Event, Settlement}
 use Rattle.poll_core.specs.Standing.{State}
 use Rattle.poll_core.specs.Steps.{AreApart, told_by}
+use Rattle.poll_core.specs.Telling.{TellsPiece, TellsEvent}
 use Rattle.poll_core.specs.declared.poll.SettledPoll.{SettledPoll}
 use Rattle.poll_core.specs.declared.limits.TheConstants.{MAX_TIMEOUT, MAX_WINDOW}
 use Rattle.poll_core.specs.declared.outcome.Call.{Call}
 use Rattle.poll_core.specs.declared.inner.Inner.{Inner}
+use Rattle.poll_core.specs.declared.inner.Step.{Step}
 use Rattle.poll_core.specs.declared.outcome.LostCause.{LostCause}
 use Rattle.poll_core.specs.declared.outcome.LostCause.TheVariants.{Garbled}
 
@@ -32,6 +34,15 @@ pub record IsSound (s : Inner) : Type 0 where
 
 abbrev pub told_of : Option SettledPoll → Option (List ℕ) → Option (ℕ × Settlement)
 told_of taken frame = option_map (λ t. told_by t frame) taken
+
+-- what a step takes of a piece and tells, with the frame that the reader holds then
+abbrev pub TellsStep : State → State → (moment : ℕ) → (piece : List ℕ) → Step → Type 0
+TellsStep old new moment piece step =
+    TellsPiece old new moment (take step.taken piece) (told_of step.settled new.reader.frame)
+
+-- what an event tells, with the frame that the reader holds then
+abbrev pub TellsTaken : State → State → Event → Option SettledPoll → Type 0
+TellsTaken old new event taken = TellsEvent old new event (told_of taken new.reader.frame)
 
 -- the call goes on while it tells outcomes
 abbrev pub call_if : Option SettledPoll → Call → Option Call

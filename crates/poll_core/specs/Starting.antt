@@ -1,7 +1,10 @@
 -- When a start is refused.
-use Rattle.std.specs.Prelude.{◌≡◌, ℕ, ◌+◌, ◌%◌, ◌≤◌, ◌<◌, Bool, true, false, not, ◌&&◌, is_some, nat_le, nat_lt, if◌then◌else◌, List, ◌++◌, length, Some, None, IsSome}
+use Rattle.std.specs.Prelude.{◌≡◌, ℕ, ◌+◌, ◌%◌, ◌≤◌, ◌<◌, Bool, true, false, not, ◌&&◌, is_some, nat_le, nat_lt, if◌then◌else◌, List, ◌++◌, length, take, Some, None, IsSome}
 use Rattle.std.specs.declared.option.Option.{Option}
 use Rattle.std.specs.List.{list_any, AllByRecursion}
+use Rattle.mb_wire.specs.Reader.{spelling}
+use Rattle.mb_wire.specs.Requests.{request_bytes}
+use Rattle.mb_wire.specs.Spans.{Span, request_of}
 use Rattle.poll_core.specs.Polls.{Poll, has_id}
 use Rattle.poll_core.specs.Settling.{Event, is_start, pending, next_id}
 use Rattle.poll_core.specs.Standing.{State, is_over, last_moment}
@@ -29,6 +32,11 @@ start_fault timeout window events moment =
     least_fault window (pending timeout events) (next_id events) (last_moment events)
     (is_over events)
     moment
+
+-- so many bytes at the front of a buffer are the frame that asks a unit for registers
+abbrev pub AsksFor : (tid unit : ℕ) → Span → (buffer : List ℕ) → ℕ → Type 0
+AsksFor tid unit span buffer n =
+    take n buffer ≡ spelling tid unit (request_bytes (request_of span))
 
 -- whether a start fits behind so many others: the session goes on, there is room, and no poll that waits has its id
 abbrev pub start_fits : ℕ → List Poll → ℕ → Bool → ℕ → Bool

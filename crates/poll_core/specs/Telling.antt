@@ -1,6 +1,7 @@
 -- What a call tells, as a caller sees it.
-use Rattle.std.specs.Prelude.{◌≡◌, ℕ, ◌<◌, ◌⊎◌, Bool, true, false, is_some, if◌then◌else◌, List, [], ◌++◌, length, Some, None}
+use Rattle.std.specs.Prelude.{◌≡◌, ℕ, ◌<◌, ◌⊎◌, Bool, true, false, is_some, if◌then◌else◌, List, [], ◌++◌, length, take, Some, None, Result, OnErr, IfOk}
 use Rattle.std.specs.declared.option.Option.{Option}
+use Rattle.std.specs.Option.{option_map}
 use Rattle.mb_wire.specs.Replies.{answer_of}
 use Rattle.mb_wire.specs.declared.replies.Reply.{Reply}
 use Rattle.poll_core.specs.Settling as told
@@ -9,7 +10,9 @@ use Rattle.poll_core.specs.Standing.{State, Before, After, call_of}
 use Rattle.poll_core.specs.declared.outcome.Call.{Call}
 use Rattle.poll_core.specs.declared.outcome.Outcome as plain
 use Rattle.poll_core.specs.declared.outcome.Outcome.TheVariants.{Answered, Exception, Silent, Malformed, Lost}
+use Rattle.poll_core.specs.declared.answers.ClockBack.{ClockBack}
 use Rattle.poll_core.specs.declared.answers.Settled.{Settled}
+use Rattle.poll_core.specs.declared.answers.Turn.{Turn}
 
 -- the registers that a reply lends
 abbrev pub lent_words : Option Reply → List ℕ
@@ -58,3 +61,17 @@ TellsPiece old new moment taken =
 
 abbrev pub TellsEvent : State → State → Event → Option (ℕ × Settlement) → Type 0
 TellsEvent old new event = Tells old new (λ _. event) (λ _. event)
+
+-- a call takes bytes of a piece, or is refused and changes nothing
+abbrev pub TakesPiece : State → (moment : ℕ) → (piece : List ℕ) → Result Turn ClockBack → State
+    → Type 0
+TakesPiece old moment piece result new =
+    OnErr result (new ≡ old)
+    × IfOk result (λ turn. TellsPiece old new moment (take turn.taken piece)
+    (option_map settled_of turn.settled))
+
+-- a call brings an event, or is refused and changes nothing
+abbrev pub TakesEvent : State → Event → Result (Option Settled) ClockBack → State → Type 0
+TakesEvent old event result new =
+    OnErr result (new ≡ old)
+    × IfOk result (λ settled. TellsEvent old new event (option_map settled_of settled))

@@ -1,12 +1,12 @@
 //! The fields of a session, and its steps. They stand apart from `Session`, whose clauses see only its model and whose
 //! calls lend the frame that they tell: the clauses of a step speak of the fields, and a step lends nothing.
-ghost use Rattle.std.specs.Prelude.{◌≡◌, ℕ, ◌+◌, ◌≤◌, ◌<◌, List, [], ◌∷◌, ◌++◌, length, take, Some};
+ghost use Rattle.std.specs.Prelude.{◌≡◌, ℕ, ◌+◌, ◌≤◌, ◌<◌, List, [], ◌++◌, length, take, Some};
 ghost use Rattle.std.specs.Prelude.{None, is_some, true, false, if◌then◌else◌, OnOk, OnErr, IfOk};
 ghost use Rattle.std.specs.Result.{result_err};
 ghost use Rattle.mb_wire.specs.Requests.{request_bytes};
 ghost use Rattle.mb_wire.specs.Reader.{spelling};
 ghost use Rattle.mb_wire.specs.Spans.{request_of, span_view};
-ghost use Rattle.poll_core.specs.Starting.{start_fault, HasRoom};
+ghost use Rattle.poll_core.specs.Starting.{start_fault, AsksFor, HasRoom};
 ghost use Rattle.poll_core.specs.Steps.{CanTell};
 ghost use Rattle.poll_core.specs.Settling.{Settlement, Event, Start, Piece, Tick, Close};
 ghost use Rattle.poll_core.specs.Standing.{Stands, Before, After};
@@ -99,9 +99,7 @@ impl Inner {
         ensures terms { (self.new.timeout ≡ self.old.timeout)
             × (self.new.window ≡ self.old.window) }
         ensures size { IfOk result (λ n. n ≡ 12) }
-        ensures written { IfOk result
-            (λ n. take n out.new ≡ spelling self.old.next unit
-            (request_bytes (request_of (span_view span)))) }
+        ensures written { IfOk result (AsksFor self.old.next unit (span_view span) out.new) }
         ensures err { OnErr result ((self.new ≡ self.old) × (out.new ≡ out.old)) }
     {
         if self.polls.len() >= self.window {

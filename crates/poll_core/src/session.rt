@@ -1,21 +1,20 @@
 //! One device's polling session.
-ghost use Rattle.std.specs.Prelude.{◌≡◌, ℕ, ◌+◌, ◌≤◌, ◌<◌, ◌⊎◌, ◌↔◌, List, [], ◌∷◌, ◌++◌, length};
-ghost use Rattle.std.specs.Prelude.{take, Some, None, is_some, IsTrue, true, false, IsErr, OnOk};
+ghost use Rattle.std.specs.Prelude.{◌≡◌, ℕ, ◌≤◌, ◌<◌, ◌↔◌, List, [], length};
+ghost use Rattle.std.specs.Prelude.{Some, None, is_some, false, IsErr, OnOk};
 ghost use Rattle.std.specs.Prelude.{OnErr, IfOk, IfSome};
 ghost use Rattle.std.specs.Result.{result_err};
 ghost use Rattle.std.specs.Borrow.{sem};
 ghost use Rattle.std.specs.Io.BufRead.{Rests};
-ghost use Rattle.mb_wire.specs.Requests.{request_bytes};
-ghost use Rattle.mb_wire.specs.Reader.{spelling, spelled, fields_of};
-ghost use Rattle.mb_wire.specs.Spans.{request_of, span_view};
-ghost use Rattle.poll_core.specs.Settling.{Settlement, Event, Start, Piece, Tick, Close, Silent};
+ghost use Rattle.mb_wire.specs.Reader.{spelled, fields_of};
+ghost use Rattle.mb_wire.specs.Spans.{span_view};
+ghost use Rattle.poll_core.specs.Settling.{Event, Start, Tick, Close, Silent};
 ghost use Rattle.poll_core.specs.Settling.{answer};
 ghost use Rattle.poll_core.specs.Steps.{told_by, HasFrame, CanTell};
-ghost use Rattle.poll_core.specs.Inside.{told_of};
+ghost use Rattle.poll_core.specs.Inside.{TellsStep, TellsTaken, told_of};
 ghost use Rattle.std.specs.Option.{option_map};
-ghost use Rattle.poll_core.specs.Standing.{State, Stands, Before, After};
-ghost use Rattle.poll_core.specs.Starting.{start_fault, HasRoom, IsReady};
-ghost use Rattle.poll_core.specs.Telling.{settled_of, LendsReply, IsCall, TellsPiece, TellsEvent};
+ghost use Rattle.poll_core.specs.Standing.{State, Stands, After};
+ghost use Rattle.poll_core.specs.Starting.{start_fault, AsksFor, HasRoom, IsReady};
+ghost use Rattle.poll_core.specs.Telling.{LendsReply, IsCall, TakesEvent, TakesPiece, settled_of};
 ghost use Rattle.poll_core.specs.contracts.session.Session.{the_row};
 
 use crate::answers::{ClockBack, Ready, Settled, StartFault, Turn};
@@ -113,9 +112,7 @@ impl Session {
         ensures rests { self.new.settling ≡ None }
         ensures last { OnOk result (self.new.last ≡ moment) }
         ensures size { IfOk result (λ n. n ≡ 12) }
-        ensures written { IfOk result
-            (λ n. take n out.new ≡ spelling self.old.next unit
-            (request_bytes (request_of (span_view span)))) }
+        ensures written { IfOk result (AsksFor self.old.next unit (span_view span) out.new) }
         ensures err { OnErr result ((self.new ≡ self.old) × (out.new ≡ out.old)) }
     {
         self.inner.start(moment, poll, unit, span, out)
@@ -125,10 +122,8 @@ impl Session {
     pub fn next(&mut self, moment: u64, piece: &[u8]) -> Result<Turn<'_>, ClockBack>
         requires limit { moment ≤ LAST_MOMENT }
         requires call { IsCall Call.Piece self.old moment }
-        ensures* after { sem 𝓛 (Rests the_row self.entry (λ new. OnErr result (new ≡ self.old)
-            × IfOk result (λ turn.
-            TellsPiece self.old new moment (take turn.taken piece.now)
-            (option_map settled_of turn.settled)))) }
+        ensures* after { sem 𝓛 (Rests the_row self.entry
+            (TakesPiece self.old moment piece.now result)) }
         ensures back { IsErr result ↔ (moment < self.old.last) }
         ensures taken { IfOk result (λ turn. turn.taken ≤ length piece.now) }
         ensures all { IfOk result
@@ -144,9 +139,7 @@ impl Session {
 
     fn advance(&mut self, moment: u64, piece: &[u8]) -> Result<Step, ClockBack>
         ensures err { OnErr result (self.new ≡ self.old) }
-        ensures told { IfOk result
-            (λ step. TellsPiece self.old self.new moment (take step.taken piece.now)
-            (told_of step.settled self.new.reader.frame)) }
+        ensures told { IfOk result (TellsStep self.old self.new moment piece.now) }
         ensures back { IsErr result ↔ (moment < self.old.last) }
         ensures buffered { IfOk result (λ step. CanTell step.settled self.new.reader.frame) }
         ensures taken { IfOk result (λ step. step.taken ≤ length piece.now) }
@@ -163,9 +156,8 @@ impl Session {
     pub fn tick(&mut self, moment: u64) -> Result<Option<Settled<'_>>, ClockBack>
         requires limit { moment ≤ LAST_MOMENT }
         requires call { IsCall Call.Tick self.old moment }
-        ensures* after { sem 𝓛 (Rests the_row self.entry (λ new. OnErr result (new ≡ self.old)
-            × IfOk result (λ settled.
-            TellsEvent self.old new (Tick moment) (option_map settled_of settled)))) }
+        ensures* after { sem 𝓛 (Rests the_row self.entry
+            (TakesEvent self.old (Tick moment) result)) }
         ensures back { IsErr result ↔ (moment < self.old.last) }
         ensures reply { IfOk result (λ settled. IfSome settled LendsReply) }
     {
@@ -175,9 +167,7 @@ impl Session {
 
     fn tick_once(&mut self, moment: u64) -> Result<Option<SettledPoll>, ClockBack>
         ensures err { OnErr result (self.new ≡ self.old) }
-        ensures told { IfOk result
-            (λ taken. TellsEvent self.old self.new (Tick moment)
-            (told_of taken self.new.reader.frame)) }
+        ensures told { IfOk result (TellsTaken self.old self.new (Tick moment)) }
         ensures buffered { IfOk result (λ taken. CanTell taken self.new.reader.frame) }
         ensures back { IsErr result ↔ (moment < self.old.last) }
     {
@@ -191,9 +181,8 @@ impl Session {
     pub fn close(&mut self, moment: u64, closing: Closing) -> Result<Option<Settled<'_>>, ClockBack>
         requires limit { moment ≤ LAST_MOMENT }
         requires call { IsCall (Call.Close closing) self.old moment }
-        ensures* after { sem 𝓛 (Rests the_row self.entry (λ new. OnErr result (new ≡ self.old)
-            × IfOk result (λ settled.
-            TellsEvent self.old new (Close moment closing) (option_map settled_of settled)))) }
+        ensures* after { sem 𝓛 (Rests the_row self.entry
+            (TakesEvent self.old (Close moment closing) result)) }
         ensures back { IsErr result ↔ (moment < self.old.last) }
         ensures reply { IfOk result (λ settled. IfSome settled LendsReply) }
     {
@@ -207,9 +196,7 @@ impl Session {
         closing: Closing,
     ) -> Result<Option<SettledPoll>, ClockBack>
         ensures err { OnErr result (self.new ≡ self.old) }
-        ensures told { IfOk result
-            (λ taken. TellsEvent self.old self.new (Close moment closing)
-            (told_of taken self.new.reader.frame)) }
+        ensures told { IfOk result (TellsTaken self.old self.new (Close moment closing)) }
         ensures buffered { IfOk result (λ taken. CanTell taken self.new.reader.frame) }
         ensures back { IsErr result ↔ (moment < self.old.last) }
     {

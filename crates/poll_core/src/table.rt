@@ -1,7 +1,7 @@
 //! The table of pending polls.
 ghost use Rattle.std.specs.Prelude.{◌≡◌, ℕ, ◌+◌, ◌≤◌, ◌<◌, List, length, take, true, false, ◌%◌};
 ghost use Rattle.std.specs.Prelude.{IsSome, Option};
-ghost use Rattle.std.specs.List.{filter, list_any};
+ghost use Rattle.std.specs.List.{list_any};
 ghost use Rattle.mb_wire.specs.Frames.{IsOwn, is_bad};
 ghost use Rattle.poll_core.specs.Polls.{due, has_id};
 ghost use Rattle.poll_core.specs.Steps.{AreApart, TakesOut, TellsOwed, FindsFirst, FindsBy, Finds};

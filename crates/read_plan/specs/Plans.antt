@@ -34,6 +34,11 @@ pub record IsLawful (points items reads : List Run) : Type 0 where
   pub in_areas : All (IsInArea points) reads
   pub contained : All (IsContained reads) items
 
+-- no lawful plan has fewer than so many reads
+abbrev pub AreFewest : (points items : List Run) → (count : ℕ) → Type 0
+AreFewest points items count =
+    (reads : List Run) → IsLawful points items reads → count ≤ length reads
+
 -- before, by function, then by area number, then by first register
 abbrev pub ComesBefore : Run → Run → Type 0
 ComesBefore a b =

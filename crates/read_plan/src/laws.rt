@@ -1,9 +1,8 @@
 //! Laws of plans.
 ghost use Rattle.std.specs.Prelude.{List, ◌≤◌, length};
-ghost use Rattle.std.specs.List.{All};
 ghost use Rattle.read_plan.specs.declared.run.Run.{Run};
 ghost use Rattle.read_plan.specs.PlannedLists.{ListsArePlannedOnce};
-ghost use Rattle.read_plan.specs.Plans.{FollowsRule, IsContained, IsLawful};
+ghost use Rattle.read_plan.specs.Plans.{FollowsRule, IsLawful};
 
 /// A law of plans: whatever the points and their items, the rule's reads are the fewest.
 pub fn rule_is_least()

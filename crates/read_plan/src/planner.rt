@@ -1,9 +1,8 @@
 //! The plan of a point list.
-ghost use Rattle.std.specs.Prelude.{◌≡◌, ◌≤◌, IfOk, List, length, map};
+ghost use Rattle.std.specs.Prelude.{◌≡◌, IfOk, length, map};
 ghost use Rattle.read_plan.specs.Items.{items_of, runs_of};
 ghost use Rattle.read_plan.specs.PlannedReads.{read_runs};
-ghost use Rattle.read_plan.specs.Plans.{FollowsRule, IsLawful};
-ghost use Rattle.read_plan.specs.declared.run.Run.{Run};
+ghost use Rattle.read_plan.specs.Plans.{AreFewest, FollowsRule, IsLawful};
 
 use crate::items::items;
 use crate::places::Plan;
@@ -27,11 +26,10 @@ pub fn plan(alloc: Global, list: &PointList) -> Result<Plan, AllocError>
     ensures items { IfOk result (λ plan. plan.items ≡ items_of list.now) }
     ensures placed { IfOk result (λ plan. length plan.items ≡ length list.now) }
     ensures rule { IfOk result (λ plan. FollowsRule (items_of list.now) (read_runs plan.reads)) }
-    ensures lawful { IfOk result (λ plan.
-        IsLawful (runs_of list.now) (items_of list.now) (read_runs plan.reads)) }
-    ensures fewest { IfOk result (λ plan. (other : List Run)
-        → IsLawful (runs_of list.now) (items_of list.now) other
-        → length plan.reads ≤ length other) }
+    ensures lawful { IfOk result
+        (λ plan. IsLawful (runs_of list.now) (items_of list.now) (read_runs plan.reads)) }
+    ensures fewest { IfOk result
+        (λ plan. AreFewest (runs_of list.now) (items_of list.now) (length plan.reads)) }
 {
     let points = list.points();
     let starts = starts(alloc, points)?;

@@ -1,5 +1,5 @@
 //! The reads of the rule.
-ghost use Rattle.std.specs.Prelude.{◌≡◌, ◌+◌, ◌<◌, ◌≤◌, IfOk};
+ghost use Rattle.std.specs.Prelude.{◌<◌, IfOk};
 ghost use Rattle.std.specs.List.{All, AllPairs, AllZip, Contains};
 ghost use Rattle.read_plan.specs.Beginnings.{ReadsFrom};
 ghost use Rattle.read_plan.specs.Plans.{EndsBefore, FollowsRule, IsReadable};

@@ -65,8 +65,8 @@ fn feed<W: Write>(
     event: &Event,
     output: &mut W,
 ) -> io::Result<bool>
-    ensures { Carries result (λ accepted now printed next.
-        FedPrints now at event.now accepted printed next)
+    ensures { Carries result
+        (λ accepted now printed next. FedPrints now at event.now accepted printed next)
         office.old office.new (W.contents output.old) (W.contents output.new) }
 {
     match office.feed(at, event) {
@@ -91,8 +91,8 @@ pub(crate) fn feed_answers<L: Link, W: Write>(
     near: &mut L,
     output: &mut W,
 ) -> io::Result<bool>
-    ensures { Carries result (λ stays now printed next.
-        AnswersPrint device.now at now printed next)
+    ensures { Carries result
+        (λ stays now printed next. AnswersPrint device.now at now printed next)
         office.old office.new (W.contents output.old) (W.contents output.new) }
 {
     for _take in 0..MOST_TAKES {

@@ -60,8 +60,8 @@ fn bring_answers<L: Link + Drop, W: Write>(
     device: &Option<Name>,
     output: &mut W,
 ) -> io::Result<()>
-    ensures { Carries result (λ done now printed next.
-        AnswersPrint device.now at now printed next)
+    ensures { Carries result
+        (λ done now printed next. AnswersPrint device.now at now printed next)
         office.old office.new (W.contents output.old) (W.contents output.new) }
 {
     match wires.place_of(device) {

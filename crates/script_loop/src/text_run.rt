@@ -32,8 +32,8 @@ pub fn loop_text<R: Read, C: Connects, W: Write>(
     connects: &mut C,
     output: &mut W,
 ) -> Status
-    ensures { IfSome (R.remaining input.old) (λ all.
-        InputRuns zone all result (W.contents output.old) (W.contents output.new)) }
+    ensures { IfSome (R.remaining input.old)
+        (λ all. InputRuns zone all result (W.contents output.old) (W.contents output.new)) }
 {
     match read_input(alloc, input, output) {
         Ok(text) => run_text(alloc, zone, &text, connects, output),

@@ -8,10 +8,12 @@ use Rattle.office_events.specs.declared.facts.Fact.{Fact}
 use Rattle.office_events.specs.declared.refusals.Refusal.{Refusal}
 use Rattle.office_rules.specs.Facts.{register_of}
 use Rattle.office_rules.specs.History.{facts_of}
+use Rattle.office_rules.specs.Meters.{meter_of}
+use Rattle.office_rules.specs.Readings.{poll_row_of}
 use Rattle.office_core.specs.Asking.{AreDaysNamed, intervals_of, is_there, or_not_found, rows_in}
 use Rattle.row_text.specs.Rows.{day_line, end_line, share_line}
 use Rattle.script_replay.specs.Stages.{Stage, Fails, TellsStop}
-use Rattle.script_text.specs.AnswerText.{refused_line}
+use Rattle.script_text.specs.AnswerText.{meter_line, poll_line, refused_line}
 
 -- What is there is answered, or that there is nothing; or the office failed.
 pub record IsAnswered {T : Type 0} (now : Stage) (found : Option T) (reply : Result T Refusal)
@@ -30,6 +32,17 @@ pub record RowPrints {T : Type 0} (now : Stage) (found : Option T) (row_line : T
   pub is : IsAnswered now found reply
   pub text : printed ≡ row_text row_line reply
   pub same : next ≡ now
+
+-- where a meter stands
+abbrev pub MeterPrints : (name : Option (List ℕ)) → Stage → (printed : List ℕ) → (next : Stage)
+    → Type 0
+MeterPrints name now printed next =
+    RowPrints now (option_and_then (meter_of (facts_of now.past)) name) meter_line printed next
+
+-- how a poll ended
+abbrev pub PollPrints : (number : ℕ) → Stage → (printed : List ℕ) → (next : Stage) → Type 0
+PollPrints number now printed next =
+    RowPrints now (poll_row_of (facts_of now.past) number) poll_line printed next
 
 -- a count stops at the greatest number of 64 bits
 abbrev pub counted : ℕ → ℕ

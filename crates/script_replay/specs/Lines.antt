@@ -1,29 +1,23 @@
 -- What a line of a script prints, and where the script stands then.
 use Rattle.std.specs.Prelude.{◌≡◌, ◌⊎◌, ℕ, List, [], ◌++◌}
-use Rattle.std.specs.Option.{option_and_then}
 use Rattle.command_io.specs.Lines.{Line}
-use Rattle.office_rules.specs.History.{facts_of}
-use Rattle.office_rules.specs.Meters.{meter_of}
-use Rattle.office_rules.specs.Readings.{poll_row_of}
 use Rattle.script_lines.specs.Forms.{IsLine}
 use Rattle.script_lines.specs.declared.script.ScriptLine.{ScriptLine}
 use Rattle.script_lines.specs.declared.script.ScriptLine.TheVariants as line
 use Rattle.script_words.specs.Words.{words_of}
 use Rattle.script_replay.specs.Stages.{Stage}
 use Rattle.script_replay.specs.Events.{EventPrints, ListPrints, StartPrints}
-use Rattle.script_replay.specs.Asked.{DaysPrint, IntervalsPrint, RowPrints}
-use Rattle.script_text.specs.AnswerText.{bad_line, meter_line, poll_line}
+use Rattle.script_replay.specs.Asked.{DaysPrint, IntervalsPrint, MeterPrints, PollPrints}
+use Rattle.script_text.specs.AnswerText.{bad_line}
 
 abbrev pub LinePrints : Stage → ScriptLine → (printed : List ℕ) → (next : Stage) → Type 0
 LinePrints now (line.Event at e) printed next = EventPrints now at e printed next
 LinePrints now (line.List at list) printed next = ListPrints now at list printed next
 LinePrints now (line.Start at start) printed next = StartPrints now at start printed next
-LinePrints now (line.Meter name) printed next =
-    RowPrints now (option_and_then (meter_of (facts_of now.past)) name) meter_line printed next
+LinePrints now (line.Meter name) printed next = MeterPrints name now printed next
 LinePrints now (line.Intervals name) printed next = IntervalsPrint now name printed next
 LinePrints now (line.Days name) printed next = DaysPrint now name printed next
-LinePrints now (line.Poll number) printed next =
-    RowPrints now (poll_row_of (facts_of now.past) number) poll_line printed next
+LinePrints now (line.Poll number) printed next = PollPrints number now printed next
 
 -- Words that are a line of a script, carried out.
 pub record WordsPrint (now : Stage) (words : List (List ℕ)) (printed : List ℕ) (next : Stage)

@@ -1,11 +1,7 @@
 //! Questions.
-ghost use Rattle.std.specs.Option.{option_and_then};
-ghost use Rattle.office_rules.specs.History.{facts_of};
-ghost use Rattle.office_rules.specs.Meters.{meter_of};
-ghost use Rattle.office_rules.specs.Readings.{poll_row_of};
-ghost use Rattle.script_replay.specs.Asked.{DaysPrint, IntervalsPrint, RowPrints, last_line};
+ghost use Rattle.script_replay.specs.Asked.{DaysPrint, IntervalsPrint, MeterPrints, PollPrints};
+ghost use Rattle.script_replay.specs.Asked.{last_line};
 ghost use Rattle.script_replay.specs.TextRun.{CarriesOut};
-ghost use Rattle.script_text.specs.AnswerText as text;
 ghost use Rattle.sun_points.specs.Writing.{GotText};
 
 use crate::rows::Rows;
@@ -22,8 +18,7 @@ pub(crate) fn tell_meter<W: Write>(
     name: &Option<Name>,
     output: &mut W,
 ) -> io::Result<()>
-    ensures { CarriesOut (λ now printed next. RowPrints now
-        (option_and_then (meter_of (facts_of now.past)) name.now) text.meter_line printed next)
+    ensures { CarriesOut (MeterPrints name.now)
         office.old office.new result (W.contents output.old) (W.contents output.new) }
 {
     match office.meter(name) {
@@ -38,8 +33,7 @@ pub(crate) fn tell_poll<W: Write>(
     number: u64,
     output: &mut W,
 ) -> io::Result<()>
-    ensures { CarriesOut (λ now printed next. RowPrints now
-        (poll_row_of (facts_of now.past) number) text.poll_line printed next)
+    ensures { CarriesOut (PollPrints number)
         office.old office.new result (W.contents output.old) (W.contents output.new) }
 {
     match office.poll(number) {

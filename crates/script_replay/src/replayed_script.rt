@@ -21,8 +21,8 @@ pub struct Replayed<W> {
 /// alone. The input is read whole before its first line is carried out; what is printed is given out in
 /// pieces of some 8 KiB, and at the end.
 pub fn replay<R: Read, W: Write>(alloc: Global, zone: Zone, input: &mut R, output: W) -> Replayed<W>
-    ensures { IfSome (R.remaining input.old) (λ all.
-        Replays zone all result.status (W.contents output) (W.contents result.output)) }
+    ensures { IfSome (R.remaining input.old)
+        (λ all. Replays zone all result.status (W.contents output) (W.contents result.output)) }
 {
     let mut buffered = Buffered::new(output);
     let ended = run_input(alloc, zone, input, &mut buffered);

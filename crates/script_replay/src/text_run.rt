@@ -41,8 +41,8 @@ pub(crate) fn run_input<R: Read, W: Write>(
     input: &mut R,
     output: &mut W,
 ) -> Status
-    ensures { IfSome (R.remaining input.old) (λ all.
-        InputRuns zone all result (W.contents output.old) (W.contents output.new)) }
+    ensures { IfSome (R.remaining input.old)
+        (λ all. InputRuns zone all result (W.contents output.old) (W.contents output.new)) }
 {
     match read_input(alloc, input, output) {
         Ok(text) => run_text(alloc, zone, &text, output),

@@ -1,5 +1,5 @@
 -- What words spell.
-use Rattle.std.specs.Prelude.{ℕ, ℤ, pos, neg_ℤ, [], ◌∷◌, option_and_then, option_map, ◌%◌, ◌==◌, nat_le, Bool, ◌&&◌, if◌then◌else◌, List, length, Some, None}
+use Rattle.std.specs.Prelude.{◌≡◌, ℕ, ℤ, Vec, pos, neg_ℤ, [], ◌∷◌, option_and_then, option_map, ◌%◌, ◌==◌, nat_le, Bool, ◌&&◌, if◌then◌else◌, List, length, Some, None}
 use Rattle.std.specs.declared.option.Option.{Option}
 use Rattle.std.specs.List.{list_all}
 use Rattle.digits.specs.Digits.{number_of_digits}
@@ -26,6 +26,10 @@ abbrev pub bytes_of : List ℕ → Option (List ℕ)
 bytes_of word =
     if nat_le 1 (length word) && nat_le (length word) 131072 then result_ok (decode_of word)
     else None
+
+-- the bytes found are those that the word spells; none are, where it spells none
+abbrev pub SpellsBytes : {Z : Type 0} → (word : List ℕ) → (found : Option (Vec ℕ Z)) → Type 0
+SpellsBytes word found = option_map (λ bytes. bytes.items) found ≡ bytes_of word
 
 -- a name is any word of one byte or more, though it may be none that the office knows
 abbrev pub name_of : List ℕ → Option (Option (List ℕ))

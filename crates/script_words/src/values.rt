@@ -1,8 +1,8 @@
 //! What words spell.
-ghost use Rattle.std.specs.Prelude.{◌≡◌, ◌≤◌, IfOk, IfSome, IsErr, IsSome, option_map};
+ghost use Rattle.std.specs.Prelude.{◌≡◌, ◌≤◌, IfOk, IfSome, IsErr, IsSome};
 ghost use Rattle.std.specs.List.{list_all};
 ghost use Rattle.hex.specs.Hex.{is_hex_digit};
-ghost use Rattle.script_words.specs.Values.{bytes_of, is_paired, number_of};
+ghost use Rattle.script_words.specs.Values.{SpellsBytes, bytes_of, is_paired, number_of};
 
 use digits::number_of_digits;
 use std::alloc::{AllocError, Global};
@@ -28,8 +28,7 @@ pub fn number(word: &[u8]) -> Option<u64>
 /// The bytes that a word of hex digits spells, in either case: one to 65,536 whole bytes.
 #[tactic(auto, using(crate::proofs::HexWords::no_bytes, crate::proofs::HexWords::hex_spells))]
 pub fn hex_bytes(alloc: Global, word: &[u8]) -> Result<Option<Vec<u8>>, AllocError>
-    ensures value { IfOk result (λ found.
-        option_map (λ bytes. bytes.items) found ≡ bytes_of word.now) }
+    ensures value { IfOk result (SpellsBytes word.now) }
     ensures memory { IsErr result → IsSome (bytes_of word.now) }
 {
     if word.is_empty() || word.len() > MOST_HEX_DIGITS {

@@ -1,5 +1,5 @@
 -- What a clock tells, where its moments are known.
-use Rattle.std.specs.Prelude.{◌≡◌, ℕ, List, [], ◌∷◌, Option, None, Some}
+use Rattle.std.specs.Prelude.{◌≡◌, ℕ, Bool, List, [], ◌∷◌, Option, None, Some, nat_lt}
 use Rattle.socket_link.specs.declared.clock.ListedClock.{ListedClock}
 
 -- the moments of a listed clock
@@ -10,6 +10,10 @@ moments_in clock = clock.moments.now
 abbrev pub next_moment : List ℕ → ℕ
 next_moment [] = 0
 next_moment (moment ∷ later) = moment
+
+-- it is late where the next moment is past the last that is in time
+abbrev pub TellsLate : (until : ℕ) → (late : Bool) → (moments : List ℕ) → Type 0
+TellsLate until late moments = late ≡ nat_lt until (next_moment moments)
 
 -- the moments behind it; the last is told again and again
 abbrev pub later_moments : List ℕ → List ℕ

@@ -15,9 +15,9 @@ pub struct HurriedLink<'l, L: Link, C: Clock> {
 }
 
 impl<'l, L: Link, C: Clock> HurriedLink<'l, L, C> {
-    ghost use Rattle.std.specs.Prelude.{◌≡◌, nat_lt, IfSome};
+    ghost use Rattle.std.specs.Prelude.{◌≡◌, IfSome};
     ghost use Rattle.socket_link.specs.Beginnings.{IsFreshHaste, until_of};
-    ghost use Rattle.socket_link.specs.Clocks.{next_moment};
+    ghost use Rattle.socket_link.specs.Clocks.{TellsLate};
 
     /// A link that works while the clock tells no moment past `until`.
     pub fn new(link: &'l mut L, clock: &'l mut C, until: u64) -> HurriedLink<'l, L, C>
@@ -37,8 +37,7 @@ impl<'l, L: Link, C: Clock> HurriedLink<'l, L, C> {
 
     // Whether the clock has passed the moment.
     fn is_late(&mut self) -> bool
-        ensures late { IfSome (C.moments self.old.clock.now) (λ moments.
-            result ≡ nat_lt self.old.until (next_moment moments)) }
+        ensures late { IfSome (C.moments self.old.clock.now) (TellsLate self.old.until result) }
         ensures link { self.new.link.now ≡ self.old.link.now }
         ensures failures { self.new.failures ≡ self.old.failures }
         ensures takes { self.new.takes ≡ self.old.takes }

@@ -1,5 +1,5 @@
 -- What the tables tell of a meter's journal, and what a void makes of the tables.
-use Rattle.std.specs.Prelude.{◌≡◌, ℕ, false, List, Option, Some, None}
+use Rattle.std.specs.Prelude.{◌≡◌, ℕ, false, List, ◌∷◌, map, Option, Some, None}
 use Rattle.energy_core.specs.declared.entries.Entry.{Entry}
 use Rattle.energy_core.specs.declared.entries.Last.{Last}
 use Rattle.energy_core.specs.Account.{last_of, whole_energy, steps_of}
@@ -8,13 +8,14 @@ use Rattle.meter_journal.specs.Intervals.{rows_of_steps}
 use Rattle.meter_journal.specs.Journal.{Around, entries_in, row_at, with_rolls, with_void}
 use Rattle.meter_journal.specs.Lists.{latest_first}
 use Rattle.meter_journal.specs.Voids.{last_before}
+use Rattle.sqlite.specs.Order.{Row}
 use Rattle.office_events.specs.declared.facts.Opening.{Opening}
 use Rattle.office_events.specs.declared.facts.Fact.{Fact}
 use Rattle.office_rules.specs.Facts.{opening_of}
 use Rattle.office_rules.specs.Meters.{opened, rows_of}
 use Rattle.store_tables.specs.Content.{Content, Edits, with_row, changed_where}
 use Rattle.store_entries.specs.Trees.{entries, voids}
-use Rattle.store_entries.specs.Rows.{Entered, entry_columns, is_entry, rolled, voided_columns}
+use Rattle.store_entries.specs.Rows.{Entered, entry_columns, entry_shown, is_entry, rolled, voided_columns}
 use Rattle.store_intervals.specs.Replacement.{ReplacesShares}
 use Rattle.store_facts.specs.Rows.{rolls_of}
 use Rattle.store_facts.specs.Tables.{AreOf}
@@ -28,6 +29,11 @@ use Rattle.store_booking.specs.MeterState.{stands_at, Settles}
 pub record IsSaidIn (Say : List Fact → Type 0) (content after : Content) : Type 0 where
   pub same : after ≡ content
   pub says : (zone : List ℕ) (facts : List Fact) → AreOf zone facts content → Say facts
+
+-- where the counter stood at the first of the entries that these rows show
+abbrev pub StoodAtFirst : (rows : List Row) → Last → Type 0
+StoodAtFirst rows last = (e : Entered) (es : List Entered) → rows ≡ map entry_shown (e ∷ es)
+    → last ≡ record { at = e.entry.moment; raw = e.entry.raw; sf = e.entry.sf }
 
 -- the journal of a meter that was installed
 pub record IsJournalFrom (facts : List Fact) (first : Opening) (journal : MeterJournal) : Type 0

@@ -1,11 +1,10 @@
 //! The journal of a meter, as the tables tell it.
-ghost use Rattle.std.specs.Prelude.{◌≡◌, ◌∷◌, List, map, IfOk};
+ghost use Rattle.std.specs.Prelude.{◌≡◌, IfOk};
 ghost use Rattle.sqlite.specs.Held.{state};
-ghost use Rattle.store_entries.specs.Rows.{Entered, entry_shown};
 ghost use Rattle.store_metering.specs.Entries.{ShowsEntries, ShowsVoids};
 ghost use Rattle.store_facts.specs.Going.{Goes};
 ghost use Rattle.store_booking.specs.Places.{Answered};
-ghost use Rattle.store_booking.specs.Voids.{IsSaidIn, IsJournalOf};
+ghost use Rattle.store_booking.specs.Voids.{IsSaidIn, StoodAtFirst, IsJournalOf};
 
 use crate::meter_state::range_of;
 use energy_core::Last;
@@ -49,9 +48,7 @@ fn voids_of<S: Alter>(tx: &mut Transaction<'_, S>, meter: &str) -> Result<Vec<Ro
 
 /// Where the counter stood at the first of these entries.
 fn first_of(entries: &[Row]) -> Result<Last, RowFault>
-    ensures { IfOk result (λ last. (e : Entered) (es : List Entered)
-        → entries.now ≡ map entry_shown (e ∷ es)
-        → last ≡ record { at = e.entry.moment; raw = e.entry.raw; sf = e.entry.sf }) }
+    ensures { IfOk result (StoodAtFirst entries.now) }
 {
     match entries.first() {
         None => Err(RowFault::Damaged),

@@ -4,7 +4,8 @@ ghost use Rattle.sqlite.specs.Held.{state};
 ghost use Rattle.store_tables.specs.Content.{Edits, with_row, changed_where};
 ghost use Rattle.store_tables.specs.Steps.{Steps};
 ghost use Rattle.store_tables.specs.Answer.{IsFound, IsLast, AnyOrder, LastFirst, FirstFirst};
-ghost use Rattle.store_tables.specs.Asking.{Asks, AsksInside, Tells, Shows, ShowsFirst, LooksUp};
+ghost use Rattle.store_tables.specs.Asking.{Asks, AsksInside, LooksUp};
+ghost use Rattle.store_tables.specs.Asking.{TellsRows, Shows, ShowsFirst};
 ghost use Rattle.store_tables.specs.Limits.{IsPlace, greatest_place};
 ghost use Rattle.store_entries.specs.Rows.{entry_columns, entry_shown, place_shown, entry_place};
 ghost use Rattle.store_entries.specs.Rows.{is_entry, is_of, IsRow, HasEntryPlace, rolled};
@@ -68,9 +69,8 @@ pub fn roll_entry<S: Alter>(
 fn rows_at<S: Alter>(conn: &mut Connection<S>, meter: &str, place: u64) -> Result<Vec<Row>, Error>
     requires place { place ≤ greatest_place }
     ensures asks { Asks S.Store conn.old conn.new }
-    ensures shows { Tells S.Store conn.old conn.new entries entry_columns result
-        (λ rows answer.
-        ShowsFirst (is_entry meter.now place) AnyOrder entry_shown rows answer.items) }
+    ensures shows { TellsRows S.Store conn.old conn.new entries entry_columns result
+        (ShowsFirst (is_entry meter.now place) AnyOrder entry_shown) }
 {
     let place = number(place);
     conn.query_all(
@@ -100,9 +100,8 @@ pub fn entry_at<S: Alter>(
 /// The place of the last entry of a meter, if there is one.
 fn last_rows<S: Alter>(conn: &mut Connection<S>, meter: &str) -> Result<Vec<Row>, Error>
     ensures asks { Asks S.Store conn.old conn.new }
-    ensures shows { Tells S.Store conn.old conn.new entries entry_columns result
-        (λ rows answer.
-        ShowsFirst (is_of meter.now) (LastFirst entry_place) place_shown rows answer.items) }
+    ensures shows { TellsRows S.Store conn.old conn.new entries entry_columns result
+        (ShowsFirst (is_of meter.now) (LastFirst entry_place) place_shown) }
 {
     conn.query_all(
         "SELECT place FROM entries WHERE meter = ?1 ORDER BY place DESC LIMIT 1",
@@ -126,9 +125,8 @@ pub fn last_place<S: Alter>(conn: &mut Connection<S>, meter: &str) -> Result<Opt
 /// The entries of a meter in order of place; `read_entry` reads each.
 pub fn entry_rows<S: Alter>(conn: &mut Connection<S>, meter: &str) -> Result<Vec<Row>, Error>
     ensures asks { Asks S.Store conn.old conn.new }
-    ensures shows { Tells S.Store conn.old conn.new entries entry_columns result
-        (λ rows answer.
-        Shows (is_of meter.now) (FirstFirst entry_place) entry_shown rows answer.items) }
+    ensures shows { TellsRows S.Store conn.old conn.new entries entry_columns result
+        (Shows (is_of meter.now) (FirstFirst entry_place) entry_shown) }
 {
     conn.query_all(
         "SELECT place, kind, moment, raw, rolls, \"after\", sf FROM entries WHERE meter = ?1 ORDER BY place",
@@ -143,9 +141,8 @@ pub fn last_entry_rows<S: Alter>(
 ) -> Result<Vec<Row>, Error>
     ensures same_reference { tx.new.conn.ghost_name ≡ tx.old.conn.ghost_name }
     ensures asks { AsksInside S.Store tx.old.conn.now tx.new.conn.now result }
-    ensures shows { Tells S.Store tx.old.conn.now tx.new.conn.now entries entry_columns result
-        (λ rows answer.
-        ShowsFirst (is_of meter.now) (LastFirst entry_place) place_shown rows answer.items) }
+    ensures shows { TellsRows S.Store tx.old.conn.now tx.new.conn.now entries entry_columns result
+        (ShowsFirst (is_of meter.now) (LastFirst entry_place) place_shown) }
 {
     tx.query_all(
         "SELECT place FROM entries WHERE meter = ?1 ORDER BY place DESC LIMIT 1",

@@ -1,7 +1,7 @@
 //! The entries and voids of a meter, asked for inside a transaction.
 ghost use Rattle.std.specs.Prelude.{◌≡◌};
 ghost use Rattle.store_tables.specs.Answer.{FirstFirst};
-ghost use Rattle.store_tables.specs.Asking.{AsksInside, Tells, Shows};
+ghost use Rattle.store_tables.specs.Asking.{AsksInside, TellsRows, Shows};
 ghost use Rattle.store_entries.specs.Rows.{entry_columns, entry_shown, entry_place, is_of};
 ghost use Rattle.store_entries.specs.Rows.{voided_columns, voided_shown, voided_place, is_void_of};
 ghost use Rattle.store_entries.specs.Trees.{entries, voids};
@@ -15,9 +15,8 @@ pub fn entry_rows_inside<S: Alter>(
 ) -> Result<Vec<Row>, Error>
     ensures same_reference { tx.new.conn.ghost_name ≡ tx.old.conn.ghost_name }
     ensures asks { AsksInside S.Store tx.old.conn.now tx.new.conn.now result }
-    ensures shows { Tells S.Store tx.old.conn.now tx.new.conn.now entries entry_columns result
-        (λ rows answer.
-        Shows (is_of meter.now) (FirstFirst entry_place) entry_shown rows answer.items) }
+    ensures shows { TellsRows S.Store tx.old.conn.now tx.new.conn.now entries entry_columns result
+        (Shows (is_of meter.now) (FirstFirst entry_place) entry_shown) }
 {
     tx.query_all(
         "SELECT place, kind, moment, raw, rolls, \"after\", sf FROM entries WHERE meter = ?1 ORDER BY place",
@@ -32,9 +31,8 @@ pub fn void_rows_inside<S: Alter>(
 ) -> Result<Vec<Row>, Error>
     ensures same_reference { tx.new.conn.ghost_name ≡ tx.old.conn.ghost_name }
     ensures asks { AsksInside S.Store tx.old.conn.now tx.new.conn.now result }
-    ensures shows { Tells S.Store tx.old.conn.now tx.new.conn.now voids voided_columns result
-        (λ rows answer.
-        Shows (is_void_of meter.now) (FirstFirst voided_place) voided_shown rows answer.items) }
+    ensures shows { TellsRows S.Store tx.old.conn.now tx.new.conn.now voids voided_columns result
+        (Shows (is_void_of meter.now) (FirstFirst voided_place) voided_shown) }
 {
     tx.query_all(
         "SELECT place FROM voids WHERE meter = ?1 ORDER BY place",

@@ -3,7 +3,7 @@
 ghost use Rattle.std.specs.Prelude.{◌≤◌, IfOk, IfSome};
 ghost use Rattle.store_tables.specs.Limits.{latest_moment};
 ghost use Rattle.store_tables.specs.Answer.{IsLast, LastFirst, every};
-ghost use Rattle.store_tables.specs.Asking.{Asks, Tells, ShowsFirst, LooksUp};
+ghost use Rattle.store_tables.specs.Asking.{Asks, TellsRows, ShowsFirst, LooksUp};
 ghost use Rattle.store_entries.specs.Rows.{entry_columns, voided_columns, IsSoundEntered};
 ghost use Rattle.store_entries.specs.Latest.{entry_moment, entry_moment_shown, HasEntryMoment};
 ghost use Rattle.store_entries.specs.Latest.{void_moment, void_moment_shown, HasVoidMoment};
@@ -17,9 +17,8 @@ use store_tables::RowFault;
 /// The latest moment of an entry, if there is one.
 fn entry_moments<S: Alter>(conn: &mut Connection<S>) -> Result<Vec<Row>, Error>
     ensures asks { Asks S.Store conn.old conn.new }
-    ensures shows { Tells S.Store conn.old conn.new entries entry_columns result
-        (λ rows answer.
-        ShowsFirst every (LastFirst entry_moment) entry_moment_shown rows answer.items) }
+    ensures shows { TellsRows S.Store conn.old conn.new entries entry_columns result
+        (ShowsFirst every (LastFirst entry_moment) entry_moment_shown) }
 {
     conn.query_all(
         "SELECT moment FROM entries ORDER BY moment DESC LIMIT 1",
@@ -43,9 +42,8 @@ pub fn latest_entry<S: Alter>(conn: &mut Connection<S>) -> Result<Option<u64>, R
 /// The latest moment at which an entry was voided, if one was.
 fn void_moments<S: Alter>(conn: &mut Connection<S>) -> Result<Vec<Row>, Error>
     ensures asks { Asks S.Store conn.old conn.new }
-    ensures shows { Tells S.Store conn.old conn.new voids voided_columns result
-        (λ rows answer.
-        ShowsFirst every (LastFirst void_moment) void_moment_shown rows answer.items) }
+    ensures shows { TellsRows S.Store conn.old conn.new voids voided_columns result
+        (ShowsFirst every (LastFirst void_moment) void_moment_shown) }
 {
     conn.query_all("SELECT moment FROM voids ORDER BY moment DESC LIMIT 1", &[])
 }

@@ -4,7 +4,7 @@ ghost use Rattle.sqlite.specs.Held.{state};
 ghost use Rattle.store_tables.specs.Content.{Edits, with_row};
 ghost use Rattle.store_tables.specs.Steps.{Steps};
 ghost use Rattle.store_tables.specs.Answer.{FirstFirst};
-ghost use Rattle.store_tables.specs.Asking.{Asks, Tells, Shows};
+ghost use Rattle.store_tables.specs.Asking.{Asks, TellsRows, Shows};
 ghost use Rattle.store_tables.specs.Limits.{IsPlace, latest_moment};
 ghost use Rattle.store_entries.specs.Rows.{voided_columns, voided_shown, voided_place, is_void_of};
 ghost use Rattle.store_entries.specs.Trees.{voids};
@@ -37,9 +37,8 @@ pub fn insert_void<S: Alter>(
 /// The voided entries of a meter in order of place; `read_void` reads each.
 pub fn void_rows<S: Alter>(conn: &mut Connection<S>, meter: &str) -> Result<Vec<Row>, Error>
     ensures asks { Asks S.Store conn.old conn.new }
-    ensures shows { Tells S.Store conn.old conn.new voids voided_columns result
-        (λ rows answer.
-        Shows (is_void_of meter.now) (FirstFirst voided_place) voided_shown rows answer.items) }
+    ensures shows { TellsRows S.Store conn.old conn.new voids voided_columns result
+        (Shows (is_void_of meter.now) (FirstFirst voided_place) voided_shown) }
 {
     conn.query_all(
         "SELECT place FROM voids WHERE meter = ?1 ORDER BY place",

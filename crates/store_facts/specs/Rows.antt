@@ -1,5 +1,5 @@
 -- The rows that the tables have for facts.
-use Rattle.std.specs.Prelude.{ℕ, ℤ, ◌+◌, ◌≤◌, IsTrue, false, List, [], ◌∷◌, length, Option, Some, None}
+use Rattle.std.specs.Prelude.{◌≡◌, ℕ, ℤ, ◌+◌, ◌≤◌, IsTrue, false, List, [], ◌∷◌, length, map, Vec, Option, Some, None}
 use Rattle.std.specs.List.{find}
 use Rattle.energy_core.specs.declared.entries.Entry.{Entry}
 use Rattle.energy_core.specs.declared.entries.Entry.TheVariants as entry
@@ -32,7 +32,8 @@ use Rattle.store_tables.specs.Columns.{is_within}
 use Rattle.store_tables.specs.Limits.{latest_moment}
 use Rattle.store_lists.specs.declared.rows.RegisterScale.{RegisterScale}
 use Rattle.store_lists.specs.declared.rows.RegisterScale.TheVariants as scale
-use Rattle.store_lists.specs.Rows.{Added, Listed, Registered}
+use Rattle.store_lists.specs.declared.rows.Point.{Point}
+use Rattle.store_lists.specs.Rows.{Added, Listed, Registered, listed_at}
 use Rattle.store_meters.specs.declared.rows.LastRow.{LastRow}
 use Rattle.store_meters.specs.Rows.{Installed, Ranged, IsRange, greatest_ceiling}
 use Rattle.store_entries.specs.declared.rows.EntryRow.{EntryRow}
@@ -81,6 +82,14 @@ listed device place point = record {
     address = point.address;
   };
 }
+
+-- a point as the tables take it at a place of any device's list, and the points of a whole list
+abbrev pub IsPlacedPoint : (place : ℕ) → ListedPoint → Point → Type 0
+IsPlacedPoint place point row = (device : List ℕ) → listed_at device row ≡ listed device place point
+
+abbrev pub ArePlacedPoints : {Z : Type 0} → List ListedPoint → Vec Point Z → Type 0
+ArePlacedPoints points rows =
+    (device : List ℕ) → map (listed_at device) rows.items ≡ placed_on (listed device) 0 points
 
 -- the points that were put last for a device, in order
 abbrev pub points_put : Option DeviceList → List ListedPoint

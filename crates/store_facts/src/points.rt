@@ -1,11 +1,11 @@
 //! The points of a device's list.
-ghost use Rattle.std.specs.Prelude.{◌≡◌, ◌++◌, ◌∷◌, [], ℕ, List, map, IfOk, All};
+ghost use Rattle.std.specs.Prelude.{◌≡◌, ◌++◌, ◌∷◌, [], IfOk, All};
 ghost use Rattle.std.specs.Fmt.{signed_decimal};
 ghost use Rattle.std.specs.String.{string_bytes};
 ghost use Rattle.point_list.specs.RowTexts as written;
 ghost use Rattle.store_tables.specs.Limits.{IsPlace};
-ghost use Rattle.store_lists.specs.Rows.{IsSoundPoint, listed_at};
-ghost use Rattle.store_facts.specs.Rows as rows;
+ghost use Rattle.store_lists.specs.Rows.{IsSoundPoint};
+ghost use Rattle.store_facts.specs.Rows.{IsPlacedPoint, ArePlacedPoints};
 
 use mb_wire::ReadFunction;
 use point_list::{ListedPoint, PointName, PointScale, type_text};
@@ -78,8 +78,7 @@ fn numbers(place: u64, function: ReadFunction, area: u8, address: u16) -> PointR
 
 /// A point at a place of its list.
 fn point_at(alloc: Global, point: &ListedPoint, place: u64) -> Result<Point, RowFault>
-    ensures listed { IfOk result (λ p. (device : List ℕ)
-        → listed_at device p ≡ rows.listed device place point.now) }
+    ensures listed { IfOk result (IsPlacedPoint place point.now) }
     ensures sound { IsPlace place → IfOk result (λ p. IsSoundPoint p.row) }
 {
     let name = name(alloc, &point.name)?;
@@ -102,8 +101,7 @@ fn push(points: &mut Vec<Point>, point: Point) -> Result<(), Error>
 
 /// The points of a list with their places, which count from 1. A name that is no text is damage.
 pub fn points_at(alloc: Global, points: &[ListedPoint]) -> Result<Vec<Point>, RowFault>
-    ensures listed { IfOk result (λ ps. (device : List ℕ)
-        → map (listed_at device) ps.items ≡ rows.placed_on (rows.listed device) 0 points.now) }
+    ensures listed { IfOk result (ArePlacedPoints points.now) }
     ensures sound { IfOk result (λ ps. All (λ p. IsSoundPoint p.row) ps.items) }
 {
     let mut rows = Vec::new(alloc);

@@ -1,5 +1,6 @@
 -- What the row of `meta` tells to whom opens the file, and what the finding of it leaves.
-use Rattle.std.specs.Prelude.{◌≡◌, ◌≢◌, ℕ, Result, OnOk, IfOk, IfErr, IsUtf8}
+use Rattle.std.specs.Prelude.{◌≡◌, ◌≢◌, ℕ, [], ◌∷◌, Vec, Result, OnOk, IfOk, IfErr, IsUtf8}
+use Rattle.sqlite.specs.Order.{Row}
 use Rattle.sqlite.specs.State.{State, KeepsCommit, Survives, IsUnchanged}
 use Rattle.interval_core.specs.declared.zone.Zone.{Zone}
 use Rattle.interval_core.specs.Zone.{HasRule}
@@ -8,8 +9,13 @@ use Rattle.store_files.specs.declared.faults.OpenFault.{OpenFault}
 use Rattle.store_files.specs.declared.faults.OpenFault.TheVariants.{NotOurs, Zone as NoZone}
 use Rattle.store_files.specs.declared.layouts.Layout.{Layout}
 use Rattle.store_files.specs.Layouts.{version_of}
-use Rattle.store_files.specs.Meta.{Meta, IsMarked}
+use Rattle.store_files.specs.Meta.{Meta, meta_shown, IsMarked}
 use Rattle.store_files.specs.Zones.{IsZone}
+
+-- The row of `meta` alone is answered, and nothing was changed.
+abbrev pub ShowsMeta : {Z : Type 0} → Content → (old new : State) → Vec Row Z → Type 0
+ShowsMeta content old new rows =
+    IsUnchanged old new × ((m : Meta) → IsMarked m content → rows.items ≡ meta_shown m ∷ [])
 
 -- A file that tells another version is not opened, nor one whose zone is none. A file of this version is ours, and its zone is answered.
 pub record Tells (version : ℕ) (m : Meta) (result : Result Zone OpenFault) : Type 0 where

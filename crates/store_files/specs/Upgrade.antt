@@ -1,11 +1,11 @@
 -- What an opening makes of a file of an earlier version.
-use Rattle.std.specs.Prelude.{◌≡◌, ◌≢◌, ℕ, List, [], ◌∷◌, ◌++◌, map, Result, IsTrue, OnOk, OnErr}
+use Rattle.std.specs.Prelude.{◌≡◌, ◌≢◌, ℕ, List, [], ◌∷◌, ◌++◌, map, Vec, Result, IsTrue, OnOk, OnErr}
 use Rattle.std.specs.List.Sorted.{IsPermutation}
 use Rattle.sqlite.specs.declared.types.Value.{Value}
 use Rattle.sqlite.specs.declared.types.Value.TheVariants.{Null, Int, Real, Text, Blob}
 use Rattle.sqlite.specs.Order.{Row, column}
 use Rattle.sqlite.specs.Effect.{Database}
-use Rattle.sqlite.specs.State.{State, KeepsCommit, Survives}
+use Rattle.sqlite.specs.State.{State, KeepsCommit, Survives, IsUnchanged}
 use Rattle.store_tables.specs.Content.{Content, Edits, HasRows, AreTables, AreTablesIn}
 use Rattle.store_meters.specs.Rows.{Installed, installed_columns, Ranged, ranged_columns}
 use Rattle.store_meters.specs.Trees.{installations, ranges}
@@ -59,6 +59,16 @@ Brings layout zone old new = (content : Content) → IsFile layout zone old cont
 abbrev pub meter_shown : Installed → Row
 meter_shown i = Text i.meter ∷ []
 
+-- a row for each of its meters, in any order
+abbrev pub AreMetersOf : Content → (shown : List Row) → Type 0
+AreMetersOf content shown =
+    (is : List Installed) → HasRows installations installed_columns is content
+    → IsPermutation (map meter_shown is) shown
+
+-- these are answered, and nothing was changed
+abbrev pub ShowsMeters : {Z : Type 0} → Content → (old new : State) → Vec Row Z → Type 0
+ShowsMeters content old new rows = IsUnchanged old new × AreMetersOf content rows.items
+
 -- the text of a value, if it is one
 abbrev pub text_in : Value → List ℕ
 text_in Null = []
@@ -83,8 +93,7 @@ GivesRanges shown = Edits ranges ranged_columns (with_ranges shown)
 abbrev pub BringsFirst : (shown : List Row) → Database → Database → Type 0
 BringsFirst shown old new =
     (zone : List ℕ) (content : Content) → IsFile First zone old content
-    → ((is : List Installed) → HasRows installations installed_columns is content
-    → IsPermutation (map meter_shown is) shown)
+    → AreMetersOf content shown
     → (after : Content) × IsBrought First zone content after × AreTables new after
 
 abbrev pub BringsSecond : Database → Database → Type 0

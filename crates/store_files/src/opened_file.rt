@@ -1,7 +1,7 @@
 //! How a file is opened.
 ghost use Rattle.std.specs.Prelude.{◌≡◌, ◌≢◌, ◌⊎◌, ◌↔◌, false, [], ◌∷◌, IsTrue, IfOk, IfErr};
 ghost use Rattle.std.specs.Prelude.{IsUtf8, Err};
-ghost use Rattle.sqlite.specs.State.{HasCleanDisk, KeepsCommit, Survives, IsUnchanged};
+ghost use Rattle.sqlite.specs.State.{HasCleanDisk, KeepsCommit, Survives};
 ghost use Rattle.sqlite.specs.Held.{state};
 ghost use Rattle.interval_core.specs.Zone.{HasRule};
 ghost use Rattle.store_tables.specs.Content.{Content, AreTablesIn};
@@ -10,7 +10,7 @@ ghost use Rattle.store_files.specs.Layouts.{version_of, schema_of, IsNamedAs};
 ghost use Rattle.store_files.specs.Meta.{Meta, meta_shown, IsMarked};
 ghost use Rattle.store_files.specs.Zones.{IsZone};
 ghost use Rattle.store_files.specs.Upgrade.{IsFile, OpensFile, IsOpenTo};
-ghost use Rattle.store_files.specs.OpenedFile.{Tells, FindsZone};
+ghost use Rattle.store_files.specs.OpenedFile.{ShowsMeta, Tells, FindsZone};
 
 use crate::faults::{OpenFault, fault_of};
 use crate::layouts::{Layout, layout_of};
@@ -29,8 +29,7 @@ fn meta_rows<S: Alter>(conn: &mut Connection<S>) -> Result<Vec<Row>, Error>
         → KeepsCommit (state S.Store conn.old) (state S.Store conn.new) }
     ensures shows { HasCleanDisk (state S.Store conn.new) → (layout : TheLayout) (content : Content)
         → AreTablesIn (schema_of layout) (state S.Store conn.old).now content
-        → IfOk result (λ rows. IsUnchanged (state S.Store conn.old) (state S.Store conn.new)
-        × ((m : Meta) → IsMarked m content → rows.items ≡ meta_shown m ∷ [])) }
+        → IfOk result (ShowsMeta content (state S.Store conn.old) (state S.Store conn.new)) }
     ensures survives { (layout : TheLayout) (content : Content)
         → AreTablesIn (schema_of layout) (state S.Store conn.old).now content
         → Survives (state S.Store conn.old) (state S.Store conn.new) (λ _. ⊥) }

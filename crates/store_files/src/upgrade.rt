@@ -1,18 +1,14 @@
 //! How a file of an earlier version is brought to version 3.
-ghost use Rattle.std.specs.Prelude.{◌≡◌, ◌≢◌, false, [], ◌∷◌, map, List, IsTrue, IfOk, OnOk};
-ghost use Rattle.std.specs.Prelude.{string_bytes};
-ghost use Rattle.std.specs.List.Sorted.{IsPermutation};
+ghost use Rattle.std.specs.Prelude.{◌≡◌, false, IfOk, string_bytes};
 ghost use Rattle.sqlite.specs.Order.{column};
 ghost use Rattle.sqlite.specs.declared.types.Value.TheVariants.{Text};
-ghost use Rattle.sqlite.specs.State.{HasCleanDisk, KeepsCommit, Survives, IsUnchanged};
+ghost use Rattle.sqlite.specs.State.{HasCleanDisk, KeepsCommit, Survives};
 ghost use Rattle.sqlite.specs.Held.{state};
-ghost use Rattle.store_tables.specs.Content.{Content, HasRows, AreTablesIn};
+ghost use Rattle.store_tables.specs.Content.{Content, AreTablesIn};
 ghost use Rattle.store_tables.specs.Steps.{Steps, StepsTo, TransactsTo};
-ghost use Rattle.store_meters.specs.Rows.{Installed, installed_columns};
-ghost use Rattle.store_meters.specs.Trees.{installations};
 ghost use Rattle.store_files.specs.declared.layouts.Layout.TheVariants.{First as TheFirst};
 ghost use Rattle.store_files.specs.Layouts.{schema_of};
-ghost use Rattle.store_files.specs.Upgrade.{meter_shown, GivesRanges, BringsFirst, BringsSecond};
+ghost use Rattle.store_files.specs.Upgrade.{ShowsMeters, GivesRanges, BringsFirst, BringsSecond};
 ghost use Rattle.store_files.specs.Upgrade.{OpensFile, IsOpenTo};
 
 use crate::layouts::Layout;
@@ -30,9 +26,7 @@ fn meter_rows<S: Alter>(conn: &mut Connection<S>) -> Result<Vec<Row>, Error>
         → KeepsCommit (state S.Store conn.old) (state S.Store conn.new) }
     ensures shows { HasCleanDisk (state S.Store conn.new) → (content : Content)
         → AreTablesIn (schema_of TheFirst) (state S.Store conn.old).now content
-        → IfOk result (λ rows. IsUnchanged (state S.Store conn.old) (state S.Store conn.new)
-        × ((is : List Installed) → HasRows installations installed_columns is content
-        → IsPermutation (map meter_shown is) rows.items)) }
+        → IfOk result (ShowsMeters content (state S.Store conn.old) (state S.Store conn.new)) }
     ensures survives { (content : Content)
         → AreTablesIn (schema_of TheFirst) (state S.Store conn.old).now content
         → Survives (state S.Store conn.old) (state S.Store conn.new) (λ _. ⊥) }

@@ -35,6 +35,12 @@ latest_ended facts = greatest (λ e. e.at) (ended_in facts)
 abbrev pub latest_replied : List Fact → ℕ
 latest_replied facts = greatest (λ r. r.at) (replies_in facts)
 
+-- polls, held readings and kept replies
+abbrev pub latest_asked : List Fact → ℕ
+latest_asked facts =
+    max (max (latest_started facts) (latest_ended facts))
+    (max (latest_held facts) (latest_replied facts))
+
 -- The rows that the tables have for facts with a moment have values that the tables can have.
 pub record HasReadableMoments (facts : List Fact) : Type 0 where
   pub entries : (meter : List ℕ) → AllByRecursion IsSoundEntered (entries_of facts meter)

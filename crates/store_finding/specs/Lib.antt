@@ -3,4 +3,5 @@ pub mod Finding
 pub mod Latest
 pub mod Points
 pub mod Reading
+pub mod Showing
 pub mod Sound

@@ -1,13 +1,13 @@
 //! Devices.
-ghost use Rattle.std.specs.Prelude.{◌≡◌, ◌&&◌, nat_le, if◌then◌else◌, false, map, reverse};
+ghost use Rattle.std.specs.Prelude.{◌≡◌, ◌&&◌, nat_le, if◌then◌else◌, false, reverse};
 ghost use Rattle.std.specs.Prelude.{string_bytes};
 ghost use Rattle.office_rules.specs.Facts as facts_of;
 ghost use Rattle.store_tables.specs.Asking.{ReadsRow};
 ghost use Rattle.store_tables.specs.Columns.{or_damaged};
 ghost use Rattle.store_lists.specs.Rows.{device_shown};
-ghost use Rattle.store_facts.specs.Rows.{placed, added};
 ghost use Rattle.store_finding.specs.Finding.{Finds, ReadsAll};
 ghost use Rattle.store_finding.specs.Reading.{device_with, IsDeviceOf};
+ghost use Rattle.store_finding.specs.Showing.{ShowsDevices};
 ghost use Rattle.store_finding.specs.Sound.{IsReadableDevice, HasReadableDevices};
 
 use crate::memory::put;
@@ -77,10 +77,7 @@ fn devices_in(rows: &Vec<Row>) -> Result<Vec<Device>, RowFault>
 /// The rows of the devices, in the order in which they were added.
 fn rows<S: Alter>(conn: &mut Connection<S>) -> Result<Vec<Row>, RowFault>
     requires { conn.old.in_transaction ≡ false }
-    ensures { Finds S.Store conn.old conn.new result
-        (λ facts rows. rows.items
-        ≡ map device_shown (reverse (placed added (facts_of.devices_in facts))))
-        HasReadableDevices }
+    ensures { Finds S.Store conn.old conn.new result ShowsDevices HasReadableDevices }
 {
     touch(conn)?;
     Ok(device_rows(conn)?)

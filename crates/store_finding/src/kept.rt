@@ -1,12 +1,10 @@
 //! Replies that are kept.
-ghost use Rattle.std.specs.Prelude.{◌≡◌, false, map, IsUtf8};
+ghost use Rattle.std.specs.Prelude.{◌≡◌, false, IsUtf8};
 ghost use Rattle.office_books.specs.Repeats.{repeat_of};
-ghost use Rattle.office_rules.specs.Facts as facts_of;
-ghost use Rattle.store_tables.specs.Answer.{IsFound};
-ghost use Rattle.store_polls.specs.Rows.{is_reply, IsRepeat, IsCallNumber};
-ghost use Rattle.store_facts.specs.Rows as rows;
+ghost use Rattle.store_polls.specs.Rows.{IsCallNumber};
 ghost use Rattle.store_finding.specs.Finding.{Finds, OfLawful};
 ghost use Rattle.store_finding.specs.Reading.{kind_from, repeat_from};
+ghost use Rattle.store_finding.specs.Showing.{FindsRepeat};
 ghost use Rattle.store_finding.specs.Sound.{HasReadableReplies};
 
 use office_books::Repeat;
@@ -53,9 +51,7 @@ fn row_of<S: Alter>(
     requires idle { conn.old.in_transaction ≡ false }
     requires number { IsCallNumber number }
     ensures { Finds S.Store conn.old conn.new result
-        (OfLawful (λ facts. IsFound (is_reply caller.now number) (IsRepeat request.now)
-        (map rows.kept (facts_of.replies_in facts))))
-        HasReadableReplies }
+        (OfLawful (FindsRepeat caller.now number request.now)) HasReadableReplies }
 {
     touch(conn)?;
     store_polls::repeat_of(conn, caller, number, request)

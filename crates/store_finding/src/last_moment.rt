@@ -5,7 +5,7 @@ ghost use Rattle.office_rules.specs.Facts.{latest_in};
 ghost use Rattle.store_finding.specs.Finding.{Finds};
 ghost use Rattle.store_finding.specs.Latest.{latest_entered, latest_voided, latest_held};
 ghost use Rattle.store_finding.specs.Latest.{latest_started, latest_ended, latest_replied};
-ghost use Rattle.store_finding.specs.Latest.{HasReadableMoments};
+ghost use Rattle.store_finding.specs.Latest.{latest_asked, HasReadableMoments};
 
 use sqlite::{Alter, Connection};
 use store_entries::{latest_entry, latest_void};
@@ -109,8 +109,7 @@ fn noted<S: Alter>(conn: &mut Connection<S>) -> Result<u64, RowFault>
 fn asked<S: Alter>(conn: &mut Connection<S>) -> Result<u64, RowFault>
     requires { conn.old.in_transaction ≡ false }
     ensures { Finds S.Store conn.old conn.new result
-        (λ facts n. n ≡ max (max (latest_started facts) (latest_ended facts))
-        (max (latest_held facts) (latest_replied facts))) HasReadableMoments }
+        (λ facts n. n ≡ latest_asked facts) HasReadableMoments }
 {
     let polled = polled(conn)?;
     let noted = noted(conn)?;

@@ -1,14 +1,14 @@
 //! The points of a device's list.
-ghost use Rattle.std.specs.Prelude.{◌≡◌, false, map, string_bytes, IfOk};
+ghost use Rattle.std.specs.Prelude.{◌≡◌, false, string_bytes};
 ghost use Rattle.store_tables.specs.Asking.{ReadsRow};
 ghost use Rattle.store_tables.specs.Columns.{or_damaged};
 ghost use Rattle.point_list.specs.Fields.{type_of};
 ghost use Rattle.point_list.specs.Lists.{scale_spelled, name_spelled};
 ghost use Rattle.store_lists.specs.Rows.{point_shown};
-ghost use Rattle.store_facts.specs.Rows.{placed_on, listed, points_of};
 ghost use Rattle.store_finding.specs.Finding.{Finds, OfLawful, ReadsAll};
 ghost use Rattle.store_finding.specs.Points.{point_with, IsPointOf, IsReadablePoint};
 ghost use Rattle.store_finding.specs.Points.{HasReadablePoints};
+ghost use Rattle.store_finding.specs.Showing.{ShowsPoints};
 
 use crate::memory::put;
 use point_list::{ListedPoint, PointName, PointScale, fixed_scale, point_type};
@@ -93,9 +93,7 @@ pub(crate) fn rows_of<S: Alter>(
 ) -> Result<Vec<Row>, RowFault>
     requires { conn.old.in_transaction ≡ false }
     ensures { Finds S.Store conn.old conn.new result
-        (OfLawful (λ facts rows. rows.items
-        ≡ map point_shown (placed_on (listed device.now) 0 (points_of facts device.now))))
-        (λ facts. HasReadablePoints facts device.now) }
+        (OfLawful (ShowsPoints device.now)) (λ facts. HasReadablePoints facts device.now) }
 {
     touch(conn)?;
     Ok(point_rows(conn, device)?)

@@ -1,15 +1,15 @@
 //! Polls.
-ghost use Rattle.std.specs.Prelude.{◌≡◌, ◌≤◌, false, true, length, map, string_bytes, IfOk, IfErr, IfSome, OnOk};
+ghost use Rattle.std.specs.Prelude.{◌≡◌, ◌≤◌, false, true, length, string_bytes};
+ghost use Rattle.std.specs.Prelude.{IfOk, IfErr, IfSome};
 ghost use Rattle.office_events.specs.Names.{is_name};
 ghost use Rattle.office_rules.specs.Facts as facts_of;
 ghost use Rattle.office_rules.specs.Readings.{poll_row_of};
-ghost use Rattle.store_tables.specs.Answer.{IsFound};
 ghost use Rattle.store_tables.specs.Asking.{ReadsRow};
 ghost use Rattle.store_tables.specs.Limits.{greatest_place};
-ghost use Rattle.store_polls.specs.Rows.{poll_shown, is_poll, IsStarted, IsSoundPoll};
-ghost use Rattle.store_facts.specs.Rows.{started};
+ghost use Rattle.store_polls.specs.Rows.{poll_shown, IsSoundPoll};
 ghost use Rattle.store_finding.specs.Finding.{Finds, OfLawful, ReadsAll};
 ghost use Rattle.store_finding.specs.Reading.{HasNumbers, IsPollOf, ended_from};
+ghost use Rattle.store_finding.specs.Showing.{ShowsPendingPolls, FindsPoll};
 ghost use Rattle.store_finding.specs.Sound.{IsReadablePoll, HasReadablePolls, HasReadableOutcomes};
 
 use crate::memory::put;
@@ -79,9 +79,7 @@ fn row_at<S: Alter>(
     requires idle { conn.old.in_transaction ≡ false }
     requires place { number ≤ greatest_place }
     ensures finds { Finds S.Store conn.old conn.new result
-        (OfLawful (λ facts. IsFound (is_poll number) IsStarted
-        (map started (facts_of.polls_in facts))))
-        HasReadablePolls }
+        (OfLawful (FindsPoll number)) HasReadablePolls }
     ensures sound { IfOk result (λ found. IfSome found (λ a. IsSoundPoll a.row)) }
 {
     touch(conn)?;
@@ -161,9 +159,7 @@ pub fn poll_count<S: Alter>(conn: &mut Connection<S>) -> Result<u64, RowFault>
 /// The rows of the polls that have no outcome.
 fn waiting<S: Alter>(conn: &mut Connection<S>) -> Result<Vec<Row>, RowFault>
     requires { conn.old.in_transaction ≡ false }
-    ensures { Finds S.Store conn.old conn.new result
-        (λ facts rows. rows.items ≡ map poll_shown (map started (facts_of.pending_in facts)))
-        HasReadablePolls }
+    ensures { Finds S.Store conn.old conn.new result ShowsPendingPolls HasReadablePolls }
 {
     touch(conn)?;
     Ok(pending_rows(conn)?)

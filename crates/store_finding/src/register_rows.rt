@@ -1,12 +1,11 @@
 //! Registers.
-ghost use Rattle.std.specs.Prelude.{◌≡◌, false, length, map, filter, reverse, string_bytes, IsUtf8};
+ghost use Rattle.std.specs.Prelude.{◌≡◌, false, length, string_bytes, IsUtf8};
 ghost use Rattle.office_rules.specs.Facts as facts_of;
-ghost use Rattle.store_tables.specs.Answer.{IsFound};
 ghost use Rattle.store_tables.specs.Asking.{ReadsRow};
-ghost use Rattle.store_lists.specs.Rows.{register_shown, is_register, is_register_of, IsRegister};
-ghost use Rattle.store_facts.specs.Rows.{placed, registered};
+ghost use Rattle.store_lists.specs.Rows.{register_shown};
 ghost use Rattle.store_finding.specs.Finding.{Finds, OfLawful, ReadsAll};
 ghost use Rattle.store_finding.specs.Reading.{register_with, source_from, IsRegisterOf};
+ghost use Rattle.store_finding.specs.Showing.{ShowsRegisters, FindsRegister};
 ghost use Rattle.store_finding.specs.Sound.{IsReadableRegister, HasReadableRegisters};
 
 use crate::memory::put;
@@ -69,9 +68,7 @@ fn row_of<S: Alter>(
 ) -> Result<Option<store_lists::Register>, RowFault>
     requires { conn.old.in_transaction ≡ false }
     ensures { Finds S.Store conn.old conn.new result
-        (OfLawful (λ facts. IsFound (is_register name.now) IsRegister
-        (placed registered (facts_of.registers_in facts))))
-        HasReadableRegisters }
+        (OfLawful (FindsRegister name.now)) HasReadableRegisters }
 {
     touch(conn)?;
     register_of(conn, name)
@@ -98,9 +95,7 @@ pub fn register<S: Alter>(
 fn rows_of<S: Alter>(conn: &mut Connection<S>, device: &str) -> Result<Vec<Row>, RowFault>
     requires { conn.old.in_transaction ≡ false }
     ensures { Finds S.Store conn.old conn.new result
-        (λ facts rows. rows.items ≡ map register_shown (reverse (filter (is_register_of device.now)
-        (placed registered (facts_of.registers_in facts)))))
-        HasReadableRegisters }
+        (ShowsRegisters device.now) HasReadableRegisters }
 {
     touch(conn)?;
     Ok(register_rows(conn, device)?)

@@ -5,7 +5,8 @@ ghost use Rattle.store_tables.specs.Content.{Edits, with_row};
 ghost use Rattle.store_tables.specs.Steps.{Steps};
 ghost use Rattle.store_tables.specs.Limits.{IsPlace};
 ghost use Rattle.store_tables.specs.Answer.{IsLast, LastFirst, FirstFirst, every};
-ghost use Rattle.store_tables.specs.Asking.{Asks, AsksInside, Tells, Shows, ShowsFirst, LooksUp};
+ghost use Rattle.store_tables.specs.Asking.{Asks, AsksInside, LooksUp};
+ghost use Rattle.store_tables.specs.Asking.{TellsRows, Shows, ShowsFirst};
 ghost use Rattle.store_lists.specs.Rows.{device_columns, device_shown, device_place};
 ghost use Rattle.store_lists.specs.Rows.{device_place_shown, HasDevicePlace, IsSoundDevice};
 ghost use Rattle.store_lists.specs.Rows.{IsSoundAdded};
@@ -43,8 +44,8 @@ pub fn insert_device<S: Alter>(
 /// The devices in the order in which they were added; `read_device` reads each.
 pub fn device_rows<S: Alter>(conn: &mut Connection<S>) -> Result<Vec<Row>, Error>
     ensures asks { Asks S.Store conn.old conn.new }
-    ensures shows { Tells S.Store conn.old conn.new devices device_columns result
-        (λ rows answer. Shows every (FirstFirst device_place) device_shown rows answer.items) }
+    ensures shows { TellsRows S.Store conn.old conn.new devices device_columns result
+        (Shows every (FirstFirst device_place) device_shown) }
 {
     conn.query_all(
         "SELECT place, name, unit, timeout, \"window\" FROM devices ORDER BY place",
@@ -55,9 +56,8 @@ pub fn device_rows<S: Alter>(conn: &mut Connection<S>) -> Result<Vec<Row>, Error
 /// The place of the last device, if there is one.
 fn last_rows<S: Alter>(conn: &mut Connection<S>) -> Result<Vec<Row>, Error>
     ensures asks { Asks S.Store conn.old conn.new }
-    ensures shows { Tells S.Store conn.old conn.new devices device_columns result
-        (λ rows answer.
-        ShowsFirst every (LastFirst device_place) device_place_shown rows answer.items) }
+    ensures shows { TellsRows S.Store conn.old conn.new devices device_columns result
+        (ShowsFirst every (LastFirst device_place) device_place_shown) }
 {
     conn.query_all("SELECT place FROM devices ORDER BY place DESC LIMIT 1", &[])
 }
@@ -79,9 +79,8 @@ pub fn last_device<S: Alter>(conn: &mut Connection<S>) -> Result<Option<u64>, Ro
 pub fn last_device_rows<S: Alter>(tx: &mut Transaction<'_, S>) -> Result<Vec<Row>, Error>
     ensures same_reference { tx.new.conn.ghost_name ≡ tx.old.conn.ghost_name }
     ensures asks { AsksInside S.Store tx.old.conn.now tx.new.conn.now result }
-    ensures shows { Tells S.Store tx.old.conn.now tx.new.conn.now devices device_columns result
-        (λ rows answer.
-        ShowsFirst every (LastFirst device_place) device_place_shown rows answer.items) }
+    ensures shows { TellsRows S.Store tx.old.conn.now tx.new.conn.now devices device_columns result
+        (ShowsFirst every (LastFirst device_place) device_place_shown) }
 {
     tx.query_all("SELECT place FROM devices ORDER BY place DESC LIMIT 1", &[])
 }

@@ -4,7 +4,7 @@ ghost use Rattle.sqlite.specs.Held.{state};
 ghost use Rattle.store_tables.specs.Content.{Edits, with_row, without_where};
 ghost use Rattle.store_tables.specs.Steps.{Steps};
 ghost use Rattle.store_tables.specs.Answer.{FirstFirst};
-ghost use Rattle.store_tables.specs.Asking.{Asks, Tells, Shows};
+ghost use Rattle.store_tables.specs.Asking.{Asks, TellsRows, Shows};
 ghost use Rattle.store_lists.specs.Rows.{point_columns, point_shown, point_place, is_point_of};
 ghost use Rattle.store_lists.specs.Rows.{with_points, with_list, IsSoundPoint};
 ghost use Rattle.store_lists.specs.Trees as trees;
@@ -100,9 +100,8 @@ pub fn replace_points<S: Alter>(
 /// The points of a device's list in order; `read_point` reads each.
 pub fn point_rows<S: Alter>(conn: &mut Connection<S>, device: &str) -> Result<Vec<Row>, Error>
     ensures asks { Asks S.Store conn.old conn.new }
-    ensures shows { Tells S.Store conn.old conn.new trees.points point_columns result
-        (λ rows answer.
-        Shows (is_point_of device.now) (FirstFirst point_place) point_shown rows answer.items) }
+    ensures shows { TellsRows S.Store conn.old conn.new trees.points point_columns result
+        (Shows (is_point_of device.now) (FirstFirst point_place) point_shown) }
 {
     conn.query_all(
         "SELECT place, name, function, area, address, kind, scale FROM points WHERE device = ?1 ORDER BY place",

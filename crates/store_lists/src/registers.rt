@@ -7,7 +7,8 @@ ghost use Rattle.store_tables.specs.Steps.{Steps};
 ghost use Rattle.store_tables.specs.Limits.{IsPlace};
 ghost use Rattle.store_tables.specs.Answer.{IsFound, IsLast, AnyOrder, LastFirst, FirstFirst};
 ghost use Rattle.store_tables.specs.Answer.{every};
-ghost use Rattle.store_tables.specs.Asking.{Asks, AsksInside, Tells, Shows, ShowsFirst, LooksUp};
+ghost use Rattle.store_tables.specs.Asking.{Asks, AsksInside, Tells, LooksUp};
+ghost use Rattle.store_tables.specs.Asking.{TellsRows, Shows, ShowsFirst};
 ghost use Rattle.store_lists.specs.Rows.{register_columns, register_shown, register_place};
 ghost use Rattle.store_lists.specs.Rows.{register_place_shown, is_register, is_register_of};
 ghost use Rattle.store_lists.specs.Rows.{IsRegister, HasRegisterPlace, IsRegisterCount};
@@ -73,9 +74,8 @@ pub fn insert_register<S: Alter>(
 /// The row of a register, if there is one.
 fn rows_of<S: Alter>(conn: &mut Connection<S>, name: &str) -> Result<Vec<Row>, Error>
     ensures asks { Asks S.Store conn.old conn.new }
-    ensures shows { Tells S.Store conn.old conn.new registers register_columns result
-        (λ rows answer.
-        ShowsFirst (is_register name.now) AnyOrder register_shown rows answer.items) }
+    ensures shows { TellsRows S.Store conn.old conn.new registers register_columns result
+        (ShowsFirst (is_register name.now) AnyOrder register_shown) }
 {
     conn.query_all(
         "SELECT place, name, device, function, address, scale_kind, scale FROM registers WHERE name = ?1 LIMIT 1",
@@ -103,10 +103,8 @@ pub fn register_of<S: Alter>(
 /// The registers of a device in the order in which they were added; `read_register` reads each.
 pub fn register_rows<S: Alter>(conn: &mut Connection<S>, device: &str) -> Result<Vec<Row>, Error>
     ensures asks { Asks S.Store conn.old conn.new }
-    ensures shows { Tells S.Store conn.old conn.new registers register_columns result
-        (λ rows answer.
-        Shows (is_register_of device.now) (FirstFirst register_place)
-        register_shown rows answer.items) }
+    ensures shows { TellsRows S.Store conn.old conn.new registers register_columns result
+        (Shows (is_register_of device.now) (FirstFirst register_place) register_shown) }
 {
     conn.query_all(
         "SELECT place, name, device, function, address, scale_kind, scale FROM registers WHERE device = ?1 ORDER BY place",
@@ -117,9 +115,8 @@ pub fn register_rows<S: Alter>(conn: &mut Connection<S>, device: &str) -> Result
 /// The places of the registers of a device.
 fn places_of<S: Alter>(conn: &mut Connection<S>, device: &str) -> Result<Vec<Row>, Error>
     ensures asks { Asks S.Store conn.old conn.new }
-    ensures shows { Tells S.Store conn.old conn.new registers register_columns result
-        (λ rows answer.
-        Shows (is_register_of device.now) AnyOrder register_place_shown rows answer.items) }
+    ensures shows { TellsRows S.Store conn.old conn.new registers register_columns result
+        (Shows (is_register_of device.now) AnyOrder register_place_shown) }
 {
     conn.query_all(
         "SELECT place FROM registers WHERE device = ?1",
@@ -140,9 +137,8 @@ pub fn register_count<S: Alter>(conn: &mut Connection<S>, device: &str) -> Resul
 /// The place of the last register, if there is one.
 fn last_rows<S: Alter>(conn: &mut Connection<S>) -> Result<Vec<Row>, Error>
     ensures asks { Asks S.Store conn.old conn.new }
-    ensures shows { Tells S.Store conn.old conn.new registers register_columns result
-        (λ rows answer.
-        ShowsFirst every (LastFirst register_place) register_place_shown rows answer.items) }
+    ensures shows { TellsRows S.Store conn.old conn.new registers register_columns result
+        (ShowsFirst every (LastFirst register_place) register_place_shown) }
 {
     conn.query_all(
         "SELECT place FROM registers ORDER BY place DESC LIMIT 1",
@@ -168,9 +164,9 @@ pub fn last_register<S: Alter>(conn: &mut Connection<S>) -> Result<Option<u64>, 
 pub fn last_register_rows<S: Alter>(tx: &mut Transaction<'_, S>) -> Result<Vec<Row>, Error>
     ensures same_reference { tx.new.conn.ghost_name ≡ tx.old.conn.ghost_name }
     ensures asks { AsksInside S.Store tx.old.conn.now tx.new.conn.now result }
-    ensures shows { Tells S.Store tx.old.conn.now tx.new.conn.now registers register_columns result
-        (λ rows answer.
-        ShowsFirst every (LastFirst register_place) register_place_shown rows answer.items) }
+    ensures shows { TellsRows S.Store tx.old.conn.now tx.new.conn.now
+        registers register_columns result
+        (ShowsFirst every (LastFirst register_place) register_place_shown) }
 {
     tx.query_all(
         "SELECT place FROM registers ORDER BY place DESC LIMIT 1",

@@ -49,6 +49,11 @@ row_from e stands = row_by e.kind e stands
 abbrev pub names : (place : ℕ) → Voided → Bool
 names place v = place == v.place
 
+-- whether one of the voids that these rows show names the place
+abbrev pub TellsVoided : (voids : List Row) → (place : ℕ) → Bool → Type 0
+TellsVoided voids place is =
+    (vs : List Voided) → voids ≡ map voided_shown vs → is ≡ list_any (names place) vs
+
 -- an entry stands where no void names it
 abbrev pub row_among : List Voided → Entered → Option journal.EntryRow
 row_among vs e = row_from e.entry (not (list_any (names e.entry.place) vs))

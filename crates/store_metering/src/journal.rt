@@ -1,9 +1,8 @@
 //! The journal of a meter from the rows of its entries and voids.
-ghost use Rattle.std.specs.Prelude.{◌≡◌, ◌++◌, ◌∷◌, [], List, map, IfOk, OnOk};
-ghost use Rattle.std.specs.List.{list_any};
+ghost use Rattle.std.specs.Prelude.{◌≡◌, ◌++◌, ◌∷◌, [], IfOk, OnOk};
 ghost use Rattle.std.specs.Option.{option_to_list};
-ghost use Rattle.store_entries.specs.Rows.{Voided, voided_shown};
-ghost use Rattle.store_metering.specs.Entries.{step_row, change_row, row_from, names, AreJournal};
+ghost use Rattle.store_metering.specs.Entries.{step_row, change_row, row_from};
+ghost use Rattle.store_metering.specs.Entries.{TellsVoided, AreJournal};
 
 use energy_core::Entry;
 use meter_journal::EntryRow;
@@ -61,8 +60,7 @@ fn entry_row(row: store_entries::EntryRow, stands: bool) -> Option<EntryRow>
 
 /// Whether one of these voids names a place.
 fn is_voided(voids: &[Row], place: u64) -> Result<bool, RowFault>
-    ensures { IfOk result (λ is. (vs : List Voided) → voids.now ≡ map voided_shown vs
-        → is ≡ list_any (names place) vs) }
+    ensures { IfOk result (TellsVoided voids.now place) }
 {
     for row in voids {
         if place == read_void(row)? {

@@ -4,7 +4,7 @@ ghost use Rattle.sqlite.specs.Held.{state};
 ghost use Rattle.store_tables.specs.Content.{Edits, with_row, changed_where};
 ghost use Rattle.store_tables.specs.Steps.{Steps};
 ghost use Rattle.store_tables.specs.Answer.{IsFound, IsLast, AnyOrder, LastFirst, every};
-ghost use Rattle.store_tables.specs.Asking.{Asks, AsksInside, Tells, ShowsFirst, LooksUp};
+ghost use Rattle.store_tables.specs.Asking.{Asks, AsksInside, TellsRows, ShowsFirst, LooksUp};
 ghost use Rattle.store_tables.specs.Limits.{IsPlace};
 ghost use Rattle.store_meters.specs.Rows.{installed_columns, installed_shown};
 ghost use Rattle.store_meters.specs.Rows.{installed_place_shown, installed_place, is_meter, is_at};
@@ -95,9 +95,8 @@ pub fn end_installation<S: Alter>(tx: &mut Transaction<'_, S>, meter: &str) -> R
 /// The row of a meter, if there is one.
 fn rows_of<S: Alter>(conn: &mut Connection<S>, meter: &str) -> Result<Vec<Row>, Error>
     ensures asks { Asks S.Store conn.old conn.new }
-    ensures shows { Tells S.Store conn.old conn.new installations installed_columns result
-        (λ rows answer.
-        ShowsFirst (is_meter meter.now) AnyOrder installed_shown rows answer.items) }
+    ensures shows { TellsRows S.Store conn.old conn.new installations installed_columns result
+        (ShowsFirst (is_meter meter.now) AnyOrder installed_shown) }
 {
     conn.query_all(
         "SELECT place, meter, register, ceiling, ended, last_moment, last_raw, last_sf, total FROM installations WHERE meter = ?1 LIMIT 1",
@@ -125,10 +124,8 @@ pub fn installation_of<S: Alter>(
 /// The row of the latest installation at a register, if there is one.
 fn rows_at<S: Alter>(conn: &mut Connection<S>, register: &str) -> Result<Vec<Row>, Error>
     ensures asks { Asks S.Store conn.old conn.new }
-    ensures shows { Tells S.Store conn.old conn.new installations installed_columns result
-        (λ rows answer.
-        ShowsFirst (is_at register.now) (LastFirst installed_place)
-        installed_shown rows answer.items) }
+    ensures shows { TellsRows S.Store conn.old conn.new installations installed_columns result
+        (ShowsFirst (is_at register.now) (LastFirst installed_place) installed_shown) }
 {
     conn.query_all(
         "SELECT place, meter, register, ceiling, ended, last_moment, last_raw, last_sf, total FROM installations WHERE register = ?1 ORDER BY place DESC LIMIT 1",
@@ -156,10 +153,8 @@ pub fn installation_at<S: Alter>(
 /// The place of the last installation, if there is one.
 fn last_rows<S: Alter>(conn: &mut Connection<S>) -> Result<Vec<Row>, Error>
     ensures asks { Asks S.Store conn.old conn.new }
-    ensures shows { Tells S.Store conn.old conn.new installations installed_columns result
-        (λ rows answer.
-        ShowsFirst every (LastFirst installed_place)
-        installed_place_shown rows answer.items) }
+    ensures shows { TellsRows S.Store conn.old conn.new installations installed_columns result
+        (ShowsFirst every (LastFirst installed_place) installed_place_shown) }
 {
     conn.query_all(
         "SELECT place FROM installations ORDER BY place DESC LIMIT 1",
@@ -188,10 +183,9 @@ pub fn installation_rows<S: Alter>(
 ) -> Result<Vec<Row>, Error>
     ensures same_reference { tx.new.conn.ghost_name ≡ tx.old.conn.ghost_name }
     ensures asks { AsksInside S.Store tx.old.conn.now tx.new.conn.now result }
-    ensures shows { Tells S.Store tx.old.conn.now tx.new.conn.now
+    ensures shows { TellsRows S.Store tx.old.conn.now tx.new.conn.now
         installations installed_columns result
-        (λ rows answer.
-        ShowsFirst (is_meter meter.now) AnyOrder installed_shown rows answer.items) }
+        (ShowsFirst (is_meter meter.now) AnyOrder installed_shown) }
 {
     tx.query_all(
         "SELECT place, meter, register, ceiling, ended, last_moment, last_raw, last_sf, total FROM installations WHERE meter = ?1 LIMIT 1",
@@ -203,11 +197,9 @@ pub fn installation_rows<S: Alter>(
 pub fn last_installation_rows<S: Alter>(tx: &mut Transaction<'_, S>) -> Result<Vec<Row>, Error>
     ensures same_reference { tx.new.conn.ghost_name ≡ tx.old.conn.ghost_name }
     ensures asks { AsksInside S.Store tx.old.conn.now tx.new.conn.now result }
-    ensures shows { Tells S.Store tx.old.conn.now tx.new.conn.now
+    ensures shows { TellsRows S.Store tx.old.conn.now tx.new.conn.now
         installations installed_columns result
-        (λ rows answer.
-        ShowsFirst every (LastFirst installed_place)
-        installed_place_shown rows answer.items) }
+        (ShowsFirst every (LastFirst installed_place) installed_place_shown) }
 {
     tx.query_all(
         "SELECT place FROM installations ORDER BY place DESC LIMIT 1",

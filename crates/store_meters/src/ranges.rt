@@ -4,7 +4,7 @@ ghost use Rattle.sqlite.specs.Held.{state};
 ghost use Rattle.store_tables.specs.Content.{Edits, with_row};
 ghost use Rattle.store_tables.specs.Steps.{Steps};
 ghost use Rattle.store_tables.specs.Answer.{IsFound, AnyOrder};
-ghost use Rattle.store_tables.specs.Asking.{Asks, AsksInside, Tells, ShowsFirst, LooksUp};
+ghost use Rattle.store_tables.specs.Asking.{Asks, AsksInside, TellsRows, ShowsFirst, LooksUp};
 ghost use Rattle.store_meters.specs.Rows.{ranged_columns, range_shown, is_range_of, HasRange};
 ghost use Rattle.store_meters.specs.Rows.{IsRange, IsSoundRanged};
 ghost use Rattle.store_meters.specs.Trees.{ranges};
@@ -34,9 +34,8 @@ pub fn insert_range<S: Alter>(
 /// The row of a meter, if there is one.
 fn rows_of<S: Alter>(conn: &mut Connection<S>, meter: &str) -> Result<Vec<Row>, Error>
     ensures asks { Asks S.Store conn.old conn.new }
-    ensures shows { Tells S.Store conn.old conn.new ranges ranged_columns result
-        (λ rows answer.
-        ShowsFirst (is_range_of meter.now) AnyOrder range_shown rows answer.items) }
+    ensures shows { TellsRows S.Store conn.old conn.new ranges ranged_columns result
+        (ShowsFirst (is_range_of meter.now) AnyOrder range_shown) }
 {
     conn.query_all(
         "SELECT \"range\" FROM ranges WHERE meter = ?1 LIMIT 1",
@@ -61,9 +60,8 @@ pub fn range_of<S: Alter>(conn: &mut Connection<S>, meter: &str) -> Result<Optio
 pub fn range_rows<S: Alter>(tx: &mut Transaction<'_, S>, meter: &str) -> Result<Vec<Row>, Error>
     ensures same_reference { tx.new.conn.ghost_name ≡ tx.old.conn.ghost_name }
     ensures asks { AsksInside S.Store tx.old.conn.now tx.new.conn.now result }
-    ensures shows { Tells S.Store tx.old.conn.now tx.new.conn.now ranges ranged_columns result
-        (λ rows answer.
-        ShowsFirst (is_range_of meter.now) AnyOrder range_shown rows answer.items) }
+    ensures shows { TellsRows S.Store tx.old.conn.now tx.new.conn.now ranges ranged_columns result
+        (ShowsFirst (is_range_of meter.now) AnyOrder range_shown) }
 {
     tx.query_all(
         "SELECT \"range\" FROM ranges WHERE meter = ?1 LIMIT 1",

@@ -4,7 +4,7 @@ ghost use Rattle.sqlite.specs.Held.{state};
 ghost use Rattle.store_tables.specs.Content.{Edits, with_row};
 ghost use Rattle.store_tables.specs.Steps.{Steps};
 ghost use Rattle.store_tables.specs.Answer.{LastFirst, every};
-ghost use Rattle.store_tables.specs.Asking.{AsksInside, Tells, ShowsFirst};
+ghost use Rattle.store_tables.specs.Asking.{AsksInside, TellsRows, ShowsFirst};
 ghost use Rattle.store_polls.specs.Rows.{hold_columns, hold_place, hold_place_shown, IsSoundHold};
 ghost use Rattle.store_polls.specs.Trees.{holds};
 
@@ -45,9 +45,8 @@ pub fn insert_hold<S: Alter>(
 pub fn last_hold_rows<S: Alter>(tx: &mut Transaction<'_, S>) -> Result<Vec<Row>, Error>
     ensures same_reference { tx.new.conn.ghost_name ≡ tx.old.conn.ghost_name }
     ensures asks { AsksInside S.Store tx.old.conn.now tx.new.conn.now result }
-    ensures shows { Tells S.Store tx.old.conn.now tx.new.conn.now holds hold_columns result
-        (λ rows answer.
-        ShowsFirst every (LastFirst hold_place) hold_place_shown rows answer.items) }
+    ensures shows { TellsRows S.Store tx.old.conn.now tx.new.conn.now holds hold_columns result
+        (ShowsFirst every (LastFirst hold_place) hold_place_shown) }
 {
     tx.query_all("SELECT place FROM holds ORDER BY place DESC LIMIT 1", &[])
 }

@@ -3,7 +3,7 @@
 ghost use Rattle.std.specs.Prelude.{◌≤◌, IfOk, IfSome};
 ghost use Rattle.store_tables.specs.Limits.{latest_moment};
 ghost use Rattle.store_tables.specs.Answer.{IsLast, LastFirst, every};
-ghost use Rattle.store_tables.specs.Asking.{Asks, Tells, ShowsFirst, LooksUp};
+ghost use Rattle.store_tables.specs.Asking.{Asks, TellsRows, ShowsFirst, LooksUp};
 ghost use Rattle.store_polls.specs.Rows.{poll_columns, start_of, start_shown, HasStart};
 ghost use Rattle.store_polls.specs.Rows.{IsSoundStarted, outcome_columns, outcome_moment};
 ghost use Rattle.store_polls.specs.Rows.{outcome_moment_shown, HasOutcomeMoment, IsSoundOutcome};
@@ -19,8 +19,8 @@ use store_tables::RowFault;
 /// The latest start of a poll, if there is one.
 fn start_rows<S: Alter>(conn: &mut Connection<S>) -> Result<Vec<Row>, Error>
     ensures asks { Asks S.Store conn.old conn.new }
-    ensures shows { Tells S.Store conn.old conn.new polls poll_columns result
-        (λ rows answer. ShowsFirst every (LastFirst start_of) start_shown rows answer.items) }
+    ensures shows { TellsRows S.Store conn.old conn.new polls poll_columns result
+        (ShowsFirst every (LastFirst start_of) start_shown) }
 {
     conn.query_all(
         "SELECT started FROM polls ORDER BY started DESC LIMIT 1",
@@ -44,9 +44,8 @@ pub fn latest_start<S: Alter>(conn: &mut Connection<S>) -> Result<Option<u64>, R
 /// The latest moment of an outcome, if there is one.
 fn outcome_rows<S: Alter>(conn: &mut Connection<S>) -> Result<Vec<Row>, Error>
     ensures asks { Asks S.Store conn.old conn.new }
-    ensures shows { Tells S.Store conn.old conn.new outcomes outcome_columns result
-        (λ rows answer.
-        ShowsFirst every (LastFirst outcome_moment) outcome_moment_shown rows answer.items) }
+    ensures shows { TellsRows S.Store conn.old conn.new outcomes outcome_columns result
+        (ShowsFirst every (LastFirst outcome_moment) outcome_moment_shown) }
 {
     conn.query_all(
         "SELECT moment FROM outcomes ORDER BY moment DESC LIMIT 1",
@@ -70,9 +69,8 @@ pub fn latest_outcome<S: Alter>(conn: &mut Connection<S>) -> Result<Option<u64>,
 /// The latest moment of a held reading, if there is one.
 fn hold_rows<S: Alter>(conn: &mut Connection<S>) -> Result<Vec<Row>, Error>
     ensures asks { Asks S.Store conn.old conn.new }
-    ensures shows { Tells S.Store conn.old conn.new holds hold_columns result
-        (λ rows answer.
-        ShowsFirst every (LastFirst hold_moment) hold_moment_shown rows answer.items) }
+    ensures shows { TellsRows S.Store conn.old conn.new holds hold_columns result
+        (ShowsFirst every (LastFirst hold_moment) hold_moment_shown) }
 {
     conn.query_all("SELECT moment FROM holds ORDER BY moment DESC LIMIT 1", &[])
 }
@@ -93,9 +91,8 @@ pub fn latest_hold<S: Alter>(conn: &mut Connection<S>) -> Result<Option<u64>, Ro
 /// The latest moment of a kept reply, if there is one.
 fn reply_rows<S: Alter>(conn: &mut Connection<S>) -> Result<Vec<Row>, Error>
     ensures asks { Asks S.Store conn.old conn.new }
-    ensures shows { Tells S.Store conn.old conn.new replies reply_columns result
-        (λ rows answer.
-        ShowsFirst every (LastFirst reply_moment) reply_moment_shown rows answer.items) }
+    ensures shows { TellsRows S.Store conn.old conn.new replies reply_columns result
+        (ShowsFirst every (LastFirst reply_moment) reply_moment_shown) }
 {
     conn.query_all(
         "SELECT moment FROM replies ORDER BY moment DESC LIMIT 1",

@@ -5,7 +5,7 @@ ghost use Rattle.store_tables.specs.Content.{Edits, with_row};
 ghost use Rattle.store_tables.specs.Steps.{Steps};
 ghost use Rattle.store_tables.specs.Limits.{greatest_place, IsPlace};
 ghost use Rattle.store_tables.specs.Answer.{IsFound, IsLast, AnyOrder, LastFirst, every};
-ghost use Rattle.store_tables.specs.Asking.{Asks, Tells, ShowsFirst, LooksUp};
+ghost use Rattle.store_tables.specs.Asking.{Asks, TellsRows, ShowsFirst, LooksUp};
 ghost use Rattle.store_polls.specs.Rows.{poll_columns, poll_shown, number_shown, poll_number};
 ghost use Rattle.store_polls.specs.Rows.{is_poll, IsStarted, HasNumber, IsSoundPoll};
 ghost use Rattle.store_polls.specs.Rows.{IsSoundStarted};
@@ -49,8 +49,8 @@ pub fn insert_poll<S: Alter>(
 fn rows_at<S: Alter>(conn: &mut Connection<S>, number: u64) -> Result<Vec<Row>, Error>
     requires place { number ≤ greatest_place }
     ensures asks { Asks S.Store conn.old conn.new }
-    ensures shows { Tells S.Store conn.old conn.new polls poll_columns result
-        (λ rows answer. ShowsFirst (is_poll number) AnyOrder poll_shown rows answer.items) }
+    ensures shows { TellsRows S.Store conn.old conn.new polls poll_columns result
+        (ShowsFirst (is_poll number) AnyOrder poll_shown) }
 {
     let number = store_tables::number(number);
     conn.query_all(
@@ -76,8 +76,8 @@ pub fn poll_at<S: Alter>(conn: &mut Connection<S>, number: u64) -> Result<Option
 /// The number of the last poll, if there is one.
 fn last_rows<S: Alter>(conn: &mut Connection<S>) -> Result<Vec<Row>, Error>
     ensures asks { Asks S.Store conn.old conn.new }
-    ensures shows { Tells S.Store conn.old conn.new polls poll_columns result
-        (λ rows answer. ShowsFirst every (LastFirst poll_number) number_shown rows answer.items) }
+    ensures shows { TellsRows S.Store conn.old conn.new polls poll_columns result
+        (ShowsFirst every (LastFirst poll_number) number_shown) }
 {
     conn.query_all("SELECT poll FROM polls ORDER BY poll DESC LIMIT 1", &[])
 }

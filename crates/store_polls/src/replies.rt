@@ -5,7 +5,7 @@ ghost use Rattle.store_tables.specs.Content.{Edits, with_row};
 ghost use Rattle.store_tables.specs.Steps.{Steps};
 ghost use Rattle.store_tables.specs.Limits.{latest_moment};
 ghost use Rattle.store_tables.specs.Answer.{IsFound, AnyOrder};
-ghost use Rattle.store_tables.specs.Asking.{Asks, Tells, ShowsFirst, LooksUp};
+ghost use Rattle.store_tables.specs.Asking.{Asks, TellsRows, ShowsFirst, LooksUp};
 ghost use Rattle.store_polls.specs.Rows.{reply_columns, reply_shown, is_reply, IsCallNumber};
 ghost use Rattle.store_polls.specs.Rows.{IsRepeat, IsSoundKept};
 ghost use Rattle.store_polls.specs.Trees.{replies};
@@ -48,9 +48,8 @@ pub fn insert_reply<S: Alter>(
 fn rows_of<S: Alter>(conn: &mut Connection<S>, caller: &str, number: u64) -> Result<Vec<Row>, Error>
     requires number { IsCallNumber number }
     ensures asks { Asks S.Store conn.old conn.new }
-    ensures shows { Tells S.Store conn.old conn.new replies reply_columns result
-        (λ rows answer.
-        ShowsFirst (is_reply caller.now number) AnyOrder reply_shown rows answer.items) }
+    ensures shows { TellsRows S.Store conn.old conn.new replies reply_columns result
+        (ShowsFirst (is_reply caller.now number) AnyOrder reply_shown) }
 {
     let number = store_tables::number(number);
     conn.query_all(

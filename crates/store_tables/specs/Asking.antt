@@ -1,5 +1,5 @@
 -- What a question does and answers.
-use Rattle.std.specs.Prelude.{◌≡◌, ◌≢◌, ℕ, Bool, false, List, take, map, Result, IsTrue, IfOk, IfErr, OnOk}
+use Rattle.std.specs.Prelude.{◌≡◌, ◌≢◌, ℕ, Bool, false, List, take, map, Result, Vec, IsTrue, IfOk, IfErr, OnOk}
 use Rattle.std.specs.List.{AllByRecursion}
 use Rattle.sqlite.specs.Order.{Row}
 use Rattle.sqlite.specs.Store.{Ghosts}
@@ -48,6 +48,13 @@ abbrev pub Tells : {S A E X : Type 0} → Ghosts S → (old new : Held S) → (t
 Tells {S} {A} {E} {X} g old new tree columns result Answers =
     HasCleanDisk (state g new) → (content : Content) → AreTables (state g old).now content
     → (rows : List X) → HasRows tree columns rows content → IfOk result (Answers rows)
+
+-- the same where the answer is rows too
+abbrev pub TellsRows : {S E X Z : Type 0} → Ghosts S → (old new : Held S) → (tree : ℕ)
+    → (columns : X → Row) → (result : Result (Vec Row Z) E)
+    → (Answers : List X → List Row → Type 0) → Type 0
+TellsRows {S} {E} {X} {Z} g old new tree columns result Answers =
+    Tells g old new tree columns result (λ rows answer. Answers rows answer.items)
 
 -- A row that stands for a value is read as that value. Damage is told only where the value is out of its ranges.
 pub record ReadsRow {A X : Type 0} (row : Row) (shown : X → Row) (IsSeen : X → A → Type 0)

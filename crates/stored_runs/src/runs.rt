@@ -1,7 +1,6 @@
 //! Runs over books in a database.
 ghost use Rattle.std.specs.Prelude.{ℕ, List, [], IfOk, IfSome};
-ghost use Rattle.office_core.specs.EventRun.{IsRecorded, accepted_by};
-ghost use Rattle.office_core.specs.Standing.{books_in};
+ghost use Rattle.office_core.specs.EventRun.{IsCleanOnlyIfWas, RecordsIfClean};
 ghost use Rattle.office_laws.specs.Lawfulness.{IsPast};
 ghost use Rattle.office_rules.specs.History.{History, facts_of};
 ghost use Rattle.office_store.specs.Database.{HoldsAlone};
@@ -23,12 +22,8 @@ pub fn run_stored<S: Alter + Drop>(
 ) -> Result<Run<SqlBooks<S>>, (SqlBooks<S>, Refusal)>
     ensures headline { (zone : List ℕ) (past : History) → IsPast past
         → HoldsAlone S.Store zone books.connection (facts_of past)
-        → IfOk result (λ run. (⟦<SqlBooks<S> as Books>⟧.ledger (books_in run.office)).is_clean
-        → IsRecorded (⟦<SqlBooks<S> as Books>⟧.ledger (books_in run.office))
-        (accepted_by past opened events.now run)) }
-    ensures clean { IfOk result (λ run.
-        (⟦<SqlBooks<S> as Books>⟧.ledger (books_in run.office)).is_clean
-        → (⟦<SqlBooks<S> as Books>⟧.ledger books).is_clean) }
+        → IfOk result (RecordsIfClean ⟦<SqlBooks<S> as Books>⟧.ledger opened events.now past) }
+    ensures clean { IfOk result (IsCleanOnlyIfWas ⟦<SqlBooks<S> as Books>⟧.ledger books) }
 {
     run(alloc, books, opened, events)
 }
@@ -42,10 +37,7 @@ pub fn run_anew<S: Alter + Drop>(
     opened: u64,
     events: &[(u64, Event)],
 ) -> Option<Run<SqlBooks<S>>>
-    ensures { IfSome result (λ run.
-        (⟦<SqlBooks<S> as Books>⟧.ledger (books_in run.office)).is_clean
-        → IsRecorded (⟦<SqlBooks<S> as Books>⟧.ledger (books_in run.office))
-        (accepted_by [] opened events.now run)) }
+    ensures { IfSome result (RecordsIfClean ⟦<SqlBooks<S> as Books>⟧.ledger opened events.now []) }
 {
     let Ok(books) = SqlBooks::create(alloc, connection, zone) else {
         return None;

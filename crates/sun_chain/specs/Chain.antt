@@ -1,5 +1,5 @@
 -- The chain of models that stands in a device's words.
-use Rattle.std.specs.Prelude.{◌≡◌, ◌≢◌, ℕ, ◌+◌, ◌≤◌, Bool, false, ◌&&◌, ◌==◌, List, [], ◌∷◌, length, Some, option_map, unwrap_or, find}
+use Rattle.std.specs.Prelude.{◌≡◌, ◌≢◌, ℕ, ◌+◌, ◌≤◌, ◌<◌, Bool, false, ◌&&◌, ◌==◌, List, [], ◌∷◌, length, Some, option_map, unwrap_or, find, MatchOption}
 use Rattle.std.specs.declared.option.Option.{Option}
 use Rattle.sun_chain.specs.Image.{Words, word_in}
 use Rattle.sun_chain.specs.declared.chain.Chain.{Chain}
@@ -32,6 +32,12 @@ abbrev pub Follow : Words → ℕ → List Model → ℕ → Type 0
 Follow word from [] next = from ≡ next
 Follow word from (model ∷ models) next =
     (model.address ≡ from) × Stands word model × Follow word (next_after model) models next
+
+-- what stands at an address behind so many models: a model, or the end, where none is found
+abbrev pub IsNext : Words → (count address : ℕ) → Option Model → Type 0
+IsNext word count address found =
+    MatchOption found ((word address ≡ Some 0xFFFF) × (address ≤ 65535))
+    (λ model. (model.address ≡ address) × Stands word model × (count < 64))
 
 -- at most 64 models from behind the mark on
 pub record IsLawful (word : Words) (base : ℕ) (models : List Model) (next : ℕ) : Type 0 where

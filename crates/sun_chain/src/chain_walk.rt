@@ -1,9 +1,8 @@
 //! The walk along a chain, from its mark to its end.
-ghost use Rattle.std.specs.Prelude.{◌≡◌, ◌<◌, ◌≤◌, ◌+◌, ℕ, Some, None, IfOk, IfErr, MatchOption};
-ghost use Rattle.std.specs.Prelude.{MatchResult};
+ghost use Rattle.std.specs.Prelude.{◌≡◌, ◌<◌, ◌≤◌, ◌+◌, Some, None, IfOk, IfErr};
 ghost use Rattle.sun_chain.specs.Image.{word_in};
 ghost use Rattle.sun_chain.specs.Chain.{base_in, is_marked, base_of, end_of, models_of, words_of};
-ghost use Rattle.sun_chain.specs.Chain.{next_after, IsChain, Stands};
+ghost use Rattle.sun_chain.specs.Chain.{IsChain, IsNext};
 ghost use Rattle.sun_chain.specs.Walk.{Fails, first_lack};
 
 use crate::chain::Chain;
@@ -65,9 +64,7 @@ fn is_marked_at(image: &Image, base: u16) -> bool
 
 // The model that stands at an address behind so many models, or none where the end stands there.
 fn model_at(image: &Image, count: usize, address: u32) -> Result<Option<Model>, ChainFault>
-    ensures stands { IfOk result
-        (λ found. MatchOption found ((word_in image.now address ≡ Some 0xFFFF) × (address ≤ 65535))
-        (λ model. (model.address ≡ address) × Stands (word_in image.now) model × (count < 64))) }
+    ensures stands { IfOk result (IsNext (word_in image.now) count address) }
     ensures lack { IfErr result
         (λ fault. first_lack (word_in image.now) count address ≡ Some fault) }
 {

@@ -1,5 +1,5 @@
 //! The points of a model that were read, in order of address.
-ghost use Rattle.std.specs.Prelude.{◌≡◌, ◌<◌, ◌≤◌, ◌+◌, map, length, IfOk, IfSome, OnOk};
+ghost use Rattle.std.specs.Prelude.{◌≡◌, ◌<◌, ◌≤◌, ◌+◌, map, length, IfOk, IfSome};
 ghost use Rattle.std.specs.Option.{option_map};
 ghost use Rattle.sun_chain.specs.Chain.{words_of};
 ghost use Rattle.sun_chain.specs.Points.{point_in, points_in, register_in, registers_in};

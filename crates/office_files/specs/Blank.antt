@@ -1,0 +1,15 @@
+-- Connections to files that were blank.
+use Rattle.std.specs.Prelude.{◌≡◌, false}
+use Rattle.sqlite_disk.specs.declared.Disk.{Ghosts}
+use Rattle.sqlite_wal.specs.Recovery.{Image}
+use Rattle.sqlite_store.specs.declared.store.FileStore.{FileStore}
+use Rattle.sqlite_store.specs.FileStore.{view}
+use Rattle.sqlite.specs.State.{HasCleanDisk}
+use Rattle.sqlite.specs.Held.{Held}
+use Rattle.sqlite.specs.Files.{file_state, IsBlankAs}
+
+module _ {D : Type 0} {g : Ghosts D} where
+  -- Pages of a file that was blank have no sums, if it gave back what was written to it.
+  abbrev pub HasNoSumsIfBlank : Image → Held (FileStore D g) → Type 0
+  HasNoSumsIfBlank image c =
+      HasCleanDisk (file_state c) → IsBlankAs false image → (view c.store).has_sums ≡ false
