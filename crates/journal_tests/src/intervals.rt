@@ -41,27 +41,25 @@ fn steps_share_an_interval(rt: HostRuntime) -> Result<(), Fail> {
     Ok(())
 }
 
+const THREE: Share = Share { start: 900, mwh: 3 };
+
+const FOUR: Share = Share { start: 900, mwh: 4 };
+
+const SEVEN: Share = Share { start: 900, mwh: 7 };
+
+const NEXT: Share = Share {
+    start: 1800,
+    mwh: 0,
+};
+
 #[test]
 fn one_row_stays_open(rt: HostRuntime) {
     let mut pending = None;
-    assert!(rt; join(&mut pending, Share { start: 900, mwh: 3 }).is_none());
-    pending = Some(Share { start: 900, mwh: 3 });
-    assert!(rt; join(&mut pending, Share { start: 900, mwh: 4 }).is_none());
-    assert_eq!(rt; pending, Some(Share { start: 900, mwh: 7 }));
-    pending = Some(Share { start: 900, mwh: 7 });
-    let done = join(
-        &mut pending,
-        Share {
-            start: 1800,
-            mwh: 0,
-        },
-    );
-    assert_eq!(rt; done, Some(Share { start: 900, mwh: 7 }));
-    assert_eq!(rt;
-        pending,
-        Some(Share {
-            start: 1800,
-            mwh: 0
-        })
-    );
+    assert!(rt; join(&mut pending, THREE).is_none());
+    pending = Some(THREE);
+    assert!(rt; join(&mut pending, FOUR).is_none());
+    assert_eq!(rt; pending, Some(SEVEN));
+    pending = Some(SEVEN);
+    assert_eq!(rt; join(&mut pending, NEXT), Some(SEVEN));
+    assert_eq!(rt; pending, Some(NEXT));
 }

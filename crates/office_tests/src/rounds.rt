@@ -1,6 +1,8 @@
 //! Rounds of the reads of a device's point list.
 use crate::scripts::{feed, opened, print};
+use office_core::Office;
 use office_events::{Command, Event, Name, PlannedList, PutList};
+use office_lists::ListBooks;
 use point_list::read_list;
 use std::alloc::Global;
 use std::str;
@@ -46,27 +48,25 @@ fn put_list(alloc: Global, text: &str) -> Result<Event, Fail> {
     })))
 }
 
+/// The office is given the list of `inv` that a text spells.
+fn put(
+    alloc: Global,
+    office: &mut Office<ListBooks>,
+    text: &str,
+    printed: &mut Vec<u8>,
+) -> Result<(), Fail> {
+    feed(office, 1000, &put_list(alloc, text)?, printed)
+}
+
+const SET_UP: &str = "1000 device inv 1 5 1\n1000 round inv 0";
+
 // One read at a time fits the window of the device.
 #[test]
 fn a_round_sends_what_fits(rt: HostRuntime) -> Result<(), Fail> {
     let mut office = opened(rt.alloc(), "UTC0")?;
-    let mut printed = print(
-        rt.alloc(),
-        &mut office,
-        "1000 device inv 1 5 1\n1000 round inv 0",
-    )?;
-    feed(
-        &mut office,
-        1000,
-        &put_list(rt.alloc(), EMPTY)?,
-        &mut printed,
-    )?;
-    feed(
-        &mut office,
-        1000,
-        &put_list(rt.alloc(), LIST)?,
-        &mut printed,
-    )?;
+    let mut printed = print(rt.alloc(), &mut office, SET_UP)?;
+    put(rt.alloc(), &mut office, EMPTY, &mut printed)?;
+    put(rt.alloc(), &mut office, LIST, &mut printed)?;
     assert_eq!(rt; str::from_utf8(&printed)?, "ok\nrefused 1\nok\nok\n");
     let printed = print(rt.alloc(), &mut office, SCRIPT)?;
     assert_eq!(rt; str::from_utf8(&printed)?, PRINTED);

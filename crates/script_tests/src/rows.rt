@@ -3,23 +3,22 @@ use interval_core::{Day, DayTotal, Share};
 use row_text::{Line, write_day, write_end, write_interval};
 use std::test::Fail;
 
+static SHARES: [Share; 2] = [
+    Share {
+        start: 900,
+        mwh: 177_777,
+    },
+    Share {
+        start: 1800,
+        mwh: 22_223,
+    },
+];
+
 #[test]
 fn intervals_are_told(rt: HostRuntime) -> Result<(), Fail> {
     let mut told = Vec::new(rt.alloc());
-    write_interval(
-        Share {
-            start: 900,
-            mwh: 177_777,
-        },
-        &mut told,
-    )?;
-    write_interval(
-        Share {
-            start: 1800,
-            mwh: 22_223,
-        },
-        &mut told,
-    )?;
+    write_interval(SHARES[0], &mut told)?;
+    write_interval(SHARES[1], &mut told)?;
     write_end(2, &mut told)?;
     assert_eq!(rt;
         told.as_slice(),

@@ -36,25 +36,24 @@ fn each_connection_has_its_reply(rt: HostRuntime) -> Result<(), Fail> {
     Ok(())
 }
 
+/// A client that wrote bytes.
+fn client_of(rt: &HostRuntime, listener: &TcpListener, bytes: &[u8]) -> Result<TcpStream, Fail> {
+    let mut client = TcpStream::connect(rt, listener.local_addr()?)?;
+    client.write_all(bytes)?;
+    Ok(client)
+}
+
 // One client ends inside its request, one says nothing until its time is over, and one is served.
 #[test]
 fn a_fault_ends_its_connection_alone(rt: HostRuntime) -> Result<(), Fail> {
     let mut office = metered(rt.alloc())?;
     let listener = TcpListener::bind(&rt, "127.0.0.1:0")?;
-    let mut short = TcpStream::connect(&rt, listener.local_addr()?)?;
-    short.write_all(&REQUEST[..20])?;
+    let mut short = client_of(&rt, &listener, &REQUEST[..20])?;
     short.shutdown(Shutdown::Write)?;
-    let mut silent = TcpStream::connect(&rt, listener.local_addr()?)?;
-    let mut client = TcpStream::connect(&rt, listener.local_addr()?)?;
-    client.write_all(REQUEST)?;
-    let moments = [2800, 2800, 2800, 2800, 2800, 2811, 2811];
-    serve_on(
-        rt.alloc(),
-        &listener,
-        3,
-        &mut office,
-        &mut ListedClock::new(&moments),
-    )?;
+    let mut silent = client_of(&rt, &listener, b"")?;
+    let mut client = client_of(&rt, &listener, REQUEST)?;
+    let mut clock = ListedClock::new(&[2800, 2800, 2800, 2800, 2800, 2811, 2811]);
+    serve_on(rt.alloc(), &listener, 3, &mut office, &mut clock)?;
     let mut replies = Vec::new(rt.alloc());
     assert_eq!(rt; short.read_to_end(&mut replies)?, 0);
     assert_eq!(rt; silent.read_to_end(&mut replies)?, 0);

@@ -35,24 +35,12 @@ fn spans_are_lawful(rt: HostRuntime) {
 #[test]
 fn a_span_is_asked_for(rt: HostRuntime) {
     assert!(rt; (THREE.function.code(), LAST.function.code()) == (3, 4));
-    let three = THREE.request();
-    assert!(rt;
-        matches!(
-            three,
-            Request::ReadHolding {
-                address: 107,
-                quantity: 3
-            }
-        )
-    );
-    let last = LAST.request();
-    assert!(rt;
-        matches!(
-            last,
-            Request::ReadInput {
-                address: 65535,
-                quantity: 1
-            }
-        )
-    );
+    match THREE.request() {
+        Request::ReadHolding { address, quantity } => assert!(rt; (address, quantity) == (107, 3)),
+        _ => panic!(rt; "no holding registers"),
+    }
+    match LAST.request() {
+        Request::ReadInput { address, quantity } => assert!(rt; (address, quantity) == (65535, 1)),
+        _ => panic!(rt; "no input registers"),
+    }
 }

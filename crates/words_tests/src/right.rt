@@ -154,13 +154,27 @@ static RUN_ALL: [&str; 10] = [
     "--",
 ];
 
+static DEVICES: [Device<'static>; 1] = [Device {
+    name: "inv",
+    host: "192.0.2.7",
+    port: 502,
+}];
+
+static ALL_DEVICES: [Device<'static>; 2] = [
+    Device {
+        name: "inv",
+        host: "meter.lan",
+        port: 502,
+    },
+    Device {
+        name: "b",
+        host: "[::1]",
+        port: 1,
+    },
+];
+
 #[test]
 fn run_goes_on_where_no_end_is_given(rt: HostRuntime) {
-    let device = Device {
-        name: "inv",
-        host: "192.0.2.7",
-        port: 502,
-    };
     match command_of(rt.alloc(), &RUN) {
         Ok(
             CommandLine::Run {
@@ -174,7 +188,7 @@ fn run_goes_on_where_no_end_is_given(rt: HostRuntime) {
         ) => {
             assert!(rt; db == "o.db" && listen == 8080 && every == 60);
             assert!(rt; lasts == None && !verbose);
-            assert!(rt; devices.as_slice() == [device].as_slice());
+            assert!(rt; devices.as_slice() == DEVICES.as_slice());
         }
         _ => panic!(rt; "no run"),
     }
@@ -182,16 +196,6 @@ fn run_goes_on_where_no_end_is_given(rt: HostRuntime) {
 
 #[test]
 fn run_takes_an_end_and_verbose(rt: HostRuntime) {
-    let first = Device {
-        name: "inv",
-        host: "meter.lan",
-        port: 502,
-    };
-    let second = Device {
-        name: "b",
-        host: "[::1]",
-        port: 1,
-    };
     match command_of(rt.alloc(), &RUN_ALL) {
         Ok(
             CommandLine::Run {
@@ -202,7 +206,7 @@ fn run_takes_an_end_and_verbose(rt: HostRuntime) {
             },
         ) => {
             assert!(rt; lasts == Some(3600) && verbose);
-            assert!(rt; devices.as_slice() == [first, second].as_slice());
+            assert!(rt; devices.as_slice() == ALL_DEVICES.as_slice());
         }
         _ => panic!(rt; "no run"),
     }
