@@ -1,0 +1,4 @@
+#!/usr/bin/env bash
+# Times the functions of a crate's check, over libraries that were built, and prints the dearest first: `bench/functions.sh NAME`.
+# bench/functions.py says more.
+exec python3 "$(dirname "$(readlink -f "$0")")/functions.py" "$@"
