@@ -1,6 +1,6 @@
 //! The command of `clap` that tables describe.
 ghost use Rattle.std.specs.Prelude.{◌≡◌, IfOk, false};
-ghost use Rattle.clap.specs.Words.{app_of, new_app, rule_of};
+ghost use Rattle.clap.specs.Words.{app_of, rule_of};
 ghost use Rattle.clap.specs.declared.builder.command.Command.TheViews.{out-Command as fields_of};
 ghost use Rattle.command_table.specs.Table.{command_app, option_rule, program_app, with_command};
 ghost use Rattle.command_table.specs.Table.{with_commands, with_option, with_options};

@@ -1,7 +1,7 @@
 //! The bodies of replies to questions.
 ghost use Rattle.std.specs.Prelude.{◌≡◌, ◌≤◌, ◌+◌, ◌++◌, length, codes};
 ghost use Rattle.std.specs.Fmt.{signed_decimal};
-ghost use Rattle.http_answer.specs.Rows.{bool_text, ending_of, meter_text, poll_text, poll_text_with};
+ghost use Rattle.http_answer.specs.Rows.{bool_text, ending_of, meter_text, poll_text};
 
 use http_reply::Text;
 use office_events::{EndedPoll, Installation, PollRow};

@@ -1,6 +1,6 @@
 //! Bytes that are buffered until there are enough of them to give.
-ghost use Rattle.std.specs.Prelude.{◌≡◌, ◌≤◌, ◌<◌, ◌+◌, ℕ, ◌++◌, List, [], Bool, Option, length};
-ghost use Rattle.std.specs.Prelude.{take, true, false, is_err, not, ◌&&◌, IfOk};
+ghost use Rattle.std.specs.Prelude.{◌≡◌, ◌≤◌, ◌<◌, ◌+◌, ℕ, ◌++◌, List, [], Option, length};
+ghost use Rattle.std.specs.Prelude.{true, false, is_err, not, ◌&&◌};
 ghost use Rattle.std.specs.Io.KnownBytes.{Keeps};
 ghost use Rattle.mb_wire.specs.Links.{risen};
 ghost use Rattle.http_reply.specs.Giving.{Gives};

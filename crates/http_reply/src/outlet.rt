@@ -1,5 +1,5 @@
 //! A link, and the bytes on their way to it.
-ghost use Rattle.std.specs.Prelude.{◌≡◌, ◌≤◌, ℕ, List, [], Option, length, take, false, is_err};
+ghost use Rattle.std.specs.Prelude.{◌≡◌, ◌≤◌, ℕ, List, [], Option, take, false, is_err};
 ghost use Rattle.http_reply.specs.Giving.{Gives};
 ghost use Rattle.http_reply.specs.Sending.{HasPut, OnlyGives, Outgoing, Puts};
 

@@ -1,6 +1,5 @@
 //! What a whole request wants of an office.
 ghost use Rattle.std.specs.Prelude.{◌≡◌, ◌⊎◌, Ok, Err};
-ghost use Rattle.http_commands.specs.Few.{HasFewRows};
 ghost use Rattle.http_request.specs.Asking.{TestsHead};
 ghost use Rattle.http_request.specs.HeadTests.{start_at};
 ghost use Rattle.http_request.specs.declared.ask.Ask.TheVariants.{Command as AskedCommand};

@@ -20,7 +20,7 @@ pub struct Peers {
 }
 
 impl Peers {
-    ghost use Rattle.std.specs.Prelude.{◌≡◌, ◌-◌, ◌+◌, ◌^◌, ◌<◌, min, length, slice_set, replicate};
+    ghost use Rattle.std.specs.Prelude.{◌≡◌, ◌-◌, ◌+◌, ◌^◌, ◌<◌, min, slice_set, replicate};
     ghost use Rattle.hub_peers.specs.Places as places;
     ghost use Rattle.hub_peers.specs.Places.{Admits};
 

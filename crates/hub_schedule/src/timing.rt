@@ -25,7 +25,7 @@ pub struct Timing {
 }
 
 impl Timing {
-    ghost use Rattle.std.specs.Prelude.{◌≡◌, ◌≤◌, ◌<◌, ◌+◌, ◌^◌, ℕ};
+    ghost use Rattle.std.specs.Prelude.{◌≡◌, ◌≤◌, ◌<◌, ◌+◌, ◌^◌};
     ghost use Rattle.hub_schedule.specs.Timings as timings;
     ghost use Rattle.hub_schedule.specs.Timings.{IsDue, IsRetried};
 

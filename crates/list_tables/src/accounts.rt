@@ -1,6 +1,5 @@
 //! Where a meter stands behind rows that may be any.
 ghost use Rattle.std.specs.Prelude.{◌≡◌, ◌≤◌, ◌<◌, ◌*◌, ◌^◌, true, Some, None, IsTrue, IfSome};
-ghost use Rattle.energy_core.specs.Account.{IsScale};
 ghost use Rattle.meter_journal.specs.Books as books;
 ghost use Rattle.meter_journal.specs.Intervals.{rows_of_steps};
 ghost use Rattle.meter_journal.specs.Journal.{entries_in};

@@ -1,7 +1,6 @@
 //! A meter as it stands.
 ghost use Rattle.std.specs.Prelude.{◌≡◌, ◌∷◌, ◌++◌, ◌≤◌, ◌<◌, ◌*◌, ◌^◌, List, [], ◌+◌, length, take, IsTrue, OnOk, OnErr, IfSome};
 ghost use Rattle.std.specs.Option.{option_map};
-ghost use Rattle.energy_core.specs.Account.{IsScale};
 ghost use Rattle.meter_journal.specs.Journal as journal;
 ghost use Rattle.meter_journal.specs.Journal.{row_at};
 ghost use Rattle.meter_journal.specs.Lists as lists;

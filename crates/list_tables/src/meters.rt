@@ -32,7 +32,7 @@ pub(crate) struct Meters {
 }
 
 impl Meters {
-    ghost use Rattle.list_tables.specs.Meters.{AreMeters, Changes, Begins, IfThere, meter_at};
+    ghost use Rattle.list_tables.specs.Meters.{AreMeters, Changes, Begins, IfThere};
 
     /// No meters.
     pub(crate) fn new(alloc: Global) -> Meters

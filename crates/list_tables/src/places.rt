@@ -1,5 +1,5 @@
 //! Where facts of a kind stand, by name.
-ghost use Rattle.std.specs.Prelude.{◌≡◌, ◌∷◌, ◌++◌, ℕ, List, [], cond, reverse, OnOk, OnErr};
+ghost use Rattle.std.specs.Prelude.{◌≡◌, ◌∷◌, ◌++◌, List, [], cond, reverse, OnOk, OnErr};
 ghost use Rattle.office_events.specs.declared.facts.Fact.{Fact};
 ghost use Rattle.list_tables.specs.Keys as keys;
 ghost use Rattle.list_tables.specs.Places as places;
@@ -104,7 +104,7 @@ pub(crate) struct Places {
 }
 
 impl Places {
-    ghost use Rattle.std.specs.BTreeMap.{get, IsUnchanged};
+    ghost use Rattle.std.specs.BTreeMap.{get};
     ghost use Rattle.std.specs.Ordering.{is_eq};
     ghost use Rattle.list_tables.specs.Keys.{key_cmp};
     ghost use Rattle.list_tables.specs.Places.{ArePlaces, ArePlacesOf, under, places_of, latest_place, has_key};

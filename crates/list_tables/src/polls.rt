@@ -1,5 +1,5 @@
 //! Polls by their numbers, and those that wait.
-ghost use Rattle.std.specs.Prelude.{◌≡◌, [], List, length, IfOk, OnOk};
+ghost use Rattle.std.specs.Prelude.{◌≡◌, [], List, length, IfOk};
 ghost use Rattle.office_events.specs.declared.facts.Fact.{Fact};
 ghost use Rattle.office_rules.specs.Facts.{polls_in, pending_in};
 ghost use Rattle.office_rules.specs.Lawful.{AreLawful};

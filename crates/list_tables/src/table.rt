@@ -1,5 +1,5 @@
 //! Tables that grow with the facts.
-ghost use Rattle.std.specs.Prelude.{◌≡◌, List, [], length, IfOk, OnOk};
+ghost use Rattle.std.specs.Prelude.{◌≡◌, List, [], length, OnOk};
 ghost use Rattle.office_events.specs.declared.facts.Fact.{Fact};
 ghost use Rattle.office_rules.specs.Lawful.{AreLawful};
 ghost use Rattle.list_tables.specs.Growing.{HasCome, latest_first};

@@ -29,7 +29,7 @@ pub enum Repeat {
 /// of them or none. What is said of an answer is said where `is_clean` holds after the call: where the store gave back what
 /// was written to it. Books in memory are always clean; of books that are not, nothing is promised but their failures' count.
 pub trait Books: Drop {
-    ghost use Rattle.std.specs.Prelude.{◌≡◌, ℕ, List, reverse, length};
+    ghost use Rattle.std.specs.Prelude.{◌≡◌, List, reverse, length};
     ghost use Rattle.office_events.specs.declared.facts.Fact.{Fact};
     ghost use Rattle.office_rules.specs.Facts.{devices_in, register_of, registers_of, list_of};
     ghost use Rattle.office_rules.specs.Facts.{openings_in, polls_in, pending_in, latest_in};

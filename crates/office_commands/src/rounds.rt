@@ -1,5 +1,5 @@
 //! The reads that a command wants sent.
-ghost use Rattle.std.specs.Prelude.{◌≡◌, true, List, [], ◌∷◌, map, length, IfOk};
+ghost use Rattle.std.specs.Prelude.{◌≡◌, true, [], ◌∷◌, map, length, IfOk};
 ghost use Rattle.std.specs.Option.{option_and_then};
 ghost use Rattle.office_rules.specs.Facts.{list_of};
 ghost use Rattle.office_rules.specs.History.{spans_by, round_spans};

@@ -1,6 +1,6 @@
 //! Names of devices, registers and meters.
-ghost use Rattle.std.specs.Prelude.{◌≡◌, ℕ, ◌≤◌, ◌-◌, ◌++◌, ◌↔◌, List, length, take, drop};
-ghost use Rattle.std.specs.Prelude.{replicate, IsTrue, IsSome, IfSome};
+ghost use Rattle.std.specs.Prelude.{◌≡◌, ℕ, ◌≤◌, ◌-◌, ◌++◌, ◌↔◌, List, length, take};
+ghost use Rattle.std.specs.Prelude.{replicate};
 ghost use Rattle.std.specs.List.{list_all};
 ghost use Rattle.std.specs.Str.{bytes_eq};
 ghost use Rattle.office_events.specs.Names as specs_names;
@@ -16,7 +16,7 @@ pub struct Name {
 }
 
 impl Model for Name {
-    ghost use Rattle.std.specs.Prelude.{◌≡◌, ℕ, ◌≤◌, ◌-◌, ◌++◌, List, length, take, drop};
+    ghost use Rattle.std.specs.Prelude.{◌≡◌, ℕ, ◌≤◌, ◌-◌, ◌++◌, List, length, take};
     ghost use Rattle.std.specs.Prelude.{replicate, true};
     ghost use Rattle.office_events.specs.declared.limits.TheConstants.{MAX_NAME};
     ghost use Rattle.office_events.specs.Names.{is_name};

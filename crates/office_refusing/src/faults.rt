@@ -1,8 +1,7 @@
 //! Faults of an entry that is handed in. Its numbers are any of 64 bits, so what they make is reckoned in 128.
 ghost use Rattle.std.specs.Prelude.{◌≡◌, ◌≤◌, ◌*◌, ◌^◌, pos, negsuc, ◌≤ℤ◌};
 ghost use Rattle.energy_core.specs.Value.{unit_of};
-ghost use Rattle.energy_core.specs.Account.{moment_of, reached, intervals_touched, energy_of};
-ghost use Rattle.energy_core.specs.Admission as entering;
+ghost use Rattle.energy_core.specs.Account.{moment_of, reached, energy_of};
 ghost use Rattle.energy_core.specs.declared.admission.TermFault.TheVariants as fault;
 ghost use Rattle.office_books.specs.Sound.{IsSound};
 ghost use Rattle.office_refusing.specs.Given.{entry_of};

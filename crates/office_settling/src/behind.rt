@@ -1,5 +1,5 @@
 //! Installations as they stand behind a draft.
-ghost use Rattle.std.specs.Prelude.{◌≡◌, List, reverse};
+ghost use Rattle.std.specs.Prelude.{◌≡◌};
 ghost use Rattle.office_rules.specs.Meters.{open_at};
 ghost use Rattle.office_books.specs.Sound.{IsSound, ReadsInstallation};
 ghost use Rattle.office_settling.specs.Drafts.{FindsBehind};

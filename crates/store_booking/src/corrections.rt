@@ -1,6 +1,5 @@
 //! What is left of a meter when one of its entries is voided.
 ghost use Rattle.std.specs.Prelude.{◌≡◌, ◌≤◌, IsTrue, All, IfOk, IfSome};
-ghost use Rattle.energy_core.specs.Account.{IsAccount};
 ghost use Rattle.meter_journal.specs.Books.{IsWellInstalled, HasAccount, steps_after};
 ghost use Rattle.meter_journal.specs.Intervals.{rows_of_steps};
 ghost use Rattle.meter_journal.specs.Journal.{with_rolls, entries_in};

@@ -1,5 +1,5 @@
 //! Names, as texts of the tables.
-ghost use Rattle.std.specs.Prelude.{◌≡◌, IfOk, IfErr, IsUtf8, string_bytes};
+ghost use Rattle.std.specs.Prelude.{◌≡◌, IfOk, IfErr, IsUtf8};
 ghost use Rattle.office_events.specs.Names.{named};
 ghost use Rattle.store_tables.specs.Columns.{or_damaged};
 

@@ -1,14 +1,10 @@
 //! The table `meta`.
-ghost use Rattle.std.specs.Prelude.{◌≡◌, ◌≤◌, [], ◌∷◌, IfOk};
+ghost use Rattle.std.specs.Prelude.{◌≡◌, ◌≤◌, [], ◌∷◌};
 ghost use Rattle.sqlite.specs.Held.{state};
-ghost use Rattle.sqlite.specs.State.{HasCleanDisk};
-ghost use Rattle.store_tables.specs.Content.{Content, Edits, AreTablesIn, with_row, changed_where};
+ghost use Rattle.store_tables.specs.Content.{Edits, with_row, changed_where};
 ghost use Rattle.store_tables.specs.Steps.{Steps};
 ghost use Rattle.store_tables.specs.Answer.{every};
-ghost use Rattle.store_files.specs.declared.layouts.Layout.{Layout as TheLayout};
-ghost use Rattle.store_files.specs.Layouts.{schema_of};
-ghost use Rattle.store_files.specs.Meta.{meta, Meta, meta_columns, meta_shown, with_version};
-ghost use Rattle.store_files.specs.Meta.{IsMarked};
+ghost use Rattle.store_files.specs.Meta.{meta, meta_columns, with_version};
 
 use sqlite::{Alter, Connection, Error, Row, Transaction, params};
 

@@ -1,5 +1,5 @@
 //! Numbers in decimals, scaled by a power of ten.
-ghost use Rattle.std.specs.Prelude.{◌≤◌, ◌+◌, ◌*◌, ◌/◌, ◌^◌, ◌++◌, ◌≡◌, codes, length};
+ghost use Rattle.std.specs.Prelude.{◌≤◌, ◌+◌, ◌*◌, ◌/◌, ◌^◌, ◌++◌, ◌≡◌, codes};
 ghost use Rattle.std.specs.Fmt.{decimal};
 ghost use Rattle.arrayvec.specs.ArrayVec.{array_vec_len};
 ghost use Rattle.sun_points.specs.Decimal.{low_digits, magnitude_text, scaled_text};
