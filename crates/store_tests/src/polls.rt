@@ -112,23 +112,14 @@ fn a_request_is_kept_with_its_bytes(rt: HostRuntime) -> Result<(), Fail> {
     let mut conn = one_meter(rt.alloc())?;
     started(&mut conn)?;
     assert_eq!(rt; keep(&mut conn)?, Some(1));
-    let same = Repeat::Same(ReplyKind::Exchange);
-    assert_eq!(rt;
-        sound(repeat_of(&mut conn, "home", 7, b"exchange main"))?,
-        Some(same)
-    );
-    assert_eq!(rt;
-        sound(repeat_of(&mut conn, "home", 7, b"exchange"))?,
-        Some(Repeat::Other)
-    );
-    assert_eq!(rt;
-        sound(repeat_of(&mut conn, "home", 8, b"exchange main"))?,
-        None
-    );
-    assert_eq!(rt;
-        sound(repeat_of(&mut conn, "away", 7, b"exchange main"))?,
-        None
-    );
+    let again = sound(repeat_of(&mut conn, "home", 7, b"exchange main"))?;
+    assert_eq!(rt; again, Some(Repeat::Same(ReplyKind::Exchange)));
+    let other = sound(repeat_of(&mut conn, "home", 7, b"exchange"))?;
+    assert_eq!(rt; other, Some(Repeat::Other));
+    let next = sound(repeat_of(&mut conn, "home", 8, b"exchange main"))?;
+    assert_eq!(rt; next, None);
+    let away = sound(repeat_of(&mut conn, "away", 7, b"exchange main"))?;
+    assert_eq!(rt; away, None);
     Ok(())
 }
 
