@@ -1,5 +1,5 @@
 //! A file is made.
-use crate::given::{fault, new_file, number};
+use crate::empty_books::{fault, new_file, number};
 use sqlite::{Connection, Error};
 use std::alloc::Global;
 use std::test::Fail;

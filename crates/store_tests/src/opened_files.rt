@@ -1,5 +1,5 @@
 //! A file is opened.
-use crate::given::{fault, new_file, number};
+use crate::empty_books::{fault, new_file, number};
 use sqlite::{Connection, Error, MemStore};
 use std::alloc::Global;
 use std::test::Fail;
