@@ -1,5 +1,6 @@
 //! The latest moment.
-use crate::given::{books, found, new_books, ready};
+use crate::given::{new_books, ready, sound};
+use crate::rows::books;
 use std::test::Fail;
 use store_finding::latest;
 use store_tables::RowFault;
@@ -42,11 +43,11 @@ const LATER: [Later; 6] = [
 fn the_latest_moment_is_of_any_table(rt: HostRuntime) -> Result<(), Fail> {
     let mut conn = books(rt.alloc())?;
     ready(&mut conn)?;
-    assert_eq!(rt; found(latest(&mut conn))?, 1900);
+    assert_eq!(rt; sound(latest(&mut conn))?, 1900);
     for later in LATER.iter() {
         conn.execute_batch(later.text)?;
         ready(&mut conn)?;
-        assert_eq!(rt; found(latest(&mut conn))?, later.latest);
+        assert_eq!(rt; sound(latest(&mut conn))?, later.latest);
     }
     Ok(())
 }
@@ -55,7 +56,7 @@ fn the_latest_moment_is_of_any_table(rt: HostRuntime) -> Result<(), Fail> {
 fn new_books_have_no_moment(rt: HostRuntime) -> Result<(), Fail> {
     let mut conn = new_books(rt.alloc())?;
     ready(&mut conn)?;
-    assert_eq!(rt; found(latest(&mut conn))?, 0);
+    assert_eq!(rt; sound(latest(&mut conn))?, 0);
     Ok(())
 }
 

@@ -1,4 +1,6 @@
 //! New books in memory, and what they show.
+ghost use Rattle.std.specs.Prelude.{◌≡◌, false, IfOk};
+
 use office_events::Fact;
 use sqlite::{Connection, Error, MemStore};
 use std::alloc::Global;
@@ -15,20 +17,35 @@ pub(crate) fn new_books(alloc: Global) -> Result<Connection<MemStore>, Error> {
     }
 }
 
-/// Books facts, for which damage is an error as well.
+/// That no transaction is under way.
+pub(crate) fn ready(conn: &mut Connection<MemStore>) -> Result<(), Error>
+    ensures same { conn.new ≡ conn.old }
+    ensures idle { IfOk result (λ _. conn.new.in_transaction ≡ false) }
+{
+    if conn.is_autocommit() {
+        Ok(())
+    } else {
+        Err(Error::InvalidQuery)
+    }
+}
+
+/// An answer, for which damage is an error as well.
+pub(crate) fn sound<T>(answer: Result<T, RowFault>) -> Result<T, Error> {
+    match answer {
+        Ok(found) => Ok(found),
+        Err(RowFault::Sql(error)) => Err(error),
+        Err(RowFault::Damaged) => Err(Error::InvalidQuery),
+    }
+}
+
+/// Books facts.
 pub(crate) fn book(
     alloc: Global,
     conn: &mut Connection<MemStore>,
     facts: &[Fact],
 ) -> Result<(), Error> {
-    if !conn.is_autocommit() {
-        return Err(Error::InvalidQuery);
-    }
-    match book_facts(alloc, conn, facts) {
-        Ok(()) => Ok(()),
-        Err(RowFault::Sql(error)) => Err(error),
-        Err(RowFault::Damaged) => Err(Error::InvalidQuery),
-    }
+    ready(conn)?;
+    sound(book_facts(alloc, conn, facts))
 }
 
 /// The number that a query answers.

@@ -1,5 +1,7 @@
-//! Rows of the table, booked, taken out and handed on.
-use crate::given::{Seen, Story, at_register, booked, of_meter, sound};
+//! Rows of the table of intervals, booked, taken out and handed on.
+use crate::given::sound;
+use crate::shares::Seen;
+use crate::stories::{Story, at_register, booked, of_meter};
 use std::test::Fail;
 use store_intervals::meter_intervals;
 use store_tables::RowFault;

@@ -1,5 +1,7 @@
 //! Point lists.
-use crate::given::{books, found, name, ready};
+use crate::facts::name;
+use crate::given::{ready, sound};
+use crate::rows::books;
 use mb_wire::ReadFunction;
 use sqlite::Error;
 use std::test::Fail;
@@ -11,7 +13,7 @@ use sun_points::PointType;
 fn a_list_has_its_points_in_order(rt: HostRuntime) -> Result<(), Fail> {
     let mut conn = books(rt.alloc())?;
     ready(&mut conn)?;
-    let Some(planned) = found(list(rt.alloc(), &mut conn, &name(b"inv")?))? else {
+    let Some(planned) = sound(list(rt.alloc(), &mut conn, &name(b"inv")?))? else {
         return Err(Error::InvalidQuery)?;
     };
     let points = planned.points();
@@ -27,7 +29,7 @@ fn a_list_has_its_points_in_order(rt: HostRuntime) -> Result<(), Fail> {
 fn a_list_has_the_reads_of_its_plan(rt: HostRuntime) -> Result<(), Fail> {
     let mut conn = books(rt.alloc())?;
     ready(&mut conn)?;
-    let Some(planned) = found(list(rt.alloc(), &mut conn, &name(b"inv")?))? else {
+    let Some(planned) = sound(list(rt.alloc(), &mut conn, &name(b"inv")?))? else {
         return Err(Error::InvalidQuery)?;
     };
     let reads = planned.reads();
@@ -35,7 +37,7 @@ fn a_list_has_the_reads_of_its_plan(rt: HostRuntime) -> Result<(), Fail> {
     assert_eq!(rt; reads[0].span.address, 40_094);
     assert_eq!(rt; reads[0].span.count, 83);
     ready(&mut conn)?;
-    assert!(rt; found(list(rt.alloc(), &mut conn, &name(b"pv")?))?.is_none());
+    assert!(rt; sound(list(rt.alloc(), &mut conn, &name(b"pv")?))?.is_none());
     Ok(())
 }
 
