@@ -1,19 +1,15 @@
 //! Rounds that are broken off, by each fault.
 use crate::links::{IdleLink, replies};
-use crate::office::{inv, listed, outcomes, round, unlisted};
+use crate::office::{ANSWERED, LOST, inv, listed, outcomes, round, unlisted};
 use crate::writers::Narrow;
 use mb_wire::{Link, MemoryLink};
 use office_events::{Name, Refusal};
 use office_rounds::{RoundFault, round_over};
-use poll_core::{LostCause, Outcome};
+use poll_core::Outcome;
 use socket_link::ListedClock;
 use std::alloc::Global;
 use std::process::Abort;
 use std::test::Fail;
-
-const LOST: Option<Outcome> = Some(Outcome::Lost(LostCause::Failed));
-
-const ANSWERED: Option<Outcome> = Some(Outcome::Answered);
 
 #[test]
 fn an_unknown_device_is_refused(rt: HostRuntime) -> Result<(), Fail> {
@@ -168,17 +164,4 @@ fn a_round_has_so_many_takes(rt: HostRuntime) -> Result<(), Fail> {
         [LOST].as_slice()
     );
     Ok(())
-}
-
-#[test]
-fn faults_have_numbers(rt: HostRuntime) {
-    let faults = [
-        RoundFault::Refused(Refusal::Memory),
-        RoundFault::Link,
-        RoundFault::Output,
-        RoundFault::TurnsUsed,
-    ];
-    for (number, fault) in (1..5).zip(faults) {
-        assert_eq!(rt; fault.number(), number);
-    }
 }

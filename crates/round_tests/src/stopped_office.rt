@@ -8,6 +8,7 @@ use office_events::{Event, Refusal};
 use office_rounds::RoundFault;
 use std::alloc::Global;
 use std::process::Abort;
+use std::test::Fail;
 
 // Takes rows, and keeps none.
 #[derive(Drop)]
@@ -29,11 +30,17 @@ fn refuse_questions(rt: &impl Abort, office: &mut Office<FailingBooks>) {
 }
 
 /// Holds a stopped office to it that it refuses each event, each question and each round.
-pub(crate) fn refuse_all(rt: &impl Abort, alloc: Global, office: &mut Office<FailingBooks>) {
+pub(crate) fn refuse_all(
+    rt: &impl Abort,
+    alloc: Global,
+    office: &mut Office<FailingBooks>,
+) -> Result<(), Fail> {
     for event in [Event::Tick, Event::Connected(inv()), device(1)] {
         assert_eq!(rt; office.feed(1000, &event), Err(Refusal::Stopped));
     }
     refuse_questions(rt, office);
-    let done = round(alloc, office, &mut MemoryLink::new(&[], &mut [], 1, None));
+    let mut link = MemoryLink::new(&[], &mut [], 1, None);
+    let (done, _) = round(alloc, office, &mut link, &[1000])?;
     assert_eq!(rt; done, Err(RoundFault::Refused(Refusal::Stopped)));
+    Ok(())
 }

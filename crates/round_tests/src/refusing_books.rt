@@ -1,5 +1,6 @@
 //! Rounds whose books refuse each of their calls in turn.
-use crate::office::{ANSWERED, RESTARTED, listed, opened, outcomes, replies, round};
+use crate::links::replies;
+use crate::office::{ANSWERED, RESTARTED, listed_over, opened, outcomes, round};
 use crate::stopped_office::refuse_all;
 use mb_wire::MemoryLink;
 use office_books::Books;
@@ -26,12 +27,12 @@ struct Ended {
 
 // The call of the books of a number is refused; before the round the event that was refused comes again.
 fn refuse_call(rt: &impl Abort, alloc: Global, input: &[u8], number: u64) -> Result<Ended, Fail> {
-    let mut office = listed(alloc, number, 1)?;
+    let mut office = listed_over(alloc, number, 1)?;
     let mut given = [0; 24];
     let mut link = MemoryLink::new(input, &mut given, 259, None);
-    let done = round(alloc, &mut office, &mut link);
+    let (done, _) = round(alloc, &mut office, &mut link, &[1000])?;
     if office.poll(1).err() == Some(Refusal::Stopped) {
-        refuse_all(rt, alloc, &mut office);
+        refuse_all(rt, alloc, &mut office)?;
     }
     let polls = outcomes(alloc, &mut office)?;
     let books = office.into_books();

@@ -1,5 +1,6 @@
 //! Rounds whose link fails at each of its calls in turn.
-use crate::office::{ANSWERED, LOST, listed, opened, outcomes, replies, round};
+use crate::links::replies;
+use crate::office::{ANSWERED, LOST, listed_over, opened, outcomes, round};
 use mb_wire::MemoryLink;
 use office_rounds::RoundFault;
 use poll_core::Outcome;
@@ -21,10 +22,10 @@ struct Ended {
 
 // Both polls wait at once; the call of the link of a number fails.
 fn fail_call(alloc: Global, input: &[u8], number: u64) -> Result<Ended, Fail> {
-    let mut office = listed(alloc, 0, 2)?;
+    let mut office = listed_over(alloc, 0, 2)?;
     let mut given = [0; 24];
     let mut link = MemoryLink::new(input, &mut given, 7, Some(number));
-    let done = round(alloc, &mut office, &mut link);
+    let (done, _) = round(alloc, &mut office, &mut link, &[1000])?;
     let polls = outcomes(alloc, &mut office)?;
     let mut office = opened(alloc, office.into_books(), 5000)?;
     let again = outcomes(alloc, &mut office)?;
