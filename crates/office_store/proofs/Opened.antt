@@ -1,20 +1,19 @@
 -- What books hold that were made or opened.
-use Rattle.std.proofs.Common.{◌≡◌, inl, inr, ℕ, Bool, true, false, List, [], ◌∷◌, refl, sym, subst, Result, Ok, Err, IsTrue}
+use Rattle.std.proofs.Common.{◌≡◌, inl, inr, ℕ, Bool, true, false, List, [], refl, Result, Ok, Err, IsTrue}
 use Rattle.sqlite.specs.Store.{Ghosts}
 use Rattle.sqlite.specs.Tree.{Trees}
-use Rattle.sqlite.specs.Effect.{Database}
 use Rattle.sqlite.specs.Held.{Held, state}
-use Rattle.sqlite.specs.State.{HasCleanDisk, KeepsCommit}
+use Rattle.sqlite.specs.State.{HasCleanDisk}
 use Rattle.office_events.specs.declared.facts.Fact.{Fact}
-use Rattle.store_tables.specs.Content.{Content, AreTables}
+use Rattle.store_tables.specs.Content.{Content}
 use Rattle.store_tables.specs.Steps.{TransactsTo}
-use Rattle.store_files.specs.declared.layouts.Layout.TheVariants.{Third}
+use Rattle.store_files.specs.declared.layouts.Layout.{Layout}
 use Rattle.store_files.specs.Layouts.{no_schema}
 use Rattle.store_files.specs.NewFile.{Makes}
-use Rattle.store_files.specs.Upgrade.{IsFile, IsBrought, OpensFile}
-use Rattle.store_facts.specs.Holding.{HasFacts, HoldsFacts, LeavesFacts, IsLeft, IsOneOf}
-use Rattle.store_laws.specs.Files.{NewFilesHaveNone, OpenedFilesKeepTheirs}
-use Rattle.office_store.specs.Database.{HasFile, HoldsAlone, HoldsYet}
+use Rattle.store_files.specs.Upgrade.{IsFile, OpensFile}
+use Rattle.store_facts.specs.Holding.{HasFacts, HoldsFacts, LeavesFacts}
+use Rattle.store_laws.specs.Files.{HasFactsIn, NewFilesHaveNone, OpenedFilesKeepTheirs}
+use Rattle.office_store.specs.Database.{HasFile, HoldsAlone, KeepsFile}
 
 -- while the store is open, a stop leaves the last commit
 abbrev pub Settles : {S : Type 0} → Ghosts S → Held S → Type 0
@@ -43,47 +42,38 @@ holds_none none g zone old new x settles blank does =
 
 -- ---- books that were opened
 
-kept : {S : Type 0} (g : Ghosts S) (zone : List ℕ) (old new : Held S) (facts : List Fact) → KeepsCommit (state g old) (state g new) → IsTrue (state g new).is_open
-    → HasFacts zone facts (state g old).committed → HasFacts zone facts (state g new).committed
-kept g zone old new facts keeps still has =
-    let P : Database → Type 0 = λ db. HasFacts zone facts db in
-    subst P (sym (keeps.committed still)) has
-
 module _ {S X E : Type 0} (theirs : OpenedFilesKeepTheirs) (g : Ghosts S) (zone : List ℕ) (old new : Held S)
     (first : HasCleanDisk (state g new) → HasCleanDisk (state g old)) where
-  -- what an opening promises of a file of the newest version
+  -- what an opening promises of a file
   abbrev pub Opens : Result X E → Type 0
-  Opens result = HasCleanDisk (state g new) → (content : Content)
-      → (IsTrue (state g old).is_open → IsFile Third zone (state g old).committed content) → OpensFile Third zone content (state g old) (state g new) result
+  Opens result = HasCleanDisk (state g new) → (layout : Layout) (content : Content)
+      → (IsTrue (state g old).is_open → IsFile layout zone (state g old).committed content) → OpensFile layout zone content (state g old) (state g new) result
 
-  opened : (facts : List Fact) (result : Result X E) → Opens result → HasCleanDisk (state g new) → (has : HasFacts zone facts (state g old).committed)
-      → OpensFile Third zone has.content (state g old) (state g new) result
-  opened facts result opens clean has = opens clean has.content (λ still. (theirs zone facts (state g old).committed has).file)
+  opened : (facts : List Fact) (result : Result X E) → Opens result → HasCleanDisk (state g new) → (layout : Layout) (has : HasFactsIn layout zone facts (state g old).committed)
+      → OpensFile layout zone has.content (state g old) (state g new) result
+  opened facts result opens clean layout has = opens clean layout has.content (λ still. has.file)
 
   pub holds_again : (facts : List Fact) (x : X) → Settles g new → HasFile g zone old facts → Opens (Ok x) → HoldsAlone g zone new facts
   holds_again facts x settles file opens =
       alone g zone new facts settles (λ clean.
       let has = file (first clean) in
-      let it = (opened facts (Ok x) opens clean has).ok in
-      (it.0, record { content = it.1; tables = it.3; are = (theirs zone facts (state g old).committed has).kept it.1 it.2 }))
+      let it = (opened facts (Ok x) opens clean has.0 has.1).ok in
+      (it.0, record { content = it.1; tables = it.3; are = theirs has.0 zone facts (state g old).committed has.1 it.1 it.2 }))
 
-  pub holds_yet : (facts : List Fact) (e : E) → HasFile g zone old facts → Opens (Err e) → HoldsYet g zone old new facts
-  unfolding HoldsFacts LeavesFacts
-  holds_yet facts e file opens = record {
-    holds = λ clean still.
+  pub keeps_file : (facts : List Fact) (e : E) → HasFile g zone old facts → Opens (Err e) → KeepsFile g zone old new facts
+  keeps_file facts e file opens = record {
+    kept = λ clean. let has = file (first clean) in (opened facts (Err e) opens clean has.0 has.1).err;
+    leaves = λ clean trees may.
         let has = file (first clean) in
-        kept g zone old new facts (opened facts (Err e) opens clean has).err still has;
-    leaves = λ left one leaves clean trees may.
-        let has = file (first clean) in
-        elim ((opened facts (Err e) opens clean has).survives.crash clean trees may) [
-          | inl was ↦ leaves (first clean) trees was
-          | inr there ↦ record {
+        elim ((opened facts (Err e) opens clean has.0 has.1).survives.crash clean trees may) [
+          | inl was ↦ inl was
+          | inr there ↦ inr (record {
             facts = facts;
-            one = one;
+            one = inl refl;
             db = there.2;
-            has = record { content = there.0; tables = there.3; are = (theirs zone facts (state g old).committed has).kept there.0 there.1 };
+            has = record { content = there.0; tables = there.3; are = theirs has.0 zone facts (state g old).committed has.1 there.0 there.1 };
             same = there.4;
-          }
+          })
         ];
   }
 

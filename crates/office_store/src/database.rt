@@ -14,7 +14,7 @@ ghost use Rattle.store_files.specs.Meta.{Meta, IsMarked};
 ghost use Rattle.store_files.specs.OpenedFile.{Tells};
 ghost use Rattle.store_files.specs.Zones.{IsZone};
 ghost use Rattle.office_store.specs.Made.{HandsBackUntouched, connection_in, told_by};
-ghost use Rattle.office_store.specs.Database.{HasFile, HoldsAlone, HoldsYet};
+ghost use Rattle.office_store.specs.Database.{HasFile, HoldsAlone, KeepsFile};
 
 use crate::books::{SqlBooks, Unopened};
 use sqlite::{Alter, Connection};
@@ -84,7 +84,7 @@ impl<S: Alter> SqlBooks<S> {
         ensures again { (zone : List ℕ) (facts : List Fact) → HasFile S.Store zone connection facts
             → IfOk result (λ books. HoldsAlone S.Store zone books.connection facts) }
         ensures yet { (zone : List ℕ) (facts : List Fact) → HasFile S.Store zone connection facts
-            → IfErr result (λ e. HoldsYet S.Store zone connection e.connection facts) }
+            → IfErr result (λ e. KeepsFile S.Store zone connection e.connection facts) }
     {
         opened_files_keep_theirs();
         let mut connection = connection;

@@ -1,4 +1,4 @@
--- The facts that a stop left are found.
+-- The facts that a stop left are found, and those of a file.
 use Rattle.std.proofs.Common.{◌≡◌, sym, subst, ◌∙◌}
 use Rattle.sqlite.specs.Tree.{Trees}
 use Rattle.sqlite.specs.Schema.{Schema}
@@ -7,6 +7,7 @@ use Rattle.sqlite_catalog.specs.Listing.{IsSound}
 use Rattle.sqlite_catalog.proofs.ReadLemmas.{reads, read_once}
 use Rattle.store_facts.specs.Holding.{HasFacts}
 use Rattle.store_laws.specs.Laws.{LeftFactsAreFound}
+use Rattle.store_laws.specs.Files.{HasFactsIn, FoundFilesKeepTheirs}
 
 -- trees list one schema
 one_schema : (s t : Schema) (trees : Trees) → IsSound s trees → IsSound t trees → s ≡ t
@@ -21,3 +22,7 @@ one_database a b h k e =
 pub left_facts_are_found : LeftFactsAreFound
 left_facts_are_found zone left trees db it sound same =
     subst (HasFacts zone it.facts) (sym (one_database db it.db sound it.has.tables.sound (same ∙ it.same))) it.has
+
+pub found_files_keep_theirs : FoundFilesKeepTheirs
+found_files_keep_theirs layout zone facts db found it sound same =
+    subst (HasFactsIn layout zone facts) (sym (one_database found db sound it.file.tables.sound same)) it

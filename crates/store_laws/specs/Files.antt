@@ -1,9 +1,14 @@
 -- Which facts a file has that was made or opened.
-use Rattle.std.specs.Prelude.{ℕ, List, []}
-use Rattle.sqlite.specs.Effect.{Database}
+use Rattle.std.specs.Prelude.{◌≡◌, ◌≢◌, ◌↔◌, ◌^◌, ⊤, ℕ, List, [], All}
+use Rattle.sqlite.specs.Effect.{Database, IsDatabase}
+use Rattle.office_events.specs.declared.facts.Opening.{Opening}
 use Rattle.office_events.specs.declared.facts.Fact.{Fact}
-use Rattle.store_tables.specs.Content.{Content}
-use Rattle.store_files.specs.declared.layouts.Layout.TheVariants.{Third}
+use Rattle.office_rules.specs.Facts.{openings_in, voids_in}
+use Rattle.store_tables.specs.Content.{Content, HasTree}
+use Rattle.store_files.specs.declared.layouts.Layout.{Layout}
+use Rattle.store_files.specs.declared.layouts.Layout.TheVariants.{First, Second, Third}
+use Rattle.store_files.specs.Layouts.{schema_of}
+use Rattle.store_files.specs.Meta.{meta}
 use Rattle.store_files.specs.NewFile.{IsNew}
 use Rattle.store_files.specs.Upgrade.{IsFile, IsBrought}
 use Rattle.store_facts.specs.Tables.{AreOf}
@@ -13,15 +18,43 @@ use Rattle.store_facts.specs.Holding.{HasFacts}
 abbrev pub NewFilesHaveNone : Type 0
 NewFilesHaveNone = (zone : List ℕ) (content : Content) → IsNew zone content → AreOf zone [] content
 
--- It is a file of the newest version, and what an opening makes of that has these facts.
-pub record IsOpenable (zone : List ℕ) (facts : List Fact) (db : Database)
-    (content : Content) : Type 0
-  where
-    pub file : IsFile Third zone db content
-    pub kept : (after : Content) → IsBrought Third zone content after → AreOf zone facts after
+-- ---- the facts of a file of any version
 
--- A database that has facts is a file, and keeps them where it is opened.
+abbrev pub HasFullRange : Opening → Type 0
+HasFullRange opening = opening.range ≡ 2 ^ 32
+
+-- The facts need no table that the layout lacks: without ranges each counter turns over at 2^32, and without voids no
+-- entry is void.
+abbrev pub FitIn : Layout → List Fact → Type 0
+FitIn First facts = All HasFullRange (openings_in facts) × (voids_in facts ≡ [])
+FitIn Second facts = voids_in facts ≡ []
+FitIn Third facts = ⊤
+
+-- A file of this layout has these facts: each of its tables has the rows that it has for them in the newest version, but
+-- for `meta`, which tells the version.
+pub record HasFactsIn (layout : Layout) (zone : List ℕ) (facts : List Fact)
+    (db : Database) : Type 0
+  where
+    pub content : Content
+    pub file : IsFile layout zone db content
+    pub newest : Content
+    pub are : AreOf zone facts newest
+    pub same : (t : ℕ) → HasTree (schema_of layout).tables t → t ≢ meta → content t ≡ newest t
+    pub fit : FitIn layout facts
+
+-- What an opening makes of a file has the facts that the file has.
 abbrev pub OpenedFilesKeepTheirs : Type 0
-OpenedFilesKeepTheirs =
-    (zone : List ℕ) (facts : List Fact) (db : Database) (it : HasFacts zone facts db)
-    → IsOpenable zone facts db it.content
+OpenedFilesKeepTheirs = (layout : Layout) (zone : List ℕ) (facts : List Fact) (db : Database)
+    → (it : HasFactsIn layout zone facts db) (after : Content)
+    → IsBrought layout zone it.content after → AreOf zone facts after
+
+-- A file of version 3 has facts just where its tables are those of these facts.
+abbrev pub NewestFilesHaveTheirs : Type 0
+NewestFilesHaveTheirs = (zone : List ℕ) (facts : List Fact) (db : Database)
+    → (HasFactsIn Third zone facts db) ↔ (HasFacts zone facts db)
+
+-- A database of the trees of a file, as the next open finds it, has the file's facts, since trees list one schema.
+abbrev pub FoundFilesKeepTheirs : Type 0
+FoundFilesKeepTheirs = (layout : Layout) (zone : List ℕ) (facts : List Fact) (db found : Database)
+    → HasFactsIn layout zone facts db → IsDatabase found → found.trees ≡ db.trees
+    → HasFactsIn layout zone facts found

@@ -1,5 +1,6 @@
 //! Laws of the tables.
 ghost use Rattle.store_laws.specs.Files.{NewFilesHaveNone, OpenedFilesKeepTheirs};
+ghost use Rattle.store_laws.specs.Files.{NewestFilesHaveTheirs, FoundFilesKeepTheirs};
 ghost use Rattle.store_laws.specs.Laws.{DatabasesTellTheirFacts, LeftFactsAreFound, TablesTellTheirFacts};
 
 use meter_journal::rows_stand;
@@ -31,7 +32,19 @@ pub fn new_files_have_none()
     ensures { NewFilesHaveNone }
 {}
 
-/// A database that has facts is a file of the newest version, and an opening keeps its facts.
+/// An opening keeps the facts of a file of any version.
 pub fn opened_files_keep_theirs()
     ensures { OpenedFilesKeepTheirs }
+{}
+
+/// A file of the newest version has the facts whose tables it has, and no others.
+pub fn newest_files_have_theirs()
+    ensures { NewestFilesHaveTheirs }
+{
+    opened_files_keep_theirs();
+}
+
+/// A database of the trees of a file of any version, as the next open finds it, has the file's facts.
+pub fn found_files_keep_theirs()
+    ensures { FoundFilesKeepTheirs }
 {}
