@@ -1,5 +1,6 @@
 -- Which reply answers what was read.
 use Rattle.std.proofs.Common.{◌≡◌, ◌∙◌, ◌≢◌, ◌⊎◌, ℕ, Bool, true, false, List, Option, Some, None, Result, Ok, Err, inl, inr, refl, sym, ap, subst}
+use Rattle.std.proofs.lemmas.Bool.{cond-true, cond-false}
 use Rattle.http_commands.specs.Given.{Gives}
 use Rattle.http_commands.specs.declared.fault.CommandFault.{CommandFault}
 use Rattle.http_commands.specs.declared.fault.CommandFault.TheVariants.{Malformed, Memory}
@@ -23,7 +24,7 @@ use Rattle.office_events.specs.declared.commands.Command.{Command}
 use Rattle.http_answer.specs.Offices.{Office}
 use Rattle.http_answer.specs.Replies.{ask, command_reply, fault, found_reply, question_reply, reply_bytes, reply_of, route_reply, unless_failed}
 use Rattle.http_answer.specs.Requests.{name_asked}
-use Rattle.http_answer.specs.Whole.{BodyGives, IsCommand, IsReply}
+use Rattle.http_answer.specs.Whole.{BodyGives, IsCommand, IsReply, bad_head_status}
 
 -- a test that fails answers, whatever the body
 fails : (office : Office) (table : Table) (start : Start) (body : List ℕ) (given : Result Command CommandFault) (status : Status) → head_fault table start ≡ Some status
@@ -75,10 +76,12 @@ pub to_fault : (office : Office) (table : Table) (bytes : List ℕ) (seen : Look
 to_fault office table bytes look.Open status holds tests = absurd holds
 to_fault office table bytes look.TooLarge status holds tests =
     let same : status ≡ FieldsTooLarge = cc tests in
-    inl record { bad = holds.0; is = inr (ap (λ s. reply_bytes (fault s)) same) }
+    let of_head : bad_head_status bytes ≡ FieldsTooLarge = cond-true _ _ _ holds.1 in
+    inl record { bad = holds.0; is = ap (λ s. reply_bytes (fault s)) (same ∙ sym of_head) }
 to_fault office table bytes look.NoHead status holds tests =
     let same : status ≡ BadRequest = cc tests in
-    inl record { bad = holds.0; is = inl (ap (λ s. reply_bytes (fault s)) same) }
+    let of_head : bad_head_status bytes ≡ BadRequest = cond-false _ _ _ holds.1 in
+    inl record { bad = holds.0; is = ap (λ s. reply_bytes (fault s)) (same ∙ sym of_head) }
 to_fault office table bytes (look.Whole at) status holds tests =
     let start = start_at bytes at in
     let body = body_of table bytes at in

@@ -1,13 +1,14 @@
 -- The reply to the bytes that were read, if these hold a whole request or a bad head; else nothing is.
-use Rattle.std.specs.Prelude.{◌≡◌, ◌≢◌, ◌⊎◌, ℕ, false, List, Some, None, Result, Err}
+use Rattle.std.specs.Prelude.{◌≡◌, ◌≢◌, ◌⊎◌, ℕ, false, List, Some, None, Result, Err, if◌then◌else◌}
 use Rattle.http_commands.specs.Given.{Gives}
 use Rattle.http_commands.specs.declared.fault.CommandFault.{CommandFault}
 use Rattle.http_commands.specs.declared.fault.CommandFault.TheVariants.{Memory}
-use Rattle.http_head.specs.Heads.{IsBadHead}
+use Rattle.http_head.specs.Heads.{IsBadHead, is_past_limits}
 use Rattle.http_request.specs.HeadTests.{Start, head_fault}
 use Rattle.http_route.specs.Routes.{Table}
 use Rattle.http_route.specs.Targets.{is_question, name_in, route_in}
 use Rattle.http_route.specs.declared.routes.Route.{Route}
+use Rattle.http_status.specs.declared.Status.{Status}
 use Rattle.http_status.specs.declared.Status.TheVariants.{BadRequest, FieldsTooLarge}
 use Rattle.http_whole.specs.Whole.{HoldsRequest}
 use Rattle.office_events.specs.declared.commands.Command.{Command}
@@ -36,10 +37,14 @@ pub record RepliesToRequest (office : Office) (table : Table) (bytes reply : Lis
   pub gives : BodyGives table start body given
   pub is : reply ≡ reply_bytes (reply_of office table start body given)
 
--- a bad head was read, to which there are two replies
+-- how a bad head is answered: 431 where it is past the limits, else 400
+abbrev pub bad_head_status : List ℕ → Status
+bad_head_status bytes = if is_past_limits bytes then FieldsTooLarge else BadRequest
+
+-- a bad head was read, and this is its reply
 pub record RepliesToBadHead (bytes reply : List ℕ) : Type 0 where
   pub bad : IsBadHead bytes
-  pub is : (reply ≡ reply_bytes (fault BadRequest)) ⊎ (reply ≡ reply_bytes (fault FieldsTooLarge))
+  pub is : reply ≡ reply_bytes (fault (bad_head_status bytes))
 
 abbrev pub IsReply : Office → Table → (bytes reply : List ℕ) → Type 0
 IsReply office table bytes reply =

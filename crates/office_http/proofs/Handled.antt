@@ -1,6 +1,6 @@
 -- What one call reads and gives.
-use Rattle.std.proofs.Common.{◌≡◌, ◌∙◌, ◌⊎◌, ℕ, Bool, true, false, not, ◌&&◌, List, [], ◌++◌, Option, Some, None, Result, Ok, Err, inl, inr, refl, sym, ap, subst}
-use Rattle.std.specs.Io.KnownBytes.{Appends, Consumes, Keeps}
+use Rattle.std.proofs.Common.{◌≡◌, ◌∙◌, ◌≤◌, ◌+◌, ◌-◌, ◌^◌, min, arith, ℕ, Bool, true, false, not, ◌&&◌, List, [], ◌++◌, Option, Some, None, Result, Ok, Err, inl, inr, refl, sym, ap, subst}
+use Rattle.std.specs.Io.KnownBytes.{Appends, Keeps}
 use Rattle.std.specs.Prelude.{is_err}
 use Rattle.std.proofs.KnownBytes.{Appends-trans, Consumes-kept, Keeps-trans}
 use Rattle.std.proofs.lemmas.List.{append-nil}
@@ -10,8 +10,9 @@ use Rattle.mb_wire.specs.declared.link.LinkFailed.{LinkFailed}
 use Rattle.http_head.specs.Heads.{IsOpenHead, Looks}
 use Rattle.http_head.specs.declared.head.Look.{Look}
 use Rattle.http_head.specs.declared.head.Look.TheVariants.{Open, TooLarge, NoHead, Whole}
-use Rattle.http_read.specs.HeadAndBody.{EndsAt, ReadsHead, StopsAtOnce}
-use Rattle.http_read.specs.Taking.{Came, bytes_in}
+use Rattle.http_read.specs.HeadAndBody.{ReadsHead, StopsAtOnce}
+use Rattle.http_read.specs.Taking.{Came, CountsTakes, bytes_in}
+use Rattle.http_read.specs.declared.inbox.TheConstants.{MOST_TAKES}
 use Rattle.http_read.specs.declared.inbox.Inbox.{Inbox}
 use Rattle.http_read.specs.declared.inbox.TakeFault.{TakeFault}
 use Rattle.http_read.specs.declared.inbox.TakeFault.TheVariants as take
@@ -22,7 +23,6 @@ use Rattle.http_whole.specs.Whole.{GoesOn, Holds, ReadsRequest}
 use Rattle.http_answer.specs.Replies.{refused, reply_bytes}
 use Rattle.office_events.specs.declared.refusals.Refusal.{Refusal}
 use Rattle.office_events.specs.declared.refusals.Refusal.TheVariants as refusal
-use Rattle.office_rules.specs.History.{History}
 use Rattle.office_books.specs.Ledgers.{Ledger}
 use Rattle.office_core.specs.Standing.{After}
 use Rattle.office_core.specs.declared.office.Office.{Office}
@@ -204,6 +204,22 @@ finished_remaining first put last sent before after done from to =
 pub finished_last : (first put last : Outgoing) (sent : Result (Unit {0}) LinkFailed) (before after : Option LastTake)
     → IsFinished first put last sent → first.last ≡ before → after ≡ last.last → after ≡ before
 finished_last first put last sent before after done from to = to ∙ done.finish.last ∙ done.puts.last ∙ from
+
+pub finished_takes : (first put last : Outgoing) (sent : Result (Unit {0}) LinkFailed) (before after : ℕ)
+    → IsFinished first put last sent → first.takes ≡ before → after ≡ last.takes → after ≡ before
+finished_takes first put last sent before after done from to = to ∙ done.finish.takes ∙ done.puts.takes ∙ from
+
+-- ---- how often something was taken
+
+-- since an inbox was made that has taken nothing
+pub few_takes : {X : Type 0} (result : Result X TakeFault) (old new : Inbox) (taken later : ℕ) → old.takes ≡ 0 → CountsTakes result old new taken later
+    → (count : ℕ) → taken ≡ min count (2 ^ 64 - 1) → later ≤ min (count + MOST_TAKES) (2 ^ 64 - 1)
+few_takes result old new taken later none takes count is =
+    let same : count ≡ count + old.takes = omega (arith, none) in
+    let begun : taken ≡ min (count + old.takes) (2 ^ 64 - 1) = is ∙ ap (λ n. min n (2 ^ 64 - 1)) same in
+    let ended : later ≡ min (count + new.takes) (2 ^ 64 - 1) = takes.counts count begun in
+    let few = new.few in
+    omega (arith, ended, few)
 
 -- ---- there was no memory
 

@@ -1,5 +1,5 @@
 -- A request has one reply.
-use Rattle.std.proofs.Common.{◌≡◌, ◌∙◌, ℕ, Bool, true, false, List, Option, Some, None, Result, refl, sym, ap, subst}
+use Rattle.std.proofs.Common.{◌≡◌, ◌∙◌, ℕ, false, List, Option, Some, None, Result, inl, inr, refl, sym, ap, subst}
 use Rattle.http_commands.specs.declared.fault.CommandFault.{CommandFault}
 use Rattle.http_request.specs.HeadTests.{Start, head_fault}
 use Rattle.http_route.specs.Routes.{routes}
@@ -12,7 +12,7 @@ use Rattle.office_events.specs.declared.commands.Command.{Command}
 use Rattle.http_answer.specs.Offices.{Office}
 use Rattle.http_answer.specs.Replies.{ask, command_reply, found_reply, reply_bytes, reply_of, route_reply, unless_failed}
 use Rattle.http_answer.specs.Requests.{name_asked}
-use Rattle.http_answer.specs.Whole.{BodyGives, RepliesToRequest}
+use Rattle.http_answer.specs.Whole.{BodyGives, RepliesToBadHead, RepliesToRequest}
 use Rattle.http_wants.specs.Bodies.{BodiesGiveOne}
 use Rattle.office_http.specs.Laws.{RepliesAreOne}
 
@@ -53,11 +53,22 @@ one_given bodies office start body g h a b =
     let other = b at (record { passes = passes; leads = leads; changes = changes }) in
     bodies at (name_asked (name_in routes start.target)) body g h one.0 other.0 one.1 other.1)
 
-pub one_reply : BodiesGiveOne → RepliesAreOne
-one_reply bodies office bytes one other a b =
+to_requests : BodiesGiveOne → (office : Office) (bytes one other : List ℕ)
+    → RepliesToRequest office routes bytes one → RepliesToRequest office routes bytes other → one ≡ other
+to_requests bodies office bytes one other a b =
     let same = one_request routes bytes a.start b.start a.body b.body a.holds b.holds in
     let gives : BodyGives routes a.start a.body b.given =
     subst (λ (s : Start). BodyGives routes s a.body b.given) (sym same.one_start) (subst (λ t. BodyGives routes b.start t b.given) (sym same.one_body) b.gives) in
     a.is ∙ ap reply_bytes (one_given bodies office a.start a.body a.given b.given a.gives gives)
     ∙ ap (λ (s : Start). reply_bytes (reply_of office routes s a.body b.given)) same.one_start
     ∙ ap (λ t. reply_bytes (reply_of office routes b.start t b.given)) same.one_body ∙ sym b.is
+
+-- a bad head holds no request
+not_both : {A : Type 0} → (office : Office) (bytes one other : List ℕ) → RepliesToBadHead bytes one → RepliesToRequest office routes bytes other → A
+not_both office bytes one other bad asked = absurd (bad.bad.none asked.holds.len asked.holds.head asked.holds.begins)
+
+pub one_reply : BodiesGiveOne → RepliesAreOne
+one_reply bodies office bytes one other (inl a) (inl b) = a.is ∙ sym b.is
+one_reply bodies office bytes one other (inl a) (inr b) = not_both office bytes one other a b
+one_reply bodies office bytes one other (inr a) (inl b) = not_both office bytes other one b a
+one_reply bodies office bytes one other (inr a) (inr b) = to_requests bodies office bytes one other a b

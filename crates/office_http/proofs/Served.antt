@@ -1,5 +1,5 @@
 -- Replies that are answered to what was read.
-use Rattle.std.proofs.Common.{◌≡◌, ◌∙◌, ◌⊎◌, ℕ, Bool, true, false, not, ◌&&◌, List, Option, Some, None, Result, Ok, Err, inl, inr, refl, sym, ap, subst}
+use Rattle.std.proofs.Common.{◌≡◌, ◌∙◌, ℕ, Bool, true, false, List, Option, Some, None, Result, Ok, Err, inl, inr, refl, sym, ap, subst}
 use Rattle.std.specs.Prelude.{◌||◌}
 use Rattle.office_events.specs.declared.answers.Answer.{Answer}
 use Rattle.office_events.specs.declared.events.Asked.{Asked}
@@ -7,10 +7,9 @@ use Rattle.office_events.specs.declared.events.Event.TheVariants as event
 use Rattle.office_events.specs.declared.refusals.Refusal.{Refusal}
 use Rattle.office_events.specs.declared.refusals.Refusal.TheVariants as refusal
 use Rattle.office_rules.specs.History.{History}
-use Rattle.office_rules.specs.Refusals.{decision_of, with_answer}
+use Rattle.office_rules.specs.Refusals.{with_answer}
 use Rattle.office_books.specs.Ledgers.{Ledger}
 use Rattle.office_core.specs.Asking.{IsFound, OnlyAsks, or_not_found}
-use Rattle.office_core.specs.Failing.{FailsOutside}
 use Rattle.office_core.specs.Standing.{Stands, books_in, is_stopped}
 use Rattle.office_core.specs.Taking.{Ends, IsAnswer, failures_of}
 use Rattle.office_core.specs.declared.office.Office.{Office as Run}

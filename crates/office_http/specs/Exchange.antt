@@ -1,5 +1,5 @@
 -- What one call of `handle` does.
-use Rattle.std.specs.Prelude.{◌≡◌, ◌⊎◌, ◌+◌, ◌-◌, ◌^◌, ℕ, min, Bool, true, false, List, [], Option, Some, None, Result, Ok, Err}
+use Rattle.std.specs.Prelude.{◌≡◌, ◌≤◌, ◌⊎◌, ◌+◌, ◌-◌, ◌^◌, ℕ, min, Bool, true, false, List, [], Option, Some, None, Result, Ok, Err}
 use Rattle.std.specs.Io.KnownBytes.{Consumes, IsAtEnd, Keeps}
 use Rattle.mb_wire.specs.Links.{risen}
 use Rattle.mb_wire.specs.declared.link.LastTake.{LastTake}
@@ -13,6 +13,7 @@ use Rattle.office_core.specs.declared.office.Office.{Office}
 use Rattle.http_head.specs.Heads.{Looks, is_open}
 use Rattle.http_head.specs.declared.head.Look.{Look}
 use Rattle.http_read.specs.HeadAndBody.{TakesWhatLacks}
+use Rattle.http_read.specs.declared.inbox.TheConstants.{MOST_TAKES}
 use Rattle.http_read.specs.declared.inbox.TakeFault.{TakeFault}
 use Rattle.http_read.specs.declared.inbox.TakeFault.TheVariants as take
 use Rattle.http_reply.specs.Giving.{Gives}
@@ -81,7 +82,7 @@ passage remaining later_remaining given later_given last = record {
   last = last;
 }
 
--- Nothing more was taken once what was read buffered a request, or a bad head: before the last take it went on.
+-- Nothing more was taken once what was read contained a request, or a bad head: before the last take it went on.
 abbrev pub StopsReading : (read : List ℕ) → Option LastTake → Type 0
 StopsReading read last = (read ≡ []) ⊎ TakesWhatLacks (GoesOn routes) [] read last
 
@@ -110,7 +111,7 @@ abbrev pub GivesReplyTo : {B : Type 0} → (read : List ℕ) → (B → Ledger) 
 GivesReplyTo read ledger at old new given later_given result past =
     GivesReply ledger past at old new given later_given read result
 
--- What was read holds a head, or a bad one; nothing more was taken once it buffered a whole request, or a bad head; and a reply
+-- What was read holds a head, or a bad one; nothing more was taken once it contained a whole request, or a bad head; and a reply
 -- was given.
 pub record Replies {B : Type 0} (ledger : B → Ledger) (at : ℕ) (old new : Office B) (link : Passage)
     (read : List ℕ) (result : Result (Unit {0}) HandleFault) : Type 0 where
@@ -142,14 +143,16 @@ pub record Handles {B : Type 0} (ledger : B → Ledger) (at : ℕ) (old new : Of
   pub takes : Consumes link.remaining link.later_remaining read
   pub does : Does ledger at old new link read result
 
--- The count of the link's failures rises by one exactly where it was the link that failed, and its takes are used up only
--- where there were 100,000 of them. The counts stay at 2^64 - 1.
+-- The count of the link's failures rises by one exactly where it was the link that failed. There were 100,000 takes at most,
+-- and so many where they are used up. The counts stay at 2^64 - 1.
 pub record CountsLink (result : Result (Unit {0}) HandleFault)
     (failed later_failed taken later_taken : ℕ)
     : Type 0 where
   pub failures : later_failed ≡ risen (is_link_fault result) failed
   pub turns : result ≡ Err TurnsUsed → (count : ℕ) → taken ≡ min count (2 ^ 64 - 1)
-      → later_taken ≡ min (count + 100000) (2 ^ 64 - 1)
+      → later_taken ≡ min (count + MOST_TAKES) (2 ^ 64 - 1)
+  pub few : (count : ℕ) → taken ≡ min count (2 ^ 64 - 1)
+      → later_taken ≤ min (count + MOST_TAKES) (2 ^ 64 - 1)
 
 -- There was no memory for a request: once a head was read, or a bad one, that is replied, and no office is asked.
 pub record RepliesBare (link : Passage) (read : List ℕ) (result : Result (Unit {0}) HandleFault)

@@ -2,10 +2,9 @@
 use Rattle.std.specs.Prelude.{◌≡◌, ℕ, List}
 use Rattle.http_route.specs.Routes.{routes}
 use Rattle.http_answer.specs.Offices.{Office}
-use Rattle.http_answer.specs.Whole.{RepliesToRequest}
+use Rattle.http_answer.specs.Whole.{IsReply}
 
 -- Where an office answers the same, two replies to the same bytes are equal.
 abbrev pub RepliesAreOne : Type 0
 RepliesAreOne = (office : Office) (bytes one other : List ℕ)
-    → RepliesToRequest office routes bytes one → RepliesToRequest office routes bytes other
-    → one ≡ other
+    → IsReply office routes bytes one → IsReply office routes bytes other → one ≡ other

@@ -12,12 +12,13 @@ ghost use Rattle.office_http.specs.Serving.{Lasts};
 use crate::answers::put_reply;
 use crate::fault::HandleFault;
 use http_answer::put_refusal;
+use http_head::MOST_BYTES;
 use http_read::{Inbox, read_head};
 use http_reply::Outlet;
 use http_route::{Route, router};
 use http_rows::Replied;
 use http_wants::{Want, wanted};
-use http_whole::read_request;
+use http_whole::{MOST_ROOM, read_request};
 use matchit::Router;
 use mb_wire::{Link, LinkFailed};
 use office_books::Books;
@@ -43,7 +44,7 @@ fn refuse<L: Link>(link: &mut L) -> Result<(), HandleFault>
     ensures counts { CountsLink result (L.failed link.old) (L.failed link.new)
         (L.taken link.old) (L.taken link.new) }
 {
-    let mut room = [0; 8192];
+    let mut room = [0; MOST_BYTES];
     let mut inbox = Inbox::new(&mut room);
     read_head(&mut inbox, link)?;
     let mut outlet = Outlet::new(link);
@@ -69,6 +70,7 @@ fn reply<L: Link, B: Books>(
     ensures remaining { Keeps (L.remaining link.old) (L.remaining link.new) }
     ensures last { L.last link.new ≡ L.last link.old }
     ensures failures { L.failed link.new ≡ risen (is_link_fault result) (L.failed link.old) }
+    ensures takes { L.taken link.new ≡ L.taken link.old }
     ensures lasts { Lasts B.ledger office.old office.new }
 {
     let outlet = Outlet::new(link);
@@ -116,7 +118,7 @@ pub fn handle<L: Link, B: Books>(
         (L.taken link.old) (L.taken link.new) }
     ensures lasts { Lasts B.ledger office.old office.new }
 {
-    match (router(alloc), vec![in alloc; 0; 73_728]) {
+    match (router(alloc), vec![in alloc; 0; MOST_ROOM]) {
         (Ok(router), Ok(mut room)) => serve(alloc, &router, &mut room, link, office, moment),
         _ => refuse(link),
     }

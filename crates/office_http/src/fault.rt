@@ -24,7 +24,7 @@ pub enum HandleFault {
 impl HandleFault {
     ghost use Rattle.office_http.specs.Exchange.{fault_number};
 
-    /// The number that stands for it in texts.
+    /// Its number. No text of the program shows it.
     pub fn number(self) -> u8
         ensures { result ≡ fault_number self }
     {

@@ -1,9 +1,10 @@
-use Rattle.std.proofs.Common.{◌≡◌, [], rules, sym, subst}
+use Rattle.std.proofs.Common.{◌≡◌, ◌≤◌, ◌+◌, ◌-◌, ◌^◌, min, [], rules, sym, subst}
 use Rattle.std.proofs.KnownBytes.{Keeps-refl}
+use Rattle.http_read.specs.declared.inbox.TheConstants.{MOST_TAKES}
 use Rattle.http_reply.specs.Giving.{Gives}
 use Rattle.http_answer.specs.Replies.{refused, reply_bytes}
 use Rattle.office_events.specs.declared.refusals.Refusal.TheVariants as refusal
-use Rattle.office_http.proofs.Handled.{IsFinished, bare_replied, finished_last, finished_remaining, put_first}
+use Rattle.office_http.proofs.Handled.{IsFinished, bare_replied, few_takes, finished_last, finished_remaining, finished_takes, put_first}
 use Rattle.office_http.proofs.exchange.refuse.Goals as goal
 
 pub returns-clause-handles : goal.returns-clause-handles
@@ -31,3 +32,27 @@ returns-clause-handles g c =
     (subst (λ o. Gives sent given o text) (sym to_given)
     (c.finish-sent.ensures.given given text
     (c.put_refusal.ensures.put given [] (put_first given given first c.new-outlet.ensures.given c.new-outlet.ensures.empty (Keeps-refl given)))))
+
+pub returns-in_err-read_head-clause-counts : goal.returns-in_err-read_head-clause-counts
+returns-in_err-read_head-clause-counts g c = record {
+  failures = search rules;
+  turns = search rules;
+  few = few_takes _ c.new-inbox.result c.read_head.new.inbox _ _ c.new-inbox.ensures.takes c.in_err-read_head.ensures.takes;
+}
+
+pub returns-clause-counts : goal.returns-clause-counts
+returns-clause-counts g c =
+    let first = c.new-outlet.result in
+    let put = c.put_refusal.new.outlet in
+    let end = c.finish-sent.new.self in
+    let sent = c.finish-sent.result in
+    let done : IsFinished first put end sent =
+    record { works = c.new-outlet.ensures.works; puts = c.put_refusal.ensures.link; finish = c.finish-sent.ensures.link; failed = c.finish-sent.ensures.failed } in
+    let to_taken : g.L.Link.taken c.link-1.given.0 ≡ end.takes = search rules in
+    let same = finished_takes first put end sent (g.L.Link.taken c.read_head.new.link) _ done c.new-outlet.ensures.takes to_taken in
+    record {
+      failures = search rules;
+      turns = search rules;
+      few = λ count is. subst (λ n. n ≤ min (count + MOST_TAKES) (2 ^ 64 - 1)) (sym same)
+          (few_takes _ c.new-inbox.result c.read_head.new.inbox _ _ c.new-inbox.ensures.takes c.in_ok-read_head.ensures.takes count is);
+    }

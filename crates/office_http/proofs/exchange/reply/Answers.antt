@@ -1,8 +1,7 @@
-use Rattle.std.proofs.Common.{◌≡◌, [], refl, rules, sym, subst}
-use Rattle.std.specs.Io.KnownBytes.{Keeps}
+use Rattle.std.proofs.Common.{◌≡◌, [], rules, sym, subst}
 use Rattle.std.proofs.KnownBytes.{Keeps-refl}
 use Rattle.http_reply.specs.Giving.{Gives}
-use Rattle.office_http.proofs.Handled.{IsFinished, ends_well, finished_failures, finished_last, finished_remaining, put_first}
+use Rattle.office_http.proofs.Handled.{ends_well, finished_failures, finished_last, finished_remaining, finished_takes, put_first}
 use Rattle.office_http.proofs.exchange.reply.Goals as goal
 
 pub returns-clause-gives : goal.returns-clause-gives
@@ -45,3 +44,10 @@ returns-clause-failures g c =
     finished_failures c.new-outlet.result c.put_reply-outlet.result.outlet c.finish-sent.new.self c.finish-sent.result c.put_reply-outlet.result.cut c.ended.result _ _
     (record { works = c.new-outlet.ensures.works; puts = c.put_reply-outlet.ensures.gives; finish = c.finish-sent.ensures.link; failed = c.finish-sent.ensures.failed })
     c.new-outlet.ensures.failures c.ended.ensures last
+
+pub returns-clause-takes : goal.returns-clause-takes
+returns-clause-takes g c =
+    let last : g.L.Link.taken c.link-1.given.0 ≡ c.finish-sent.new.self.takes = search rules in
+    finished_takes c.new-outlet.result c.put_reply-outlet.result.outlet c.finish-sent.new.self c.finish-sent.result _ _
+    (record { works = c.new-outlet.ensures.works; puts = c.put_reply-outlet.ensures.gives; finish = c.finish-sent.ensures.link; failed = c.finish-sent.ensures.failed })
+    c.new-outlet.ensures.takes last

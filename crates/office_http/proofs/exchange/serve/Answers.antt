@@ -1,11 +1,12 @@
-use Rattle.std.proofs.Common.{◌≡◌, ℕ, Bool, List, Result, Err, rules, sym, subst}
+use Rattle.std.proofs.Common.{◌≡◌, ◌≤◌, ◌+◌, ◌-◌, ◌^◌, min, Result, Err, rules, sym, subst}
 use Rattle.http_read.specs.HeadAndBody.{StopsAtOnce}
 use Rattle.http_read.specs.Taking.{bytes_in}
+use Rattle.http_read.specs.declared.inbox.TheConstants.{MOST_TAKES}
 use Rattle.http_route.specs.Routes.{Table}
 use Rattle.http_whole.specs.Whole.{GoesOn, ReadsRequest}
 use Rattle.office_http.specs.Exchange.{Handles, as_fault, passage}
 use Rattle.office_http.specs.declared.fault.HandleFault.{HandleFault}
-use Rattle.office_http.proofs.Handled.{head_of, read_failed, replied}
+use Rattle.office_http.proofs.Handled.{few_takes, head_of, read_failed, replied}
 use Rattle.office_http.proofs.exchange.serve.Goals as goal
 
 pub returns-in_err-look-clause-handles : goal.returns-in_err-look-clause-handles
@@ -39,3 +40,18 @@ returns-clause-handles g c =
     c.new-inbox.ensures.empty c.bytes-2.ensures c.in_ok-look.ensures.reads.0 stops c.in_ok-look.ensures.given
     c.reply.ensures.remaining c.reply.ensures.last c.reply.ensures.ends
     (head_of c.args.router.now c.in_ok-look.look (bytes_in full) c.in_ok-look.ensures.reads.1) c.reply.ensures.gives
+
+pub returns-in_err-look-clause-counts : goal.returns-in_err-look-clause-counts
+returns-in_err-look-clause-counts g c = record {
+  failures = search rules;
+  turns = search rules;
+  few = few_takes _ c.new-inbox.result c.read_request.new.inbox _ _ c.new-inbox.ensures.takes c.in_err-look.ensures.takes;
+}
+
+pub returns-clause-counts : goal.returns-clause-counts
+returns-clause-counts g c = record {
+  failures = search rules;
+  turns = search rules;
+  few = λ count is. subst (λ n. n ≤ min (count + MOST_TAKES) (2 ^ 64 - 1)) (sym c.reply.ensures.takes)
+      (few_takes _ c.new-inbox.result c.read_request.new.inbox _ _ c.new-inbox.ensures.takes c.in_ok-look.ensures.takes count is);
+}
