@@ -121,7 +121,8 @@ fn few<'a>(parts: &[&'a str]) -> Result<(), ListFault<'a>>
 }
 
 /// The devices of a list `NAME=HOST:PORT` joined by commas: 1 to 64, each name once. NAME ends at the first `=`, HOST at
-/// the last `:`; neither is empty.
+/// the last `:`; neither is empty. Of several faults a part too many is told first, then a name that stands twice, then a
+/// part that is no device.
 pub fn devices_in<'a>(alloc: Global, text: &'a str) -> Result<Vec<Device<'a>>, ListFault<'a>>
     ensures { Reads (devices_in text.now) result }
 {
