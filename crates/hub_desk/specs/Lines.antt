@@ -13,8 +13,8 @@ use Rattle.hub_rounds.specs.declared.polls.Sum.{Sum}
 
 -- the moment, and the name of the device; `-` for a name that no device can have
 abbrev pub with_head : (at : ℕ) → (name : Option (List ℕ)) → List ℕ → List ℕ
-with_head at None text = text ++ codes "" ++ decimal at ++ codes " -"
-with_head at (Some name) text = text ++ codes "" ++ decimal at ++ codes " " ++ name
+with_head at None text = text ++ decimal at ++ codes " -"
+with_head at (Some name) text = text ++ decimal at ++ codes " " ++ name
 
 abbrev pub with_event : (at : ℕ) → (name : Option (List ℕ)) → Event → List ℕ → List ℕ
 with_event at name (event.Connected given) text = with_head at name text ++ codes " connected\n"

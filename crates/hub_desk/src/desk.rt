@@ -1,4 +1,4 @@
-//! The desk.
+//! The desk: counts, how each device stands, and the frames that are to be sent to each.
 use crate::device_state::{followed, unconnected};
 use crate::output::put_frames;
 use hub_status::{Counts, DeviceState};

@@ -8,4 +8,4 @@ mod lines;
 mod output;
 
 pub use desk::Desk;
-pub use lines::{put_lines, put_sum};
+pub use lines::{put_head, put_lines, put_sum};

@@ -8,8 +8,8 @@ use office_events::{Answer, Event, Name, Note, Refusal};
 use poll_core::Closing;
 use std::alloc::AllocError;
 
-// Puts a moment and a name.
-fn put_head(text: &mut Vec<u8>, at: u64, name: &Option<Name>) -> Result<(), AllocError>
+/// Puts a moment and a name, and `-` for a name that no device can have. Want of memory leaves a part of the text.
+pub fn put_head(text: &mut Vec<u8>, at: u64, name: &Option<Name>) -> Result<(), AllocError>
     ensures { OnOk result (text.new.items ≡ lines.with_head at name.now text.old.items) }
 {
     put_number(text, b"", at)?;

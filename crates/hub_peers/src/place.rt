@@ -1,4 +1,4 @@
-//! A place.
+//! A place for a connection: free, or taken until a moment.
 
 /// A place for a connection. Moments are seconds since 1970-01-01 UTC.
 #[derive(Clone, Copy, Debug, PartialEq, Eq)]

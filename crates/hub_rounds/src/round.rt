@@ -1,4 +1,4 @@
-//! A round.
+//! The round of one device: its stage, its polls that wait, how they ended.
 use crate::polls::{MOST_WAITING, Polls, Sum, add, waiting_behind};
 use crate::stage::Stage;
 use office_events::{Answer, Command, Event, Name, Note, Refusal, StartRound};

@@ -1,5 +1,5 @@
 //! The grid of moments at which devices are due.
-ghost use Rattle.std.specs.Prelude.{◌≡◌, ◌≤◌, ◌<◌, ◌+◌, ◌-◌, ◌*◌, ◌^◌, ℕ};
+ghost use Rattle.std.specs.Prelude.{◌≡◌, ◌≤◌, ◌<◌, ◌+◌, ◌*◌, ◌^◌, ℕ};
 
 /// The first multiple of `every` after now. What was missed is not made up for.
 pub fn next_due(every: u64, now: u64) -> u64
@@ -11,11 +11,4 @@ pub fn next_due(every: u64, now: u64) -> u64
     ensures first { (k : ℕ) → now < k * every → result ≤ k * every }
 {
     (now / every + 1) * every
-}
-
-/// How many seconds after it was due something begins.
-pub fn late_by(due: u64, now: u64) -> u64
-    ensures { result ≡ now - due }
-{
-    now.saturating_sub(due)
 }

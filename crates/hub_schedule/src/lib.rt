@@ -8,11 +8,8 @@ mod pauses;
 mod timing;
 mod watch;
 
-pub use grid::{late_by, next_due};
-pub use limits::{
-    CONNECT_SECONDS, LEAST_ROUND, LONGEST_WAIT, MOST_EVERY, MOST_MOMENT, PEER_SECONDS, round_until,
-    until, wait_for,
-};
+pub use grid::next_due;
+pub use limits::{CONNECT_SECONDS, LEAST_ROUND, MOST_EVERY, PEER_SECONDS, round_until, until};
 pub use pauses::{MOST_PAUSE, next_pause, retry_at};
 pub use timing::{Phase, Timing};
 pub use watch::{Reading, Watch};

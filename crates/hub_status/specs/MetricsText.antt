@@ -1,4 +1,4 @@
--- The same in Prometheus's text format. Each definition gives a text with something at its end.
+-- `/metrics`: the counts and the devices in Prometheus's text format, version 0.0.4. Each definition gives a text with something at its end.
 use Rattle.std.specs.Prelude.{ℕ, Bool, true, false, List, [], ◌∷◌, ◌++◌, Option, Some, None, codes, decimal, slice_index}
 use Rattle.hub_status.specs.declared.counts.Counts.{Counts}
 use Rattle.hub_status.specs.declared.status.DeviceState.{DeviceState}
@@ -18,7 +18,7 @@ abbrev pub with_readings : List ℕ → Counts → List ℕ
 with_readings text counts =
     text ++ codes "\n# HELP sunreg_readings_total Readings that were accepted.\n# TYPE sunreg_readings_total counter\n"
     ++ codes "sunreg_readings_total " ++ decimal counts.readings
-    ++ codes "\n# HELP sunreg_refusals_total Events that the office refused.\n# TYPE sunreg_refusals_total counter\n"
+    ++ codes "\n# HELP sunreg_refusals_total Events of devices that the office refused.\n# TYPE sunreg_refusals_total counter\n"
     ++ codes "sunreg_refusals_total " ++ decimal counts.refusals
 
 abbrev pub with_causes : List ℕ → List ℕ → List ℕ
@@ -63,7 +63,7 @@ abbrev pub with_devices : List ℕ → List DeviceState → List ℕ
 with_devices text devices =
     with_moments
     (with_states
-    (text ++ codes "\n# HELP sunreg_device_connected Whether a device is connected.\n# TYPE sunreg_device_connected gauge") devices
+    (text ++ codes "\n# HELP sunreg_device_connected Whether a round of a device goes on.\n# TYPE sunreg_device_connected gauge") devices
     ++ codes "\n# HELP sunreg_last_reading_timestamp_seconds When the latest reading of a device was accepted.\n# TYPE sunreg_last_reading_timestamp_seconds gauge")
     devices
     ++ codes "\n"

@@ -1,4 +1,4 @@
--- The status as JSON. Each definition gives a text with something at its end.
+-- `/status`: the counts and the devices, as JSON. Each definition gives a text with something at its end.
 use Rattle.std.specs.Prelude.{ℕ, Bool, true, false, List, [], ◌∷◌, ◌++◌, Option, Some, None, codes, decimal, slice_index}
 use Rattle.hub_status.specs.declared.counts.Counts.{Counts}
 use Rattle.hub_status.specs.declared.status.DeviceState.{DeviceState}

@@ -1,4 +1,4 @@
-//! Counts.
+//! What a run counts: polls by outcome, readings, held readings by cause, refusals.
 use energy_core::Cause;
 use office_events::Note;
 use poll_core::Outcome;

@@ -1,4 +1,4 @@
-//! The same in Prometheus's text format.
+//! `/metrics`: the counts and the devices in Prometheus's text format.
 ghost use Rattle.std.specs.Prelude.{◌≡◌, OnOk};
 ghost use Rattle.hub_status.specs.MetricsText as metrics;
 
@@ -51,7 +51,7 @@ fn put_readings(text: &mut Vec<u8>, counts: &Counts) -> Result<(), AllocError>
     put_number(text, b"sunreg_readings_total ", counts.readings)?;
     put(
         text,
-        b"\n# HELP sunreg_refusals_total Events that the office refused.\n# TYPE sunreg_refusals_total counter\n",
+        b"\n# HELP sunreg_refusals_total Events of devices that the office refused.\n# TYPE sunreg_refusals_total counter\n",
     )?;
     put_number(text, b"sunreg_refusals_total ", counts.refusals)
 }
@@ -156,7 +156,7 @@ fn put_devices(text: &mut Vec<u8>, devices: &[DeviceState]) -> Result<(), AllocE
 {
     put(
         text,
-        b"\n# HELP sunreg_device_connected Whether a device is connected.\n# TYPE sunreg_device_connected gauge",
+        b"\n# HELP sunreg_device_connected Whether a round of a device goes on.\n# TYPE sunreg_device_connected gauge",
     )?;
     put_states(text, devices)?;
     put(

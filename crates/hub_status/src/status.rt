@@ -1,4 +1,4 @@
-//! The status, as JSON.
+//! `/status`: the counts and the devices, as JSON.
 ghost use Rattle.std.specs.Prelude.{◌≡◌, OnOk};
 ghost use Rattle.hub_status.specs.StatusText as json;
 

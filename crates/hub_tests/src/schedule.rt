@@ -1,7 +1,5 @@
 //! When devices are due.
-use hub_schedule::{
-    Phase, Timing, Watch, late_by, next_due, next_pause, retry_at, round_until, wait_for,
-};
+use hub_schedule::{Phase, Timing, Watch, next_due, next_pause, retry_at, round_until};
 
 // The last is a quarter of an hour behind 2023-11-14 22:13:20 UTC, which is no multiple.
 #[test]
@@ -23,8 +21,6 @@ fn a_device_is_due_at_multiples(rt: HostRuntime) {
 
 #[test]
 fn what_is_late_is_not_made_up_for(rt: HostRuntime) {
-    assert_eq!(rt; late_by(120, 187), 67);
-    assert_eq!(rt; late_by(120, 119), 0);
     assert_eq!(rt; next_due(60, 187), 240);
 }
 
@@ -43,8 +39,6 @@ fn pauses_grow(rt: HostRuntime) {
 fn a_round_lasts_a_minute_at_least(rt: HostRuntime) {
     assert_eq!(rt; round_until(10, 1000), 1060);
     assert_eq!(rt; round_until(900, 1000), 1900);
-    assert_eq!(rt; wait_for(1000, 1000), 0);
-    assert_eq!(rt; wait_for(1030, 1000), 1);
 }
 
 // The clock is set back by 40 seconds, and catches up.

@@ -79,7 +79,7 @@ sunreg_polls_total{outcome=\"lost\"} 1
 # HELP sunreg_readings_total Readings that were accepted.
 # TYPE sunreg_readings_total counter
 sunreg_readings_total 1
-# HELP sunreg_refusals_total Events that the office refused.
+# HELP sunreg_refusals_total Events of devices that the office refused.
 # TYPE sunreg_refusals_total counter
 sunreg_refusals_total 1
 # HELP sunreg_held_readings_total Readings that were held, by cause.
@@ -92,7 +92,7 @@ sunreg_held_readings_total{cause=\"gap_too_long\"} 0
 sunreg_held_readings_total{cause=\"too_fast\"} 0
 sunreg_held_readings_total{cause=\"total_full\"} 0
 sunreg_held_readings_total{cause=\"not_below_range\"} 1
-# HELP sunreg_device_connected Whether a device is connected.
+# HELP sunreg_device_connected Whether a round of a device goes on.
 # TYPE sunreg_device_connected gauge
 sunreg_device_connected{device=\"inv\"} 1
 sunreg_device_connected{device=\"roof-2\"} 0

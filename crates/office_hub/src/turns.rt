@@ -1,4 +1,4 @@
-//! A turn.
+//! A turn: what happened is fed, and then what the rounds wish.
 ghost use Rattle.std.specs.Prelude.{◌≡◌, ℕ, List, Some, None, slice_get};
 ghost use Rattle.office_core.specs.Standing.{After};
 ghost use Rattle.office_core.specs.Taking.{failures_of};
@@ -16,7 +16,8 @@ use office_core::Office;
 use office_events::{Event, Name, Piece};
 use poll_core::Closing;
 
-/// How many events a turn feeds at most; what is wished then stays wished, and the next turn goes on.
+/// How many wishes of the rounds a turn feeds at most, behind what happened; what is wished then stays wished, and the next
+/// turn goes on.
 pub const MOST_STEPS: u32 = 256;
 
 // Feeds what the rounds wish, until they wish nothing.

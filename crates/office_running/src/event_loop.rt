@@ -1,4 +1,4 @@
-//! The loop.
+//! The loop of a run: clock, tick, devices, peers, lines, and the wait for sockets.
 ghost use Rattle.office_running.specs.Runs.{Goes};
 
 use crate::device_polls::Polling;
@@ -273,7 +273,7 @@ impl Running {
 
 // When a run ends that begins now.
 fn end_of(settings: &Settings, now: u64) -> u64 {
-    match settings.whole {
+    match settings.lasts {
         Some(seconds) => now.saturating_add(seconds),
         None => u64::MAX,
     }

@@ -16,7 +16,7 @@ pub enum RunFault {
     Sockets,
     /// A printing failed.
     Output,
-    /// The office has stopped, since its store failed while it settled a device's event.
+    /// The office has stopped, since its store or memory failed while it settled a device's event.
     Stopped,
     /// Memory ran out.
     Memory,
@@ -37,7 +37,7 @@ impl Display for RunFault {
             RunFault::Output => write!(f, "standard output can't be written"),
             RunFault::Stopped => write!(
                 f,
-                "the office has stopped, since its file failed: look at the disk, and start again"
+                "the office has stopped, since its file or memory failed: look at the disk, and start again"
             ),
             RunFault::Memory => write!(f, "memory ran out"),
         }

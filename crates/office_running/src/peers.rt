@@ -1,13 +1,12 @@
 //! The connections of peers.
 use crate::outbox::{MOST_CALLS, Outbox, Went, went_by};
+use http_head::MOST_BYTES;
+use http_whole::MOST_ROOM;
 use hub_asking::Asked;
 use mio::net::TcpStream;
 use std::alloc::Global;
 use std::io::Read;
 use std::net::Shutdown;
-
-/// The most bytes of a request: of its head, and of its body.
-const MOST_ASKED: usize = 73_728;
 
 /// How often a request may be tried whether it is whole, as its pieces come.
 const MOST_TRIES: u32 = 256;
@@ -30,7 +29,7 @@ pub(crate) struct Peer {
 
 // Whether an empty line has come, or more than any head may have.
 fn has_head(asked: &[u8]) -> bool {
-    8192 <= asked.len()
+    MOST_BYTES <= asked.len()
         || asked.windows(2).any(|w| w == b"\n\n".as_slice())
         || asked.windows(3).any(|w| w == b"\n\r\n".as_slice())
 }
@@ -64,7 +63,7 @@ impl Peer {
         if self.has_reply() {
             return Went::On;
         }
-        if MOST_ASKED < self.asked.len().saturating_add(piece.len()) {
+        if MOST_ROOM < self.asked.len().saturating_add(piece.len()) {
             return Went::Over;
         }
         match self.asked.extend_from_slice(piece) {

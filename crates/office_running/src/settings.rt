@@ -16,8 +16,8 @@ pub struct Settings {
     pub listen: SocketAddr,
     /// From one round of a device to its next, 1 to 86,400; what lies outside is taken as the nearest of these.
     pub every: u64,
-    /// How long the process runs; without an end where that is none.
-    pub whole: Option<u64>,
+    /// How long the process runs; without an end where that is `None`.
+    pub lasts: Option<u64>,
     /// Whether each poll has a line.
     pub verbose: bool,
 }

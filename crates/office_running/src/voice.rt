@@ -1,7 +1,7 @@
 //! What is kept and told of what the office is fed.
-use hub_desk::{Desk, put_lines, put_sum};
+use hub_desk::{Desk, put_head, put_lines, put_sum};
 use hub_rounds::Sum;
-use hub_status::{put, put_number, put_word};
+use hub_status::put;
 use office_events::{Answer, Event, Name, Note, Refusal};
 use office_hub::Witness;
 use poll_core::Closing;
@@ -62,15 +62,6 @@ fn is_usual(event: &Event, answer: Result<Answer, Refusal>) -> bool {
         Event::Connected(_) => answer.is_ok(),
         Event::Gone(_, Closing::Gone) => answer.is_ok(),
         _ => false,
-    }
-}
-
-// Puts a moment and a name; `-` for a name that no device can have.
-fn put_head(text: &mut Vec<u8>, at: u64, name: &Option<Name>) -> Result<(), AllocError> {
-    put_number(text, b"", at)?;
-    match name {
-        Some(name) => put_word(text, b" ", name.as_bytes()),
-        None => put(text, b" -"),
     }
 }
 

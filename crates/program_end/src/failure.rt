@@ -79,7 +79,7 @@ impl<'a> Display for Failure<'a> {
             Failure::Sockets => write!(f, "the system can't tell which sockets are ready"),
             Failure::Stopped => write!(
                 f,
-                "the office has stopped, since its file failed: look at the disk, and start again"
+                "the office has stopped, since its file or memory failed: look at the disk, and start again"
             ),
         }
     }
@@ -91,7 +91,8 @@ impl<'a> Error for Failure<'a> {}
 fn why_unmade(fault: OpenFault) -> &'static str {
     match fault {
         OpenFault::NotOurs => "it has tables already: give another file, or leave out create",
-        OpenFault::Zone => "the zone is none",
+        OpenFault::Zone =>
+            "the zone is no POSIX time zone, such as UTC0 or CET-1CEST,M3.5.0,M10.5.0/3",
         OpenFault::Store => "the tables can't be written: look at its rights and the disk's room",
         OpenFault::Memory => "memory ran out",
     }
@@ -102,7 +103,8 @@ fn why_unopened(fault: OpenFault) -> &'static str {
     match fault {
         OpenFault::NotOurs =>
             "it holds no office, or one of a later program: sunreg create makes one in a new file",
-        OpenFault::Zone => "the zone in its table meta is none: give a copy that is whole",
+        OpenFault::Zone =>
+            "the zone in its table meta is no POSIX time zone: give a copy that is whole",
         OpenFault::Store => "the database in it failed: look at its rights and the disk's room",
         OpenFault::Memory => "memory ran out",
     }

@@ -12,7 +12,10 @@ const UNMADE: [(OpenFault, &str); 4] = [
         OpenFault::NotOurs,
         "it has tables already: give another file, or leave out create",
     ),
-    (OpenFault::Zone, "the zone is none"),
+    (
+        OpenFault::Zone,
+        "the zone is no POSIX time zone, such as UTC0 or CET-1CEST,M3.5.0,M10.5.0/3",
+    ),
     (
         OpenFault::Store,
         "the tables can't be written: look at its rights and the disk's room",
@@ -27,7 +30,7 @@ const UNOPENED: [(OpenFault, &str); 4] = [
     ),
     (
         OpenFault::Zone,
-        "the zone in its table meta is none: give a copy that is whole",
+        "the zone in its table meta is no POSIX time zone: give a copy that is whole",
     ),
     (
         OpenFault::Store,
@@ -52,7 +55,7 @@ const STREAMS: [(Failure<'static>, &str); 5] = [
     ),
     (
         Failure::Stopped,
-        "the office has stopped, since its file failed: look at the disk, and start again",
+        "the office has stopped, since its file or memory failed: look at the disk, and start again",
     ),
 ];
 

@@ -10,7 +10,7 @@ pub(crate) fn settings_of(listen: u16, every: u32, lasts: Option<u32>, verbose: 
     Settings {
         listen: SocketAddr::from(([127, 0, 0, 1], listen)),
         every: u64::from(every),
-        whole: match lasts {
+        lasts: match lasts {
             Some(seconds) => Some(u64::from(seconds)),
             None => None,
         },
