@@ -11,11 +11,11 @@ use store_tables::RowFault;
 const REFUSALS: [(Refusal, &str); 17] = [
     (
         Refusal::NotFound,
-        "no device, register, meter or poll has that name or number",
+        "no device, register, meter, list, entry or poll has that name, place or number",
     ),
     (
         Refusal::Exists,
-        "the name is taken, or a meter is installed at the register",
+        "the name is taken, or a meter is open at the register",
     ),
     (
         Refusal::ClockBack,
@@ -53,7 +53,7 @@ const REFUSALS: [(Refusal, &str); 17] = [
     ),
     (
         Refusal::Store(StoreCause::NoDay),
-        "the store of the books gave no civil day",
+        "an interval row has no civil day in the zone of the books",
     ),
     (Refusal::Memory, "memory ran out"),
     (
@@ -62,7 +62,7 @@ const REFUSALS: [(Refusal, &str); 17] = [
     ),
     (
         Refusal::NotVoidable,
-        "the entry is no reading that stands, or no reading that stands follows it",
+        "the entry is no reading of the device that stands, or the next that stands is none",
     ),
     (
         Refusal::NotPlausible(Cause::TooFast),
@@ -81,7 +81,7 @@ const CAUSES: [(StoreCause, &str); 3] = [
     ),
     (
         StoreCause::NoDay,
-        "the store of the books gave no civil day",
+        "an interval row has no civil day in the zone of the books",
     ),
 ];
 

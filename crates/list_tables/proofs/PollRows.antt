@@ -15,7 +15,7 @@ use Rattle.office_events.specs.declared.facts.Fact.{Fact}
 use Rattle.office_events.specs.declared.facts.Fact.TheVariants as fact
 use Rattle.office_events.specs.declared.questions.PollRow.{PollRow}
 use Rattle.office_rules.specs.Facts.{polls_in, pending_in, ends_of, end_of}
-use Rattle.office_rules.specs.Headline.{AreNumbered}
+use Rattle.office_rules.specs.PollEndings.{AreNumbered}
 use Rattle.office_rules.specs.Lawful.{AreLawful, PollFits, EndFits}
 use Rattle.office_rules.specs.Readings.{poll_row, poll_row_of}
 use Rattle.office_laws.proofs.Lists.{reverse_cons, get_last, get_others}

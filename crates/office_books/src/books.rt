@@ -27,7 +27,8 @@ pub enum Repeat {
 
 /// Books hold lawful facts, the latest first. A look-up answers what the facts say, and changes none; `book` adds facts, all
 /// of them or none. What is said of an answer is said where `is_clean` holds after the call: where the store gave back what
-/// was written to it. Books in memory are always clean; of books that are not, nothing is promised but their failures' count.
+/// was written to it. Books in memory are always clean; of books that are not, only what a clause says without it holds: failures
+/// are counted, a look-up keeps what was known, the zone stays, an installation's numbers are in their ranges.
 pub trait Books: Drop {
     ghost use Rattle.std.specs.Prelude.{◌≡◌, List, reverse, length};
     ghost use Rattle.office_events.specs.declared.facts.Fact.{Fact};

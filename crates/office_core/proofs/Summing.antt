@@ -22,7 +22,7 @@ use Rattle.office_laws.specs.Registers.{CanBeFolded, RegistersAreInTurn}
 use Rattle.office_books.specs.Ledgers.{Ledger, OnlyReads}
 use Rattle.office_books.specs.Rows.{TakesAll, HandsOn}
 use Rattle.office_core.specs.declared.day_sink.DaySink.{DaySink}
-use Rattle.office_core.specs.Asking.{AddsUp}
+use Rattle.office_core.specs.Asking.{ListsDays}
 use Rattle.office_core.specs.DaySums.{MayFollow, UnlessFailed, HasAdded, AddsRow, TakesShare, EndsAs}
 use Rattle.office_core.specs.Failing.{IsOutside}
 
@@ -102,7 +102,7 @@ days_by (Some fault.Zone) old new zone rows fold (Err why) same added ends = abs
 pub adds_up : (old new : Ledger) (fresh after : DaySink) (register : List ℕ) (done : Unit {0}) (result : Result (Vec DayTotal Global) Refusal)
     → RegistersAreInTurn → fresh.zone ≡ old.zone → fresh.fault ≡ None → HasTaken fresh.zone [] fresh.fold
     → HandsOn TakesShare old new fresh after (Ok done) (λ known. rows_of_register known register) → OnlyReads old new (Ok done)
-    → EndsAs after.fault after.fold.accounts result → AddsUp old new register result
+    → EndsAs after.fault after.fold.accounts result → ListsDays old new register result
 adds_up old new fresh after register done result in_turn zone works empty hands reads ends = λ known lawful holds clean.
     let rows = rows_of_register known register in
     let up = added_up fresh after rows (in_turn known register lawful) works empty (hands.whole known holds clean) in

@@ -103,9 +103,9 @@ DaysIn takes old new from to result register =
     → HandsDays takes old.zone known register old.fault_count new.fault_count from to result
 
 -- the days of a register, as a list, where the facts are lawful; or it failed outside
-abbrev pub AddsUp : (old new : Ledger) → (register : List ℕ)
+abbrev pub ListsDays : (old new : Ledger) → (register : List ℕ)
     → Result (Vec DayTotal Global) Refusal → Type 0
-AddsUp old new register result =
+ListsDays old new register result =
     (known : List Fact) → AreLawful known → old.holds known → new.is_clean
     → MatchResult result
     (λ days. AreDaysOf old.zone known register (map account_of days.items)

@@ -97,7 +97,7 @@ AnswersEach ledger books begun events run =
 
 -- The books hold the facts of what was accepted, and of these the headline holds. And more: what was voided leaves no
 -- trace; where a meter tells the truth and is read often enough, its energy and interval rows are the true ones.
-pub record IsRecorded (books : Ledger) (history : History) : Type 0 where
+pub record BooksRecord (books : Ledger) (history : History) : Type 0 where
   pub accepted : IsPast history
   pub holds : books.holds (facts_of history)
   pub headline : HeadlineHolds history
@@ -107,7 +107,7 @@ pub record IsRecorded (books : Ledger) (history : History) : Type 0 where
 abbrev pub RecordsAccepted : {B : Type 0} → (B → Ledger) → (opened : ℕ) → List (ℕ × Event)
     → History → Run B → Type 0
 RecordsAccepted ledger opened events past run =
-    IsRecorded (ledger (books_in run.office)) (accepted_by past opened events run)
+    BooksRecord (ledger (books_in run.office)) (accepted_by past opened events run)
 
 -- ... or do if no wrong answer of a store was taken as true.
 abbrev pub RecordsIfClean : {B : Type 0} → (B → Ledger) → (opened : ℕ) → List (ℕ × Event)

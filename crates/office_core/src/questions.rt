@@ -4,7 +4,7 @@ ghost use Rattle.std.specs.Option.{option_and_then};
 ghost use Rattle.office_rules.specs.Meters.{meter_of};
 ghost use Rattle.office_rules.specs.Readings.{poll_row_of};
 ghost use Rattle.office_books.specs.Rows.{TakesAll};
-ghost use Rattle.office_core.specs.Asking.{AddsUp, Asks, DaysIn, FoundIn, RowsIn, TakesRows};
+ghost use Rattle.office_core.specs.Asking.{ListsDays, Asks, DaysIn, FoundIn, RowsIn, TakesRows};
 ghost use Rattle.office_core.specs.Asking.{answered, intervals_of};
 ghost use Rattle.office_core.specs.Failing.{IsNotForWantOfDay};
 
@@ -85,7 +85,7 @@ fn days_of<B: Books>(
     books: &mut B,
     register: &Name,
 ) -> Result<Vec<DayTotal>, Refusal>
-    ensures days { AddsUp (B.ledger books.old) (B.ledger books.new) register.now result }
+    ensures days { ListsDays (B.ledger books.old) (B.ledger books.new) register.now result }
     ensures asks { Asks (B.ledger books.old) (B.ledger books.new) result }
 {
     registers_are_in_turn();

@@ -12,7 +12,7 @@ pub const MAX_REGISTERS: usize = 32;
 /// The most installations of the office, closed ones too.
 pub const MAX_INSTALLATIONS: usize = 4096;
 
-/// The most polls of the office; so the greatest number of one.
+/// The most polls of the office, so the greatest number of one: 2^62.
 pub const MAX_POLLS: u64 = 4_611_686_018_427_387_904;
 
 /// The greatest number of a caller's request: 2^63 - 1.

@@ -7,11 +7,11 @@ use std::fmt::{Display, Formatter};
 /// Why the store did not do what it was asked.
 #[derive(Clone, Copy, Debug, PartialEq, Eq)]
 pub enum StoreCause {
-    /// It refused.
+    /// It refused or failed, or can number no more polls.
     Refused,
     /// It holds what cannot be.
     Damaged,
-    /// It gave no civil day.
+    /// An interval row has no civil day in the books' zone. The books did not fail.
     NoDay,
 }
 
@@ -19,7 +19,7 @@ impl StoreCause {
     ghost use Rattle.std.specs.Prelude.{◌≡◌};
     ghost use Rattle.office_events.specs.Numbers.{store_number};
 
-    /// The number that stands for it in texts.
+    /// Its number. No text shows it.
     pub fn number(self) -> u8
         ensures { result ≡ store_number self }
     {
@@ -36,19 +36,20 @@ impl Display for StoreCause {
         f.write_str(match self {
             StoreCause::Refused => "the store of the books refused or failed",
             StoreCause::Damaged => "the store of the books is damaged: it holds what cannot be",
-            StoreCause::NoDay => "the store of the books gave no civil day",
+            StoreCause::NoDay => "an interval row has no civil day in the zone of the books",
         })
     }
 }
 
 impl Error for StoreCause {}
 
-/// Why an event or a question is refused. Of those that apply, the one with the smallest number is answered.
+/// Why an event or a question is refused. `Stopped` comes before all others, then `Reused`; of the others that apply the one
+/// with the smallest number is answered, but that `Store` comes behind `NotPlausible`.
 #[derive(Clone, Copy, Debug, PartialEq, Eq)]
 pub enum Refusal {
-    /// No device, register, meter or poll has that name or number.
+    /// No device, register, meter, list, entry or poll has that name, place or number.
     NotFound,
-    /// A device, register or meter has that name, or a meter is installed at the register.
+    /// A device, register or meter has that name, or a meter is open at the register.
     Exists,
     /// The moment is before that of the latest accepted event.
     ClockBack,
@@ -58,7 +59,7 @@ pub enum Refusal {
     NegativeStep,
     /// The last entry is as late, or later.
     NotLater,
-    /// More than 3,000 intervals lie between.
+    /// The step would touch more than 3,000 intervals.
     SpanTooLong,
     /// The energy of the meter would pass 4 * 10^18 mWh.
     TotalFull,
@@ -70,13 +71,13 @@ pub enum Refusal {
     Reused,
     /// A name, a number or a moment is outside its range, or there is no room for one more.
     Limit,
-    /// The books failed.
+    /// The books failed, can number no more polls, or a row has no civil day.
     Store(StoreCause),
     /// There is no memory.
     Memory,
     /// The office has stopped, since the books or memory failed while it settled polls.
     Stopped,
-    /// The entry is no reading that stands, or the next that stands is none.
+    /// The entry is no reading of the device that stands, or the next that stands is none.
     NotVoidable,
     /// The next entry would have been held after the one before.
     NotPlausible(Cause),
@@ -117,12 +118,9 @@ impl Display for Refusal {
         match self {
             Refusal::NotFound => write!(
                 f,
-                "no device, register, meter or poll has that name or number"
+                "no device, register, meter, list, entry or poll has that name, place or number"
             ),
-            Refusal::Exists => write!(
-                f,
-                "the name is taken, or a meter is installed at the register"
-            ),
+            Refusal::Exists => write!(f, "the name is taken, or a meter is open at the register"),
             Refusal::ClockBack => write!(
                 f,
                 "the moment is before that of the latest accepted event"
@@ -156,7 +154,7 @@ impl Display for Refusal {
             ),
             Refusal::NotVoidable => write!(
                 f,
-                "the entry is no reading that stands, or no reading that stands follows it"
+                "the entry is no reading of the device that stands, or the next that stands is none"
             ),
             Refusal::NotPlausible(cause) => write!(
                 f,

@@ -23,7 +23,7 @@ use Rattle.office_rules.specs.Facts.{is_named, polls_in, ends_of, pending_in}
 use Rattle.office_rules.specs.Sessions.{connects, Slot, slot_of, slot_after, slot_restarted, slots_after, new_slot, device_by}
 use Rattle.office_rules.specs.History.{History, Opened, Fed, next_poll, facts_of, slots_of, spans_by, added_by, reply_by, with_settled, with_lost, lost}
 use Rattle.office_rules.specs.Refusals.{AreAccepted, refuses, asks_taken, is_bad_request}
-use Rattle.office_rules.specs.Headline.{polls_of_slots, outcome_in, pending_on, AreNumbered, PollsEndOnce}
+use Rattle.office_rules.specs.PollEndings.{polls_of_slots, outcome_in, pending_on, AreNumbered, PollsEndOnce}
 use Rattle.office_laws.proofs.Permutations.{same_is, IsPermutation-filter, IsPermutation-filter_map, short_is}
 use Rattle.office_laws.proofs.SessionLaws.{SessionLaws}
 use Rattle.office_laws.proofs.EndedPolls.{numbers_in, ends_in, waiting_in, times, is_of, pick, times-IsPermutation, picked-IsPermutation, times_split, numbered_once, picked_is, waiting_by}

@@ -8,7 +8,7 @@ use Rattle.std.proofs.lemmas.Bool.{eqb-true}
 use Rattle.std.proofs.lemmas.Bool.Decides.{nat_tests}
 use Rattle.poll_core.specs.declared.outcome.Outcome.{Outcome}
 use Rattle.office_events.specs.declared.facts.Poll.{Poll}
-use Rattle.office_rules.specs.Headline.{AreNumbered}
+use Rattle.office_rules.specs.PollEndings.{AreNumbered}
 use Rattle.office_laws.proofs.Permutations.{IsPermutation-filter, IsPermutation-filter_map}
 
 -- a poll by its number, with its outcome if it has one

@@ -16,7 +16,7 @@ use Rattle.office_events.specs.declared.events.Event.{Event}
 use Rattle.office_rules.specs.Sessions.{Slot, EndedSession, reaches, connects, with_happenings, slot_reached, slot_after}
 use Rattle.mb_wire.specs.declared.span.ReadSpan.{ReadSpan}
 use Rattle.office_rules.specs.History.{settled_in, settled_on, settled_by}
-use Rattle.office_rules.specs.Headline.{end_by, polls_on, polls_on_ended, polls_of_slot, polls_of_slots}
+use Rattle.office_rules.specs.PollEndings.{end_by, polls_on, polls_on_ended, polls_of_slot, polls_of_slots}
 use Rattle.office_laws.proofs.Permutations.{same_is, sorted_out}
 use Rattle.office_laws.proofs.SessionLaws.{SessionLaws, numbers_of, number_by, numbers-push, outcomes_by_poll-push}
 use Rattle.office_laws.proofs.EndedPolls.{Ended, told, numbers_in, ends_in, waiting_in}

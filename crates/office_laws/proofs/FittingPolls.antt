@@ -26,7 +26,7 @@ use Rattle.office_rules.specs.Readings.{as_fact, judgement, with_reading, with_r
 use Rattle.office_rules.specs.Sessions.{Slot, Send, slot_of, is_startable, start_by, sends_on, sends_at}
 use Rattle.office_rules.specs.History.{History, Opened, Fed, next_poll, facts_of, slots_of, spans_by, poll_by, polls_from, sends_from, added_by, reply_by, with_words}
 use Rattle.office_rules.specs.Refusals.{AreAccepted, refuses, is_bad_request, sent_count, asks_past_numbers}
-use Rattle.office_rules.specs.Headline.{PollsEndOnce}
+use Rattle.office_rules.specs.PollEndings.{PollsEndOnce}
 use Rattle.office_laws.specs.PollOrder.{PollsFit}
 use Rattle.office_laws.proofs.SettledOnce.{SettlesPending}
 use Rattle.office_laws.proofs.OpenPolls.{IsKeptByOutcomes, settled_keeps, lost_keeps}

@@ -16,7 +16,7 @@ use Rattle.office_rules.specs.Meters.{open_at}
 use Rattle.office_rules.specs.Sessions.{Slot, slot_of, command_in}
 use Rattle.office_rules.specs.History.{History, Opened, Fed, next_poll, latest_of, read_at, corrected_at, sends_by, spans_by, added_by, reply_by, with_settled, with_lost, facts_of, slots_of}
 use Rattle.office_rules.specs.Refusals.{refusal_of, is_later, opening_refusal_of, asks_bad_field, IsAccepted, AreAccepted}
-use Rattle.office_rules.specs.Headline.{pending_on, PollsEndOnce}
+use Rattle.office_rules.specs.PollEndings.{pending_on, PollsEndOnce}
 use Rattle.office_rules.specs.Lawful.{AreLawful}
 use Rattle.office_laws.specs.Laws.{MetersAreKept}
 use Rattle.office_laws.proofs.Lookups.{none_parts}

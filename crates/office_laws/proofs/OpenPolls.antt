@@ -14,7 +14,7 @@ use Rattle.office_events.specs.declared.events.Event.{Event}
 use Rattle.office_rules.specs.Facts.{polls_in, poll_of, ends_of, pending_in}
 use Rattle.office_rules.specs.Sessions.{Slot}
 use Rattle.office_rules.specs.History.{History, facts_of, slots_of, settled_by, with_outcome, with_outcomes, with_settled, lost, with_lost}
-use Rattle.office_rules.specs.Headline.{AreNumbered, PollsEndOnce, pending_on}
+use Rattle.office_rules.specs.PollEndings.{AreNumbered, PollsEndOnce, pending_on}
 use Rattle.office_laws.proofs.EndedFacts.{end_fact, settled_on_all, polls-with_outcome, ended-with_outcome}
 use Rattle.office_laws.proofs.Times.{times, times-nil, times-cons, times-permutation, times_parted, one_if, one_if-same, one_if_cases, passes_if_among, found_if_among}
 use Rattle.office_laws.proofs.SettledOnce.{SettlesPending, settled_numbers, settled_at_most}

@@ -11,7 +11,7 @@ use Rattle.office_events.specs.declared.facts.Device.{Device}
 use Rattle.office_events.specs.declared.events.Event.{Event}
 use Rattle.mb_wire.specs.declared.span.ReadSpan.{ReadSpan}
 use Rattle.office_rules.specs.Sessions.{Slot, EndedSession, reaches, connects, with_happenings, slot_reached, slot_after, slot_restarted}
-use Rattle.office_rules.specs.Headline.{polls_on, polls_on_ended, polls_of_slot, polls_of_slots, pending_on}
+use Rattle.office_rules.specs.PollEndings.{polls_on, polls_on_ended, polls_of_slot, polls_of_slots, pending_on}
 use Rattle.office_laws.proofs.Permutations.{same_is, sorted_out}
 use Rattle.office_laws.proofs.SessionLaws.{SessionLaws, pending-close}
 use Rattle.office_laws.proofs.EndedPolls.{numbers_in, ends_in, waiting_in}

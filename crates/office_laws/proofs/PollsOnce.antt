@@ -10,7 +10,7 @@ use Rattle.office_events.specs.declared.facts.Poll.{Poll}
 use Rattle.office_events.specs.declared.facts.EndedPoll.{EndedPoll}
 use Rattle.office_rules.specs.Facts.{polls_in, ends_of, pending_in}
 use Rattle.office_rules.specs.History.{History, facts_of, slots_of}
-use Rattle.office_rules.specs.Headline.{PollsEndOnce, outcome_in, pending_on}
+use Rattle.office_rules.specs.PollEndings.{PollsEndOnce, outcome_in, pending_on}
 use Rattle.office_laws.specs.Endings.{EndsOnce, EachEndsOnce}
 
 cons_contains : {X : Type 0} (b : Bool) (y : X) (xs : List X) (x : X) → Contains xs x → Contains (cond b (y ∷ xs) xs) x

@@ -14,7 +14,7 @@ use Rattle.office_events.specs.declared.events.Event.TheVariants as event
 use Rattle.office_rules.specs.Facts.{is_named}
 use Rattle.office_rules.specs.Sessions.{Slot, EndedSession}
 use Rattle.office_rules.specs.History.{settled_in, settled_on, settled_by}
-use Rattle.office_rules.specs.Headline.{pending_on}
+use Rattle.office_rules.specs.PollEndings.{pending_on}
 use Rattle.office_laws.proofs.Happenings.{command_settles}
 use Rattle.office_laws.proofs.Times.{times, times-nil, times-cons, times-append, times-permutation}
 

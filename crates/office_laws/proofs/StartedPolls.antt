@@ -13,7 +13,7 @@ use Rattle.office_events.specs.declared.events.Event.TheVariants as event
 use Rattle.office_rules.specs.Facts.{is_named, polls_in, ended_in}
 use Rattle.office_rules.specs.Sessions.{Slot, Send, slot_of, started_on, start_by, is_startable, sends_on, sends_at}
 use Rattle.office_rules.specs.History.{next_poll, poll_by, polls_from, sends_from, sends_by, spans_by, added_by, settled_on, settled_by}
-use Rattle.office_rules.specs.Headline.{AreNumbered}
+use Rattle.office_rules.specs.PollEndings.{AreNumbered}
 use Rattle.office_laws.proofs.Permutations.{same_is}
 use Rattle.office_laws.proofs.EndedFacts.{settled_on_all}
 use Rattle.office_laws.proofs.Happenings.{sent_numbers, round_numbers, command_settles}

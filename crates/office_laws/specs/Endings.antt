@@ -5,7 +5,7 @@ use Rattle.poll_core.specs.declared.outcome.Outcome.{Outcome}
 use Rattle.office_events.specs.declared.facts.Poll.{Poll}
 use Rattle.office_rules.specs.Facts.{polls_in, ends_of}
 use Rattle.office_rules.specs.History.{History, facts_of, slots_of}
-use Rattle.office_rules.specs.Headline.{outcome_in, pending_on}
+use Rattle.office_rules.specs.PollEndings.{outcome_in, pending_on}
 
 -- one outcome of the poll is recorded, and it is the one that the events of its session give
 pub record HasEnded (history : History) (number : ℕ) (outcome : Outcome) : Type 0 where

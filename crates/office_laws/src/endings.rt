@@ -1,7 +1,7 @@
 //! Each poll ends once.
 ghost use Rattle.office_rules.specs.History.{History};
 ghost use Rattle.office_rules.specs.Refusals.{AreAccepted};
-ghost use Rattle.office_rules.specs.Headline.{PollsEndOnce};
+ghost use Rattle.office_rules.specs.PollEndings.{PollsEndOnce};
 ghost use Rattle.office_laws.specs.Endings.{EachEndsOnce};
 
 use poll_core::{each_once, one_event_more};

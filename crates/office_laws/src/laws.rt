@@ -23,8 +23,8 @@ pub fn meters_are_kept()
     interval_rows_add_up();
 }
 
-/// Where a meter tells the truth and is read often enough, none of its readings since the last void is held, and its steps,
-/// its total and its interval rows are the true ones.
+/// Where nothing but readings was entered, and the meter tells the truth and is read often enough, none of its readings since
+/// the last void is held, and its steps, its total and its interval rows are the true ones.
 pub fn truth_is_recorded()
     ensures { TruthIsRecorded }
 {

@@ -49,10 +49,10 @@ abbrev pub void_refusal : Arrival → Spot → Option Refusal
 void_refusal arrival found = find (speaks_of_void arrival found) reasons
 
 -- why the entry at a place can't go
-abbrev pub speaks_of_entry : EntryPlace → Refusal → Bool
-speaks_of_entry place refusal.NotVoidable = is_not_voidable (Some place)
-speaks_of_entry place (refusal.NotPlausible why) = is_held_for why (verdict_at (Some place))
-speaks_of_entry place why = false
+abbrev pub speaks_of_strike : EntryPlace → Refusal → Bool
+speaks_of_strike place refusal.NotVoidable = is_not_voidable (Some place)
+speaks_of_strike place (refusal.NotPlausible why) = is_held_for why (verdict_at (Some place))
+speaks_of_strike place why = false
 
-abbrev pub entry_refusal : EntryPlace → Option Refusal
-entry_refusal place = find (speaks_of_entry place) reasons
+abbrev pub strike_refusal : EntryPlace → Option Refusal
+strike_refusal place = find (speaks_of_strike place) reasons

@@ -81,7 +81,7 @@ fn verdict(place: &EntryPlace) -> Option<Verdict>
 /// Why the entry at a place can't go.
 fn against_entry(place: &EntryPlace) -> Option<Refusal>
     requires { IsSound place.now.before }
-    ensures found { result ≡ spots.entry_refusal place.now }
+    ensures found { result ≡ spots.strike_refusal place.now }
     ensures of_event { IfSome result IsOfEvent }
 {
     if !is_voidable(&place.row, &place.next) {

@@ -10,7 +10,7 @@ use Rattle.office_events.specs.declared.events.Event.TheVariants as event
 use Rattle.office_events.specs.declared.refusals.Refusal.{Refusal}
 use Rattle.office_events.specs.declared.refusals.Refusal.TheVariants as refusal
 use Rattle.office_rules.specs.Facts.{is_named, moment_limit}
-use Rattle.office_rules.specs.Headline.{waiting}
+use Rattle.office_rules.specs.PollEndings.{waiting}
 use Rattle.office_rules.specs.History.{History, Fed, facts_of, latest_of, slots_of, next_poll}
 use Rattle.office_rules.specs.Refusals.{comes_wrongly, is_mistimed, reasons, refusal_of, refuses, unless_refused, with_answer}
 use Rattle.office_rules.specs.Sessions.{Slot, slot_of, slot_after, slot_reached, with_happenings}

@@ -7,7 +7,7 @@ use Rattle.office_events.specs.declared.events.Event.TheVariants as event
 use Rattle.office_events.specs.declared.refusals.Refusal.{Refusal}
 use Rattle.office_events.specs.declared.refusals.Refusal.TheVariants as refusal
 use Rattle.office_rules.specs.Facts.{moment_limit}
-use Rattle.office_rules.specs.Headline.{pending_on}
+use Rattle.office_rules.specs.PollEndings.{pending_on}
 use Rattle.office_rules.specs.History.{History, latest_of, slots_of}
 use Rattle.office_rules.specs.Sessions.{Slot, slot_of}
 use Rattle.office_books.specs.Ledgers.{Ledger}

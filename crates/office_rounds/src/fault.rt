@@ -22,7 +22,7 @@ pub enum RoundFault {
 }
 
 impl RoundFault {
-    /// The number that stands for it in texts.
+    /// Its number. No text of the program shows it.
     pub fn number(self) -> u8
         ensures { result ≡ fault_number self }
     {

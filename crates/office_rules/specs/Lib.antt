@@ -7,4 +7,4 @@ pub mod Refusals
 pub mod Notes
 pub mod Lawful
 pub mod Intervals
-pub mod Headline
+pub mod PollEndings

@@ -29,19 +29,19 @@ abbrev pub poll_row_of : List Fact → ℕ → Option PollRow
 poll_row_of facts number = option_map (poll_row facts) (poll_of facts number)
 
 -- these registers lie in the span
-abbrev pub holds : ReadSpan → (address count : ℕ) → Bool
-holds span address count =
+abbrev pub contains : ReadSpan → (address count : ℕ) → Bool
+contains span address count =
     nat_le span.address address && nat_le (address + count) (span.address + span.count)
 
-abbrev pub holds_scale : ReadSpan → ScaleSource → Bool
-holds_scale span (source.Fixed sf) = true
-holds_scale span (source.Register address) = holds span address 1
+abbrev pub contains_scale : ReadSpan → ScaleSource → Bool
+contains_scale span (source.Fixed sf) = true
+contains_scale span (source.Register address) = contains span address 1
 
--- the span is read by the register's function, and holds its counter and its scale
+-- the span is read by the register's function, and contains its counter and its scale
 abbrev pub is_read_by : ReadSpan → Register → Bool
 is_read_by span register =
-    (code_of span.function == code_of register.function) && holds span register.address 2
-    && holds_scale span register.scale
+    (code_of span.function == code_of register.function) && contains span register.address 2
+    && contains_scale span register.scale
 
 -- the word at an address, among the words of the span
 abbrev pub word_at : ReadSpan → (words : List ℕ) → (address : ℕ) → ℕ

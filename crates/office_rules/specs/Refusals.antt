@@ -130,7 +130,7 @@ abbrev pub asks_ended : List Fact → Command → Bool
 asks_ended facts c = is_closed (option_and_then (installation_at facts) (corrected_at c))
 
 -- Busy: the device is connected already, or not connected, or its session can start no poll now: its window is full, the
--- next transaction id waits for a reply, or its stream is garbled.
+-- next transaction identifier waits for a reply, or its stream is garbled.
 abbrev pub is_ready : Option Slot → Bool
 is_ready None = false
 is_ready (Some slot) = is_startable slot.device slot.present
@@ -212,7 +212,7 @@ abbrev pub asks_past_numbers : List Slot → List Fact → (at : ℕ) → Comman
 asks_past_numbers slots facts at c =
     is_start c && nat_lt poll_limit (length (polls_in facts) + sent_count slots facts at c)
 
--- NotVoidable: the entry is no reading that stands, or the next that stands is none.
+-- NotVoidable: the entry is no reading of the device that stands, or the next that stands is none.
 abbrev pub is_not_voidable : Option EntryPlace → Bool
 is_not_voidable None = true
 is_not_voidable (Some place) = not (is_voidable place.row place.next)
@@ -295,13 +295,14 @@ abbrev pub refuses : History → (at : ℕ) → Event → Refusal → Bool
 refuses past at e why =
     is_mistimed (latest_of past) at why || is_wrong (slots_of past) (facts_of past) at e why
 
--- The reasons, in the order in which they are looked at: those that lie in what is asked, and then that the store can number no
--- more polls.
+-- why a reading may be held, by number
 abbrev pub all_causes : List Cause
 all_causes = cause.NotAccumulated ∷ cause.ScaleChanged ∷ cause.NotLater ∷ cause.SpanTooLong
     ∷ cause.GapTooLong ∷ cause.TooFast
     ∷ cause.TotalFull ∷ cause.NotBelowRange ∷ []
 
+-- The reasons, in the order in which they are looked at: those that lie in what is asked, and then that the store can number no
+-- more polls.
 abbrev pub reasons : List Refusal
 reasons = refusal.NotFound ∷ refusal.Exists ∷ refusal.ClockBack ∷ refusal.BadScale
     ∷ refusal.NegativeStep ∷ refusal.NotLater

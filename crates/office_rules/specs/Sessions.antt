@@ -52,7 +52,7 @@ is_startable device None = false
 is_startable device (Some events) =
     is_none (start_fault device.timeout device.window events (last_moment events))
 
--- one read that is sent: the number of its poll, its transaction id, and its registers
+-- one read that is sent: the number of its poll, its transaction identifier, and its registers
 pub record Send : Type 0 where
   pub number : ℕ
   pub id : ℕ

@@ -9,9 +9,9 @@ use office_events::{Register, ScaleSource};
 use sun_points::{acc32, sunssf};
 
 /// Whether these registers lie in the span.
-fn holds(span: ReadSpan, address: u16, count: u32) -> bool
+fn contains(span: ReadSpan, address: u16, count: u32) -> bool
     requires { count ≤ 2 }
-    ensures { result ≡ readings.holds span address count }
+    ensures { result ≡ readings.contains span address count }
 {
     let address = u32::from(address);
     let from = u32::from(span.address);
@@ -19,22 +19,22 @@ fn holds(span: ReadSpan, address: u16, count: u32) -> bool
 }
 
 /// Whether the register of the scale lies in the span, if the device tells it.
-fn holds_scale(span: ReadSpan, scale: ScaleSource) -> bool
-    ensures { result ≡ readings.holds_scale span scale }
+fn contains_scale(span: ReadSpan, scale: ScaleSource) -> bool
+    ensures { result ≡ readings.contains_scale span scale }
 {
     match scale {
         ScaleSource::Fixed(_) => true,
-        ScaleSource::Register(address) => holds(span, address, 1),
+        ScaleSource::Register(address) => contains(span, address, 1),
     }
 }
 
-/// Whether the span is read by the register's function, and holds its counter and its scale.
+/// Whether the span is read by the register's function, and contains its counter and its scale.
 pub fn is_read_by(span: ReadSpan, register: &Register) -> bool
     ensures { result ≡ readings.is_read_by span register.now }
 {
     span.function.code() == register.function.code()
-        && holds(span, register.address, 2)
-        && holds_scale(span, register.scale)
+        && contains(span, register.address, 2)
+        && contains_scale(span, register.scale)
 }
 
 /// The word of the reply at an address; 0 where it has none.

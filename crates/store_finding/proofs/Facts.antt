@@ -18,7 +18,7 @@ use Rattle.office_events.specs.declared.facts.EndedPoll.{EndedPoll}
 use Rattle.office_events.specs.declared.facts.Fact.{Fact}
 use Rattle.office_events.specs.declared.facts.Fact.TheVariants as fact
 use Rattle.office_rules.specs.Facts.{same, devices_in, registers_in, register_of, registers_of, polls_in, poll_of, ended_in, ends_of, end_of, pending_in}
-use Rattle.office_rules.specs.Headline.{AreNumbered}
+use Rattle.office_rules.specs.PollEndings.{AreNumbered}
 use Rattle.office_rules.specs.Lawful.{AreLawful, RegisterFits, PollFits, EndFits}
 use Rattle.office_rules.specs.Readings.{poll_row, poll_row_of}
 use Rattle.office_laws.proofs.Lookups.{same_text, find_none, find_passes}
