@@ -1,7 +1,7 @@
 -- What lines set up: what a stand-in holds, and what becomes of its answers.
-use Rattle.std.specs.Prelude.{◌≡◌, ◌<◌, ℕ, Bool, true, ◌&&◌, not, nat_le, if◌then◌else◌, List, [], ◌∷◌, ◌++◌, length, is_some, Option, Some, None}
+use Rattle.std.specs.Prelude.{◌≡◌, ◌<◌, ℕ, Bool, true, ◌&&◌, not, nat_le, if◌then◌else◌, List, [], ◌∷◌, ◌++◌, is_some, Option, Some, None}
 use Rattle.mb_device.specs.Areas.{begun_from, is_any_there, is_past_end}
-use Rattle.mb_device.specs.Maps.{Maps, kept, table_of, value_at, with_table, written}
+use Rattle.mb_device.specs.Maps.{HasAllAddresses, Maps, kept, table_of, value_at, with_table, written}
 use Rattle.mb_device.specs.declared.kinds.Area.{Area}
 use Rattle.mb_device.specs.declared.kinds.Kind.{Kind}
 use Rattle.mb_device.specs.declared.trick.Trick.{Trick}
@@ -17,7 +17,7 @@ pub record Setting : Type 0 where
 -- no address is there
 pub record AreUnset (maps : Maps) : Type 0 where
   pub values : (kind : Kind) (address : ℕ) → address < 65536 → value_at maps kind address ≡ None
-  pub addresses : (kind : Kind) → length (table_of maps kind) ≡ 65536
+  pub addresses : HasAllAddresses maps
 
 -- nor is a trick played
 pub record IsUnset (now : Setting) : Type 0 where

@@ -1,7 +1,8 @@
 -- The lines that tell a device's words: an address, and the words from there on in hex.
-use Rattle.std.specs.Prelude.{ℕ, ◌+◌, ◌*◌, ◌%◌, ◌==◌, nat_le, if◌then◌else◌, List, [], ◌∷◌, length, Some, None, Ok, Err, option_and_then, option_map, ◌≡◌, Vec}
+use Rattle.std.specs.Prelude.{ℕ, ◌+◌, ◌%◌, ◌==◌, nat_le, if◌then◌else◌, List, [], ◌∷◌, length, Some, None, Ok, Err, option_and_then, option_map, ◌≡◌, Vec}
 use Rattle.std.specs.declared.option.Option.{Option}
 use Rattle.std.specs.declared.result.Result.{Result}
+use Rattle.mb_wire.specs.Bytes.{words_of as words_spelled}
 use Rattle.sun_chain.specs.Image.{Words, put_words}
 use Rattle.command_io.specs.Lines.{Line}
 use Rattle.script_words.specs.Words.{words_of}
@@ -13,11 +14,6 @@ pub record Put : Type 0 where
   pub words : List ℕ
 
 -- the words that an even count of bytes spells, the high byte first
-abbrev pub words_spelled : List ℕ → List ℕ
-words_spelled [] = []
-words_spelled (high ∷ []) = []
-words_spelled (high ∷ low ∷ bytes) = (256 * high + low) ∷ words_spelled bytes
-
 abbrev pub words_of_bytes : List ℕ → Option (List ℕ)
 words_of_bytes bytes = if length bytes % 2 == 0 then Some (words_spelled bytes) else None
 

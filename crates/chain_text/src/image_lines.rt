@@ -2,7 +2,7 @@
 ghost use Rattle.std.specs.Prelude.{◌≡◌, IfOk, IfErr, OnOk, Some, option_map};
 ghost use Rattle.sun_chain.specs.Image.{word_in};
 ghost use Rattle.chain_text.specs.ImageLines.{SpellsWords, address_of, put_of, words_after};
-ghost use Rattle.chain_text.specs.ImageLines.{words_spelled};
+ghost use Rattle.mb_wire.specs.Bytes.{words_of as words_spelled};
 ghost use Rattle.command_io.specs.Lines.{seen_line};
 ghost use Rattle.chain_text.specs.Seen.{ExplainsLine, ExplainsText, TellsImage, seen_put};
 

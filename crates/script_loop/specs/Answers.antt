@@ -8,6 +8,7 @@ use Rattle.office_rules.specs.History.{History}
 use Rattle.office_rules.specs.Notes.{notes_after}
 use Rattle.script_loop.specs.declared.answers.Came.{Came}
 use Rattle.script_loop.specs.declared.answers.Came.TheVariants as came
+use Rattle.script_loop.specs.declared.wires.TheConstants.{MOST_TAKES}
 use Rattle.script_replay.specs.Events.{IsReply}
 use Rattle.script_replay.specs.Stages.{Stage, after_reply}
 use Rattle.script_text.specs.AnswerText.{note_line, refused_line}
@@ -49,7 +50,7 @@ FedEnds device at now printed next =
 
 -- how often something is taken from the connection for a start
 abbrev pub most_takes : ℕ
-most_takes = 100000
+most_takes = MOST_TAKES
 
 -- What comes back on a device's connection is fed, and prints this.
 pub record AnswersPrint (device : Option (List ℕ)) (at : ℕ) (now : Stage) (printed : List ℕ)

@@ -5,7 +5,7 @@ ghost use Rattle.script_loop.specs.Answers.{AnswersPrint, FedPrints};
 ghost use Rattle.script_loop.specs.Standings.{Carries};
 
 use crate::wires::MOST_TAKES;
-use mb_wire::{Link, Took};
+use mb_wire::{Link, MAX_ADU, Took};
 use office_core::Office;
 use office_events::{Event, Name, Piece};
 use office_lists::ListBooks;
@@ -46,7 +46,7 @@ impl Came {
 
 // What the near end of a connection brings, unless it is idle.
 fn next_came<L: Link>(alloc: Global, near: &mut L) -> Result<Option<Came>, AllocError> {
-    let mut piece = [0; 260];
+    let mut piece = [0; MAX_ADU];
     match near.take(&mut piece) {
         Ok(Took::Bytes(count)) => {
             let bytes = Vec::from_slice(alloc, &piece[..count])?;

@@ -22,6 +22,7 @@ pub struct Ends<L: Link + Drop> {
 pub trait Connects {
     type End: Link + Drop;
 
+    /// A new connection to the stand-in: its two ends.
     fn connect(&mut self) -> io::Result<Ends<Self::End>>;
 }
 

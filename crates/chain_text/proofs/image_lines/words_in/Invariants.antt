@@ -1,5 +1,5 @@
 use Rattle.std.proofs.Common.{◌≡◌, ◌++◌, length}
-use Rattle.chain_text.specs.ImageLines.{words_spelled}
+use Rattle.mb_wire.specs.Bytes.{words_of as words_spelled}
 use Rattle.chain_text.proofs.image_lines.words_in.Given as goal
 
 abbrev pub invariant-loop-left : goal.invariant-loop-left
