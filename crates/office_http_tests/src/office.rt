@@ -31,7 +31,8 @@ pub(crate) fn poll(alloc: Global) -> Result<[Event; 3], Fail> {
     ])
 }
 
-fn opened(alloc: Global) -> Result<Office<ListBooks>, Fail> {
+/// An office over empty books in memory.
+pub(crate) fn opened(alloc: Global) -> Result<Office<ListBooks>, Fail> {
     let zone = Zone::read("UTC0")?;
     match Office::open(alloc, ListBooks::new(alloc, zone), 0) {
         Ok(office) => Ok(office),

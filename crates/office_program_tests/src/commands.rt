@@ -1,8 +1,7 @@
 //! Commands over books in memory, also where the clock was set back.
+use crate::given::installed;
 use command_io::Status;
-use interval_core::Zone;
-use office_core::Office;
-use office_events::{AddDevice, AddRegister, Command, Event, GivenScale, Install, Name, Refusal};
+use office_events::Refusal;
 use office_lists::ListBooks;
 use office_program::{Polling, Serving, poll_books, report_books, serve_books};
 use office_rounds::RoundFault;
@@ -12,44 +11,9 @@ use std::net::TcpListener;
 use std::str;
 use std::test::Fail;
 
-/// The device `inv`, its register `main`, and the meter `m1` at it.
-fn given() -> [Event; 3] {
-    [
-        Event::Command(Command::AddDevice(AddDevice {
-            name: Name::new(b"inv"),
-            unit: 1,
-            timeout: 5,
-            window: 1,
-        })),
-        Event::Command(Command::AddRegister(AddRegister {
-            name: Name::new(b"main"),
-            device: Name::new(b"inv"),
-            function: 3,
-            address: 40094,
-            scale: GivenScale::Fixed(0),
-        })),
-        Event::Command(Command::Install(Install {
-            register: Name::new(b"main"),
-            meter: Name::new(b"m1"),
-            raw: 5000,
-            sf: 0,
-            ceiling: 100_000,
-            range: 4_294_967_296,
-        })),
-    ]
-}
-
-/// Books of an office that has these since moment 1000.
+/// Books of an office that has a device, a register and a meter since moment 1000.
 fn books(alloc: Global) -> Result<ListBooks, Fail> {
-    let Ok(mut office) = Office::open(alloc, ListBooks::new(alloc, Zone::read("UTC0")?), 0) else {
-        return Err(Fail::from("not opened"));
-    };
-    for event in given() {
-        if office.feed(1000, &event).is_err() {
-            return Err(Fail::from("refused"));
-        }
-    }
-    Ok(office.into_books())
+    Ok(installed(alloc)?.into_books())
 }
 
 // A clock that was set back is `refused 3`, and a register that isn't there `refused 1`.

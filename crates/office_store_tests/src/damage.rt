@@ -30,13 +30,16 @@ fn told(alloc: Global, connection: Connection<MemStore>) -> Result<u8, Fail> {
     Ok(if damaged(&mut books)? == 0 { 0 } else { 13 })
 }
 
-/// What is told where a column has a value. Where the tables refuse it, that is damage as well.
-fn told_of(
-    alloc: Global,
-    mut connection: Connection<MemStore>,
-    column: (&str, &str),
-    value: &str,
-) -> Result<u8, Fail> {
+/// What is told where a column of tables that refuse nothing has a value.
+fn told_loosely(alloc: Global, column: (&str, &str), value: &str) -> Result<u8, Fail> {
+    let mut connection = loose(alloc)?;
+    set(alloc, &mut connection, column, value)?;
+    told(alloc, connection)
+}
+
+/// The same of the books' own tables. Where these refuse the value, that is damage as well.
+fn told_strictly(alloc: Global, column: (&str, &str), value: &str) -> Result<u8, Fail> {
+    let mut connection = strict(alloc)?;
     match set(alloc, &mut connection, column, value) {
         Ok(()) => told(alloc, connection),
         Err(_) => Ok(13),
@@ -47,8 +50,8 @@ fn told_of(
 fn what_no_column_can_be_is_told(rt: HostRuntime) -> Result<(), Fail> {
     for (table, column, text, number) in &COLUMNS {
         for value in ["NULL", *text, *number] {
-            let loose = told_of(rt.alloc(), loose(rt.alloc())?, (*table, *column), value)?;
-            let strict = told_of(rt.alloc(), strict(rt.alloc())?, (*table, *column), value)?;
+            let loose = told_loosely(rt.alloc(), (*table, *column), value)?;
+            let strict = told_strictly(rt.alloc(), (*table, *column), value)?;
             let told = [1, 2, 13];
             assert!(rt; told.contains(&loose), "{table} {column} {value}");
             assert!(rt; told.contains(&strict), "{table} {column} {value}");
@@ -63,7 +66,7 @@ fn what_is_not_read_is_not_told(rt: HostRuntime) -> Result<(), Fail> {
     assert_eq!(rt; told(rt.alloc(), strict(rt.alloc())?)?, 0);
     for column in &UNREAD {
         for value in ["NULL", "'1x'", "-1"] {
-            let told = told_of(rt.alloc(), loose(rt.alloc())?, *column, value)?;
+            let told = told_loosely(rt.alloc(), *column, value)?;
             assert_eq!(rt; told, 0, "{column:?} {value}");
         }
     }
@@ -75,8 +78,7 @@ fn other_databases_are_no_books(rt: HostRuntime) -> Result<(), Fail> {
     let blank = Connection::open_in_memory(rt.alloc())?;
     assert_eq!(rt; told(rt.alloc(), blank)?, 1);
     for (column, value, fault) in &[("version", "9", 1u8), ("zone", "'x'", 2)] {
-        let strict = strict(rt.alloc())?;
-        let told = told_of(rt.alloc(), strict, ("meta", *column), value)?;
+        let told = told_strictly(rt.alloc(), ("meta", *column), value)?;
         assert_eq!(rt; told, *fault, "{column}");
     }
     Ok(())
@@ -94,6 +96,5 @@ fn a_question_is_refused_for_damage(rt: HostRuntime) -> Result<(), Fail> {
     };
     let refusal = Refusal::Store(StoreCause::Damaged);
     assert_eq!(rt; office.meter(&Name::new(b"m1")).err(), Some(refusal));
-    assert_eq!(rt; (refusal.number(), StoreCause::Damaged.number()), (13, 2));
     Ok(())
 }

@@ -83,10 +83,16 @@ pub(crate) fn unmetered(alloc: Global) -> Result<Office<ListBooks>, Fail> {
     Ok(office)
 }
 
-/// An office whose meter `m1` at `main` showed 5000 at moment 1000, and 5200 at 1900: 200 Wh.
-pub(crate) fn metered(alloc: Global) -> Result<Office<ListBooks>, Fail> {
+/// An office whose meter `m1` at `main` showed 5000 at moment 1000.
+pub(crate) fn installed(alloc: Global) -> Result<Office<ListBooks>, Fail> {
     let mut office = unmetered(alloc)?;
     take(&mut office, 1000, &install())?;
+    Ok(office)
+}
+
+/// The same office, where the meter showed 5200 at 1900: 200 Wh.
+pub(crate) fn metered(alloc: Global) -> Result<Office<ListBooks>, Fail> {
+    let mut office = installed(alloc)?;
     take(&mut office, 1900, &read_by_hand(5200))?;
     Ok(office)
 }

@@ -1,5 +1,5 @@
 //! Requests of clients of the same process, which connected and wrote before.
-use crate::office::{OTHER, REQUEST, metered, total_of};
+use crate::served_office::{OTHER, REQUEST, metered, total_of};
 use office_serving::serve_on;
 use socket_link::ListedClock;
 use std::io::{Read, Write};

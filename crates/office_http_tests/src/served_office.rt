@@ -1,5 +1,5 @@
 //! An office with the open meter `m1`, and a request that exchanges it.
-use interval_core::Zone;
+use crate::office::opened;
 use office_core::Office;
 use office_events::{AddDevice, AddRegister, Command, Event, GivenScale, Install, Name};
 use office_lists::ListBooks;
@@ -46,10 +46,7 @@ fn install() -> Event {
 
 /// An office whose meter `m1` shows 5000 at moment 1000.
 pub(crate) fn metered(alloc: Global) -> Result<Office<ListBooks>, Fail> {
-    let books = ListBooks::new(alloc, Zone::read("UTC0")?);
-    let Ok(mut office) = Office::open(alloc, books, 0) else {
-        return Err(Fail::from("not opened"));
-    };
+    let mut office = opened(alloc)?;
     for event in [add_device(), add_register(), install()] {
         if office.feed(1000, &event).is_err() {
             return Err(Fail::from("refused"));

@@ -1,19 +1,8 @@
 //! What peers are replied.
+use crate::office::opened;
 use hub_asking::{Asked, Own, ask, own_route, reply_own};
 use hub_status::Counts;
-use interval_core::Zone;
-use office_core::Office;
-use office_lists::ListBooks;
-use std::alloc::Global;
 use std::test::Fail;
-
-// An office over books in memory.
-fn open(alloc: Global) -> Result<Office<ListBooks>, Fail> {
-    match Office::open(alloc, ListBooks::new(alloc, Zone::read("UTC0")?), 0) {
-        Ok(office) => Ok(office),
-        Err(_) => Err(Fail::from("not opened")),
-    }
-}
 
 #[test]
 fn two_routes_are_no_questions_to_the_office(rt: HostRuntime) {
@@ -53,7 +42,7 @@ fn the_status_has_a_head(rt: HostRuntime) -> Result<(), Fail> {
 // A request comes in pieces, and each time all that has come is asked.
 #[test]
 fn a_request_is_asked_once_it_is_whole(rt: HostRuntime) -> Result<(), Fail> {
-    let mut office = open(rt.alloc())?;
+    let mut office = opened(rt.alloc())?;
     let request: &[u8] = b"GET /meters/m1 HTTP/1.1\r\nHost: a\r\n\r\n";
     for count in [0, 1, 20, 30] {
         if count <= request.len() {

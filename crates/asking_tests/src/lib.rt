@@ -1,5 +1,0 @@
-//! Tests of what peers are replied.
-#![tactic(auto)]
-
-#[cfg(test)]
-mod asks;
