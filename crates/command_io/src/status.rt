@@ -5,6 +5,7 @@ ghost use Rattle.command_io.specs.Statuses.{status_number};
 /// How a command ended.
 #[derive(Clone, Copy, Debug, PartialEq, Eq)]
 pub enum Status {
+    /// All was carried out.
     Fine,
     /// The input is wrong, or was refused.
     Refused,

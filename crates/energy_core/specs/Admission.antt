@@ -35,7 +35,7 @@ abbrev pub refuses : (range total : ℕ) → Last → Entry → TermFault → Bo
 refuses range total last e fault.NegativeStep = nat_lt (reached range e) last.raw
 -- the last entry is as late, or later
 refuses range total last e fault.NotLater = nat_le (moment_of e) last.at
--- more than 3,000 intervals lie between
+-- the step would touch more than 3,000 intervals
 refuses range total last e fault.SpanTooLong =
     nat_lt MAX_INTERVALS (intervals_touched last.at (moment_of e))
 -- the whole energy would pass its limit

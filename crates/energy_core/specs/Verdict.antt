@@ -43,7 +43,7 @@ applies range terms last reading cause.ScaleChanged = not (int_eq reading.sf las
 applies range terms last reading cause.NotBelowRange = nat_le range reading.raw
 -- the last entry is as late, or later
 applies range terms last reading cause.NotLater = nat_le reading.at last.at
--- more than 3,000 intervals lie between
+-- the step would touch more than 3,000 intervals
 applies range terms last reading cause.SpanTooLong =
     nat_lt MAX_INTERVALS (intervals_touched last.at reading.at)
 -- the counter could have made a full turn, so that nobody can tell how far it went

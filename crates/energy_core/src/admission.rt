@@ -20,7 +20,7 @@ pub enum TermFault {
     NegativeStep,
     /// The last entry is as late, or later.
     NotLater,
-    /// More than 3,000 intervals lie between.
+    /// The step would touch more than 3,000 intervals.
     SpanTooLong,
     /// The installation's energy would pass 4 * 10^18 mWh.
     TotalFull,

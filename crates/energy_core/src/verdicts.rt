@@ -35,7 +35,7 @@ pub enum Cause {
     ScaleChanged,
     /// The last entry is as late, or later.
     NotLater,
-    /// More than 3,000 intervals lie between.
+    /// The step would touch more than 3,000 intervals.
     SpanTooLong,
     /// The counter could have made a full turn.
     GapTooLong,

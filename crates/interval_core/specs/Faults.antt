@@ -1,4 +1,4 @@
--- The numbers of faults, as texts and tables print them.
+-- The numbers of faults.
 use Rattle.std.specs.Prelude.{ℕ}
 use Rattle.interval_core.specs.declared.zone.ZoneFault.{ZoneFault}
 use Rattle.interval_core.specs.declared.zone.ZoneFault.TheVariants as zone

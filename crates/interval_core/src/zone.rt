@@ -20,7 +20,7 @@ pub enum ZoneFault {
 }
 
 impl ZoneFault {
-    /// The number that stands for the fault where it is printed or kept.
+    /// The number of the fault, from 1. The program neither prints nor keeps it.
     pub fn number(self) -> u8
         ensures { result ≡ zone_fault_number self }
     {

@@ -26,7 +26,7 @@ is_own frame = protocol_of frame == 0
 abbrev pub own_frames : List ℕ → List (List ℕ)
 own_frames bytes = filter is_own (frames bytes)
 
--- the answer to a frame: its transaction id and unit, and the device's answer to its PDU
+-- the answer to a frame: its transaction identifier and unit, and the device's answer to its PDU
 unfoldable pub answer_to_frame : Maps → List ℕ → Fields
 answer_to_frame maps frame =
     answer_of (tid_of frame) (unit_of frame) (answer_to maps (pdu_of frame))

@@ -36,7 +36,7 @@ pub enum BankFault {
 }
 
 impl BankFault {
-    /// The number that stands for the fault where it is printed or kept.
+    /// Its place in the order in which faults are looked for, from 1; the least that applies is told.
     pub fn number(self) -> u8
         ensures { result ≡ bank_fault_number self }
     {

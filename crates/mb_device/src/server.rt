@@ -33,7 +33,7 @@ pub enum ServeFault {
 }
 
 impl ServeFault {
-    /// The number that stands for the fault where it is printed or kept.
+    /// The number of the fault, from 1. The program neither prints nor keeps it.
     pub fn number(self) -> u8
         ensures { result ≡ serve_fault_number self }
     {
@@ -264,7 +264,7 @@ impl<'t> Server<'t> {
         self.failed = true;
     }
 
-    /// Takes at most 260 bytes, and answers each frame that ends in them, with its transaction id and
+    /// Takes at most 260 bytes, and answers each frame that ends in them, with its transaction identifier and
     /// unit or as a trick has it. What was carried out before a fault stands. After a fault each call
     /// answers Garbled, and takes and gives nothing. Behind an answer that a trick cuts off nothing is
     /// carried out: that turn and each later one answer that the input ended, and the later ones take and

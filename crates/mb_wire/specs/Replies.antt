@@ -197,7 +197,7 @@ reply_cleared query pdu =
 abbrev pub SpellsBack : Query → List ℕ → Reply → Type 0
 SpellsBack query pdu reply = answer_bytes query (answer_of reply) ≡ reply_cleared query pdu
 
--- the number of a fault, as it is printed and kept
+-- the number of a fault: its place in the order in which faults are looked for
 abbrev pub fault_number : ReplyFault → ℕ
 fault_number WrongFunction = 1
 fault_number WrongLength = 2

@@ -112,7 +112,7 @@ abbrev pub request_cleared : List ℕ → List ℕ
 request_cleared pdu =
     if function_in pdu == 15 then take 6 pdu ++ cleared_after (field_in pdu) (drop 6 pdu) else pdu
 
--- the number of a fault, as it is printed and kept
+-- the number of a fault: its place in the order in which faults are looked for
 abbrev pub request_fault_number : RequestFault → ℕ
 request_fault_number UnknownFunction = 1
 request_fault_number WrongLength = 2

@@ -25,13 +25,14 @@ pub enum Framing {
     Garbled,
 }
 
+/// How many bytes of a piece a feed took, and what it ended with.
 #[derive(Clone, Copy, Debug, PartialEq, Eq)]
 pub struct Fed {
     pub taken: usize,
     pub what: Framing,
 }
 
-/// A frame that is lent from the reader.
+/// A frame that is lent from the reader: its transaction identifier, unit identifier and PDU.
 #[derive(Clone, Copy, Debug)]
 pub struct Frame<'a> {
     pub tid: u16,
@@ -268,7 +269,7 @@ impl FrameReader {
     }
 }
 
-/// Writes the frame of these, and says how many bytes it has.
+/// Writes the frame with this transaction identifier, unit and PDU to the front of `out`, and says how many bytes it has.
 pub fn write_frame(tid: u16, unit: u8, pdu: &[u8], out: &mut [u8; MAX_ADU]) -> usize
     requires low { 1 ≤ length pdu.now }
     requires high { length pdu.now ≤ MAX_PDU }

@@ -42,7 +42,7 @@ pub enum ReplyFault {
 }
 
 impl ReplyFault {
-    /// The number that stands for the fault where it is printed or kept.
+    /// Its place in the order in which faults are looked for, from 1; the least that applies is told.
     pub fn number(self) -> u8
         ensures { result ≡ fault_number self }
     {

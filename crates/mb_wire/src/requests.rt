@@ -88,7 +88,7 @@ pub(crate) enum Wanted {
 }
 
 impl RequestFault {
-    /// The number that stands for the fault where it is printed or kept.
+    /// Its place in the order in which faults are looked for, from 1; the least that applies is told.
     pub fn number(self) -> u8
         ensures { result ≡ request_fault_number self }
     {

@@ -21,7 +21,7 @@ pub enum FileFault {
 }
 
 impl FileFault {
-    /// The number that stands for the fault.
+    /// The number of the fault, from 1. No text of the program shows it.
     pub fn number(self) -> u8
         ensures { result ≡ file_fault_number self }
     {

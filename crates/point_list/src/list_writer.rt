@@ -24,7 +24,7 @@ pub enum WriteListFault {
 impl WriteListFault {
     ghost use Rattle.point_list.specs.ListWriter.{write_fault_number};
 
-    /// The number under which the fault is told.
+    /// The number of the fault, from 1. The program neither prints nor keeps it.
     pub fn number(self) -> u8
         ensures { result ≡ write_fault_number self }
     {

@@ -2,7 +2,7 @@
 use Rattle.std.specs.Prelude.{ℕ, Bool, ◌==◌, nat_le}
 use Rattle.mb_wire.specs.Spans.{Span}
 
--- a poll that was started: its caller's number, its transaction id, whom it asks for which registers, and until when
+-- a poll that was started: its caller's number, its transaction identifier, whom it asks for which registers, and until when
 pub record Poll : Type 0 where
   pub number : ℕ
   pub id : ℕ

@@ -1,4 +1,4 @@
--- When a poll of a session is settled, and by what (Modbus Messaging on TCP/IP V1.0b, sections 4.4.2 and 4.4.3).
+-- When a poll of a session is settled, and by what (Modbus Messaging on TCP/IP Implementation Guide V1.0b, section 4.4.1).
 use Rattle.std.specs.Prelude.{ℕ, ◌+◌, ◌%◌, Bool, true, false, not, ◌&&◌, ◌==◌, if◌then◌else◌, List, [], ◌∷◌, ◌++◌, map, length, drop, is_none, Some, None, Ok, Err}
 use Rattle.std.specs.declared.option.Option.{Option}
 use Rattle.std.specs.declared.result.Result.{Result}
@@ -52,7 +52,7 @@ is_start (Close moment closing) = false
 unfoldable pub stream : List Event → List ℕ
 stream events = flat_map bytes_of events
 
--- a poll's transaction id is the count of starts before it, modulo 65536
+-- a poll's transaction identifier is the count of starts before it, modulo 65536
 unfoldable pub next_id : List Event → ℕ
 next_id events = length (filter is_start events) % 65536
 

@@ -10,7 +10,7 @@ use Rattle.poll_core.specs.declared.outcome.LostCause.{LostCause}
 use Rattle.poll_core.specs.declared.outcome.Call.{Call}
 use Rattle.poll_core.specs.declared.outcome.Call.TheVariants as call
 
--- What a session holds: its terms, the latest moment, the next transaction id, the half-read frame, the pending
+-- What a session holds: its terms, the latest moment, the next transaction identifier, the half-read frame, the pending
 -- polls in the order of their starts, why it is over, and the call that has outcomes left to tell.
 pub record State : Type 0 where
   pub timeout : ℕ

@@ -18,7 +18,7 @@ pub struct Turn<'a> {
     pub settled: Option<Settled<'a>>,
 }
 
-/// The next transaction id, and how many starts in a row would now succeed.
+/// The next transaction identifier, and how many starts in a row would now succeed.
 #[derive(Clone, Copy, Debug, PartialEq, Eq)]
 pub struct Ready {
     pub id: u16,
@@ -34,7 +34,7 @@ pub struct ClockBack;
 pub enum StartFault {
     /// As many polls wait as the window holds.
     WindowFull,
-    /// A pending poll has the next transaction id.
+    /// A pending poll has the next transaction identifier.
     IdBusy,
     /// The moment is before the latest one.
     ClockBack,

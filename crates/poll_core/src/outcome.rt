@@ -19,7 +19,7 @@ pub enum Outcome {
     Exception(u8),
     /// No reply came before the deadline.
     Silent,
-    /// A frame with the poll's transaction id is no reply to its request.
+    /// A frame with the poll's transaction identifier is no reply to its request.
     Malformed(Malformation),
     /// The session ended first.
     Lost(LostCause),

@@ -77,7 +77,7 @@ impl Session {
         self.inner.settling.is_some()
     }
 
-    /// The next transaction id, and how many starts in a row would now succeed at a moment that isn't back.
+    /// The next transaction identifier, and how many starts in a row would now succeed at a moment that isn't back.
     pub fn ready(&self) -> Ready
         ensures id { result.id ≡ self.now.next }
         ensures room { HasRoom self.now result.count }

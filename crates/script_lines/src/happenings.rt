@@ -1,4 +1,4 @@
-//! The forms of what happens at a device, behind the words that name it.
+//! The forms of what happens at devices, of a tick, and of questions, behind the words that name them.
 ghost use Rattle.std.specs.Prelude.{◌≡◌};
 ghost use Rattle.script_lines.specs.LineReader.{asked_by, said_by};
 ghost use Rattle.script_lines.specs.declared.verbs.Verb.TheVariants as verb;

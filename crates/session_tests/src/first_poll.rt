@@ -74,7 +74,7 @@ static REPLIES: [[Line; 2]; 4] = [
             told: &[],
         },
     ],
-    // with transaction id 9, so that the poll waits on
+    // with transaction identifier 9, so that the poll waits on
     [
         Line {
             event: Event::Piece {

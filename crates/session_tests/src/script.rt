@@ -8,7 +8,7 @@ use std::test::Fail;
 /// The latest moment that a session knows.
 const LATEST: u64 = 4_102_444_800;
 
-/// A reply of unit 1 to the poll with transaction id 0: the registers 0, 5200, 0.
+/// A reply of unit 1 to the poll with transaction identifier 0: the registers 0, 5200, 0.
 pub const GOOD: [u8; 15] = [0, 0, 0, 0, 0, 9, 1, 3, 6, 0, 0, 20, 80, 0, 0];
 
 /// A poll by its number, and how it ended.

@@ -2,7 +2,7 @@
 use crate::clock::Clock;
 use mb_wire::{LastTake, Link, LinkFailed, Took};
 
-/// A link whose calls fail once a clock has passed a moment.
+/// A link whose calls fail once a clock has passed a moment. That they ask the clock is tested, not proved.
 #[derive(Drop)]
 pub struct HurriedLink<'l, L: Link, C: Clock> {
     link: &'l mut L,

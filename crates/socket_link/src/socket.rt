@@ -6,8 +6,8 @@ use std::io::{self, ErrorKind, Read, Write};
 use std::net::{OpenStream, Shutdown};
 use std::time::Duration;
 
-/// A link over a socket. A take waits for a second at most, and is idle then; so does a give, and has failed then. A take
-/// or a give that was interrupted has failed too.
+/// A link over a socket. A take waits so long at most as the link was made with, a second by `new`, and is idle then; so does
+/// a give, and has failed then. A take or a give that was interrupted has failed too.
 #[derive(Drop)]
 pub struct SocketLink<S: Drop> {
     stream: S,

@@ -14,7 +14,7 @@ use Rattle.store_files.specs.declared.layouts.Layout.TheVariants.{First, Second,
 use Rattle.store_files.specs.Layouts.{version_of, schema_of}
 use Rattle.store_files.specs.Meta.{meta, IsMarked}
 
--- the number of its tree
+-- the tree of the table of voids
 abbrev pub voids : ℕ
 voids = 20
 

@@ -20,7 +20,7 @@ pub enum OpenFault {
 }
 
 impl OpenFault {
-    /// The number that stands for the fault where it is printed.
+    /// The number of the fault, from 1. No text of the program shows it.
     pub fn number(self) -> u8
         ensures { result ≡ open_fault_number self }
     {

@@ -1,7 +1,7 @@
 //! Bounds that several tables have in common.
 use poll_core::LAST_MOMENT;
 
-/// The greatest place of a row, and number of a poll.
+/// The greatest place of a row, and number of a poll: 2^62.
 pub const GREATEST_PLACE: u64 = 4_611_686_018_427_387_904;
 
 /// The latest moment of the books, in seconds since 1970-01-01 UTC.

@@ -1,4 +1,4 @@
--- The tables of the known models: models 1, 101 to 103, and 201 to 204.
+-- The tables of the known models: models 1, 101 to 103, and 201 to 204 of the SunSpec Information Model Reference.
 use Rattle.std.specs.Prelude.{ℕ, ◌==◌, ◌&&◌, nat_le, if◌then◌else◌, List, [], ◌∷◌, codes, find, Some, None}
 use Rattle.std.specs.Option.{option_and_then, option_map}
 use Rattle.std.specs.Str.{bytes_eq}

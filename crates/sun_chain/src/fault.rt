@@ -15,6 +15,7 @@ pub enum ImageFault {
 }
 
 impl ImageFault {
+    /// The number of the fault, from 1.
     pub fn number(self) -> u8
         ensures { result ≡ image_fault_number self }
     {
@@ -51,6 +52,7 @@ pub enum ChainFault {
 }
 
 impl ChainFault {
+    /// The number under which `chain` prints the fault, from 1.
     pub fn number(self) -> u8
         ensures { result ≡ chain_fault_number self }
     {

@@ -1,4 +1,4 @@
--- What the registers of a point say.
+-- What the registers of a point say; which values are none is the SunSpec Information Model Specification's.
 use Rattle.std.specs.Prelude.{ℕ, ℤ, ◌+◌, ◌*◌, Bool, ◌==◌, nat_le, if◌then◌else◌, List, slice_index}
 use Rattle.std.specs.Int.{w16, w32, cast_signed}
 use Rattle.std.specs.List.{list_all}

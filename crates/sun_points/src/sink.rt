@@ -13,6 +13,7 @@ pub trait Sink {
     // A call with this text may answer this, and leave the sink so.
     ghost takes: { Self → List ℕ → Result (Unit {0}) Error → Self → Type 0 };
 
+    /// Takes all of the text, or fails; on an error a part of it may have been taken.
     fn take_text(&mut self, text: &[u8]) -> io::Result<()>
         ensures { takes self.old text.now result self.new };
 }

@@ -18,7 +18,7 @@ const TWO_NINES: &[u8] = &[
 ];
 
 // A frame of another protocol, a write of 5 to holding register 0, and a read of it, each with a
-// transaction id and a unit of its own.
+// transaction identifier and a unit of its own.
 const MIXED: &[u8] = &[
     0, 1, 0, 9, 0, 3, 1, 3, 0, 0, 2, 0, 0, 0, 6, 2, 6, 0, 0, 0, 5, 1, 3, 0, 0, 0, 6, 3, 3, 0, 0, 0,
     1,

@@ -14,7 +14,7 @@ const READ_WRITE: &[u8] = &[
     0, 7, 0, 0, 0, 6, 1, 3, 0, 0, 0, 1, 0, 2, 0, 0, 0, 6, 2, 6, 0, 0, 0, 5,
 ];
 
-// A frame of another protocol, and a read by unit 255 with transaction id 65535.
+// A frame of another protocol, and a read by unit 255 with transaction identifier 65535.
 const HIGHEST: &[u8] = &[
     0, 1, 0, 9, 0, 3, 1, 3, 0, 255, 255, 0, 0, 0, 6, 255, 3, 0, 0, 0, 1,
 ];
