@@ -7,12 +7,12 @@ program=${1:-$here/../out/sunreg}
 [ -x "$program" ] || { echo "files.sh: $program is not built: run ./sunreg-build" >&2; exit 2; }
 program=$(readlink -f "$program")
 for tool in curl sqlite3; do
-    command -v $tool > /dev/null || apt-get install -y -q $tool > /dev/null || { echo "files.sh: $tool lacks" >&2; exit 2; }
+    command -v $tool > /dev/null || { echo "files.sh: $tool is not installed (apt-get install $tool)" >&2; exit 2; }
 done
-room=$(mktemp -d)
+room=$(mktemp -d) || exit 2
 children=''
 trap 'for it in $children; do kill -9 "$it" 2> /dev/null; done; rm -rf "$room"' EXIT
-cd "$room"
+cd "$room" || exit 2
 passed=0
 failed=0
 port=${FILES_PORT:-18471}

@@ -9,7 +9,7 @@ here=$(dirname "$(readlink -f "$0")")
 program=${1:-$here/../out/sunreg}
 [ -x "$program" ] || { echo "peers.sh: $program is not built: run ./sunreg-build" >&2; exit 2; }
 program=$(readlink -f "$program")
-room=$(mktemp -d)
+room=$(mktemp -d) || exit 2
 trap 'rm -rf "$room"' EXIT
 . "$here/peers/install.sh"
 

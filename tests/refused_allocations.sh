@@ -1,6 +1,7 @@
 #!/usr/bin/env bash
 # Refuses each allocation of the program, and of the small programs in tests/programs/, alone and with all later ones:
-# `tests/refused_allocations.sh`. The program runs tests/every_line.script, and then its commands over a file; what each run may print,
+# `tests/refused_allocations.sh`. The program runs tests/sessions.script (devices, registers, meters and polls; no lists, rounds,
+# corrections, voids, intervals or days), and then its commands over a file; what each run may print,
 # tests/refused_allocations.py and tests/refused_in_file.py say. Of a command over a file, which allocates thousands of times, it refuses REFUSED_MOST
 # by chance (100; 0 is each, which takes hours) by REFUSED_SEED, shared by REFUSED_JOBS processes (1), and says how many of how many; where REFUSED_ONLY names
 # some of these commands (create, serve, round, exchange, report), of these alone. It ends on 'N passed, M failed'. It is no part of
@@ -13,7 +14,7 @@ cd "$(dirname "$(readlink -f "$0")")"
 
 cc -O1 -shared -fPIC -o "$scratch/refuse.so" refuse_allocation.c
 if [ -n "$program" ]; then
-    python3 -B refused_allocations.py "$scratch/refuse.so" every_line.script "$program"
+    python3 -B refused_allocations.py "$scratch/refuse.so" sessions.script "$program"
     exit
 fi
 sunreg="$PWD/../crates/sunreg"
@@ -25,4 +26,4 @@ for part in "chains mb_wire point_list read_plan sun_chain sun_points" "days int
     scratch "refused_$name" "$needs" "programs/$name.rattle" > "$scratch/printed"
     programs+=("$program")
 done
-python3 -B refused_allocations.py "$scratch/refuse.so" every_line.script "$sunreg/out/sunreg" "${programs[@]}"
+python3 -B refused_allocations.py "$scratch/refuse.so" sessions.script "$sunreg/out/sunreg" "${programs[@]}"

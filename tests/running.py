@@ -256,7 +256,7 @@ def energy_of(meter):
     return sum(int(row[1]) for row in rows if row[0] != "end") / 1000
 
 
-def add_device(number, name, port_words=""):
+def add_device(number, name):
     same(f"{name}: a device", ask("/devices", number, json.dumps({"name": name, "unit": 1, "timeout": 1, "window": 1}))[0], 200)
     rows = "name,function,area,address,type,scale\nwh,3,0,40094,acc32,\n"
     same(f"{name}: its list", ask(f"/devices/{name}/list", number + 1, rows)[0], 200)
@@ -268,8 +268,6 @@ def add_device(number, name, port_words=""):
 
 # An empty office.
 made = subprocess.run([PROGRAM, "create", "--db", f"{ROOM}/office.db", "--zone", "UTC0"], capture_output=True)
-if made.returncode != 0:
-    made = subprocess.run([f"{HERE}/schema.sh", f"{ROOM}/office.db"], capture_output=True)
 same("an office is made", made.returncode, 0)
 
 good = {f"g{k}": Device("answers") for k in range(3)}

@@ -8,7 +8,7 @@ set -u
 here=$(dirname "$(readlink -f "$0")")
 program=$(readlink -f "${1:-$here/../out/sunreg}")
 [ -x "$program" ] || { echo "running.sh: $program is not built: run ./sunreg-build" >&2; exit 2; }
-room=$(mktemp -d)
+room=$(mktemp -d) || exit 2
 trap 'rm -rf "$room"' EXIT
 . "$here/peers/install.sh"
 

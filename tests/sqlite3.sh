@@ -10,10 +10,10 @@ program=$(readlink -f "$program")
 for tool in curl sqlite3; do
     command -v $tool > /dev/null || { echo "sqlite3.sh: $tool is not installed (apt-get install $tool)" >&2; exit 2; }
 done
-room=$(mktemp -d)
+room=$(mktemp -d) || exit 2
 children=''
 trap 'for it in $children; do kill -9 "$it" 2> /dev/null; done; rm -rf "$room"' EXIT
-cd "$room"
+cd "$room" || exit 2
 passed=0
 failed=0
 port=${SQLITE3_PORT:-18571}

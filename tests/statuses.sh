@@ -5,7 +5,7 @@ set -u
 here=$(dirname "$(readlink -f "$0")")
 program=${1:-$here/../out/sunreg}
 [ -x "$program" ] || { echo "statuses.sh: $program is not built: run ./sunreg-build" >&2; exit 2; }
-room=$(mktemp -d)
+room=$(mktemp -d) || exit 2
 trap 'rm -rf "$room"' EXIT
 passed=0
 failed=0

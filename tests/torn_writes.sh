@@ -6,4 +6,4 @@ set -eu
 here=$(dirname "$(readlink -f "$0")")
 program=${1:-$here/../out/sunreg}
 [ -x "$program" ] || { echo "torn_writes.sh: $program is not built: run ./sunreg-build" >&2; exit 2; }
-exec python3 "$here/torn_writes.py" "$(readlink -f "$program")"
+exec python3 -B "$here/torn_writes.py" "$(readlink -f "$program")"

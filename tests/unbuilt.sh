@@ -6,7 +6,7 @@
 set -u
 here=$(dirname "$(readlink -f "$0")")
 seconds=${UNBUILT_SECONDS:-90}
-room=$(mktemp -d)
+room=$(mktemp -d) || exit 2
 trap 'chmod -R u+w "$room"; rm -rf "$room"' EXIT
 chmod a+rx "$room"
 checkout="$room/a path with spaces"

@@ -3,7 +3,7 @@
     modbus.py client PORT UNIT             carries out the requests on standard input, and prints an answer for each
     modbus.py serve PORT BANK [SECONDS]    serves the registers that the file BANK tells, waiting so long before each answer
 
-tests/peers.py knows the requests and answers; a line of BANK is `holding ADDRESS VALUE..` or `input ADDRESS VALUE..`.
+tests/peers/requests.txt has the requests and answers; a line of BANK is `holding ADDRESS VALUE..` or `input ADDRESS VALUE..`.
 """
 import socket
 import struct
@@ -12,7 +12,6 @@ import threading
 import time
 
 READS = {"read-coils": 1, "read-discrete": 2, "read-holding": 3, "read-input": 4}
-WRITES_ONE = {"write-coil": 5, "write-register": 6}
 WRITES = {"write-coils": 15, "write-registers": 16}
 MASK = 22
 MOST = {1: 2000, 2: 2000, 3: 125, 4: 125, 15: 1968, 16: 123}
