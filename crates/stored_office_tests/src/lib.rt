@@ -1,4 +1,4 @@
-//! Tests of commands over an office in a file of the system: it is made, its day is booked, and it is reported.
+//! Tests of files of the system: they are made and opened, and an office in one is made, its day booked, and reported.
 #![tactic(auto)]
 
 #[cfg(test)]
@@ -7,5 +7,7 @@ mod commands;
 mod day;
 #[cfg(test)]
 mod files;
+#[cfg(test)]
+mod made_files;
 #[cfg(test)]
 mod stored;

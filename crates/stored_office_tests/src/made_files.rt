@@ -1,9 +1,21 @@
 //! Files that are made and opened.
-use crate::given::{fill, kept, path, remove};
+use crate::files::{path, remove};
 use office_files::{FileFault, make_file, open_file};
-use sqlite::Unknown;
+use sqlite::{Alter, Connection, Error, Unknown};
 use std::fs;
 use std::test::Fail;
+
+/// Makes a table with one row, which is 7.
+fn fill<S: Alter>(connection: &mut Connection<S>) -> Result<(), Error> {
+    connection.execute_batch("CREATE TABLE kept (n INTEGER NOT NULL) STRICT")?;
+    connection.execute("INSERT INTO kept (n) VALUES (7)", &[])?;
+    Ok(())
+}
+
+/// The number of that row.
+fn kept<S: Alter>(connection: &mut Connection<S>) -> Result<i64, Error> {
+    connection.query_row("SELECT n FROM kept", &[])?.get(0)
+}
 
 #[test]
 fn a_file_that_is_missing_is_not_made(rt: HostRuntime) -> Result<(), Fail> {
