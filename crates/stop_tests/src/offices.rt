@@ -1,4 +1,5 @@
 //! An office over books in a database, the events of a script, and a request.
+use crate::asked::{Asked, UNAVAILABLE, reply_of, request_of};
 use mb_wire::MemoryLink;
 use office_books::Books;
 use office_core::Office;
@@ -18,21 +19,12 @@ const READ: &str = "1000 device inv 1 5 1
 1898 start inv 3 40094 3
 1900 bytes inv 000000000009010306000014500000";
 
-/// The meter at the register is exchanged for another.
-const EXCHANGE: &[u8] =
-    b"POST /registers/main/exchange HTTP/1.1\r\nContent-Length: 68\r\nOffice-Caller: desk\r\nOffice-Request: 7\r\n\r\n{\"ceiling\":100000,\"last\":5300,\"meter\":\"m2\",\"raw\":0,\"rolls\":0,\"sf\":0}";
-
-const DONE: &[u8] =
-    b"HTTP/1.1 200 OK\r\nContent-Type: application/json\r\nContent-Length: 19\r\nConnection: close\r\n\r\n{\"done\":\"exchange\"}";
-
-const UNAVAILABLE: &[u8] =
-    b"HTTP/1.1 503 Service Unavailable\r\nContent-Type: application/json\r\nContent-Length: 14\r\nConnection: close\r\n\r\n{\"refused\":13}";
-
-/// Plays all steps over a new database: makes books, opens an office, feeds it the script, and exchanges the meter. How many
+/// Plays all steps over a new database: makes books, opens an office, feeds it the script, and sends a request. How many
 /// steps were acknowledged before the store refused one.
 pub(crate) fn play<S: Alter + Drop>(
     alloc: Global,
     connection: Connection<S>,
+    asked: Asked,
 ) -> (Result<usize, Fail>, Connection<S>) {
     let books = match SqlBooks::create(alloc, connection, "UTC0") {
         Ok(books) => books,
@@ -42,7 +34,7 @@ pub(crate) fn play<S: Alter + Drop>(
         Ok(office) => office,
         Err((books, _)) => return (Ok(1), books.into_connection()),
     };
-    let steps = steps(alloc, &mut office);
+    let steps = steps(alloc, &mut office, asked);
     (steps, office.into_books().into_connection())
 }
 
@@ -72,27 +64,29 @@ fn accepts<B: Books>(alloc: Global, office: &mut Office<B>, line: &str) -> Resul
     }
 }
 
-/// Whether the exchange is acknowledged at a moment. No other reply comes but that the store refused.
-pub(crate) fn exchanges<B: Books>(
+/// Whether a request is acknowledged at a moment. No other reply comes but that the store refused.
+pub(crate) fn acknowledges<B: Books>(
     alloc: Global,
     office: &mut Office<B>,
+    asked: Asked,
     at: u64,
 ) -> Result<bool, Fail> {
     let mut output = [0; 400];
-    let mut link = MemoryLink::new(EXCHANGE, &mut output, 400, None);
+    let mut link = MemoryLink::new(request_of(asked), &mut output, 400, None);
     if handle(alloc, &mut link, office, at).is_err() {
         return Err(Fail::from("not handled"));
     }
     let given = link.given();
-    if given == DONE || given == UNAVAILABLE {
-        return Ok(given == DONE);
+    let reply = reply_of(asked);
+    if given == reply || given == UNAVAILABLE {
+        return Ok(given == reply);
     }
     Err(Fail::from("another reply"))
 }
 
 /// How many steps are acknowledged before the store refuses one, over new books: these are the first step, then come the
-/// events of the script, and then the exchange.
-fn steps<B: Books>(alloc: Global, office: &mut Office<B>) -> Result<usize, Fail> {
+/// events of the script, and then the request.
+fn steps<B: Books>(alloc: Global, office: &mut Office<B>, asked: Asked) -> Result<usize, Fail> {
     let mut steps = 1usize;
     for line in READ.lines() {
         if !accepts(alloc, office, line)? {
@@ -100,7 +94,7 @@ fn steps<B: Books>(alloc: Global, office: &mut Office<B>) -> Result<usize, Fail>
         }
         steps = steps.saturating_add(1);
     }
-    if exchanges(alloc, office, 2800)? {
+    if acknowledges(alloc, office, asked, 2800)? {
         steps = steps.saturating_add(1);
     }
     Ok(steps)

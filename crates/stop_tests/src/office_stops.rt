@@ -1,4 +1,5 @@
 //! Stops in each event of a script, and in the request that follows it.
+use crate::asked::Asked;
 use crate::files::{Stop, Stopping, connected, files, restarted};
 use crate::offices::play;
 use crate::standing::stands;
@@ -9,21 +10,21 @@ use std::process::Abort;
 use std::test::Fail;
 
 /// Plays all steps. How many were acknowledged where the machine stopped, and the files.
-fn played(alloc: Global, stop: Stop) -> Result<(usize, Files<Fuse<Memory>>), Fail> {
-    let connection = match connected(alloc, files(alloc, stop)) {
+fn played(alloc: Global, asked: Asked, stop: Stop) -> Result<(usize, Files<Fuse<Memory>>), Fail> {
+    let connection = match connected(alloc, files(alloc, b"", b"", stop)?) {
         Ok(connection) => connection,
         Err(files) => return Ok((0, files)),
     };
-    let (steps, connection) = play(alloc, connection);
+    let (steps, connection) = play(alloc, connection, asked);
     let files = connection.into_store().close();
     Ok((steps?, files))
 }
 
 /// How many steps were acknowledged where the machine stopped. These stand afterwards, or one more.
-fn stopped(rt: &impl Abort, alloc: Global, stop: Stop) -> Result<usize, Fail> {
-    let (steps, files) = played(alloc, stop)?;
+fn stopped(rt: &impl Abort, alloc: Global, asked: Asked, stop: Stop) -> Result<usize, Fail> {
+    let (steps, files) = played(alloc, asked, stop)?;
     match connected(alloc, restarted(alloc, files, stop.is_lost)?) {
-        Ok(connection) => stands(rt, alloc, connection, steps)?,
+        Ok(connection) => stands(rt, alloc, connection, asked, steps)?,
         Err(_left) => return Err(Fail::from("not opened")),
     }
     Ok(steps)
@@ -34,6 +35,7 @@ fn stopped(rt: &impl Abort, alloc: Global, stop: Stop) -> Result<usize, Fail> {
 fn stop_each(
     rt: &impl Abort,
     alloc: Global,
+    asked: Asked,
     file: Stopping,
     is_lost: bool,
 ) -> Result<Vec<usize>, Fail> {
@@ -44,7 +46,7 @@ fn stop_each(
             calls,
             is_lost,
         };
-        let steps = stopped(rt, alloc, stop)?;
+        let steps = stopped(rt, alloc, asked, stop)?;
         if steps == 8 {
             return Ok(stops);
         }
@@ -67,13 +69,23 @@ fn each_came_up(stops: &[usize]) -> bool {
     true
 }
 
-#[test]
-fn what_was_acknowledged_stands(rt: HostRuntime) -> Result<(), Fail> {
+/// Stops of each file, whether or not what was not synced is lost.
+fn stop_all(rt: &impl Abort, alloc: Global, asked: Asked) -> Result<(), Fail> {
     for is_lost in [true, false] {
-        let of_log = stop_each(&rt, rt.alloc(), Stopping::Log, is_lost)?;
+        let of_log = stop_each(rt, alloc, asked, Stopping::Log, is_lost)?;
         assert!(rt; of_log.len() > 30 && each_came_up(&of_log));
-        let of_database = stop_each(&rt, rt.alloc(), Stopping::Database, is_lost)?;
+        let of_database = stop_each(rt, alloc, asked, Stopping::Database, is_lost)?;
         assert!(rt; of_database.len() > 5);
     }
     Ok(())
+}
+
+#[test]
+fn an_exchange_that_was_acknowledged_stands(rt: HostRuntime) -> Result<(), Fail> {
+    stop_all(&rt, rt.alloc(), Asked::Exchange)
+}
+
+#[test]
+fn a_void_that_was_acknowledged_stands(rt: HostRuntime) -> Result<(), Fail> {
+    stop_all(&rt, rt.alloc(), Asked::Void)
 }

@@ -1,0 +1,40 @@
+//! The requests that follow the script: the meter is exchanged, or its reading is voided.
+
+/// A request.
+#[derive(Clone, Copy, Debug)]
+pub(crate) enum Asked {
+    Exchange,
+    Void,
+}
+
+const EXCHANGE: &[u8] =
+    b"POST /registers/main/exchange HTTP/1.1\r\nContent-Length: 68\r\nOffice-Caller: desk\r\nOffice-Request: 7\r\n\r\n{\"ceiling\":100000,\"last\":5300,\"meter\":\"m2\",\"raw\":0,\"rolls\":0,\"sf\":0}";
+
+const EXCHANGE_DONE: &[u8] =
+    b"HTTP/1.1 200 OK\r\nContent-Type: application/json\r\nContent-Length: 19\r\nConnection: close\r\n\r\n{\"done\":\"exchange\"}";
+
+const VOID: &[u8] =
+    b"POST /meters/m1/void HTTP/1.1\r\nContent-Length: 11\r\nOffice-Caller: desk\r\nOffice-Request: 8\r\n\r\n{\"place\":2}";
+
+const VOID_DONE: &[u8] =
+    b"HTTP/1.1 200 OK\r\nContent-Type: application/json\r\nContent-Length: 15\r\nConnection: close\r\n\r\n{\"done\":\"void\"}";
+
+/// The reply where the store refused.
+pub(crate) const UNAVAILABLE: &[u8] =
+    b"HTTP/1.1 503 Service Unavailable\r\nContent-Type: application/json\r\nContent-Length: 14\r\nConnection: close\r\n\r\n{\"refused\":13}";
+
+/// The bytes of a request.
+pub(crate) fn request_of(asked: Asked) -> &'static [u8] {
+    match asked {
+        Asked::Exchange => EXCHANGE,
+        Asked::Void => VOID,
+    }
+}
+
+/// The reply to it, where it is carried out.
+pub(crate) fn reply_of(asked: Asked) -> &'static [u8] {
+    match asked {
+        Asked::Exchange => EXCHANGE_DONE,
+        Asked::Void => VOID_DONE,
+    }
+}
