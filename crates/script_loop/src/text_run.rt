@@ -20,7 +20,7 @@ use script_text::{write_bad_line, write_refusal};
 use std::alloc::{AllocError, Global};
 use std::io::{Read, Write};
 
-/// Runs a script over an office in memory whose devices are all a stand-in in this process, as `script_replay::replay`
+/// Runs a script over an office in memory whose devices are all a stand-in in this process, as `replay`
 /// runs one. Lines of a bank may stand among those of the script: they print `ok`, or `refused 12` where the bank does not
 /// take them; `area` and `trick` stand before the first line that connects. A line that connects a device makes a
 /// connection of it to the stand-in; what a line starts is sent, answered and fed at once, and the notes of that and `ok`
