@@ -1,6 +1,5 @@
 //! Names, terms and pieces at their limits.
 use office_events::{Name, Piece, Timeout, Window};
-use std::test::Fail;
 
 const NAMES: [(&[u8], bool); 8] = [
     (b"a", true),
@@ -21,13 +20,12 @@ fn names_at_their_limits(rt: HostRuntime) {
 }
 
 #[test]
-fn a_name_is_its_text(rt: HostRuntime) -> Result<(), Fail> {
-    let name = Name::new(b"m1").ok_or("no name")?;
-    let other = Name::new(b"m2").ok_or("no name")?;
+fn a_name_is_its_text(rt: HostRuntime) {
+    let name = Name::new(b"m1").expect(&rt, "a name");
+    let other = Name::new(b"m2").expect(&rt, "another");
     assert_eq!(rt; name.as_bytes(), b"m1".as_slice());
     assert!(rt; name.is(&name));
     assert!(rt; !name.is(&other));
-    Ok(())
 }
 
 // A number, and whether it is a timeout, and a window.
@@ -57,9 +55,8 @@ fn terms_at_their_limits(rt: HostRuntime) {
 }
 
 #[test]
-fn a_copied_piece(rt: HostRuntime) -> Result<(), Fail> {
-    let piece = Piece::new(b"abc".to_vec(rt.alloc())?);
-    let copy = piece.clone()?;
+fn a_copied_piece(rt: HostRuntime) {
+    let bytes = b"abc".to_vec(rt.alloc()).expect(&rt, "bytes");
+    let copy = Piece::new(bytes).clone().expect(&rt, "a copy");
     assert_eq!(rt; copy.as_slice(), b"abc".as_slice());
-    Ok(())
 }

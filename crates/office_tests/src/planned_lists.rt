@@ -1,8 +1,6 @@
 //! Point lists with the reads of their plans.
-use point_list::read_list;
-use read_plan::{PlannedList, lists_are_planned_once};
-use std::alloc::Global;
-use std::test::Fail;
+use crate::offices::{LIST, planned};
+use read_plan::lists_are_planned_once;
 
 // Rows of points below the header, and the first register and the count of each read.
 struct Case {
@@ -18,7 +16,7 @@ static CASES: [Case; 3] = [
         points: 2,
     },
     Case {
-        rows: b"name,function,area,address,type,scale\na,3,0,0,acc32,\nb,3,0,124,uint16,\nc,3,0,125,uint16,\n",
+        rows: LIST,
         reads: &[(0, 125), (125, 1)],
         points: 3,
     },
@@ -29,30 +27,24 @@ static CASES: [Case; 3] = [
     },
 ];
 
-fn planned(alloc: Global, rows: &[u8]) -> Result<PlannedList, Fail> {
-    let list = read_list(alloc, rows).ok().ok_or("no list")?;
-    Ok(PlannedList::new(alloc, list)?)
-}
-
 #[test]
-fn reads_of_lists(rt: HostRuntime) -> Result<(), Fail> {
+fn reads_of_lists(rt: HostRuntime) {
     lists_are_planned_once();
     for case in &CASES {
-        let list = planned(rt.alloc(), case.rows)?;
+        let list = planned(rt.alloc(), case.rows).expect(&rt, "a list");
         assert_eq!(rt; list.points().len(), case.points);
         assert_eq!(rt; list.reads().len(), case.reads.len());
-        for (read, want) in list.reads().iter().zip(case.reads) {
-            assert_eq!(rt; (read.span.address, read.span.count), *want);
+        for (read, (address, count)) in list.reads().iter().zip(case.reads) {
+            assert_eq!(rt; read.span.address, *address);
+            assert_eq!(rt; read.span.count, *count);
         }
     }
-    Ok(())
 }
 
 #[test]
-fn a_copied_list(rt: HostRuntime) -> Result<(), Fail> {
-    let list = planned(rt.alloc(), CASES[0].rows)?;
-    let copy = list.clone()?;
-    assert_eq!(rt; copy.points().len(), 2);
+fn a_copied_list(rt: HostRuntime) {
+    let list = planned(rt.alloc(), LIST).expect(&rt, "a list");
+    let copy = list.clone().expect(&rt, "a copy");
+    assert_eq!(rt; copy.points().len(), 3);
     assert_eq!(rt; copy.reads(), list.reads());
-    Ok(())
 }

@@ -1,7 +1,6 @@
 //! The numbers of the faults of rounds, and what they say.
 use office_events::Refusal;
 use office_rounds::RoundFault;
-use std::test::Fail;
 
 const FAULTS: [(RoundFault, u8, &str); 4] = [
     (
@@ -27,10 +26,10 @@ const FAULTS: [(RoundFault, u8, &str); 4] = [
 ];
 
 #[test]
-fn faults_have_numbers_and_say_what_happened(rt: HostRuntime) -> Result<(), Fail> {
+fn faults_have_numbers_and_say_what_happened(rt: HostRuntime) {
     for (fault, number, text) in FAULTS {
         assert_eq!(rt; fault.number(), number);
-        assert_eq!(rt; format!(in rt.alloc(); "{fault}")?.as_str(), text);
+        let told = format!(in rt.alloc(); "{fault}").expect(&rt, "a text");
+        assert_eq!(rt; told.as_str(), text);
     }
-    Ok(())
 }

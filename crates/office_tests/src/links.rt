@@ -2,11 +2,20 @@
 use mb_wire::{LastTake, Link, LinkFailed, Took};
 use std::alloc::{AllocError, Global};
 
-/// The replies to both reads: 125 registers of 0, and one of 7.
-pub(crate) fn replies(alloc: Global) -> Result<Vec<u8>, AllocError> {
+/// The reply to the second read of the list: a register of 7.
+pub(crate) const SECOND_REPLY: &[u8] = b"\x00\x01\x00\x00\x00\x05\x01\x03\x02\x00\x07";
+
+/// The reply to the first read of the list: 125 registers of 0.
+pub(crate) fn first_reply(alloc: Global) -> Result<Vec<u8>, AllocError> {
     let mut bytes = b"\x00\x00\x00\x00\x00\xfd\x01\x03\xfa".to_vec(alloc)?;
     bytes.extend_from_slice(&[0; 250])?;
-    bytes.extend_from_slice(b"\x00\x01\x00\x00\x00\x05\x01\x03\x02\x00\x07")?;
+    Ok(bytes)
+}
+
+/// The replies to both.
+pub(crate) fn replies(alloc: Global) -> Result<Vec<u8>, AllocError> {
+    let mut bytes = first_reply(alloc)?;
+    bytes.extend_from_slice(SECOND_REPLY)?;
     Ok(bytes)
 }
 
