@@ -5,6 +5,7 @@ ghost use Rattle.std.specs.Prelude.{◌≡◌};
 ghost use Rattle.std.specs.Process.{exit_status};
 ghost use Rattle.program_end.specs.Endings.{ending_number};
 
+mod command_output;
 mod commands;
 mod offices;
 mod run_words;
