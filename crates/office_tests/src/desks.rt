@@ -7,7 +7,7 @@ use office_events::{Answer, Event, Name, Refusal};
 use poll_core::Closing;
 use std::alloc::{AllocError, Global};
 use std::process::Abort;
-use std::{io, str};
+use std::str;
 
 // Both devices after all this, at a desk.
 fn polled(rt: &impl Abort, alloc: Global, moments: &[Moment]) -> Bench<Desk> {
@@ -90,19 +90,15 @@ const SUM: Sum = Sum {
 // The lines of two events that were accepted, of one that was refused, and of an end with its sum.
 fn put(text: &mut Vec<u8>) -> Result<(), AllocError> {
     let noted = Ok(Answer::Noted);
-    let refused = Err(Refusal::Stopped);
-    let failed = Event::Gone(inv(), Closing::Failed);
-    put_lines(
-        text,
-        1_700_000_000,
-        &inv(),
-        &Event::Connected(inv()),
-        noted,
-        &[],
-    )?;
-    put_lines(text, 1_700_000_000, &inv(), &Event::Tick, noted, &[])?;
-    put_lines(text, 1_700_000_001, &inv(), &Event::Tick, refused, &[])?;
-    put_lines(text, 1_700_000_002, &inv(), &failed, noted, &[])?;
+    let events = [
+        (1_700_000_000, Event::Connected(inv()), noted),
+        (1_700_000_000, Event::Tick, noted),
+        (1_700_000_001, Event::Tick, Err(Refusal::Stopped)),
+        (1_700_000_002, Event::Gone(inv(), Closing::Failed), noted),
+    ];
+    for (at, event, answer) in &events {
+        put_lines(text, *at, &inv(), event, *answer, &[])?;
+    }
     put_sum(text, 1_700_000_002, &inv(), SUM)
 }
 

@@ -9,9 +9,10 @@ use std::alloc::Global;
 use std::process::Abort;
 use std::str;
 
-/// A device, one of whose polls may wait, and one with room for two.
+/// A device, one of whose polls may wait at a time.
 pub(crate) const ONE_BY_ONE: &str = "1000 device inv 1 5 1";
 
+/// The same with room for two.
 pub(crate) const BOTH_AT_ONCE: &str = "1000 device inv 1 5 2";
 
 /// An office with this device and its list, whose books refuse the call of this number; 0: none.
