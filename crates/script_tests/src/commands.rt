@@ -1,32 +1,58 @@
 //! Lines that are commands.
-use crate::lines::{command, line};
 use office_events::{
-    AddDevice, AddRegister, Close, Command, Exchange, GivenScale, Install, Manual, Name, Rescale,
-    Reset, StartRound, VoidEntry,
+    AddDevice, AddRegister, Close, Command, Event, Exchange, GivenScale, Install, Manual, Name,
+    Rescale, Reset, StartRound, VoidEntry,
 };
-use std::test::Fail;
+use script_lines::ScriptLine;
+use std::alloc::Global;
 
 const MOST: u64 = 9_223_372_036_854_775_807;
 
-fn named(text: &[u8]) -> Option<Name> {
-    Name::new(text)
+// Whether they are the same, where it is one of those that a line spells.
+fn same(said: &Command, wanted: &Command) -> bool {
+    match said {
+        Command::AddDevice(said) => matches!(wanted, Command::AddDevice(it) if it == said),
+        Command::AddRegister(said) => matches!(wanted, Command::AddRegister(it) if it == said),
+        Command::Install(said) => matches!(wanted, Command::Install(it) if it == said),
+        Command::Exchange(said) => matches!(wanted, Command::Exchange(it) if it == said),
+        Command::Reset(said) => matches!(wanted, Command::Reset(it) if it == said),
+        Command::Rescale(said) => matches!(wanted, Command::Rescale(it) if it == said),
+        Command::Manual(said) => matches!(wanted, Command::Manual(it) if it == said),
+        Command::Close(said) => matches!(wanted, Command::Close(it) if it == said),
+        Command::Void(said) => matches!(wanted, Command::Void(it) if it == said),
+        Command::StartRound(said) => matches!(wanted, Command::StartRound(it) if it == said),
+        Command::PutList(_) | Command::StartPoll(_) => false,
+    }
+}
+
+// Whether a line is this command at the moment 5.
+fn says(alloc: Global, text: &str, wanted: &Command) -> bool {
+    match ScriptLine::read(alloc, text.as_bytes()) {
+        Ok(
+            ScriptLine::Event {
+                at: 5,
+                event: Event::Command(said),
+            },
+        ) => same(&said, wanted),
+        _ => false,
+    }
 }
 
 #[test]
-fn reads_devices(rt: HostRuntime) -> Result<(), Fail> {
-    let text = "5 device inv 300 9223372036854775807 007";
-    let wanted = AddDevice {
-        name: named(b"inv"),
+fn reads_devices(rt: HostRuntime) {
+    let wanted = Command::AddDevice(AddDevice {
+        name: Name::new(b"inv"),
         unit: 300,
         timeout: MOST,
         window: 7,
-    };
-    let said = line(rt.alloc(), text.as_bytes())?;
-    let Some(Command::AddDevice(given)) = command(&said) else {
-        return Err("another line".into());
-    };
-    assert!(rt; *given == wanted, "{text}");
-    Ok(())
+    });
+    assert!(rt;
+        says(
+            rt.alloc(),
+            "5 device inv 300 9223372036854775807 007",
+            &wanted
+        )
+    );
 }
 
 static SCALES: [(&str, GivenScale); 4] = [
@@ -40,22 +66,17 @@ static SCALES: [(&str, GivenScale); 4] = [
 ];
 
 #[test]
-fn reads_registers(rt: HostRuntime) -> Result<(), Fail> {
+fn reads_registers(rt: HostRuntime) {
     for (text, scale) in &SCALES {
-        let wanted = AddRegister {
-            name: named(b"main"),
-            device: named(b"inv"),
+        let wanted = Command::AddRegister(AddRegister {
+            name: Name::new(b"main"),
+            device: Name::new(b"inv"),
             function: 3,
             address: 40094,
             scale: *scale,
-        };
-        let said = line(rt.alloc(), text.as_bytes())?;
-        let Some(Command::AddRegister(given)) = command(&said) else {
-            return Err("another line".into());
-        };
-        assert!(rt; *given == wanted, "{text}");
+        });
+        assert!(rt; says(rt.alloc(), text, &wanted), "{text}");
     }
-    Ok(())
 }
 
 // A range that is not told is that of an acc32 counter.
@@ -66,23 +87,18 @@ static INSTALLS: [(&str, u64); 3] = [
 ];
 
 #[test]
-fn reads_installs(rt: HostRuntime) -> Result<(), Fail> {
+fn reads_installs(rt: HostRuntime) {
     for (text, range) in &INSTALLS {
-        let wanted = Install {
-            register: named(b"main"),
-            meter: named(b"m1"),
+        let wanted = Command::Install(Install {
+            register: Name::new(b"main"),
+            meter: Name::new(b"m1"),
             raw: 5000,
             sf: -1,
             ceiling: 100_000,
             range: *range,
-        };
-        let said = line(rt.alloc(), text.as_bytes())?;
-        let Some(Command::Install(given)) = command(&said) else {
-            return Err("another line".into());
-        };
-        assert!(rt; *given == wanted, "{text}");
+        });
+        assert!(rt; says(rt.alloc(), text, &wanted), "{text}");
     }
-    Ok(())
 }
 
 static EXCHANGES: [(&str, u64); 2] = [
@@ -91,58 +107,20 @@ static EXCHANGES: [(&str, u64); 2] = [
 ];
 
 #[test]
-fn reads_exchanges(rt: HostRuntime) -> Result<(), Fail> {
+fn reads_exchanges(rt: HostRuntime) {
     for (text, range) in &EXCHANGES {
-        let wanted = Exchange {
-            register: named(b"main"),
+        let wanted = Command::Exchange(Exchange {
+            register: Name::new(b"main"),
             last: 5300,
             rolls: 0,
-            meter: named(b"m2"),
+            meter: Name::new(b"m2"),
             raw: 17,
             sf: 0,
             ceiling: 100_000,
             range: *range,
-        };
-        let said = line(rt.alloc(), text.as_bytes())?;
-        let Some(Command::Exchange(given)) = command(&said) else {
-            return Err("another line".into());
-        };
-        assert!(rt; *given == wanted, "{text}");
+        });
+        assert!(rt; says(rt.alloc(), text, &wanted), "{text}");
     }
-    Ok(())
-}
-
-#[test]
-fn reads_resets(rt: HostRuntime) -> Result<(), Fail> {
-    let text = "5 reset main 5200 7";
-    let wanted = Reset {
-        register: named(b"main"),
-        before: 5200,
-        after: 7,
-    };
-    let said = line(rt.alloc(), text.as_bytes())?;
-    let Some(Command::Reset(given)) = command(&said) else {
-        return Err("another line".into());
-    };
-    assert!(rt; *given == wanted, "{text}");
-    Ok(())
-}
-
-#[test]
-fn reads_rescales(rt: HostRuntime) -> Result<(), Fail> {
-    let text = "5 rescale main 5200 520 1";
-    let wanted = Rescale {
-        register: named(b"main"),
-        before: 5200,
-        after: 520,
-        sf: 1,
-    };
-    let said = line(rt.alloc(), text.as_bytes())?;
-    let Some(Command::Rescale(given)) = command(&said) else {
-        return Err("another line".into());
-    };
-    assert!(rt; *given == wanted, "{text}");
-    Ok(())
 }
 
 static READ_OFF: [(&str, Option<u64>); 2] = [
@@ -151,89 +129,75 @@ static READ_OFF: [(&str, Option<u64>); 2] = [
 ];
 
 #[test]
-fn reads_readings_by_hand(rt: HostRuntime) -> Result<(), Fail> {
+fn reads_readings_by_hand(rt: HostRuntime) {
     for (text, at) in &READ_OFF {
-        let wanted = Manual {
-            register: named(b"main"),
+        let wanted = Command::Manual(Manual {
+            register: Name::new(b"main"),
             raw: 5300,
             rolls: 1,
             at: *at,
-        };
-        let said = line(rt.alloc(), text.as_bytes())?;
-        let Some(Command::Manual(given)) = command(&said) else {
-            return Err("another line".into());
-        };
-        assert!(rt; *given == wanted, "{text}");
+        });
+        assert!(rt; says(rt.alloc(), text, &wanted), "{text}");
     }
-    Ok(())
 }
 
-#[test]
-fn reads_closings(rt: HostRuntime) -> Result<(), Fail> {
-    let text = "5 close main 5300 2";
-    let wanted = Close {
-        register: named(b"main"),
+fn corrections() -> [(&'static str, Command); 3] {
+    let register = Name::new(b"main");
+    let reset = Reset {
+        register,
+        before: 5200,
+        after: 7,
+    };
+    let rescale = Rescale {
+        register,
+        before: 5200,
+        after: 520,
+        sf: 1,
+    };
+    let close = Close {
+        register,
         raw: 5300,
         rolls: 2,
     };
-    let said = line(rt.alloc(), text.as_bytes())?;
-    let Some(Command::Close(given)) = command(&said) else {
-        return Err("another line".into());
-    };
-    assert!(rt; *given == wanted, "{text}");
-    Ok(())
+    [
+        ("5 reset main 5200 7", Command::Reset(reset)),
+        ("5 rescale main 5200 520 1", Command::Rescale(rescale)),
+        ("5 close main 5300 2", Command::Close(close)),
+    ]
 }
 
 #[test]
-fn reads_voids(rt: HostRuntime) -> Result<(), Fail> {
-    let text = "5 void m1 2";
-    let wanted = VoidEntry {
-        meter: named(b"m1"),
-        place: 2,
-    };
-    let said = line(rt.alloc(), text.as_bytes())?;
-    let Some(Command::Void(given)) = command(&said) else {
-        return Err("another line".into());
-    };
-    assert!(rt; *given == wanted, "{text}");
-    Ok(())
+fn reads_corrections(rt: HostRuntime) {
+    for (text, wanted) in &corrections() {
+        assert!(rt; says(rt.alloc(), text, wanted), "{text}");
+    }
 }
 
 #[test]
-fn reads_rounds(rt: HostRuntime) -> Result<(), Fail> {
-    let text = "5 round inv 0";
-    let wanted = StartRound {
-        device: named(b"inv"),
+fn reads_rounds(rt: HostRuntime) {
+    let wanted = Command::StartRound(StartRound {
+        device: Name::new(b"inv"),
         from: 0,
-    };
-    let said = line(rt.alloc(), text.as_bytes())?;
-    let Some(Command::StartRound(given)) = command(&said) else {
-        return Err("another line".into());
-    };
-    assert!(rt; *given == wanted, "{text}");
-    Ok(())
+    });
+    assert!(rt; says(rt.alloc(), "5 round inv 0", &wanted));
 }
 
-// Words that are no names of the office's.
-static OTHER_NAMES: [&str; 4] = [
-    "5 void 1m 2",
-    "5 void seventeen-letters 2",
-    "5 void - 2",
-    "5 void \u{ff}\0 2",
+// Behind the first, words that are no names of the office's.
+static METERS: [(&str, &[u8]); 5] = [
+    ("5 void m1 2", b"m1"),
+    ("5 void 1m 2", b""),
+    ("5 void seventeen-letters 2", b""),
+    ("5 void - 2", b""),
+    ("5 void \u{ff}\0 2", b""),
 ];
 
 #[test]
-fn words_may_be_no_names(rt: HostRuntime) -> Result<(), Fail> {
-    for text in &OTHER_NAMES {
-        let wanted = VoidEntry {
-            meter: None,
+fn reads_voids(rt: HostRuntime) {
+    for (text, name) in &METERS {
+        let wanted = Command::Void(VoidEntry {
+            meter: Name::new(name),
             place: 2,
-        };
-        let said = line(rt.alloc(), text.as_bytes())?;
-        let Some(Command::Void(given)) = command(&said) else {
-            return Err("another line".into());
-        };
-        assert!(rt; *given == wanted, "{text}");
+        });
+        assert!(rt; says(rt.alloc(), text, &wanted), "{text}");
     }
-    Ok(())
 }

@@ -1,140 +1,89 @@
 //! Lines of what happens at a device, and questions.
-use crate::lines::{is_bad, line};
 use mb_wire::ReadSpan;
 use office_events::{Event, Name};
 use poll_core::Closing;
-use script_lines::{GivenStart, ScriptLine};
-use std::alloc::Global;
+use script_lines::{GivenStart, LineFault, ScriptLine};
+use std::alloc::{AllocError, Global};
 use std::test::Fail;
 
-#[test]
-fn reads_connections(rt: HostRuntime) -> Result<(), Fail> {
-    let said = line(rt.alloc(), b"1898 connect inv")?;
-    let ScriptLine::Event {
-        at,
-        event: Event::Connected(device),
-    } = &said
-    else {
-        return Err("another line".into());
-    };
-    assert_eq!(rt; *at, 1898);
-    assert!(rt; *device == Name::new(b"inv"));
-    Ok(())
+// What a line of the device `inv` says.
+#[derive(Clone, Copy)]
+enum Said {
+    Connected,
+    Tick,
+    Ended(Closing),
+    Bytes(&'static [u8]),
+    List(&'static [u8]),
 }
 
-#[test]
-fn reads_ticks(rt: HostRuntime) -> Result<(), Fail> {
-    let said = line(rt.alloc(), b"9223372036854775807 tick")?;
-    let ScriptLine::Event {
-        at,
-        event: Event::Tick,
-    } = &said
-    else {
-        return Err("another line".into());
-    };
-    assert_eq!(rt; *at, 9_223_372_036_854_775_807);
-    Ok(())
-}
-
-static ENDS: [(&[u8], Closing); 2] = [
-    (b"1905 gone inv", Closing::Gone),
-    (b"1905 failed inv", Closing::Failed),
-];
-
-#[test]
-fn reads_ends_of_connections(rt: HostRuntime) -> Result<(), Fail> {
-    for (text, wanted) in &ENDS {
-        let said = line(rt.alloc(), text)?;
-        let ScriptLine::Event {
-            at,
-            event: Event::Gone(device, closing),
-        } = &said
-        else {
-            return Err("another line".into());
-        };
-        assert_eq!(rt; *at, 1905);
-        assert!(rt; *device == Name::new(b"inv"));
-        assert!(rt; *closing == *wanted);
+// Whether an event is this one.
+fn is_event(event: &Event, wanted: Said) -> bool {
+    let inv = Name::new(b"inv");
+    match (event, wanted) {
+        (Event::Connected(device), Said::Connected) => *device == inv,
+        (Event::Tick, Said::Tick) => true,
+        (Event::Gone(device, closing), Said::Ended(wanted)) => {
+            *device == inv && *closing == wanted
+        }
+        (Event::Bytes(device, piece), Said::Bytes(wanted)) => {
+            *device == inv && piece.as_slice() == wanted
+        }
+        _ => false,
     }
-    Ok(())
 }
 
-// Whether a line is bytes that `inv` sent.
-fn sends(alloc: Global, text: &[u8], bytes: &[u8]) -> Result<bool, Fail> {
-    let said = line(alloc, text)?;
-    let ScriptLine::Event {
-        at,
-        event: Event::Bytes(device, piece),
-    } = &said
-    else {
-        return Ok(false);
-    };
-    Ok(*at == 1900 && *device == Name::new(b"inv") && piece.as_slice() == bytes)
+// Whether a line says this at the moment.
+fn says(alloc: Global, text: &[u8], moment: u64, wanted: Said) -> bool {
+    match (ScriptLine::read(alloc, text), wanted) {
+        (Ok(ScriptLine::Event { at, event }), _) => at == moment && is_event(&event, wanted),
+        (Ok(ScriptLine::List { at, list }), Said::List(bytes)) => {
+            at == moment && list.device == Name::new(b"inv") && list.text.as_slice() == bytes
+        }
+        _ => false,
+    }
 }
 
-// Whether a line is a point list of `inv`.
-fn lists(alloc: Global, text: &[u8], bytes: &[u8]) -> Result<bool, Fail> {
-    let said = line(alloc, text)?;
-    let ScriptLine::List { at, list } = &said else {
-        return Ok(false);
-    };
-    Ok(*at == 1900 && list.device == Name::new(b"inv") && list.text.as_slice() == bytes)
-}
+const MOST: u64 = 9_223_372_036_854_775_807;
 
-static PIECES: [(&[u8], &[u8]); 3] = [
+static HAPPENINGS: [(&[u8], u64, Said); 10] = [
+    (b"1898 connect inv", 1898, Said::Connected),
+    (b"9223372036854775807 tick", MOST, Said::Tick),
+    (b"1905 gone inv", 1905, Said::Ended(Closing::Gone)),
+    (b"1905 failed inv", 1905, Said::Ended(Closing::Failed)),
     (
         b"1900 bytes inv 00000000000501030200",
-        b"\0\0\0\0\0\x05\x01\x03\x02\0",
+        1900,
+        Said::Bytes(b"\0\0\0\0\0\x05\x01\x03\x02\0"),
     ),
-    (b"1900 bytes inv aBfF", b"\xab\xff"),
-    (b"1900 bytes inv", b""),
+    (b"1900 bytes inv aBfF", 1900, Said::Bytes(b"\xab\xff")),
+    (b"1900 bytes inv", 1900, Said::Bytes(b"")),
+    (b"1900 list inv 6e616D65", 1900, Said::List(b"name")),
+    (b"1900 list inv 00", 1900, Said::List(b"\0")),
+    (b"1900 list inv", 1900, Said::List(b"")),
 ];
 
 #[test]
-fn reads_pieces(rt: HostRuntime) -> Result<(), Fail> {
-    for (text, bytes) in &PIECES {
-        assert!(rt; sends(rt.alloc(), text, bytes)?);
+fn reads_what_happens(rt: HostRuntime) {
+    for (text, moment, wanted) in &HAPPENINGS {
+        assert!(rt; says(rt.alloc(), text, *moment, *wanted), "{text:?}");
     }
-    Ok(())
 }
 
-static LISTS: [(&[u8], &[u8]); 3] = [
-    (b"1900 list inv 6e616D65", b"name"),
-    (b"1900 list inv 00", b"\0"),
-    (b"1900 list inv", b""),
-];
-
-#[test]
-fn reads_lists(rt: HostRuntime) -> Result<(), Fail> {
-    for (text, bytes) in &LISTS {
-        assert!(rt; lists(rt.alloc(), text, bytes)?);
-    }
-    Ok(())
+// A line with a list of so many zeros.
+fn zeros_listed(alloc: Global, count: usize) -> Result<Vec<u8>, AllocError> {
+    let mut text = b"1900 list inv ".to_vec(alloc)?;
+    text.resize(14 + 2 * count.min(70_000), b'0')?;
+    Ok(text)
 }
 
 #[test]
 fn pieces_have_at_most_65536_bytes(rt: HostRuntime) -> Result<(), Fail> {
-    let mut text = b"1900 list inv ".to_vec(rt.alloc())?;
-    for _digit in 0..131_072 {
-        text.push(b'0')?;
-    }
-    let mut zeros = Vec::new(rt.alloc());
-    zeros.resize(65_536, 0)?;
-    assert!(rt; lists(rt.alloc(), &text, &zeros)?);
-    text.extend_from_slice(b"00")?;
-    assert!(rt; is_bad(rt.alloc(), &text));
-    Ok(())
-}
-
-#[test]
-fn reads_starts(rt: HostRuntime) -> Result<(), Fail> {
-    let said = line(rt.alloc(), b"1898 start inv 3 40094 3")?;
-    let ScriptLine::Start { at, start } = &said else {
-        return Err("no start".into());
-    };
-    assert_eq!(rt; *at, 1898);
-    assert_eq!(rt; start.device, Name::new(b"inv"));
-    assert_eq!(rt; start.span(), ReadSpan::new(3, 40094, 3));
+    static ZEROS: [u8; 65_536] = [0; 65_536];
+    let most = zeros_listed(rt.alloc(), 65_536)?;
+    assert!(rt; says(rt.alloc(), &most, 1900, Said::List(&ZEROS)));
+    let past = zeros_listed(rt.alloc(), 65_537)?;
+    let read = ScriptLine::read(rt.alloc(), &past);
+    assert!(rt; matches!(&read, Err(LineFault::Bad)));
     Ok(())
 }
 
@@ -165,22 +114,39 @@ fn starts_are_of_spans(rt: HostRuntime) {
 }
 
 #[test]
-fn reads_questions_of_names(rt: HostRuntime) -> Result<(), Fail> {
-    let wanted = Name::new(b"m1");
-    let meter = line(rt.alloc(), b"meter m1")?;
-    assert!(rt; matches!(&meter, ScriptLine::Meter { name } if *name == wanted));
-    let intervals = line(rt.alloc(), b"intervals m1")?;
-    assert!(rt; matches!(&intervals, ScriptLine::Intervals { name } if *name == wanted));
-    let days = line(rt.alloc(), b"days m1")?;
-    assert!(rt; matches!(&days, ScriptLine::Days { name } if *name == wanted));
-    let other = line(rt.alloc(), b"meter seventeen-letters")?;
-    assert!(rt; matches!(&other, ScriptLine::Meter { name: None }));
-    Ok(())
+fn reads_starts(rt: HostRuntime) {
+    let read = ScriptLine::read(rt.alloc(), b"1898 start inv 3 40094 3");
+    let Ok(ScriptLine::Start { at, start }) = &read else {
+        panic!(rt; "no start");
+    };
+    assert_eq!(rt; *at, 1898);
+    assert_eq!(rt; start.device, Name::new(b"inv"));
+    assert_eq!(rt; start.span(), ReadSpan::new(3, 40094, 3));
 }
 
+// What a line asks: a letter for the question, and the name.
+fn asked(alloc: Global, text: &str) -> Option<(char, Option<Name>)> {
+    match ScriptLine::read(alloc, text.as_bytes()) {
+        Ok(ScriptLine::Meter { name }) => Some(('m', name)),
+        Ok(ScriptLine::Intervals { name }) => Some(('i', name)),
+        Ok(ScriptLine::Days { name }) => Some(('d', name)),
+        Ok(ScriptLine::Poll { number: 3 }) => Some(('p', None)),
+        _ => None,
+    }
+}
+
+static QUESTIONS: [(&str, char, &[u8]); 5] = [
+    ("meter m1", 'm', b"m1"),
+    ("meter seventeen-letters", 'm', b""),
+    ("intervals m1", 'i', b"m1"),
+    ("days m1", 'd', b"m1"),
+    ("poll 3", 'p', b""),
+];
+
 #[test]
-fn reads_questions_of_polls(rt: HostRuntime) -> Result<(), Fail> {
-    let said = line(rt.alloc(), b"poll 3")?;
-    assert!(rt; matches!(&said, ScriptLine::Poll { number: 3 }));
-    Ok(())
+fn reads_questions(rt: HostRuntime) {
+    for (text, question, name) in &QUESTIONS {
+        let wanted = Some((*question, Name::new(name)));
+        assert!(rt; asked(rt.alloc(), text) == wanted, "{text}");
+    }
 }

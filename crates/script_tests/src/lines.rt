@@ -1,26 +1,13 @@
-//! Lines that are read.
-use office_events::{Command, Event};
+//! Lines that have no form, as they can't stand in a script: it skips empty ones, and drops a carriage return.
 use script_lines::{LineFault, ScriptLine};
-use std::alloc::Global;
-use std::test::Fail;
 
-pub(crate) fn line(alloc: Global, text: &[u8]) -> Result<ScriptLine, Fail> {
-    Ok(ScriptLine::read(alloc, text).ok().ok_or("no line")?)
-}
+static BAD: [&[u8]; 4] = [b"", b" ", b"1903 tick\r", b"# a comment"];
 
-pub(crate) fn is_bad(alloc: Global, text: &[u8]) -> bool {
-    let read = ScriptLine::read(alloc, text);
-    matches!(&read, Err(LineFault::Bad))
-}
-
-/// The command of a line of the moment 5.
-pub(crate) fn command(said: &ScriptLine) -> Option<&Command> {
-    match said {
-        ScriptLine::Event {
-            at: 5,
-            event: Event::Command(command),
-        } => Some(command),
-        _ => None,
+#[test]
+fn reads_no_other_lines(rt: HostRuntime) {
+    for text in &BAD {
+        let read = ScriptLine::read(rt.alloc(), text);
+        assert!(rt; matches!(&read, Err(LineFault::Bad)), "{text:?}");
     }
 }
 

@@ -1,31 +1,11 @@
 //! Writers that fail, and connections that can't be made.
+use crate::replays::zone;
+use crate::streams::Kept;
 use command_io::Status;
-use interval_core::Zone;
 use mb_wire::MemoryLink;
 use script_loop::{Connects, Ends, Loopback, loop_text};
-use std::io::{self, ErrorKind, Write};
+use std::io::{self, ErrorKind};
 use std::test::Fail;
-
-// A writer that fails once it has got so many bytes.
-#[derive(Drop)]
-struct Narrow {
-    room: usize,
-}
-
-impl Write for Narrow {
-    fn write(&mut self, bytes: &[u8]) -> io::Result<usize> {
-        if self.room == 0 && !bytes.is_empty() {
-            return Err(io::Error::from(ErrorKind::BrokenPipe));
-        }
-        let count = bytes.len().min(self.room);
-        self.room -= count;
-        Ok(count)
-    }
-
-    fn flush(&mut self) -> io::Result<()> {
-        Ok(())
-    }
-}
 
 // No connection can be made.
 #[derive(Drop)]
@@ -39,13 +19,6 @@ impl Connects for Broken {
     }
 }
 
-fn zone() -> Result<Zone, Fail> {
-    match Zone::read("UTC0") {
-        Ok(zone) => Ok(zone),
-        Err(_) => Err(Fail::from("no zone")),
-    }
-}
-
 const SCRIPT: &str = "\
     area holding 40094 3\n\
     area holding 40094 3\n\
@@ -54,7 +27,17 @@ const SCRIPT: &str = "\
     1000 start inv 3 40094 3\n\
     x\n";
 
-// How long the text is behind each line: ok, refused 12, ok, ok, the frames, the outcome, ok, and bad line 6.
+const PRINTED: &str = "\
+    ok\n\
+    refused 12\n\
+    ok\n\
+    ok\n\
+    started 1 1 1 00000000000601039c9e0003\n\
+    poll 1 answered\n\
+    ok\n\
+    bad line 6\n";
+
+// How many bytes are written before a write fails: up to the end of each line, and all.
 static ENDS: [(usize, Status); 9] = [
     (0, Status::Failed),
     (3, Status::Failed),
@@ -72,9 +55,12 @@ fn a_writer_that_fails_ends_the_run(rt: HostRuntime) -> Result<(), Fail> {
     let mut loopback = Loopback::new(&rt)?;
     for (room, status) in &ENDS {
         let mut input = SCRIPT.as_bytes();
-        let mut output = Narrow { room: *room };
-        let ended = loop_text(rt.alloc(), zone()?, &mut input, &mut loopback, &mut output);
+        let mut kept = Kept::new(rt.alloc(), room.saturating_add(1), 1);
+        let ended = loop_text(rt.alloc(), zone()?, &mut input, &mut loopback, &mut kept);
+        assert_eq!(rt; kept.got.len(), *room);
+        let whole = kept.is_whole(&rt, PRINTED);
         assert_eq!(rt; ended, *status, "{room}");
+        assert_eq!(rt; whole, *status == Status::Refused, "{room}");
     }
     Ok(())
 }
@@ -85,6 +71,6 @@ fn a_connection_that_cannot_be_made_ends_the_run(rt: HostRuntime) -> Result<(), 
     let mut input = SCRIPT.as_bytes();
     let ended = loop_text(rt.alloc(), zone()?, &mut input, &mut Broken, &mut printed);
     assert_eq!(rt; ended, Status::Failed);
-    assert_eq!(rt; printed.as_slice(), "ok\nrefused 12\nok\n".as_bytes());
+    assert_eq!(rt; printed.as_slice(), b"ok\nrefused 12\nok\n".as_slice());
     Ok(())
 }

@@ -1,68 +1,149 @@
-//! Register images, and what is printed of their chains.
-use super::streams::{Task, end_at_each_read, end_at_each_write, print_all};
+//! Chains and plans over streams that fail.
+use crate::streams::{Kept, Slow};
+use chain_text::chain_text;
 use command_io::Status;
+use list_text::{plan_text, print_plan};
+use point_list::read_list;
+use std::alloc::Global;
+use std::io::{ErrorKind, Read, Write};
+use std::test::Fail;
 
-const METER: (&str, &str) = (
-    "40000 53756e5300010042\n40070 00670032\n40094 000f42400000\n40122 00cb0069\n40229 ffff\n",
-    "base 40000\nmodel 40002 1 66\nmodel 40070 103 50\npoint WH 1000000\npoint WH_SF 0\nmodel 40122 203 105\nend 40229\n",
-);
+// What an input is given to.
+#[derive(Clone, Copy)]
+enum Task {
+    Chain,
+    Plan,
+}
 
-static CHAINS: [(&str, &str); 6] = [
-    METER,
-    (
-        "40000 53756e5300010041\n40069 00670032\n40093 000f42400000\n40121 00cb0069\n40228 ffff",
-        "base 40000\nmodel 40002 1 65\nmodel 40069 103 50\npoint WH 1000000\npoint WH_SF 0\nmodel 40121 203 105\nend 40228\n",
-    ),
-    (
-        "40000 53756e5300010042\n40070 00670032\n40094 000f4240000b\n40122 00cb0069\n40229 ffff\n",
-        "base 40000\nmodel 40002 1 66\nmodel 40070 103 50\npoint WH faulty\npoint WH_SF 11\nmodel 40122 203 105\nend 40229\n",
-    ),
-    ("40000 53756e53ffff", "base 40000\nend 40002\n"),
-    (
-        "# a meter\r\n\r\n40000 53756E53\r\n40002\r\n040002 FFFF\r\n",
-        "base 40000\nend 40002\n",
-    ),
-    ("0 53756e53ffff\n65535 0000\n65535", "base 0\nend 2\n"),
+impl Task {
+    fn carry_out<R: Read, W: Write>(self, alloc: Global, input: &mut R, output: &mut W) -> Status {
+        match self {
+            Task::Chain => chain_text(alloc, input, output),
+            Task::Plan => plan_text(alloc, input, output),
+        }
+    }
+}
+
+const METER: &str = "\
+    40000 53756e5300010042\n\
+    40070 00670032\n\
+    40094 000f42400000\n\
+    40122 00cb0069\n\
+    40229 ffff\n";
+
+const METER_PRINTED: &str = "\
+    base 40000\n\
+    model 40002 1 66\n\
+    model 40070 103 50\n\
+    point WH 1000000\n\
+    point WH_SF 0\n\
+    model 40122 203 105\n\
+    end 40229\n";
+
+const LIST: &str = "\
+    name,function,area,address,type,scale\n\
+    wh,3,0,40094,acc32,whsf\n\
+    whsf,3,0,40096,sunssf,\n\
+    imp,3,0,40168,acc32,impsf\n\
+    impsf,3,0,40176,sunssf,\n";
+
+const LIST_PRINTED: &str = "\
+    read 1 3 0 40094 83\n\
+    point wh 1 0\n\
+    point whsf 1 2\n\
+    point imp 1 74\n\
+    point impsf 1 82\n";
+
+const FAULTY: &str = "\
+    name,function,area,address,type,scale\n\
+    wh,3,0,65535,acc32,\n\
+    1x,3,0,5,int16,\n\
+    b,5,0,5,int16,\n\
+    b,3,0,6,int16,\n";
+
+const FAULTY_PRINTED: &str = "\
+    row 2 fault 7\n\
+    row 3 fault 3\n\
+    row 4 fault 5\n\
+    row 5 fault 4\n";
+
+static CASES: [(Task, &str, &str, Status); 5] = [
+    (Task::Chain, METER, METER_PRINTED, Status::Fine),
+    (Task::Chain, "", "fault 1\n", Status::Refused),
+    (Task::Plan, LIST, LIST_PRINTED, Status::Fine),
+    (Task::Plan, FAULTY, FAULTY_PRINTED, Status::Refused),
+    (Task::Plan, "", "row 1 fault 2\n", Status::Refused),
 ];
 
-static FAULTS: [(&str, &str); 19] = [
-    ("", "fault 1\n"),
-    ("40000 53756e5300010042\n40002 0001ffff", "fault 3\n"),
-    ("40000 53756e53", "fault 2 40002\n"),
-    ("40000 53756e530001", "fault 2 40003\n"),
-    ("x", "bad line 1\n"),
-    ("\n# x\n\n40000 53\n", "bad line 4\n"),
-    ("40000 537\n", "bad line 1\n"),
-    ("40000 \n", "bad line 1\n"),
-    ("40000  5375\n", "bad line 1\n"),
-    (" 40000 5375\n", "bad line 1\n"),
-    ("40000 5375 \n", "bad line 1\n"),
-    ("40000 5375 6e53\n", "bad line 1\n"),
-    ("40000 5375\n65536\n", "bad line 2\n"),
-    ("65536 0000\n", "bad line 1\n"),
-    ("65535 00000000\n", "bad line 1\n"),
-    ("00000000000000040000\n", "bad line 1\n"),
-    ("-1 0000\n", "bad line 1\n"),
-    ("40000 53g5\n", "bad line 1\n"),
-    ("40000 53756e53ffff\r", "bad line 1\n"),
+#[test]
+fn chains_and_plans_are_printed(rt: HostRuntime) {
+    for (task, text, output, status) in &CASES {
+        let mut input = text.as_bytes();
+        let mut printed = Vec::new(rt.alloc());
+        let ended = task.carry_out(rt.alloc(), &mut input, &mut printed);
+        assert_eq!(rt; ended, *status, "{text}");
+        assert_eq!(rt; printed.as_slice(), output.as_bytes(), "{text}");
+    }
+}
+
+// A read that fails or is interrupted ends the run, and none comes after it.
+#[test]
+fn each_failing_read_ends_it(rt: HostRuntime) {
+    for (task, text, _, _) in &CASES {
+        for kind in [ErrorKind::Interrupted, ErrorKind::BrokenPipe] {
+            for failing in 1..text.len() + 2 {
+                let mut slow = Slow::of(text.as_bytes(), failing, kind);
+                let mut printed = Vec::new(rt.alloc());
+                let ended = task.carry_out(rt.alloc(), &mut slow, &mut printed);
+                assert_eq!(rt; ended, Status::Failed);
+                assert!(rt; printed.is_empty());
+                assert_eq!(rt; slow.calls, failing);
+            }
+        }
+    }
+}
+
+#[test]
+fn each_failing_write_ends_it(rt: HostRuntime) {
+    for (task, text, output, status) in &CASES {
+        let mut whole = false;
+        for failing in 1..200 {
+            let mut input = text.as_bytes();
+            let mut kept = Kept::new(rt.alloc(), failing, 8192);
+            let ended = task.carry_out(rt.alloc(), &mut input, &mut kept);
+            whole = kept.is_whole(&rt, output);
+            let wanted = if whole { *status } else { Status::Failed };
+            assert_eq!(rt; ended, wanted);
+        }
+        assert!(rt; whole);
+    }
+}
+
+static PLANS: [(&str, &str); 4] = [
+    (LIST, LIST_PRINTED),
+    ("name,function,area,address,type,scale\n", ""),
+    (
+        "name,function,area,address,type,scale\nw,3,0,0,int16,s\ns,3,0,124,sunssf,\n",
+        "read 1 3 0 0 125\npoint w 1 0\npoint s 1 124\n",
+    ),
+    (
+        "name,function,area,address,type,scale\na,3,0,0,acc32,\nb,3,0,200,acc32,\n",
+        "read 1 3 0 0 2\nread 2 3 0 200 2\npoint a 1 0\npoint b 2 0\n",
+    ),
 ];
 
 #[test]
-fn chains_are_printed(rt: HostRuntime) {
-    print_all(&rt, rt.alloc(), Task::Chain, &CHAINS, Status::Fine);
-}
-
-#[test]
-fn faults_of_chains_are_printed(rt: HostRuntime) {
-    print_all(&rt, rt.alloc(), Task::Chain, &FAULTS, Status::Refused);
-}
-
-#[test]
-fn each_failing_read_ends_a_chain(rt: HostRuntime) {
-    end_at_each_read(&rt, rt.alloc(), Task::Chain, METER.0);
-}
-
-#[test]
-fn each_failing_write_ends_a_chain(rt: HostRuntime) {
-    end_at_each_write(&rt, rt.alloc(), Task::Chain, METER, Status::Fine);
+fn each_failing_write_of_a_list_is_told(rt: HostRuntime) -> Result<(), Fail> {
+    for (text, output) in &PLANS {
+        let Ok(list) = read_list(rt.alloc(), text.as_bytes()) else {
+            return Err(Fail::from("no list"));
+        };
+        for failing in 1..60 {
+            let mut kept = Kept::new(rt.alloc(), failing, 8192);
+            let ended = print_plan(rt.alloc(), &list, &mut kept);
+            let whole = kept.is_whole(&rt, output);
+            assert_eq!(rt; ended == Status::Fine, whole);
+        }
+    }
+    Ok(())
 }

@@ -1,125 +1,119 @@
 //! Words that spell a command.
 use command_words::{CommandLine, Device, command_of};
 
+const RIGHT: [(&[&str], CommandLine<'static>); 14] = [
+    // no word is replay
+    (&[], CommandLine::Replay { zone: "UTC0" }),
+    (&["replay"], CommandLine::Replay { zone: "UTC0" }),
+    (
+        &["replay", "--zone", "CET-1"],
+        CommandLine::Replay { zone: "CET-1" },
+    ),
+    (&["loop"], CommandLine::Loop { zone: "UTC0" }),
+    (
+        &["loop", "--zone=no zone at all"],
+        CommandLine::Loop {
+            zone: "no zone at all",
+        },
+    ),
+    (&["plan"], CommandLine::Plan),
+    (&["chain"], CommandLine::Chain),
+    // options stand in any order
+    (
+        &["create", "--db", "a b.db", "--zone", "UTC0"],
+        CommandLine::Create {
+            db: "a b.db",
+            zone: "UTC0",
+        },
+    ),
+    (
+        &["create", "--zone", "UTC0", "--db", "a b.db"],
+        CommandLine::Create {
+            db: "a b.db",
+            zone: "UTC0",
+        },
+    ),
+    (
+        &[
+            "serve",
+            "--db",
+            "o.db",
+            "--port",
+            "8080",
+            "--connections",
+            "7",
+        ],
+        CommandLine::Serve {
+            db: "o.db",
+            port: 8080,
+            connections: 7,
+        },
+    ),
+    (
+        &[
+            "round",
+            "--db=o.db",
+            "--device=inv",
+            "--host=meter.lan",
+            "--port=502",
+        ],
+        CommandLine::Round {
+            db: "o.db",
+            device: "inv",
+            host: "meter.lan",
+            port: 502,
+        },
+    ),
+    // at this host where none is given
+    (
+        &[
+            "round", "--db", "o.db", "--device", "\u{e4} b", "--port", "502",
+        ],
+        CommandLine::Round {
+            db: "o.db",
+            device: "\u{e4} b",
+            host: "127.0.0.1",
+            port: 502,
+        },
+    ),
+    // a name stays as it stands
+    (
+        &["report", "--db", "o.db", "--register", "Main,=1 \u{3bc}"],
+        CommandLine::Report {
+            db: "o.db",
+            register: "Main,=1 \u{3bc}",
+        },
+    ),
+    (
+        &[
+            "stand-in",
+            "--host",
+            "::1",
+            "--port",
+            "1502",
+            "--connections",
+            "10",
+        ],
+        CommandLine::StandIn {
+            host: "::1",
+            port: 1502,
+            connections: 10,
+        },
+    ),
+];
+
 #[test]
-fn no_word_is_replay(rt: HostRuntime) {
-    let line = command_of(rt.alloc(), &[]);
-    assert!(rt; line == Ok(CommandLine::Replay { zone: "UTC0" }));
+fn words_spell_commands(rt: HostRuntime) {
+    for (words, line) in &RIGHT {
+        let Ok(said) = command_of(rt.alloc(), words) else {
+            panic!(rt; "{words:?}");
+        };
+        assert!(rt; said == *line, "{words:?}");
+    }
 }
 
 #[test]
-fn replay_and_loop_take_a_zone(rt: HostRuntime) {
-    let line = command_of(rt.alloc(), &["replay"]);
-    assert!(rt; line == Ok(CommandLine::Replay { zone: "UTC0" }));
-    let line = command_of(rt.alloc(), &["replay", "--zone", "CET-1"]);
-    assert!(rt; line == Ok(CommandLine::Replay { zone: "CET-1" }));
-    let line = command_of(rt.alloc(), &["loop"]);
-    assert!(rt; line == Ok(CommandLine::Loop { zone: "UTC0" }));
-    let line = command_of(rt.alloc(), &["loop", "--zone=no zone at all"]);
-    assert!(rt;
-        line == Ok(CommandLine::Loop {
-            zone: "no zone at all"
-        })
-    );
-}
-
-#[test]
-fn plan_and_chain_take_nothing(rt: HostRuntime) {
-    assert!(rt; command_of(rt.alloc(), &["plan"]) == Ok(CommandLine::Plan));
-    assert!(rt; command_of(rt.alloc(), &["chain"]) == Ok(CommandLine::Chain));
-}
-
-#[test]
-fn create_takes_a_file_and_a_zone(rt: HostRuntime) {
-    let line = command_of(rt.alloc(), &["create", "--db", "a b.db", "--zone", "UTC0"]);
-    let (db, zone) = ("a b.db", "UTC0");
-    assert!(rt; line == Ok(CommandLine::Create { db, zone }));
-    let line = command_of(rt.alloc(), &["create", "--zone", "UTC0", "--db", "a b.db"]);
-    assert!(rt; line == Ok(CommandLine::Create { db, zone }));
-}
-
-#[test]
-fn serve_takes_a_port_and_connections(rt: HostRuntime) {
-    let words = [
-        "serve",
-        "--db",
-        "o.db",
-        "--port",
-        "8080",
-        "--connections",
-        "7",
-    ];
-    let expected = CommandLine::Serve {
-        db: "o.db",
-        port: 8080,
-        connections: 7,
-    };
-    assert!(rt; command_of(rt.alloc(), &words) == Ok(expected));
-}
-
-#[test]
-fn round_takes_a_device_and_its_host(rt: HostRuntime) {
-    let words = [
-        "round",
-        "--db=o.db",
-        "--device=inv",
-        "--host=meter.lan",
-        "--port=502",
-    ];
-    let expected = CommandLine::Round {
-        db: "o.db",
-        device: "inv",
-        host: "meter.lan",
-        port: 502,
-    };
-    assert!(rt; command_of(rt.alloc(), &words) == Ok(expected));
-}
-
-#[test]
-fn round_is_at_this_host_where_none_is_given(rt: HostRuntime) {
-    let words = [
-        "round", "--db", "o.db", "--device", "\u{e4} b", "--port", "502",
-    ];
-    let expected = CommandLine::Round {
-        db: "o.db",
-        device: "\u{e4} b",
-        host: "127.0.0.1",
-        port: 502,
-    };
-    assert!(rt; command_of(rt.alloc(), &words) == Ok(expected));
-}
-
-#[test]
-fn report_keeps_a_name_as_it_stands(rt: HostRuntime) {
-    let words = ["report", "--db", "o.db", "--register", "Main,=1 \u{3bc}"];
-    let expected = CommandLine::Report {
-        db: "o.db",
-        register: "Main,=1 \u{3bc}",
-    };
-    assert!(rt; command_of(rt.alloc(), &words) == Ok(expected));
-}
-
-#[test]
-fn stand_in_takes_a_host(rt: HostRuntime) {
-    let words = [
-        "stand-in",
-        "--host",
-        "::1",
-        "--port",
-        "1502",
-        "--connections",
-        "10",
-    ];
-    let expected = CommandLine::StandIn {
-        host: "::1",
-        port: 1502,
-        connections: 10,
-    };
-    assert!(rt; command_of(rt.alloc(), &words) == Ok(expected));
-}
-
-#[test]
-fn stand_in_is_at_this_host_where_none_is_given(rt: HostRuntime) {
+fn a_stand_in_is_at_this_host_where_none_is_given(rt: HostRuntime) {
     let words = ["stand-in", "--port", "1502", "--connections", "10"];
     let expected = CommandLine::StandIn {
         host: "127.0.0.1",

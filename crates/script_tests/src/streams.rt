@@ -1,66 +1,27 @@
-//! Scripts over texts, and over streams that fail at one of their calls.
-use command_io::Status;
-use interval_core::Zone;
-use script_replay::replay;
+//! Streams that fail at one of their calls.
 use std::alloc::Global;
 use std::io::{self, ErrorKind, Read, Write};
 use std::process::Abort;
-use std::test::Fail;
 
-// A zone in which the clocks go forward on 2024-03-31 and back on 2024-10-27.
-const ZONE: &str = "CET-1CEST,M3.5.0,M10.5.0/3";
-
-pub(crate) fn zone() -> Result<Zone, Fail> {
-    match Zone::read(ZONE) {
-        Ok(zone) => Ok(zone),
-        Err(_) => Err(Fail::from("no zone")),
-    }
-}
-
-/// Checks what each script prints, and that it ends so.
-pub(crate) fn print_all(
-    rt: &impl Abort,
-    alloc: Global,
-    cases: &[(&str, &str)],
-    status: Status,
-) -> Result<(), Fail> {
-    for (input, output) in cases {
-        let mut unread = input.as_bytes();
-        let run = replay(alloc, zone()?, &mut unread, Vec::new(alloc));
-        assert_eq!(rt; run.output.as_slice(), output.as_bytes(), "{input}");
-        assert_eq!(rt; run.status, status, "{input}");
-    }
-    Ok(())
-}
-
-/// Checks what each script prints behind the lines `before`, which print `printed`.
-pub(crate) fn print_behind(
-    rt: &impl Abort,
-    alloc: Global,
-    before: &str,
-    printed: &str,
-    cases: &[(&str, &str)],
-) -> Result<(), Fail> {
-    for (more, output) in cases {
-        let input = format!(in alloc; "{before}{more}")?;
-        let wanted = format!(in alloc; "{printed}{output}")?;
-        print_all(
-            rt,
-            alloc,
-            &[(input.as_str(), wanted.as_str())],
-            Status::Fine,
-        )?;
-    }
-    Ok(())
-}
-
-/// Gives its text a byte at a time, and one call of `read` fails; the call 0 never comes.
+/// Gives its text a byte at a time, and one call of `read` fails.
 #[derive(Drop)]
 pub(crate) struct Slow<'a> {
-    pub(crate) text: &'a [u8],
+    text: &'a [u8],
     pub(crate) calls: usize,
-    pub(crate) failing: usize,
-    pub(crate) kind: ErrorKind,
+    failing: usize,
+    kind: ErrorKind,
+}
+
+impl<'a> Slow<'a> {
+    /// The call 0 never comes.
+    pub(crate) fn of(text: &'a [u8], failing: usize, kind: ErrorKind) -> Slow<'a> {
+        Slow {
+            text,
+            calls: 0,
+            failing,
+            kind,
+        }
+    }
 }
 
 impl Read for Slow<'_> {
@@ -85,8 +46,28 @@ impl Read for Slow<'_> {
 pub(crate) struct Kept {
     pub(crate) got: Vec<u8>,
     pub(crate) calls: usize,
-    pub(crate) failing: usize,
-    pub(crate) most: usize,
+    failing: usize,
+    most: usize,
+}
+
+impl Kept {
+    pub(crate) fn new(alloc: Global, failing: usize, most: usize) -> Kept {
+        Kept {
+            got: Vec::new(alloc),
+            calls: 0,
+            failing,
+            most,
+        }
+    }
+
+    /// Whether no call failed; then all of the text was written, and else a part of it, and no call came after.
+    pub(crate) fn is_whole(&self, rt: &impl Abort, output: &str) -> bool {
+        let whole = self.calls < self.failing;
+        assert!(rt; self.calls <= self.failing);
+        assert!(rt; output.as_bytes().starts_with(&self.got));
+        assert_eq!(rt; self.got.as_slice() == output.as_bytes(), whole);
+        whole
+    }
 }
 
 impl Write for Kept {
