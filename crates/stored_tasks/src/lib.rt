@@ -3,8 +3,6 @@
 
 mod ends;
 mod stored_run;
-#[cfg(test)]
-mod task_ends;
 mod tasks;
 
 pub use ends::ending_of_done;

@@ -1,6 +1,4 @@
 //! The ends of tasks over an office: their exit statuses, and which failure is said.
-use crate::ends::ending_of_done;
-use crate::tasks::Done;
 use command_io::Status;
 use office_events::Refusal;
 use office_program::{Polling, Serving};
@@ -10,6 +8,7 @@ use program_end::{Ending, Failure};
 use std::alloc::Global;
 use std::process::Abort;
 use std::test::Fail;
+use stored_tasks::{Done, ending_of_done};
 
 const REPORTS: [(Status, u8, &str); 3] = [
     (Status::Fine, 0, ""),
