@@ -4,11 +4,13 @@ use office_books::Books;
 use office_core::Office;
 use office_http::{HandleFault, handle};
 use std::alloc::{AllocError, Global};
+use std::process::Abort;
 
 /// A request that comes at a moment, and its reply: the status with its reason, and the body.
-pub(crate) struct Case {
+#[derive(Clone, Copy)]
+pub(crate) struct Case<'c> {
     pub(crate) at: u64,
-    pub(crate) request: &'static [u8],
+    pub(crate) request: &'c [u8],
     pub(crate) status: &'static str,
     pub(crate) body: &'static str,
 }
@@ -59,4 +61,29 @@ pub(crate) fn serve<B: Books>(
     request: &[u8],
 ) -> Result<Served, AllocError> {
     serve_over(alloc, office, at, request, 400, None)
+}
+
+/// What was served is the case's reply.
+pub(crate) fn has_reply(
+    rt: &impl Abort,
+    alloc: Global,
+    case: &Case<'_>,
+    served: &Served,
+) -> Result<(), AllocError> {
+    assert_eq!(rt; served.handled, Ok(()));
+    let want = reply(alloc, case.status, case.body)?;
+    assert_eq!(rt; served.given.as_slice(), want.as_bytes());
+    Ok(())
+}
+
+/// Serves a case's request over a link that takes and gives so many bytes a call, and it has its reply.
+pub(crate) fn play<B: Books>(
+    rt: &impl Abort,
+    alloc: Global,
+    office: &mut Office<B>,
+    case: &Case<'_>,
+    piece: usize,
+) -> Result<(), AllocError> {
+    let served = serve_over(alloc, office, case.at, case.request, piece, None)?;
+    has_reply(rt, alloc, case, &served)
 }

@@ -1,27 +1,32 @@
-//! Links over sockets, and links that have only so much time.
+//! Links over sockets, links that have only so much time, and clocks.
+use crate::connections::client_of;
 use mb_wire::{Link, LinkFailed, MemoryLink, Took};
 use socket_link::{Clock, HurriedLink, ListedClock, SocketLink, SystemClock};
-use std::io::{Read, Write};
+use std::io::{self, Read};
 use std::net::{TcpListener, TcpStream};
 use std::test::Fail;
+
+// A link to the client that came next.
+fn link_of(listener: &TcpListener) -> io::Result<SocketLink<TcpStream>> {
+    SocketLink::new(listener.accept()?.0)
+}
 
 #[test]
 fn a_socket_gives_takes_idles_and_ends(rt: HostRuntime) -> Result<(), Fail> {
     let listener = TcpListener::bind(&rt, "127.0.0.1:0")?;
-    let mut peer = TcpStream::connect(&rt, listener.local_addr()?)?;
-    peer.write_all(b"hello")?;
-    let mut link = SocketLink::new(listener.accept()?.0)?;
+    let mut peer = client_of(&rt, &listener, b"hello")?;
+    let mut link = link_of(&listener)?;
     let mut piece = [0; 16];
     assert_eq!(rt; link.take(&mut piece), Ok(Took::Bytes(5)));
     assert_eq!(rt; &piece[..5], b"hello".as_slice());
     assert_eq!(rt; link.take(&mut piece), Ok(Took::Idle));
     assert_eq!(rt; link.give(b"you"), Ok(3));
     let mut answer = [0; 3];
-    peer.read_exact(&mut answer)?;
+    assert!(rt; peer.read_exact(&mut answer).is_ok());
     assert_eq!(rt; &answer, b"you");
     drop(peer);
     assert_eq!(rt; link.take(&mut piece), Ok(Took::End));
-    assert_eq!(rt; (link.takes(), link.failures()), (3, 0));
+    assert_eq!(rt; [link.takes(), link.failures()], [3, 0]);
     Ok(())
 }
 
@@ -36,7 +41,7 @@ fn a_link_fails_once_its_time_is_over(rt: HostRuntime) {
     assert_eq!(rt; link.give(b"you"), Ok(3));
     assert_eq!(rt; link.take(&mut piece), Err(LinkFailed));
     assert_eq!(rt; link.give(b"you"), Err(LinkFailed));
-    assert_eq!(rt; (link.takes(), link.failures()), (2, 2));
+    assert_eq!(rt; [link.takes(), link.failures()], [2, 2]);
     assert_eq!(rt; inner.given(), b"you".as_slice());
 }
 

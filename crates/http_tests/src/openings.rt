@@ -1,13 +1,14 @@
-//! Offices that are opened, or not.
-use crate::given::{Narrow, blank, waiting};
+//! Offices that are opened by a command, or not.
+use crate::narrow::Narrow;
+use crate::office::{blank, waiting};
 use command_io::Status;
 use failing_books::FailingBooks;
+use office_events::EndedPoll;
 use office_text::open_office;
 use poll_core::{LostCause, Outcome};
 use socket_link::ListedClock;
 use std::alloc::Global;
 use std::io::Write;
-use std::str;
 use std::test::Fail;
 
 #[test]
@@ -22,11 +23,12 @@ fn what_waited_is_lost(rt: HostRuntime) -> Result<(), Fail> {
     let Ok(row) = office.poll(1) else {
         return Err(Fail::from("no poll"));
     };
-    let lost = Outcome::Lost(LostCause::Restart);
-    assert_eq!(rt;
-        row.ended.map(|ended| (ended.at, ended.outcome)),
-        Some((2100, lost))
-    );
+    let lost = EndedPoll {
+        poll: 1,
+        at: 2100,
+        outcome: Outcome::Lost(LostCause::Restart),
+    };
+    assert_eq!(rt; row.ended, Some(lost));
     Ok(())
 }
 
@@ -43,7 +45,7 @@ fn set_back<W: Write>(alloc: Global, output: &mut W) -> Result<Status, Fail> {
 fn a_clock_that_was_set_back_is_refused(rt: HostRuntime) -> Result<(), Fail> {
     let mut printed = Vec::new(rt.alloc());
     assert_eq!(rt; set_back(rt.alloc(), &mut printed)?, Status::Refused);
-    assert_eq!(rt; str::from_utf8(&printed)?, "refused 3\n");
+    assert_eq!(rt; printed.as_slice(), b"refused 3\n".as_slice());
     let mut narrow = Narrow { room: 4 };
     assert_eq!(rt; set_back(rt.alloc(), &mut narrow)?, Status::Failed);
     Ok(())
@@ -58,6 +60,6 @@ fn a_store_that_fails_is_told(rt: HostRuntime) -> Result<(), Fail> {
         return Err(Fail::from("opened"));
     };
     assert_eq!(rt; unopened.status.number(), 1);
-    assert_eq!(rt; str::from_utf8(&printed)?, "refused 13\n");
+    assert_eq!(rt; printed.as_slice(), b"refused 13\n".as_slice());
     Ok(())
 }

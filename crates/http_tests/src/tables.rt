@@ -2,7 +2,7 @@
 use crate::cases::Case;
 
 /// Questions, requests that fail a test of their heads, and an exchange that is asked again.
-pub(crate) static QUESTIONS: [Case; 22] = [
+pub(crate) static QUESTIONS: [Case<'static>; 22] = [
     Case {
         at: 2800,
         request: b"GET /meters/m1/intervals HTTP/1.1\r\nHost: 127.0.0.1:8080\r\nUser-Agent: curl/7.88.1\r\nAccept: */*\r\n\r\n",
@@ -138,7 +138,7 @@ pub(crate) static QUESTIONS: [Case; 22] = [
 ];
 
 /// A command of each kind. One that is refused is judged anew where it is asked again.
-pub(crate) static COMMANDS: [Case; 19] = [
+pub(crate) static COMMANDS: [Case<'static>; 19] = [
     Case {
         at: 2000,
         request: b"POST /meters/m1/void HTTP/1.1\r\nContent-Length: 11\r\nOffice-Caller: desk\r\nOffice-Request: 10\r\n\r\n{\"place\":2}",

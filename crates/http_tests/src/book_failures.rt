@@ -1,16 +1,17 @@
 //! Books that fail at each of their calls in turn. Asked again, a request has its reply.
-use crate::cases::{Case, Served, reply, serve};
+use crate::cases::{Case, Served, has_reply, serve};
 use crate::office::polled;
 use crate::tables::{COMMANDS, QUESTIONS};
 use failing_books::FailingBooks;
 use office_books::Books;
 use office_core::Office;
-use std::alloc::Global;
+use std::alloc::{AllocError, Global};
 use std::process::Abort;
 use std::test::Fail;
 
-/// What is replied where the books fail.
-pub(crate) const UNAVAILABLE: &str = "503 Service Unavailable";
+// What is replied where the books fail.
+static FAILED: &[u8] =
+    b"HTTP/1.1 503 Service Unavailable\r\nContent-Type: application/json\r\nContent-Length: 14\r\nConnection: close\r\n\r\n{\"refused\":13}";
 
 // Opens an office. Where the books fail, they are handed back, and it is opened again.
 fn opened(alloc: Global, books: FailingBooks) -> Result<Office<FailingBooks>, Fail> {
@@ -28,35 +29,35 @@ fn opened(alloc: Global, books: FailingBooks) -> Result<Office<FailingBooks>, Fa
 fn serve_again(
     alloc: Global,
     office: &mut Office<FailingBooks>,
-    case: &Case,
-) -> Result<Served, Fail> {
+    case: &Case<'_>,
+) -> Result<Served, AllocError> {
     let served = serve(alloc, office, case.at, case.request)?;
-    let failed = reply(alloc, UNAVAILABLE, "{\"refused\":13}")?;
-    if served.given.as_slice() == failed.as_bytes() {
-        return Ok(serve(alloc, office, case.at, case.request)?);
+    if served.given.as_slice() == FAILED {
+        return serve(alloc, office, case.at, case.request);
     }
     Ok(served)
 }
 
-// How often the books failed, where their call of a number does.
-fn play(rt: &impl Abort, alloc: Global, cases: &[Case], failing: u64) -> Result<u64, Fail> {
-    let mut office = opened(
-        alloc,
-        FailingBooks::new(polled(alloc)?.into_books(), failing),
-    )?;
+// Serves each request so, and tells how often the books failed.
+fn play(
+    rt: &impl Abort,
+    alloc: Global,
+    mut office: Office<FailingBooks>,
+    cases: &[Case<'_>],
+) -> Result<u64, Fail> {
     for case in cases {
         let served = serve_again(alloc, &mut office, case)?;
-        assert_eq!(rt; served.handled, Ok(()));
-        let want = reply(alloc, case.status, case.body)?;
-        assert_eq!(rt; served.given.as_slice(), want.as_bytes());
+        has_reply(rt, alloc, case, &served)?;
     }
     Ok(office.into_books().faults())
 }
 
 // Each call of the books fails in turn, until there are no more.
-fn fail_each(rt: &impl Abort, alloc: Global, cases: &[Case]) -> Result<(), Fail> {
+fn fail_each(rt: &impl Abort, alloc: Global, cases: &[Case<'_>]) -> Result<(), Fail> {
     for failing in 1..1000 {
-        if play(rt, alloc, cases, failing)? == 0 {
+        let books = FailingBooks::new(polled(alloc)?.into_books(), failing);
+        let office = opened(alloc, books)?;
+        if play(rt, alloc, office, cases)? == 0 {
             assert!(rt; failing as usize > cases.len(), "{failing} calls");
             return Ok(());
         }

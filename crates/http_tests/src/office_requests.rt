@@ -1,5 +1,5 @@
 //! Each request and its reply: in pieces of one byte, cut off at each byte, and where each call of the link fails.
-use crate::cases::{Case, reply, serve, serve_over};
+use crate::cases::{Case, play, reply, serve, serve_over};
 use crate::office::polled;
 use crate::tables::{COMMANDS, QUESTIONS};
 use office_core::Office;
@@ -10,13 +10,10 @@ use std::process::Abort;
 use std::test::Fail;
 
 // Plays all requests in their order, in pieces of so many bytes.
-fn play(rt: &impl Abort, alloc: Global, cases: &[Case], piece: usize) -> Result<(), Fail> {
+fn play_all(rt: &impl Abort, alloc: Global, cases: &[Case<'_>], piece: usize) -> Result<(), Fail> {
     let mut office = polled(alloc)?;
     for case in cases {
-        let served = serve_over(alloc, &mut office, case.at, case.request, piece, None)?;
-        assert_eq!(rt; served.handled, Ok(()));
-        let want = reply(alloc, case.status, case.body)?;
-        assert_eq!(rt; served.given.as_slice(), want.as_bytes());
+        play(rt, alloc, &mut office, case, piece)?;
     }
     Ok(())
 }
@@ -24,8 +21,8 @@ fn play(rt: &impl Abort, alloc: Global, cases: &[Case], piece: usize) -> Result<
 #[test]
 fn each_request_has_its_reply(rt: HostRuntime) -> Result<(), Fail> {
     for piece in [400, 1] {
-        play(&rt, rt.alloc(), &QUESTIONS, piece)?;
-        play(&rt, rt.alloc(), &COMMANDS, piece)?;
+        play_all(&rt, rt.alloc(), &QUESTIONS, piece)?;
+        play_all(&rt, rt.alloc(), &COMMANDS, piece)?;
     }
     Ok(())
 }
@@ -35,17 +32,14 @@ fn cut_off(
     rt: &impl Abort,
     alloc: Global,
     office: &mut Office<ListBooks>,
-    case: &Case,
+    case: &Case<'_>,
 ) -> Result<(), Fail> {
     for end in 0..case.request.len() {
-        let cut = case.request.get(..end).ok_or("no end")?;
-        let served = serve(alloc, office, case.at, cut)?;
+        let served = serve(alloc, office, case.at, &case.request[..end])?;
         assert_eq!(rt; served.handled, Err(HandleFault::Short), "{end} bytes");
         assert!(rt; served.given.is_empty());
     }
-    let whole = serve(alloc, office, case.at, case.request)?;
-    let want = reply(alloc, case.status, case.body)?;
-    assert_eq!(rt; whole.given.as_slice(), want.as_bytes());
+    play(rt, alloc, office, case, 400)?;
     Ok(())
 }
 
@@ -72,7 +66,7 @@ fn fail_each(
     rt: &impl Abort,
     alloc: Global,
     office: &mut Office<ListBooks>,
-    case: &Case,
+    case: &Case<'_>,
 ) -> Result<(), Fail> {
     let want = reply(alloc, case.status, case.body)?;
     for call in 1..100 {
@@ -89,7 +83,7 @@ fn fail_each(
     Err(Fail::from("it fails each time"))
 }
 
-fn fail_all(rt: &impl Abort, alloc: Global, cases: &[Case]) -> Result<(), Fail> {
+fn fail_all(rt: &impl Abort, alloc: Global, cases: &[Case<'_>]) -> Result<(), Fail> {
     let mut office = polled(alloc)?;
     for case in cases {
         fail_each(rt, alloc, &mut office, case)?;

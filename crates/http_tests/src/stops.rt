@@ -1,6 +1,5 @@
 //! Books that fail while rows are handed on, or while a poll is settled.
-use crate::cases::{reply, serve};
-use crate::failures::UNAVAILABLE;
+use crate::cases::{Case, play, serve};
 use crate::office::{poll, polled};
 use crate::tables::{COMMANDS, QUESTIONS};
 use failing_books::FailingBooks;
@@ -25,13 +24,15 @@ fn cut(alloc: Global, failing: u64) -> Result<Option<Vec<u8>>, Fail> {
     }
 }
 
+static ROWS: &[u8] =
+    b"HTTP/1.1 200 OK\r\nContent-Type: text/plain\r\nConnection: close\r\n\r\n900 177777\n1800 22223\n";
+
 #[test]
 fn a_text_that_is_cut_has_no_end(rt: HostRuntime) -> Result<(), Fail> {
-    let want = reply(rt.alloc(), "200 OK", "900 177777\n1800 22223\n")?;
     let mut cuts = 0u8;
     for failing in 1..20 {
         if let Some(given) = cut(rt.alloc(), failing)? {
-            assert_eq!(rt; given.as_slice(), want.as_bytes());
+            assert_eq!(rt; given.as_slice(), ROWS);
             cuts = cuts.saturating_add(1);
         }
     }
@@ -55,17 +56,27 @@ fn stopped(alloc: Global, failing: u64) -> Result<Option<Office<FailingBooks>>, 
     Ok(None)
 }
 
-#[test]
-fn a_stopped_office_is_unavailable(rt: HostRuntime) -> Result<(), Fail> {
-    let want = reply(rt.alloc(), UNAVAILABLE, "{\"refused\":15}")?;
+// An office that stops at the first call of the books where it can.
+fn first_stopped(alloc: Global) -> Result<Office<FailingBooks>, Fail> {
     for failing in 1..20 {
-        if let Some(mut office) = stopped(rt.alloc(), failing)? {
-            for request in [INTERVALS, COMMANDS[0].request, QUESTIONS[12].request] {
-                let served = serve(rt.alloc(), &mut office, 2800, request)?;
-                assert_eq!(rt; served.given.as_slice(), want.as_bytes());
-            }
-            return Ok(());
+        if let Some(office) = stopped(alloc, failing)? {
+            return Ok(office);
         }
     }
     Err(Fail::from("it never stops"))
+}
+
+#[test]
+fn a_stopped_office_is_unavailable(rt: HostRuntime) -> Result<(), Fail> {
+    let mut office = first_stopped(rt.alloc())?;
+    for request in [INTERVALS, COMMANDS[0].request, QUESTIONS[12].request] {
+        let case = Case {
+            at: 2800,
+            request,
+            status: "503 Service Unavailable",
+            body: "{\"refused\":15}",
+        };
+        play(&rt, rt.alloc(), &mut office, &case, 400)?;
+    }
+    Ok(())
 }

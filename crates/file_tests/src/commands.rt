@@ -1,36 +1,36 @@
 //! Commands over an office in a database that is closed and opened between, whatever makes the connections.
 use crate::day::{REPORTED, book_day};
+use crate::files::Connects;
 use command_io::Status;
 use office_store::{OpenFault, SqlBooks};
 use socket_link::ListedClock;
-use sqlite::{Alter, Connection};
 use std::alloc::Global;
 use std::test::Fail;
 use stored_office::{create_stored, report_stored};
 
-/// Makes connections to the database at a path, which is empty where there was none.
-pub(crate) trait Connects {
-    type Store: Alter + Drop;
-
-    fn connect(&self, path: &str) -> Result<Connection<Self::Store>, Fail>;
-}
-
 /// How a report ends, and what it prints.
-type Report = (Result<Status, OpenFault>, String);
+type Report = (Result<Status, OpenFault>, Vec<u8>);
 
 /// A register, a moment, how the report of it ends, and what it prints.
-type Row = (&'static str, u64, Status, &'static str);
+type Row = (&'static str, u64, Status, &'static [u8]);
 
 /// Reports of the day, where the clock was set back to before its last event, and behind it.
 static KNOWN: [Row; 2] = [
-    ("main", 3699, Status::Refused, "refused 3\n"),
+    ("main", 3699, Status::Refused, b"refused 3\n"),
     ("main", 5000, Status::Fine, REPORTED),
 ];
 
 /// A name that nothing has, and a meter's.
 static UNKNOWN: [Row; 2] = [
-    ("none", 5000, Status::Refused, "refused 1\n"),
-    ("m1", 5000, Status::Refused, "refused 1\n"),
+    ("none", 5000, Status::Refused, b"refused 1\n"),
+    ("m1", 5000, Status::Refused, b"refused 1\n"),
+];
+
+/// A zone, why no office is made for it, and whether there is none then: a text that is no zone makes none, and a second isn't made.
+static MADE: [(&str, Option<OpenFault>, bool); 3] = [
+    ("x", Some(OpenFault::Zone), true),
+    ("UTC0", None, false),
+    ("UTC0", Some(OpenFault::NotOurs), false),
 ];
 
 /// Makes an office, and tells why it was not made.
@@ -40,7 +40,7 @@ fn create<C: Connects>(
     path: &str,
     zone: &str,
 ) -> Result<Option<OpenFault>, Fail> {
-    Ok(create_stored(alloc, connects.connect(path)?, zone).err())
+    Ok(create_stored(alloc, connects.make(path)?, zone).err())
 }
 
 /// Makes an office, and books the day in it.
@@ -48,7 +48,7 @@ fn fill<C: Connects>(alloc: Global, connects: &C, path: &str) -> Result<(), Fail
     if create(alloc, connects, path, "UTC0")?.is_some() {
         return Err(Fail::from("not made"));
     }
-    match SqlBooks::open(alloc, connects.connect(path)?) {
+    match SqlBooks::open(alloc, connects.open(path)?) {
         Ok(books) => book_day(alloc, books),
         Err(_) => Err(Fail::from("no books")),
     }
@@ -56,7 +56,7 @@ fn fill<C: Connects>(alloc: Global, connects: &C, path: &str) -> Result<(), Fail
 
 /// Makes an office one of a version that isn't known.
 fn set_version<C: Connects>(connects: &C, path: &str) -> Result<(), Fail> {
-    let mut connection = connects.connect(path)?;
+    let mut connection = connects.open(path)?;
     connection.execute_batch("UPDATE meta SET version = 9")?;
     Ok(())
 }
@@ -69,12 +69,12 @@ fn report<C: Connects>(
     register: &str,
     moment: u64,
 ) -> Result<Report, Fail> {
+    let connection = connects.open(path)?;
     let moments = [moment];
     let mut clock = ListedClock::new(&moments);
     let mut printed = Vec::new(alloc);
-    let connection = connects.connect(path)?;
     let end = report_stored(alloc, connection, register, &mut clock, &mut printed);
-    Ok((end, String::from_utf8(printed)?))
+    Ok((end, printed))
 }
 
 /// Whether each report comes as its row says.
@@ -86,7 +86,7 @@ fn are_reported<C: Connects>(
 ) -> Result<bool, Fail> {
     for (register, moment, status, text) in rows {
         let (end, printed) = report(alloc, connects, path, register, *moment)?;
-        if end != Ok(*status) || printed.as_str() != *text {
+        if end != Ok(*status) || printed.as_slice() != *text {
             return Ok(false);
         }
     }
@@ -99,22 +99,20 @@ fn is_none<C: Connects>(alloc: Global, connects: &C, path: &str) -> Result<bool,
     Ok(end == Err(OpenFault::NotOurs) && printed.is_empty())
 }
 
-/// Whether an office is made once: a text that is no zone makes none, and a second office isn't made.
+/// Whether an office is made once, and for a zone alone.
 pub(crate) fn is_made_once<C: Connects>(
     alloc: Global,
     connects: &C,
     path: &str,
 ) -> Result<bool, Fail> {
-    let without_zone = create(alloc, connects, path, "x")?;
-    let is_blank = is_none(alloc, connects, path)?;
-    let first = create(alloc, connects, path, "UTC0")?;
-    let second = create(alloc, connects, path, "UTC0")?;
-    Ok(
-        without_zone == Some(OpenFault::Zone)
-            && is_blank
-            && first.is_none()
-            && second == Some(OpenFault::NotOurs),
-    )
+    for (zone, why, none) in &MADE {
+        if create(alloc, connects, path, zone)? != *why
+            || is_none(alloc, connects, path)? != *none
+        {
+            return Ok(false);
+        }
+    }
+    Ok(true)
 }
 
 /// Whether what was booked is reported.
@@ -134,7 +132,9 @@ pub(crate) fn is_unknown<C: Connects>(
     path: &str,
 ) -> Result<bool, Fail> {
     fill(alloc, connects, path)?;
-    let is_refused = are_reported(alloc, connects, path, &UNKNOWN)?;
+    if !are_reported(alloc, connects, path, &UNKNOWN)? {
+        return Ok(false);
+    }
     set_version(connects, path)?;
-    Ok(is_refused && is_none(alloc, connects, path)?)
+    is_none(alloc, connects, path)
 }

@@ -1,11 +1,12 @@
 //! Heads and bodies at their limits.
-use crate::cases::{reply, serve};
+use crate::cases::{Case, play};
+use crate::heads::head_of;
 use crate::office::polled;
 use std::alloc::{AllocError, Global};
 use std::test::Fail;
 
 // So many headers, so many bytes of a value at the last, and what is replied. With one header a head has 22 bytes more.
-static HEADS: [(u64, u64, &str, &str); 4] = [
+static HEADS: [(usize, usize, &str, &str); 4] = [
     (64, 0, "404 Not Found", "{\"fault\":404}"),
     (
         65,
@@ -22,32 +23,24 @@ static HEADS: [(u64, u64, &str, &str); 4] = [
     ),
 ];
 
-fn head(alloc: Global, headers: u64, value: u64) -> Result<Vec<u8>, AllocError> {
-    let mut head = Vec::from_slice(alloc, b"GET / HTTP/1.1")?;
-    for _ in 0..headers {
-        head.extend_from_slice(b"\r\nA:")?;
-    }
-    for _ in 0..value {
-        head.push(b'x')?;
-    }
-    head.extend_from_slice(b"\r\n\r\n")?;
-    Ok(head)
-}
-
 #[test]
 fn heads_have_limits(rt: HostRuntime) -> Result<(), Fail> {
     let mut office = polled(rt.alloc())?;
     for (headers, value, status, body) in &HEADS {
-        let request = head(rt.alloc(), *headers, *value)?;
-        let served = serve(rt.alloc(), &mut office, 2800, &request)?;
-        let want = reply(rt.alloc(), status, body)?;
-        assert_eq!(rt; served.given.as_slice(), want.as_bytes());
+        let request = head_of(rt.alloc(), b"\r\nA:", *headers, *value)?;
+        let case = Case {
+            at: 2800,
+            request: &request,
+            status,
+            body,
+        };
+        play(&rt, rt.alloc(), &mut office, &case, 400)?;
     }
     Ok(())
 }
 
 // So many bytes of a body, and what is replied.
-static BODIES: [(u64, &str, &str); 2] = [
+static BODIES: [(usize, &str, &str); 2] = [
     (65_536, "200 OK", "{\"done\":\"device\"}"),
     (65_537, "413 Content Too Large", "{\"fault\":413}"),
 ];
@@ -55,16 +48,14 @@ static BODIES: [(u64, &str, &str); 2] = [
 static DEVICE: &[u8] = b"{\"name\":\"b\",\"unit\":2,\"timeout\":5,\"window\":16}";
 
 // A request for a device, with spaces behind it.
-fn device(alloc: Global, size: u64) -> Result<Vec<u8>, AllocError> {
+fn device(alloc: Global, size: usize) -> Result<Vec<u8>, AllocError> {
     let head = format!(in alloc;
         "POST /devices HTTP/1.1\r\nContent-Length: {size}\r\nOffice-Caller: desk\r\nOffice-Request: {size}\r\n\r\n"
     )?;
-    let mut request = Vec::from_slice(alloc, head.as_bytes())?;
-    request.extend_from_slice(DEVICE)?;
-    for _ in DEVICE.len() as u64..size {
-        request.push(b' ')?;
-    }
-    Ok(request)
+    let spaces = b" "
+        .as_slice()
+        .repeat(alloc, size.saturating_sub(DEVICE.len()))?;
+    [head.as_bytes(), DEVICE, &spaces].concat(alloc)
 }
 
 #[test]
@@ -72,9 +63,13 @@ fn bodies_have_limits(rt: HostRuntime) -> Result<(), Fail> {
     let mut office = polled(rt.alloc())?;
     for (size, status, body) in &BODIES {
         let request = device(rt.alloc(), *size)?;
-        let served = serve(rt.alloc(), &mut office, 2800, &request)?;
-        let want = reply(rt.alloc(), status, body)?;
-        assert_eq!(rt; served.given.as_slice(), want.as_bytes());
+        let case = Case {
+            at: 2800,
+            request: &request,
+            status,
+            body,
+        };
+        play(&rt, rt.alloc(), &mut office, &case, 400)?;
     }
     Ok(())
 }

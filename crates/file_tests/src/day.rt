@@ -18,7 +18,7 @@ const DAY: &str = "1000 device inv 1 5 1
 3700 manual main 45 0";
 
 /// What is reported of the register `main` behind that day: 300 Wh of the meter m1 and 45 Wh of m2, in four quarter hours.
-pub(crate) const REPORTED: &str = "1970-01-01   4                   345000\nend 1\n";
+pub(crate) const REPORTED: &[u8] = b"1970-01-01   4                   345000\nend 1\n";
 
 fn start_of(given: &GivenStart) -> Result<Command, Fail> {
     Ok(Command::StartPoll(StartPoll {
