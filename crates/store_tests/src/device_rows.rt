@@ -1,13 +1,13 @@
 //! Devices, points and registers, written and read back.
 ghost use Rattle.std.specs.Prelude.{◌≡◌, IfOk};
 
-use crate::given::{one_meter, sound};
+use crate::one_meter::one_meter;
 use mb_wire::ReadFunction;
 use sqlite::{Connection, Error, MemStore, Transaction};
 use std::alloc::{AllocError, Global};
 use std::test::Fail;
 use store_lists::{
-    DeviceRow, Point, PointRow, RegisterRow, RegisterScale, device_rows, insert_device,
+    Device, DeviceRow, Point, PointRow, RegisterRow, RegisterScale, device_rows, insert_device,
     insert_register, last_device, last_register, point_rows, read_device, read_point,
     read_register, register_count, register_of, register_rows, replace_points,
 };
@@ -18,6 +18,14 @@ const DEVICE: DeviceRow = DeviceRow {
     unit: 3,
     timeout: 60,
     window: 16,
+};
+
+/// The device of the meter.
+const FIRST_DEVICE: DeviceRow = DeviceRow {
+    place: 1,
+    unit: 1,
+    timeout: 5,
+    window: 1,
 };
 
 const ENERGY: PointRow = PointRow {
@@ -75,7 +83,7 @@ fn add(tx: &mut Transaction<'_, MemStore>, alloc: Global) -> Result<(), Error> {
     put_other_list(tx, alloc)
 }
 
-fn two_devices(conn: &mut Connection<MemStore>, alloc: Global) -> Result<(), Error> {
+fn add_second(conn: &mut Connection<MemStore>, alloc: Global) -> Result<(), Error> {
     if !conn.is_autocommit() {
         return Err(Error::InvalidQuery);
     }
@@ -84,24 +92,41 @@ fn two_devices(conn: &mut Connection<MemStore>, alloc: Global) -> Result<(), Err
     tx.commit()
 }
 
+/// The meter's device and a second one, with a list each.
+pub(crate) fn two_devices(alloc: Global) -> Result<Connection<MemStore>, Error> {
+    let mut conn = one_meter(alloc)?;
+    add_second(&mut conn, alloc)?;
+    Ok(conn)
+}
+
+fn is_device(read: &Result<Device, RowFault>, name: &str, row: DeviceRow) -> bool {
+    match read {
+        Ok(device) => device.name.as_str() == name && device.row == row,
+        Err(_) => false,
+    }
+}
+
 #[test]
-fn devices_and_registers_are_found(rt: HostRuntime) -> Result<(), Fail> {
-    let mut conn = one_meter(rt.alloc())?;
-    two_devices(&mut conn, rt.alloc())?;
+fn devices_stand_in_the_order_of_their_places(rt: HostRuntime) -> Result<(), Fail> {
+    let mut conn = two_devices(rt.alloc())?;
     let devices = device_rows(&mut conn)?;
     assert_eq!(rt; devices.len(), 2);
-    assert_eq!(rt; sound(read_device(&devices[0]))?.name.as_str(), "inv");
-    assert_eq!(rt; sound(read_device(&devices[1]))?.row, DEVICE);
-    assert_eq!(rt; sound(last_device(&mut conn))?, Some(2));
+    assert!(rt; is_device(&read_device(&devices[0]), "inv", FIRST_DEVICE));
+    assert!(rt; is_device(&read_device(&devices[1]), "pv", DEVICE));
+    assert_eq!(rt; last_device(&mut conn), Ok(Some(2)));
+    Ok(())
+}
+
+#[test]
+fn registers_are_those_of_their_device(rt: HostRuntime) -> Result<(), Fail> {
+    let mut conn = two_devices(rt.alloc())?;
     let registers = register_rows(&mut conn, "inv")?;
     assert_eq!(rt; registers.len(), 1);
-    assert_eq!(rt;
-        sound(read_register(&registers[0]))?.row.scale,
-        RegisterScale::At(40_096)
-    );
-    assert_eq!(rt; register_count(&mut conn, "pv")?, 1);
-    assert_eq!(rt; sound(last_register(&mut conn))?, Some(2));
-    assert!(rt; sound(register_of(&mut conn, "pv"))?.is_none());
+    let scale = RegisterScale::At(40_096);
+    assert!(rt; matches!(read_register(&registers[0]), Ok(main) if main.row.scale == scale));
+    assert_eq!(rt; register_count(&mut conn, "pv"), Ok(1));
+    assert_eq!(rt; last_register(&mut conn), Ok(Some(2)));
+    assert!(rt; matches!(register_of(&mut conn, "pv"), Ok(None)));
     Ok(())
 }
 
@@ -114,36 +139,30 @@ fn empty_list(conn: &mut Connection<MemStore>) -> Result<(), Error> {
     tx.commit()
 }
 
-#[test]
-fn points_stand_in_the_order_of_their_list(rt: HostRuntime) -> Result<(), Fail> {
-    let mut conn = one_meter(rt.alloc())?;
-    two_devices(&mut conn, rt.alloc())?;
-    let points = point_rows(&mut conn, "inv")?;
-    assert_eq!(rt; points.len(), 2);
-    let energy = sound(read_point(&points[0]))?;
-    assert_eq!(rt; energy.row, ENERGY);
-    assert_eq!(rt; energy.kind.as_str(), "acc32");
-    assert_eq!(rt; energy.scale.as_str(), "m2.WH_SF");
-    empty_list(&mut conn)?;
-    assert_eq!(rt; point_rows(&mut conn, "inv")?.len(), 0);
-    assert_eq!(rt; point_rows(&mut conn, "pv")?.len(), 1);
-    Ok(())
+/// How many points the list of a device has.
+fn point_count(conn: &mut Connection<MemStore>, device: &str) -> Result<usize, Error> {
+    Ok(point_rows(conn, device)?.len())
+}
+
+fn is_energy(read: &Result<Point, RowFault>) -> bool {
+    match read {
+        Ok(point) => {
+            point.row == ENERGY
+                && point.kind.as_str() == "acc32"
+                && point.scale.as_str() == "m2.WH_SF"
+        }
+        Err(_) => false,
+    }
 }
 
 #[test]
-fn registers_out_of_their_ranges_are_damaged(rt: HostRuntime) -> Result<(), Fail> {
-    let mut conn = one_meter(rt.alloc())?;
-    two_devices(&mut conn, rt.alloc())?;
-    conn.execute_batch(
-        "UPDATE registers SET scale = 4 WHERE name = 'roof'; UPDATE devices SET \"window\" = 17; UPDATE points SET function = 5",
-    )?;
-    assert!(rt; matches!(register_of(&mut conn, "roof"), Err(RowFault::Damaged)));
-    assert!(rt; matches!(register_of(&mut conn, "main"), Ok(Some(_))));
-    let devices = device_rows(&mut conn)?;
-    assert_eq!(rt; devices.len(), 2);
-    assert!(rt; matches!(read_device(&devices[0]), Err(RowFault::Damaged)));
-    let points = point_rows(&mut conn, "pv")?;
-    assert_eq!(rt; points.len(), 1);
-    assert!(rt; matches!(read_point(&points[0]), Err(RowFault::Damaged)));
+fn points_stand_in_the_order_of_their_list(rt: HostRuntime) -> Result<(), Fail> {
+    let mut conn = two_devices(rt.alloc())?;
+    let points = point_rows(&mut conn, "inv")?;
+    assert_eq!(rt; points.len(), 2);
+    assert!(rt; is_energy(&read_point(&points[0])));
+    empty_list(&mut conn)?;
+    assert_eq!(rt; point_count(&mut conn, "inv"), Ok(0));
+    assert_eq!(rt; point_count(&mut conn, "pv"), Ok(1));
     Ok(())
 }

@@ -1,12 +1,12 @@
 //! Two meters that stood one after the other at a register, in books in memory.
-use crate::facts::name;
-use crate::given::new_books;
+ghost use Rattle.std.specs.Prelude.{◌≡◌, false, IfOk};
+
+use crate::new_books::holding;
 use energy_core::{Entry, Last};
 use meter_journal::{EntryKind, EntryRow};
-use office_events::{Installation, Opening};
+use office_events::{Installation, Name, Opening};
 use sqlite::{Connection, Error, MemStore};
 use std::alloc::Global;
-use std::test::Fail;
 
 /// The meter m1 has a reading, one that was voided, and a closing; the next meter m0 has one reading. The energy of m1 is
 /// 200 Wh and 100 Wh, and that of m0 is 45 Wh.
@@ -19,10 +19,10 @@ INSERT INTO voids VALUES ('m1', 3, 2700);
 INSERT INTO intervals VALUES ('m1', 900, 177777), ('m1', 1800, 111111), ('m1', 2700, 11112), ('m0', 2700, 40000), ('m0', 3600, 5000)";
 
 /// Books with the two meters.
-pub(crate) fn two_meters(alloc: Global) -> Result<Connection<MemStore>, Error> {
-    let mut conn = new_books(alloc)?;
-    conn.execute_batch(ROWS)?;
-    Ok(conn)
+pub(crate) fn two_meters(alloc: Global) -> Result<Connection<MemStore>, Error>
+    ensures idle { IfOk result (λ conn. conn.in_transaction ≡ false) }
+{
+    holding(alloc, ROWS)
 }
 
 /// A moment and a value of a counter of scale 0.
@@ -30,11 +30,11 @@ pub(crate) fn last(at: u64, raw: u32) -> Last {
     Last { at, raw, sf: 0 }
 }
 
-/// The meter m1 as it was opened.
-pub(crate) fn opening() -> Result<Opening, Fail> {
-    Ok(Opening {
-        meter: name(b"m1")?,
-        register: name(b"main")?,
+/// The meter m1 as it was opened, and m0 behind it.
+fn opening() -> Option<Opening> {
+    Some(Opening {
+        meter: Name::new(b"m1")?,
+        register: Name::new(b"main")?,
         ceiling: 100_000,
         range: 4_294_967_296,
         at: 1000,
@@ -43,13 +43,35 @@ pub(crate) fn opening() -> Result<Opening, Fail> {
     })
 }
 
+fn next_opening() -> Option<Opening> {
+    Some(Opening {
+        meter: Name::new(b"m0")?,
+        register: Name::new(b"main")?,
+        ceiling: 20_000,
+        range: 65_536,
+        at: 2800,
+        raw: 0,
+        sf: 0,
+    })
+}
+
 /// The meter m1 where its counter stood so, with so much energy.
-pub(crate) fn standing(last: Last, total: u64) -> Result<Installation, Fail> {
-    Ok(Installation {
+pub(crate) fn standing(last: Last, total: u64) -> Option<Installation> {
+    Some(Installation {
         opening: opening()?,
         last,
         total,
         ended: true,
+    })
+}
+
+/// The meter m0 after its reading.
+pub(crate) fn next_standing() -> Option<Installation> {
+    Some(Installation {
+        opening: next_opening()?,
+        last: last(3700, 45),
+        total: 45_000,
+        ended: false,
     })
 }
 

@@ -1,6 +1,7 @@
 //! The latest moment.
-use crate::given::{new_books, ready, sound};
-use crate::rows::books;
+use crate::lookups::books;
+use crate::new_books::{new_books, ready};
+use sqlite::{Connection, MemStore};
 use std::test::Fail;
 use store_finding::latest;
 use store_tables::RowFault;
@@ -39,15 +40,20 @@ const LATER: [Later; 6] = [
     },
 ];
 
+/// The latest moment after this was done.
+fn latest_after(conn: &mut Connection<MemStore>, text: &str) -> Result<u64, RowFault> {
+    conn.execute_batch(text)?;
+    ready(conn)?;
+    latest(conn)
+}
+
 #[test]
 fn the_latest_moment_is_of_any_table(rt: HostRuntime) -> Result<(), Fail> {
     let mut conn = books(rt.alloc())?;
-    ready(&mut conn)?;
-    assert_eq!(rt; sound(latest(&mut conn))?, 1900);
+    assert_eq!(rt; latest(&mut conn), Ok(1900));
     for later in LATER.iter() {
-        conn.execute_batch(later.text)?;
-        ready(&mut conn)?;
-        assert_eq!(rt; sound(latest(&mut conn))?, later.latest);
+        let latest = latest_after(&mut conn, later.text);
+        assert_eq!(rt; latest, Ok(later.latest));
     }
     Ok(())
 }
@@ -56,15 +62,14 @@ fn the_latest_moment_is_of_any_table(rt: HostRuntime) -> Result<(), Fail> {
 fn new_books_have_no_moment(rt: HostRuntime) -> Result<(), Fail> {
     let mut conn = new_books(rt.alloc())?;
     ready(&mut conn)?;
-    assert_eq!(rt; sound(latest(&mut conn))?, 0);
+    assert_eq!(rt; latest(&mut conn), Ok(0));
     Ok(())
 }
 
 #[test]
 fn a_moment_past_the_last_is_damaged(rt: HostRuntime) -> Result<(), Fail> {
     let mut conn = books(rt.alloc())?;
-    conn.execute_batch("UPDATE replies SET moment = 4102444801")?;
-    ready(&mut conn)?;
-    assert!(rt; matches!(latest(&mut conn), Err(RowFault::Damaged)));
+    let past = latest_after(&mut conn, "UPDATE replies SET moment = 4102444801");
+    assert_eq!(rt; past, Err(RowFault::Damaged));
     Ok(())
 }

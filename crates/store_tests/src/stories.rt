@@ -1,5 +1,5 @@
 //! Books with two meters that stood one after the other at a register, and what was booked in their table of intervals.
-use crate::given::new_books;
+use crate::new_books::changed;
 use crate::shares::Seen;
 use energy_core::Step;
 use sqlite::{Connection, Error, MemStore, Transaction};
@@ -84,8 +84,7 @@ fn in_one_transaction(conn: &mut Connection<MemStore>, story: Story) -> Result<(
 
 /// The books after what was booked.
 pub(crate) fn booked(alloc: Global, story: Story) -> Result<Connection<MemStore>, Error> {
-    let mut conn = new_books(alloc)?;
-    conn.execute_batch(METERS)?;
+    let mut conn = changed(alloc, METERS)?;
     in_one_transaction(&mut conn, story)?;
     Ok(conn)
 }

@@ -1,12 +1,92 @@
 //! Facts are booked, and read back by queries.
-use crate::facts::{answered, device, entry, held, list, opening, poll, reading, register, reply};
-use crate::given::{book, new_books, number};
+use crate::facts::{
+    answered, device, entry, held, list, opening, poll, reading, register, reply, whole,
+};
+use crate::new_books::{count, new_books, ready};
 use energy_core::Entry;
 use meter_journal::EntryKind;
 use office_events::Fact;
-use sqlite::{Connection, Error, MemStore};
+use sqlite::{Connection, MemStore};
 use std::alloc::Global;
+use std::process::Abort;
 use std::test::Fail;
+use store_booking::book_facts;
+use store_tables::RowFault;
+
+/// Books facts.
+pub(crate) fn book(
+    alloc: Global,
+    conn: &mut Connection<MemStore>,
+    facts: &[Fact],
+) -> Result<(), RowFault> {
+    ready(conn)?;
+    book_facts(alloc, conn, facts)
+}
+
+/// Books facts of which none is missing.
+pub(crate) fn book_all<const N: usize>(
+    alloc: Global,
+    conn: &mut Connection<MemStore>,
+    given: [Option<Fact>; N],
+) -> Result<(), Fail> {
+    let facts = whole(alloc, given)?;
+    Ok(book(alloc, conn, &facts)?)
+}
+
+/// New books after these facts were booked at once.
+pub(crate) fn booked<const N: usize>(
+    alloc: Global,
+    given: [Option<Fact>; N],
+) -> Result<Connection<MemStore>, Fail> {
+    let mut conn = new_books(alloc)?;
+    book_all(alloc, &mut conn, given)?;
+    Ok(conn)
+}
+
+fn installed(alloc: Global) -> [Option<Fact>; 4] {
+    [
+        device(),
+        list(alloc, LIST),
+        register(),
+        opening(b"m1", 1000, 5000),
+    ]
+}
+
+fn read() -> [Option<Fact>; 3] {
+    [answered(1), reading(b"m1", 1900, 5200, 0), held(b"m1")]
+}
+
+/// The meter m1, installed and read once.
+pub(crate) fn one_reading(alloc: Global) -> Result<Connection<MemStore>, Fail> {
+    let mut conn = booked(alloc, installed(alloc))?;
+    book_all(alloc, &mut conn, [poll(1)])?;
+    book_all(alloc, &mut conn, read())?;
+    Ok(conn)
+}
+
+/// The tables have so many rows that pass the tests.
+pub(crate) fn have(
+    rt: &impl Abort,
+    alloc: Global,
+    conn: &mut Connection<MemStore>,
+    counts: &[(&str, i64)],
+) {
+    for (rows, number) in counts {
+        assert_eq!(rt; count(alloc, conn, rows), Ok(*number), "{rows}");
+    }
+}
+
+/// Each of these rows is there.
+pub(crate) fn stand(
+    rt: &impl Abort,
+    alloc: Global,
+    conn: &mut Connection<MemStore>,
+    rows: &[&str],
+) {
+    for row in rows {
+        assert_eq!(rt; count(alloc, conn, row), Ok(1), "{row}");
+    }
+}
 
 static LIST: &str =
     "name,function,area,address,type,scale\nWh,3,0,40094,acc32,Wh_SF\nWh_SF,3,0,40096,sunssf,\nMn,4,1,40004,string16,\n";
@@ -42,73 +122,34 @@ static COUNTS: [(&str, i64); 6] = [
     ("voids", 0),
 ];
 
-fn installed(alloc: Global) -> Result<Vec<Fact>, Fail> {
-    Ok(vec![in alloc;
-        device()?,
-        list(alloc, LIST)?,
-        register()?,
-        opening(b"m1", 1000, 5000)?,
-    ]?)
-}
-
-fn read(alloc: Global) -> Result<Vec<Fact>, Fail> {
-    Ok(vec![in alloc; answered(1), reading(b"m1", 1900, 5200, 0)?, held(b"m1")?]?)
-}
-
-/// The meter m1, installed and read once.
-pub(crate) fn one_reading(alloc: Global) -> Result<Connection<MemStore>, Fail> {
-    let mut conn = new_books(alloc)?;
-    book(alloc, &mut conn, &installed(alloc)?)?;
-    book(alloc, &mut conn, &vec![in alloc; poll(1)?]?)?;
-    book(alloc, &mut conn, &read(alloc)?)?;
-    Ok(conn)
-}
-
-/// How many rows a table has, or those that pass a test.
-pub(crate) fn count(
-    alloc: Global,
-    conn: &mut Connection<MemStore>,
-    rows: &str,
-) -> Result<i64, Error> {
-    let query = format!(in alloc; "SELECT count(*) FROM {rows}")?;
-    number(conn, &query)
-}
-
 #[test]
 fn each_fact_has_its_rows(rt: HostRuntime) -> Result<(), Fail> {
     let mut conn = one_reading(rt.alloc())?;
-    book(
-        rt.alloc(),
-        &mut conn,
-        &vec![in rt.alloc(); reply(rt.alloc())?]?,
-    )?;
-    for row in &ROWS {
-        assert_eq!(rt; count(rt.alloc(), &mut conn, row)?, 1, "{row}");
-    }
-    for (table, rows) in &COUNTS {
-        assert_eq!(rt; count(rt.alloc(), &mut conn, table)?, *rows, "{table}");
-    }
+    book_all(rt.alloc(), &mut conn, [reply(rt.alloc())])?;
+    stand(&rt, rt.alloc(), &mut conn, &ROWS);
+    have(&rt, rt.alloc(), &mut conn, &COUNTS);
     Ok(())
 }
 
-#[test]
-fn a_closing_and_a_new_list(rt: HostRuntime) -> Result<(), Fail> {
-    let mut conn = one_reading(rt.alloc())?;
+fn exchanged(alloc: Global) -> [Option<Fact>; 3] {
     let last = Entry::Step {
         at: 2800,
         raw: 5300,
         rolls: 0,
     };
-    let facts = vec![in rt.alloc();
-        entry(b"m1", EntryKind::Closing, last)?,
-        opening(b"m2", 2800, 0)?,
-        list(rt.alloc(), SHORTER_LIST)?,
-    ]?;
-    book(rt.alloc(), &mut conn, &facts)?;
-    for row in &CLOSED {
-        assert_eq!(rt; count(rt.alloc(), &mut conn, row)?, 1, "{row}");
-    }
-    assert_eq!(rt; count(rt.alloc(), &mut conn, "points")?, 1);
+    [
+        entry(b"m1", EntryKind::Closing, last),
+        opening(b"m2", 2800, 0),
+        list(alloc, SHORTER_LIST),
+    ]
+}
+
+#[test]
+fn a_closing_and_a_new_list(rt: HostRuntime) -> Result<(), Fail> {
+    let mut conn = one_reading(rt.alloc())?;
+    book_all(rt.alloc(), &mut conn, exchanged(rt.alloc()))?;
+    stand(&rt, rt.alloc(), &mut conn, &CLOSED);
+    have(&rt, rt.alloc(), &mut conn, &[("points", 1)]);
     Ok(())
 }
 
@@ -131,41 +172,49 @@ static TURNED: [&str; 5] = [
     "intervals WHERE meter = 'm1' AND start = 900 AND mwh = 20000",
 ];
 
-#[test]
-fn a_counter_turns_over_and_is_set(rt: HostRuntime) -> Result<(), Fail> {
-    let mut conn = new_books(rt.alloc())?;
+fn turned_and_set() -> [Option<Fact>; 6] {
     let change = Entry::Change {
         at: 2700,
         before: 20,
         after: 500,
         sf: 1,
     };
-    let facts = vec![in rt.alloc();
-        device()?,
-        register()?,
-        opening(b"m1", 900, 99_990)?,
-        reading(b"m1", 1800, 10, 1)?,
-        entry(b"m1", EntryKind::Rescale, change)?,
-        reading(b"m1", 3600, 502, 0)?,
-    ]?;
-    book(rt.alloc(), &mut conn, &facts)?;
-    for row in &TURNED {
-        assert_eq!(rt; count(rt.alloc(), &mut conn, row)?, 1, "{row}");
-    }
+    [
+        device(),
+        register(),
+        opening(b"m1", 900, 99_990),
+        reading(b"m1", 1800, 10, 1),
+        entry(b"m1", EntryKind::Rescale, change),
+        reading(b"m1", 3600, 502, 0),
+    ]
+}
+
+#[test]
+fn a_counter_turns_over_and_is_set(rt: HostRuntime) -> Result<(), Fail> {
+    let mut conn = booked(rt.alloc(), turned_and_set())?;
+    stand(&rt, rt.alloc(), &mut conn, &TURNED);
     Ok(())
+}
+
+/// The last of these may not follow: the device is known.
+fn one_too_many(alloc: Global) -> Result<Vec<Fact>, Fail> {
+    whole(alloc, [poll(2), reading(b"m1", 2800, 5300, 0), device()])
+}
+
+/// This may not follow: the counter would have gone back.
+fn backwards(alloc: Global) -> Result<Vec<Fact>, Fail> {
+    whole(alloc, [reading(b"m1", 2800, 5100, 0)])
 }
 
 #[test]
 fn all_of_an_event_or_nothing(rt: HostRuntime) -> Result<(), Fail> {
     let mut conn = one_reading(rt.alloc())?;
-    let facts = vec![in rt.alloc(); poll(2)?, reading(b"m1", 2800, 5300, 0)?, device()?]?;
-    assert!(rt; book(rt.alloc(), &mut conn, &facts).is_err());
-    for (table, rows) in &COUNTS {
-        assert_eq!(rt; count(rt.alloc(), &mut conn, table)?, *rows, "{table}");
-    }
-    let back = vec![in rt.alloc(); reading(b"m1", 2800, 5100, 0)?]?;
+    let refused = one_too_many(rt.alloc())?;
+    assert!(rt; book(rt.alloc(), &mut conn, &refused).is_err());
+    have(&rt, rt.alloc(), &mut conn, &COUNTS);
+    let back = backwards(rt.alloc())?;
     assert!(rt; book(rt.alloc(), &mut conn, &back).is_err());
-    book(rt.alloc(), &mut conn, &[])?;
-    assert_eq!(rt; count(rt.alloc(), &mut conn, "entries")?, 2);
+    assert!(rt; book(rt.alloc(), &mut conn, &[]).is_ok());
+    have(&rt, rt.alloc(), &mut conn, &[("entries", 2)]);
     Ok(())
 }

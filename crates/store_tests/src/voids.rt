@@ -1,7 +1,7 @@
 //! Voids are booked, and what they leave is read back by queries.
-use crate::bookings::{count, one_reading};
+use crate::bookings::{book_all, booked, have, one_reading, stand};
 use crate::facts::{device, opening, reading, register, void};
-use crate::given::{book, new_books};
+use office_events::Fact;
 use std::test::Fail;
 
 /// Rows after the reading at 1900 was voided, behind which one at 2800 stands.
@@ -15,37 +15,42 @@ static BETWEEN: [&str; 7] = [
     "intervals WHERE meter = 'm1' AND start = 2700 AND mwh = 16667",
 ];
 
+fn voided_between() -> [Option<Fact>; 2] {
+    [reading(b"m1", 2800, 5300, 0), void(b"m1", 2)]
+}
+
 #[test]
 fn a_reading_between_others(rt: HostRuntime) -> Result<(), Fail> {
     let mut conn = one_reading(rt.alloc())?;
-    let facts = vec![in rt.alloc(); reading(b"m1", 2800, 5300, 0)?, void(b"m1", 2)?]?;
-    book(rt.alloc(), &mut conn, &facts)?;
-    for row in &BETWEEN {
-        assert_eq!(rt; count(rt.alloc(), &mut conn, row)?, 1, "{row}");
-    }
-    assert_eq!(rt; count(rt.alloc(), &mut conn, "intervals")?, 3);
-    assert_eq!(rt; count(rt.alloc(), &mut conn, "entries")?, 3);
+    book_all(rt.alloc(), &mut conn, voided_between())?;
+    stand(&rt, rt.alloc(), &mut conn, &BETWEEN);
+    have(
+        &rt,
+        rt.alloc(),
+        &mut conn,
+        &[("intervals", 3), ("entries", 3)],
+    );
     Ok(())
 }
 
-/// Where the meter stands after its only reading was voided: at its opening.
-static OPENED: &str =
-    "installations WHERE meter = 'm1' AND last_moment = 1000 AND last_raw = 5000 AND total = 0";
+/// What is left after the only reading was voided: the meter stands at its opening.
+static OPENED: [(&str, i64); 3] = [
+    (
+        "installations WHERE meter = 'm1' AND last_moment = 1000 AND last_raw = 5000 AND total = 0",
+        1,
+    ),
+    ("intervals", 0),
+    ("entries", 2),
+];
 
 #[test]
 fn the_only_reading(rt: HostRuntime) -> Result<(), Fail> {
     let mut conn = one_reading(rt.alloc())?;
-    book(
-        rt.alloc(),
-        &mut conn,
-        &vec![in rt.alloc(); void(b"m1", 2)?]?,
-    )?;
-    assert_eq!(rt; count(rt.alloc(), &mut conn, OPENED)?, 1);
-    assert_eq!(rt; count(rt.alloc(), &mut conn, "intervals")?, 0);
-    assert_eq!(rt; count(rt.alloc(), &mut conn, "entries")?, 2);
-    let again = vec![in rt.alloc(); reading(b"m1", 2800, 5300, 0)?]?;
-    book(rt.alloc(), &mut conn, &again)?;
-    assert_eq!(rt; count(rt.alloc(), &mut conn, BETWEEN[3])?, 1);
+    book_all(rt.alloc(), &mut conn, [void(b"m1", 2)])?;
+    have(&rt, rt.alloc(), &mut conn, &OPENED);
+    let again = [reading(b"m1", 2800, 5300, 0)];
+    book_all(rt.alloc(), &mut conn, again)?;
+    have(&rt, rt.alloc(), &mut conn, &[(BETWEEN[3], 1)]);
     Ok(())
 }
 
@@ -57,20 +62,20 @@ static TURNED: [&str; 4] = [
     "intervals WHERE meter = 'm1' AND start = 1800 AND mwh = 15000",
 ];
 
+fn voided_behind_a_turn() -> [Option<Fact>; 6] {
+    [
+        device(),
+        register(),
+        opening(b"m1", 900, 99_990),
+        reading(b"m1", 1800, 10, 1),
+        reading(b"m1", 2700, 20, 0),
+        void(b"m1", 2),
+    ]
+}
+
 #[test]
 fn the_next_reading_turns_over(rt: HostRuntime) -> Result<(), Fail> {
-    let mut conn = new_books(rt.alloc())?;
-    let facts = vec![in rt.alloc();
-        device()?,
-        register()?,
-        opening(b"m1", 900, 99_990)?,
-        reading(b"m1", 1800, 10, 1)?,
-        reading(b"m1", 2700, 20, 0)?,
-        void(b"m1", 2)?,
-    ]?;
-    book(rt.alloc(), &mut conn, &facts)?;
-    for row in &TURNED {
-        assert_eq!(rt; count(rt.alloc(), &mut conn, row)?, 1, "{row}");
-    }
+    let mut conn = booked(rt.alloc(), voided_behind_a_turn())?;
+    stand(&rt, rt.alloc(), &mut conn, &TURNED);
     Ok(())
 }

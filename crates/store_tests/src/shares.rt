@@ -2,6 +2,7 @@
 use interval_core::Share;
 use office_books::RowSink;
 use std::alloc::Global;
+use store_tables::RowFault;
 
 /// The shares that were taken, unless memory was refused.
 #[derive(Drop)]
@@ -41,3 +42,24 @@ impl Seen {
         true
     }
 }
+
+/// These starts and energies were handed on, in this order, and no fault came.
+pub(crate) fn are(seen: &Result<Seen, RowFault>, wanted: &[(u64, u64)]) -> bool {
+    match seen {
+        Ok(seen) => seen.are(wanted),
+        Err(_) => false,
+    }
+}
+
+/// The quarter hours of the meter m1, of m0 behind it, and of the register of both.
+pub(crate) static FIRST: [(u64, u64); 3] = [(900, 177_777), (1800, 111_111), (2700, 11_112)];
+
+pub(crate) static NEXT: [(u64, u64); 2] = [(2700, 40_000), (3600, 5000)];
+
+pub(crate) static BOTH: [(u64, u64); 5] = [
+    (900, 177_777),
+    (1800, 111_111),
+    (2700, 11_112),
+    (2700, 40_000),
+    (3600, 5000),
+];
