@@ -1,9 +1,8 @@
 //! Devices that are polled at once, and a witness that is shown what is fed.
 use crate::links::{SECOND_REPLY, first_reply};
 use crate::offices::{Tried, list, office_with};
-use hub_rounds::Round;
 use office_events::{Name, Piece};
-use office_hub::{Happening, Witness, turn};
+use office_rounds::{Happening, Round, Witness, turn};
 use poll_core::Closing;
 use std::alloc::Global;
 use std::process::Abort;

@@ -1,10 +1,10 @@
 //! What a desk keeps of turns, and the lines that it writes.
 use crate::benches::{Bench, Moment, Step, play};
 use crate::offices::inv;
-use hub_desk::{Desk, put_lines, put_sum};
-use hub_rounds::Sum;
 use office_events::{Answer, Event, Name, Refusal};
+use office_rounds::Sum;
 use poll_core::Closing;
+use run_status::{Desk, put_lines, put_sum};
 use std::alloc::{AllocError, Global};
 use std::process::Abort;
 use std::str;

@@ -1,5 +1,5 @@
 //! Places of connections.
-use hub_peers::{Admission, Peers};
+use run_schedule::{Admission, Peers};
 
 fn at(place: usize) -> Option<Admission> {
     Some(Admission {

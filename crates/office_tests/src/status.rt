@@ -1,8 +1,8 @@
 //! The status and the metrics of a known history.
 use energy_core::Cause;
-use hub_status::{Counts, DeviceState, put_metrics, put_status};
 use office_events::{Name, Note};
 use poll_core::{LostCause, Outcome};
+use run_status::{Counts, DeviceState, put_metrics, put_status};
 use std::str;
 
 fn outcome(outcome: Outcome) -> Note {

@@ -1,7 +1,7 @@
 //! Turns over made-up happenings.
 use crate::benches::{Bench, Moment, Step, play};
 use crate::witness::Seen;
-use hub_rounds::Stage;
+use office_rounds::Stage;
 use poll_core::Closing;
 use std::alloc::Global;
 use std::process::Abort;

@@ -1,6 +1,6 @@
 //! A witness that writes down what it is shown.
 use office_events::{Answer, Command, Event, Note, Refusal};
-use office_hub::Witness;
+use office_rounds::Witness;
 use poll_core::{Closing, Outcome};
 use std::alloc::Global;
 

@@ -9,7 +9,7 @@ mod playing;
 use crate::case_kind::{Kind, kind_of};
 use crate::folders::{folders_in, names_in};
 use crate::playing::{differs_at, play};
-use script_loop::Loopback;
+use script_run::Loopback;
 use std::process::ExitCode;
 use std::{env, fs, io};
 

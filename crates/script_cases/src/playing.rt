@@ -1,12 +1,10 @@
 //! A case, played.
 use crate::case_kind::{Command, Kind};
-use chain_text::chain_text;
 use command_io::Status;
 use interval_core::Zone;
-use list_text::plan_text;
-use script_loop::{Loopback, loop_text};
-use script_replay::replay;
+use script_run::{Loopback, loop_text, replay};
 use std::io::{self, ErrorKind, Write};
+use sunspec_text::{chain_text, plan_text};
 
 /// What a case prints: its text as a whole, or each line behind the first by itself.
 pub(crate) fn play<'r>(

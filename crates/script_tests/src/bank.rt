@@ -1,6 +1,6 @@
 //! Lines that set up a stand-in for a device.
-use bank_lines::{BankLine, GivenArea, GivenCell};
 use mb_device::{Kind, Trick};
+use script_lines::{BankLine, GivenArea, GivenCell};
 
 const MOST: u64 = 9_223_372_036_854_775_807;
 

@@ -1,12 +1,11 @@
 //! What faults of inputs, of lines and of the program's words say to a person.
 use command_io::ReadFault;
-use command_words::WordsFault;
+use command_words::{DeviceFault, ListFault, WordsFault};
 use script_lines::LineFault;
 use std::alloc::Global;
 use std::fmt::Display;
 use std::process::Abort;
 use std::test::Fail;
-use word_values::{DeviceFault, ListFault};
 
 // Each fault says its text, which has no full stop.
 fn tells<F: Display>(rt: &impl Abort, alloc: Global, texts: &[(F, &str)]) -> Result<(), Fail> {

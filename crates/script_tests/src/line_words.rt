@@ -1,6 +1,6 @@
 //! The words of a line, and what they spell.
 use office_events::{GivenScale, Name};
-use script_words::{
+use script_lines::{
     Words, hex_bytes, next_moment, next_name, next_number, next_range, next_scale, next_signed,
     nothing_more, number,
 };

@@ -3,7 +3,7 @@ use crate::replays::zone;
 use crate::streams::Kept;
 use command_io::Status;
 use mb_wire::MemoryLink;
-use script_loop::{Connects, Ends, Loopback, loop_text};
+use script_run::{Connects, Ends, Loopback, loop_text};
 use std::io::{self, ErrorKind};
 use std::test::Fail;
 

@@ -1,12 +1,11 @@
 //! Chains and plans over streams that fail.
 use crate::streams::{Kept, Slow};
-use chain_text::chain_text;
 use command_io::Status;
-use list_text::{plan_text, print_plan};
 use point_list::read_list;
 use std::alloc::Global;
 use std::io::{ErrorKind, Read, Write};
 use std::test::Fail;
+use sunspec_text::{chain_text, plan_text, print_plan};
 
 // What an input is given to.
 #[derive(Clone, Copy)]

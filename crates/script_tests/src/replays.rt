@@ -2,7 +2,7 @@
 use crate::streams::{Kept, Slow};
 use command_io::Status;
 use interval_core::Zone;
-use script_replay::{Replayed, replay};
+use script_run::{Replayed, replay};
 use std::alloc::Global;
 use std::io::{ErrorKind, Read, Write};
 use std::test::Fail;

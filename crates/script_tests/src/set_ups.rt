@@ -1,7 +1,7 @@
 //! Texts that set a stand-in up.
-use bank_text::{Setup, SetupParts, set_up};
 use command_io::Status;
 use mb_device::{Kind, Trick};
+use script_run::{Setup, SetupParts, set_up};
 use std::alloc::Global;
 use std::test::Fail;
 

@@ -6,11 +6,11 @@ use crate::new_books::{count, new_books, ready};
 use energy_core::Entry;
 use meter_journal::EntryKind;
 use office_events::Fact;
+use office_store::book_facts;
 use sqlite::{Connection, MemStore};
 use std::alloc::Global;
 use std::process::Abort;
 use std::test::Fail;
-use store_booking::book_facts;
 use store_tables::RowFault;
 
 /// Books facts.

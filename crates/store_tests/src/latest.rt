@@ -3,7 +3,7 @@ use crate::lookups::books;
 use crate::new_books::{new_books, ready};
 use sqlite::{Connection, MemStore};
 use std::test::Fail;
-use store_finding::latest;
+use store_queries::latest;
 use store_tables::RowFault;
 
 /// What is written, and the latest moment after it.

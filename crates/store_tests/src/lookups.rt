@@ -11,7 +11,7 @@ use poll_core::Outcome;
 use sqlite::{Connection, Error, MemStore};
 use std::alloc::Global;
 use std::test::Fail;
-use store_finding::{
+use store_queries::{
     devices, pending, poll, poll_count, register, register_count, registers, repeat,
 };
 use store_tables::RowFault;

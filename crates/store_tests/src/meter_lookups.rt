@@ -8,7 +8,7 @@ use office_events::{EntryPlace, Installation};
 use sqlite::{Connection, MemStore};
 use std::alloc::Global;
 use std::test::Fail;
-use store_metering::{
+use store_queries::{
     entry, installation, installation_count, intervals, meter, register_intervals,
 };
 use store_tables::RowFault;

@@ -6,7 +6,7 @@ use office_events::PlannedList;
 use sqlite::{Connection, MemStore};
 use std::alloc::Global;
 use std::test::Fail;
-use store_finding::list;
+use store_queries::list;
 use store_tables::RowFault;
 use sun_points::PointType;
 

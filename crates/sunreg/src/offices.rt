@@ -1,19 +1,19 @@
 //! The commands over an office in a file.
 ghost use Rattle.std.specs.Prelude.{IfOk};
-ghost use Rattle.stored_tasks.specs.Tasks.{IsOf};
+ghost use Rattle.stored_office.specs.Tasks.Tasks.{IsOf};
 
 use crate::command_output::CommandOutput;
 use crate::run_words::sites_of;
 use command_words::Device;
 use interval_core::Zone;
-use office_files::{FileFault, make_file, open_file};
 use office_running::Settings;
-use program_end::{Ending, Failure};
 use socket_link::SystemClock;
 use sqlite::{Alter, Connection, FileFrom, FileStore, Unknown};
 use std::io::{self, Printer, Write};
-use stored_office::create_stored;
-use stored_tasks::{Done, Task, carry_out_stored, ending_of_done};
+use stored_office::{
+    Done, Ending, Failure, FileFault, Task, carry_out_stored, create_stored, ending_of_done,
+    make_file, open_file,
+};
 
 /// The host on which HTTP is answered.
 const OWN_HOST: &str = "127.0.0.1";
