@@ -5,8 +5,6 @@ The check reads the libraries below as they were built and keeps nothing. A func
 it to its own, so the first that needs a library's modules pays for loading them, and the time before the first function stands on
 a line of its own: reading sources, and the libraries that a program is made of.
 """
-import importlib.machinery
-import importlib.util
 import os
 import re
 import subprocess
@@ -14,16 +12,10 @@ import sys
 import time
 
 sys.dont_write_bytecode = True
+import kit
+
 SHOWN = 20
 TOLD = re.compile(r"checked (\S+), \d+ of \d+")
-
-
-def load_rt():
-    kit = os.path.dirname(subprocess.run(["rt", "doc"], check=True, capture_output=True, text=True).stdout.strip())
-    loader = importlib.machinery.SourceFileLoader("rt", f"{kit}/bin/rt")
-    made = importlib.util.module_from_spec(importlib.util.spec_from_loader("rt", loader))
-    loader.exec_module(made)
-    return made
 
 
 def crate_of(rt, name):
@@ -49,7 +41,7 @@ def timed(words, folder):
 def main(name):
     root = subprocess.run(["git", "rev-parse", "--show-toplevel"], check=True, capture_output=True, text=True).stdout.strip()
     os.chdir(root)
-    rt = load_rt()
+    rt = kit.load_rt()
     crate = crate_of(rt, name)
     tests = ["--test"] * crate.has_tests()
     words = [rt.rtlib.RATTLE, "check", *crate.words(["--jobs", "1", *tests], tests=bool(tests), keeps=False), "--progress"]

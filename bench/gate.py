@@ -1,66 +1,57 @@
 #!/usr/bin/env python3
-"""gate.sh [NAME..]: times the parts of the gate, crate by crate, and prints a Markdown table in processor seconds.
+"""gate.sh [--page] [--log FILE | NAME..]: what the parts of the gate take, crate by crate: a Markdown table of processor seconds and memory.
 
-It runs `rt ci` over a clone of the committed tree, in a temporary folder, by a copy of the kit's bin/ in which each command is
-timed. With names it tries the edits and the tests of those crates alone, over the proofs of what they stand on. RT_JOBS=1 has it
-work on one crate at a time, as on a machine with other work. What the gate says goes to standard error; the status is the gate's.
-A proof counts the layout's check and a program's builds, and the tests' time their proof, build and run.
+It runs `rt ci` over a clone of the committed tree, in a temporary folder and with a kit that has nothing kept, and watches its processes. With names it tries
+the edits and the tests of those crates alone, over the proofs of what they stand on. RT_JOBS=1 has it work on one part at a time, as on a machine with other
+work. What the gate says goes to standard error; the status is the gate's.
+--log FILE: runs nothing, and reads what bench/watch.py noted while `rt ci` or `rt ci NAME..` ran, here or in another copy. The last run of each part counts.
+--page: prints the whole of bench/GATE.md: `bench/gate.sh --page --log FILE > bench/GATE.md`.
+A proof counts a program's builds, and the tests' time their proof, build and run. A process's last second is not seen.
 """
+import argparse
 import collections
 import glob
-import importlib.machinery
-import importlib.util
+import json
 import os
 import re
 import subprocess
 import sys
 import tempfile
+import threading
 import time
 
 sys.dont_write_bytecode = True
+import kit
+from watch import Watch
+
 PARTS = ("proof", "tests", "edits")
-TIMED = ("rattle", "rattle-link", "rattle-test")
-SHIM = """#!/bin/bash
-# Runs a command of the kit, and notes the user's and the system's seconds, the folder and the words.
-TIMEFORMAT="%U %S $PWD {real} ${{*//%/}}"
-{{ time "{real}" "$@" 2>&3 3>&-; }} 3>&2 2>>"{log}"
+# Seconds between two commands of one crate's part, at most; a later one is of another run.
+APART = 60
+PAGE = """# What the gate costs
+
+`rt ci` proves everything from nothing, and nothing lands that takes it longer than the time CI has, three hours. So whatever comes next has to find its room
+first. `bench/gate.sh --page --log FILE` makes this page of what `bench/watch.py FILE` noted while the gate ran.
+
+- **A crate pays its front end**: 10 to 20 s low down, and a minute or two high up, where the types of the books and of SQLite are read, whatever it has in it.
+- **A crate of tests pays for the whole program that it is built of** besides: one test that asks an empty database a question takes 171 s of a busy
+  processor. So the tests of one level stand in one crate.
+- **A function costs** 1.4 s low down and 3 s high up; a line of a test 0.65 s. Dear is a test's body with more than three `?` beside values that must be
+  dropped: 30 to 50 s. Comparisons of tuples are dear, long literals are not: a static of 59 tuples of four texts costs 2.5 s.
+- **An edit** in `must-fail/` costs 20 to 50 s, and the first one of a crate the crate's proof again; in `tests/edits/` it costs the gate nothing, and
+  `tests/edits.sh` 9 s.
+- **A crate should have** under 90 functions and 1,500 lines, no `#[test]` that a crate of tests can hold, and at most 8 edits in `must-fail/`.
+- **The lists of `crates.txt` are short**: a crate lists the libraries that its sources, definitions and proofs name, and no others; the kit finds those
+  below. `tests/unnamed.py` tells entries that can go.
+
+`bench/functions.sh NAME` tells which functions of a check are dear, and what it pays before the first.
+
+## By crate
+
+{machine}. Processor seconds of each part, which a processor that others share counts up to twice, and the most memory that one process of it held, in GB.
+A blank was not measured. The number of edits stands in brackets; their seconds hold the crate's proof, with which they begin.
+
+{table}
 """
-
-
-def timed_kit(room):
-    """Makes a folder that stands for the kit, whose commands note their times in the file times beside it."""
-    kit = os.path.dirname(subprocess.run(["rt", "doc"], check=True, capture_output=True, text=True).stdout.strip())
-    os.makedirs(f"{room}/kit/bin")
-    for name in os.listdir(kit):
-        if name != "bin":
-            os.symlink(f"{kit}/{name}", f"{room}/kit/{name}")
-    for name in os.listdir(f"{kit}/bin"):
-        real, to = f"{kit}/bin/{name}", f"{room}/kit/bin/{name}"
-        if name in TIMED:
-            write(to, SHIM.format(real=real, log=f"{room}/times"), 0o755)
-        elif name in ("rt", "rtlib.py"):
-            # (rt finds the kit by the place of its own file, so this one is a copy)
-            with open(real, encoding="utf-8") as it:
-                write(to, it.read(), 0o755)
-        else:
-            os.symlink(real, to)
-    # (tests are run as nobody)
-    write(f"{room}/times", "", 0o666)
-    os.chmod(room, 0o755)
-    return f"{room}/kit/bin/rt"
-
-
-def write(path, text, mode):
-    with open(path, "w", encoding="utf-8") as it:
-        it.write(text)
-    os.chmod(path, mode)
-
-
-def load(path):
-    loader = importlib.machinery.SourceFileLoader("rt", path)
-    made = importlib.util.module_from_spec(importlib.util.spec_from_loader("rt", loader))
-    loader.exec_module(made)
-    return made
 
 
 def keep_only(rt, names, tree):
@@ -74,8 +65,8 @@ def keep_only(rt, names, tree):
     wanted = {it.name for name in names for it in [crates[name], *crates[name].below()]}
     with open(f"{tree}/crates.txt", encoding="utf-8") as it:
         lines = it.read().splitlines(True)
-    kept = (it for it in lines if it.startswith("#") or re.match(r"\w*", it)[0] in wanted)
-    write(f"{tree}/crates.txt", "".join(kept), 0o644)
+    with open(f"{tree}/crates.txt", "w", encoding="utf-8") as it:
+        it.writelines(line for line in lines if line.startswith("#") or re.match(r"\w*", line)[0] in wanted)
     for name in {*crates} - wanted:
         subprocess.run(["rm", "-r", f"{tree}/crates/{name}"], check=True)
 
@@ -84,75 +75,141 @@ def only_of(names, call, otherwise):
     return lambda crate: call(crate) if crate.name in names else otherwise
 
 
-def part_of(words):
-    if "/rt-edit-" in words:
-        return "edits"
-    return "tests" if re.search(r" --test\b|_tests\b", words) else "proof"
-
-
-def crate_of(words, names):
-    found = re.search(r" --crate-name (\w+)", words) or re.search(r"/crates/(\w+)\b", words) or re.search(r"/(\w+)_tests$", words)
-    return found[1] if found and found[1] in names else None
-
-
-def seconds_by_part(log, names):
-    spent = collections.Counter()
-    with open(log, encoding="utf-8", errors="replace") as it:
-        for line in it:
-            found = re.match(r"(\d+\.\d+) (\d+\.\d+) (.*)", line)
-            if found:
-                spent[crate_of(found[3], names), part_of(found[3])] += float(found[1]) + float(found[2])
-    return spent
-
-
-def lines_of(folder):
-    """Returns the crate's lines in .rt files and those of them in tests."""
-    counts = [0, 0]
-    for file in glob.glob(f"{folder}/src/**/*.rt", recursive=True):
-        with open(file, encoding="utf-8") as it:
-            number = it.read().count("\n")
-        counts[0] += number
-        counts[1] += number * bool(re.search(r"/tests?\b", file[len(folder) :]))
-    return counts
-
-
-def table(tree, names, edits, spent):
-    yield "| crate | lines | of tests | proof | tests | edits | sum |"
-    yield "|---|---|---|---|---|---|---|"
-    for name in names:
-        lines, of_tests = lines_of(f"{tree}/crates/{name}")
-        each = [spent[name, part] for part in PARTS]
-        of_edits = f"{each[2]:.0f} ({edits[name]})" if edits[name] else ""
-        yield f"| {name} | {lines} | {of_tests} | {each[0]:.0f} | {each[1]:.0f} | {of_edits} | {sum(each):.0f} |"
-    sums = [sum(spent[name, part] for name in names) for part in PARTS]
-    yield f"| sum | | | {sums[0]:.0f} | {sums[1]:.0f} | {sums[2]:.0f} | {sum(sums):.0f} |"
-
-
-def main(named):
-    root = subprocess.run(["git", "rev-parse", "--show-toplevel"], check=True, capture_output=True, text=True).stdout.strip()
+def gate(root, named):
+    """Runs the gate over a clone, and returns its status and what its processes took."""
     with tempfile.TemporaryDirectory(prefix="gate-") as room:
         tree = f"{room}/tree"
         subprocess.run(["git", "clone", "-q", root, tree], check=True)
-        rt = load(timed_kit(room))
+        # (tests are run as nobody)
+        os.chmod(room, 0o755)
+        rt = kit.load_rt(kit.of_links(room))
         if named:
             keep_only(rt, named, tree)
         os.chdir(tree)
-        names = [it.name for it in rt.rtlib.crates_below(tree)]
-        edits = {it: len(glob.glob(f"{tree}/crates/{it}/must-fail/*.edit")) * (not named or it in named) for it in names}
-        began, out = time.time(), os.dup(1)
+        out, told, is_over = os.dup(1), [], threading.Event()
         os.dup2(2, 1)
-        status = rt.main(["ci"])
+        watch = Watch(kit.folder_of_kit())
+
+        def look():
+            while not is_over.wait(1):
+                told.extend(watch.look())
+
+        looking = threading.Thread(target=look)
+        looking.start()
+        try:
+            status = rt.main(["ci"])
+        finally:
+            is_over.set()
+            looking.join()
         sys.stdout.flush()
         os.dup2(out, 1)
-        spent = seconds_by_part(f"{room}/times", names)
-        minutes = (time.time() - began) / 60
-        print("\n".join(table(tree, names, edits, spent)))
-    whole = sum(it for (name, _), it in spent.items() if name) / 60
-    print(f"\n{time.strftime('%Y-%m-%d')}, {os.cpu_count()} processors: {whole:.0f} processor minutes in {minutes:.0f} minutes")
+        os.chdir(root)
+        # (another gate on the machine is none of ours)
+        mine = (tree, f"/rt-edit-{os.getpid()}-", f"/rt-run-{os.getpid()}-")
+        return status, [it for it in told if any(word in it["cmd"] + it["cwd"] for word in mine)]
+
+
+def read(log):
+    with open(log, encoding="utf-8") as it:
+        return [json.loads(line) for line in it if line.strip()]
+
+
+def is_proof(words):
+    """Returns whether these are a proof from nothing as the gate has it, or a build of what it proved."""
+    return "--empty-contracts" in words or "--crate-checked" in words
+
+
+def place_of(told, names):
+    """Returns the crate and the part that a process worked for, how, and a name of the run; nothing where it was no part of the gate."""
+    words, folder = told["cmd"], told["cwd"]
+    ran = re.search(r"/rt-run-(\d+)-[^/]*/bin/(\w+)", words)
+    if ran:
+        tested = ran[2].removesuffix("_tests")
+        return (tested, "tests", "ran", ran[1]) if tested in names else (ran[2], "proof", "ran", ran[1])
+    named, edit, inside = (re.search(it, text) for it, text in ((r" --crate-name (\w+)", words), (r"/rt-edit-(\d+)-", folder), (r"/crates/(\w+)$", folder)))
+    if named and edit:
+        return named[1], "edits", "tried", edit[1]
+    if not inside or " fmt " in words or named and not is_proof(words):
+        return None
+    is_of_tests = inside[1].endswith("_tests") or re.search(r" --test\b|\bout/\w+_tests\b", words)
+    return inside[1], "tests" if is_of_tests else "proof", "made", folder
+
+
+def last_of(told):
+    """Returns the last that followed on one another, with a proof among them."""
+    runs, until = [[]], 0
+    for it in sorted(told, key=lambda it: it["t0"]):
+        if runs[-1] and it["t0"] > until + APART:
+            runs.append([])
+        runs[-1].append(it)
+        until = max(until, it["t1"])
+    return next((it for it in reversed(runs) if any(is_proof(told["cmd"]) for told in it)), [])
+
+
+def parts_of(log, names):
+    """Returns what the last run of each crate's part took, in seconds, and the most memory of one of its processes, in bytes."""
+    found, seconds, memory = {}, collections.Counter(), collections.Counter()
+    for told in log:
+        name, part, how, run = place_of(told, names) or ("", "", "", "")
+        if name in names:
+            found.setdefault((name, part, how), {}).setdefault(run, []).append(told)
+    for (name, part, how), runs in found.items():
+        runs = filter(None, map(last_of, runs.values()) if how == "made" else runs.values())
+        for it in max(runs, key=lambda run: max(it["t0"] for it in run), default=()):
+            seconds[name, part] += it["cpu"]
+            memory[name, part] = max(memory[name, part], it["rss"])
+    return seconds, memory
+
+
+def lines_of(folder):
+    """Returns the crate's lines in .rt files."""
+    lines = 0
+    for file in glob.glob(f"{folder}/src/**/*.rt", recursive=True):
+        with open(file, encoding="utf-8") as it:
+            lines += it.read().count("\n")
+    return lines
+
+
+def table(tree, names, seconds, memory):
+    yield "| Crate | Lines | Proof | Tests | Edits | Sum | GB | GB of tests |"
+    yield "|---|---|---|---|---|---|---|---|"
+    whole = {name: sum(seconds[name, part] for part in PARTS) for name in names}
+    for name in sorted(names, key=lambda it: (-whole[it], it)):
+        edits = len(glob.glob(f"{tree}/crates/{name}/must-fail/*.edit"))
+        proof, tests, of_edits = (f"{seconds[name, part]:.0f}" if (name, part) in seconds else "" for part in PARTS)
+        of_edits = f"{of_edits} ({edits})" if of_edits else ""
+        most = [f"{memory[name, part] / 1e9:.1f}" if memory[name, part] else "" for part in PARTS[:2]]
+        yield f"| {name} | {lines_of(f'{tree}/crates/{name}')} | {proof} | {tests} | {of_edits} | {whole[name]:.0f} | {most[0]} | {most[1]} |"
+    sums = [sum(seconds[name, part] for name in names) for part in PARTS]
+    yield f"| sum | | {sums[0]:.0f} | {sums[1]:.0f} | {sums[2]:.0f} | {sum(sums):.0f} | | |"
+
+
+def machine(log):
+    """Returns the day and the machine of a run that was made here."""
+    with open("/proc/cpuinfo", encoding="utf-8") as it:
+        model = re.search(r"model name\s*: (.*)", it.read())
+    with open("/proc/meminfo", encoding="utf-8") as it:
+        memory = int(re.search(r"MemTotal:\s+(\d+)", it.read())[1]) / 1e6
+    day = time.strftime("%Y-%m-%d", time.localtime(max((it["t1"] for it in log), default=time.time())))
+    named = f" ({re.sub(r'[(](R|TM)[)]|@.*', '', model[1]).strip()})" if model else ""
+    return f"Measured on {day}, on {os.cpu_count()} processors{named} and {memory:.0f} GB"
+
+
+def main(asked):
+    root = subprocess.run(["git", "rev-parse", "--show-toplevel"], check=True, capture_output=True, text=True).stdout.strip()
+    status, log = (0, read(asked.log)) if asked.log else gate(root, asked.names)
+    names = [it.name for it in kit.load_rt().rtlib.crates_below(root)]
+    seconds, memory = parts_of(log, names)
+    rows = "\n".join(table(root, names, seconds, memory))
+    print(PAGE.format(machine=machine(log), table=rows).rstrip("\n") if asked.page else rows)
+    if not asked.page:
+        print(f"\n{machine(log)}: {sum(seconds.values()) / 60:.0f} processor minutes")
     return status
 
 
 if __name__ == "__main__":
-    if {"-h", "--help"} & {*sys.argv[1:]}:
-        sys.exit(__doc__)
-    sys.exit(main(sys.argv[1:]))
+    words = argparse.ArgumentParser(prog="gate.sh", usage=__doc__.split(":")[0], description=__doc__, formatter_class=argparse.RawDescriptionHelpFormatter)
+    words.add_argument("--page", action="store_true")
+    words.add_argument("--log", metavar="FILE")
+    words.add_argument("names", nargs="*", metavar="NAME")
+    sys.exit(main(words.parse_args()))

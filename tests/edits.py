@@ -15,8 +15,6 @@ import argparse
 import collections
 import difflib
 import glob
-import importlib.machinery
-import importlib.util
 import os
 import re
 import shutil
@@ -27,6 +25,9 @@ import time
 from concurrent.futures import ThreadPoolExecutor
 
 sys.dont_write_bytecode = True
+sys.path.insert(0, os.path.join(os.path.dirname(os.path.realpath(__file__)), "..", "bench"))
+import kit
+
 HEAD = re.compile(r"( *)(?:pub(?:\([^)]*\))? )?(?:const )?fn (\w+)")
 # What a proof file says where it names something that the edit took away, which tells little of the contract.
 NAMES = r": error.*(has no field|is not in scope|has no `|was not admitted)"
@@ -41,17 +42,8 @@ Function = collections.namedtuple("Function", "file first last name loose")
 Change = collections.namedtuple("Change", "file first end lines")
 # An edit that also changes something outside the bodies `stands_alone`: what callers see may change with it.
 Edit = collections.namedtuple("Edit", "name changes functions stands_alone fault")
-# What a check said: whether it came to the proofs, its lines, and what it said of each function.
-Said = collections.namedtuple("Said", "is_read lines functions")
-
-
-def load_rt():
-    kit = os.path.dirname(subprocess.run(["rt", "doc"], check=True, capture_output=True, text=True).stdout.strip())
-    loader = importlib.machinery.SourceFileLoader("rt", f"{kit}/bin/rt")
-    made = importlib.util.module_from_spec(importlib.util.spec_from_loader("rt", loader))
-    loader.exec_module(made)
-    remember(made.rtlib.Crate)
-    return made
+# What a check said: whether it came to the proofs, whether all was proved by its last line, its lines, and what it said of each function.
+Said = collections.namedtuple("Said", "is_read is_proved lines functions")
 
 
 def remember(crate):
@@ -71,7 +63,8 @@ def once_a_folder(make):
     return kept
 
 
-rt = load_rt()
+rt = kit.load_rt()
+remember(rt.rtlib.Crate)
 
 
 def functions_of(crate, file):
@@ -173,7 +166,7 @@ class Trial:
         is_read = lines[-1].startswith("logic=") and ran.returncode in (0, 1)
         is_read = is_read and not any(rt.unread(it, texts) for it in lines) and not rt.rtlib.STALE.search("\n".join(lines))
         found = (re.match(r"fn (\S+): (.*)", it) for it in lines)
-        return Said(is_read, lines, {it[1]: it[2] for it in found if it})
+        return Said(is_read, lines[-1].startswith("logic=proved"), lines, {it[1]: it[2] for it in found if it})
 
     def over_kept(self, edits):
         with tempfile.TemporaryDirectory(prefix="edits-kept-") as room:
@@ -185,7 +178,7 @@ class Trial:
         if os.path.isdir(own):
             shutil.copytree(own, self.kept)
         said = self.check({}, self.kept)
-        if not said.lines[-1].startswith("logic=proved"):
+        if not said.is_proved:
             open_ones = [it for it, line in said.functions.items() if line != "proved"]
             self.told.append(f"{self.crate.name}: not proved without any edit: {' '.join(open_ones) or said.lines[-1][:300]}")
             self.failed = len(self.edits)
@@ -249,7 +242,7 @@ def reason_in(said, edit):
     """Returns what a check says against the function that the edit changes, or None."""
     open_ones = {name: line for name, line in said.functions.items() if line != "proved"}
     if not edit.functions:
-        return next((f"{name}: {line}" for name, line in open_ones.items()), None)
+        return None if said.is_proved else next((f"{name}: {line}" for name, line in open_ones.items()), error_in(said))
     for name in {name for it in edit.functions for name in names_of(said, it)} & {*open_ones}:
         parts = open_ones[name].removeprefix("no proof: ").split("; ")
         own = [it for it in parts if not OF_OTHERS.fullmatch(it)]
@@ -262,13 +255,20 @@ def reason_in(said, edit):
     return None
 
 
+def error_in(said):
+    """Returns the first error that a check told, or else its last line."""
+    return next((it for it in said.lines if ": error" in it), said.lines[-1])
+
+
 def lack_in(said, edit):
     """Says how a check that was tried for this edit alone does not refuse it."""
-    others = [f"{name}: {line}" for name, line in said.functions.items() if line != "proved"]
+    if said.is_proved:
+        return "at all: the crate is still proved"
     unknown = [it.name for it in edit.functions if not names_of(said, it)]
     if unknown:
         return f"by its own function: the check names no {unknown[0]}"
-    return f"by its own function, only elsewhere: {others[0][:300]}" if others else "at all: the crate is still proved"
+    others = (f"{name}: {line}" for name, line in said.functions.items() if line != "proved")
+    return f"by its own function, only elsewhere: {next(others, error_in(said))[:300]}"
 
 
 def names_of(said, function):

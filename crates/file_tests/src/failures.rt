@@ -1,10 +1,9 @@
 //! What each failure says.
-use office_files::FileFault;
 use office_store::OpenFault;
-use program_end::Failure;
 use std::alloc::Global;
 use std::process::Abort;
 use std::test::Fail;
+use stored_office::{Failure, FileFault};
 
 // What stands behind the name of a file where its tables were not made, or where no office was opened in it.
 const UNMADE: [(OpenFault, &str); 4] = [

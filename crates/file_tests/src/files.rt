@@ -1,9 +1,9 @@
 //! Connections to databases, whatever makes them; those to files of the system; and a file that no other test has.
-use office_files::{FileConnection, FileFault, make_file, open_file};
 use sqlite::{Alter, Connection, FileFrom, FileStore, Unknown};
 use std::hash::{BuildHasher, RandomState};
 use std::test::Fail;
 use std::{env, fs};
+use stored_office::{FileConnection, FileFault, make_file, open_file};
 
 /// Makes connections. What is tried over them names no file, since a function that holds a connection to one is dear to prove.
 pub(crate) trait Connects {

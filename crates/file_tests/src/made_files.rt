@@ -1,9 +1,9 @@
 //! Files that are made and opened.
 use crate::files::{Connects, Files, path, remove};
-use office_files::FileFault;
 use sqlite::{Alter, Connection, Error};
 use std::fs;
 use std::test::Fail;
+use stored_office::FileFault;
 
 /// Why a database isn't opened, if it isn't.
 fn unopened<C: Connects>(connects: &C, path: &str) -> Option<FileFault> {

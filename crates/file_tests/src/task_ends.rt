@@ -4,11 +4,10 @@ use office_events::Refusal;
 use office_program::{Polling, Serving};
 use office_rounds::RoundFault;
 use office_running::RunFault;
-use program_end::{Ending, Failure};
 use std::alloc::Global;
 use std::process::Abort;
 use std::test::Fail;
-use stored_tasks::{Done, ending_of_done};
+use stored_office::{Done, Ending, Failure, ending_of_done};
 
 const REPORTS: [(Status, u8, &str); 3] = [
     (Status::Fine, 0, ""),

@@ -1,7 +1,6 @@
 //! What peers are replied.
 use crate::office::opened;
-use hub_asking::{Asked, Own, ask, own_route, reply_own};
-use hub_status::Counts;
+use run_status::{Asked, Counts, Own, ask, own_route, reply_own};
 use std::test::Fail;
 
 #[test]

@@ -2,8 +2,8 @@
 use crate::office::metered;
 use office_core::Office;
 use office_events::Name;
+use office_http::serve_on;
 use office_lists::ListBooks;
-use office_serving::serve_on;
 use socket_link::ListedClock;
 use std::alloc::Global;
 use std::io::{Read, Write};

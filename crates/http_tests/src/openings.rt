@@ -4,7 +4,7 @@ use crate::office::{blank, waiting};
 use command_io::Status;
 use failing_books::FailingBooks;
 use office_events::EndedPoll;
-use office_text::open_office;
+use office_program::open_office;
 use poll_core::{LostCause, Outcome};
 use socket_link::ListedClock;
 use std::alloc::Global;

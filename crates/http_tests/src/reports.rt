@@ -5,7 +5,7 @@ use command_io::Status;
 use office_core::Office;
 use office_events::Name;
 use office_lists::ListBooks;
-use office_text::report_days;
+use office_program::report_days;
 use std::alloc::Global;
 use std::process::Abort;
 use std::test::Fail;

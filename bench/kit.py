@@ -1,0 +1,48 @@
+"""What the scripts in Python share: the kit's command `rt` as a module, and what bench/GATE.md tells of a crate's proof."""
+import collections
+import importlib.machinery
+import importlib.util
+import os
+import re
+import shutil
+import subprocess
+
+PAGE = os.path.join(os.path.dirname(os.path.realpath(__file__)), "GATE.md")
+# A crate's row: its name, lines, seconds of the proof, the tests and the edits with their number, their sum, and the most memory of proof and tests.
+ROW = re.compile(r"\| (\w+) \| (\d+) \| (\d*) \| (\d*) \| (?:(\d+) \((\d+)\))? \| \d+ \| ([\d.]*) \| ([\d.]*) \|")
+# What the proof of a crate takes, in processor seconds and bytes; None where it was not measured.
+Cost = collections.namedtuple("Cost", "seconds memory")
+
+
+def folder_of_kit():
+    """Returns the folder of the Rattle kit whose rt a shell would run."""
+    told = subprocess.run(["rt", "doc"], check=True, capture_output=True, text=True)
+    return os.path.dirname(told.stdout.strip())
+
+
+def of_links(room):
+    """Makes a folder in the room that stands for the kit, beside which nothing is kept, and returns it."""
+    real, made = folder_of_kit(), f"{room}/kit"
+    os.makedirs(f"{made}/bin")
+    for name in [*os.listdir(real), *(f"bin/{it}" for it in os.listdir(f"{real}/bin"))]:
+        # (rt finds the kit by the place of its own files, so these are copies)
+        if name in ("bin/rt", "bin/rtlib.py"):
+            shutil.copy2(f"{real}/{name}", f"{made}/{name}")
+        elif name != "bin":
+            os.symlink(f"{real}/{name}", f"{made}/{name}")
+    return made
+
+
+def load_rt(kit=None):
+    """Returns the kit's command rt as a module."""
+    loader = importlib.machinery.SourceFileLoader("rt", f"{kit or folder_of_kit()}/bin/rt")
+    made = importlib.util.module_from_spec(importlib.util.spec_from_loader("rt", loader))
+    loader.exec_module(made)
+    return made
+
+
+def costs(page=PAGE):
+    """Returns the costs of each crate's proof that the page has, by the crate's name."""
+    with open(page, encoding="utf-8") as it:
+        rows = [it for it in map(ROW.match, it) if it]
+    return {row[1]: Cost(float(row[3]) if row[3] else None, 1e9 * float(row[7]) if row[7] else None) for row in rows}

@@ -1,0 +1,78 @@
+#!/usr/bin/env python3
+"""watch.py FILE: notes what the kit's processes on this machine take, until it is stopped: a line of JSON for each that has ended.
+
+A line has the words (cmd), the folder that it began in (cwd), its processor seconds (cpu), the most memory that it held in bytes (rss), and when it was first
+and last seen (t0, t1). It looks once a second, so it lacks what ended sooner, and the last second of what it has.
+`bench/gate.sh --log FILE` makes a table of what the gate costs of it, so that the figures come from runs that are made anyway.
+"""
+import json
+import os
+import re
+import sys
+import time
+
+sys.dont_write_bytecode = True
+import kit
+
+TICKS, PAGE = os.sysconf("SC_CLK_TCK"), os.sysconf("SC_PAGE_SIZE")
+
+
+def text_of(path):
+    with open(path, encoding="utf-8", errors="replace") as it:
+        return it.read()
+
+
+class Watch:
+    """The processes that run a file of the kit, or a program that rt built and runs."""
+
+    def __init__(self, folder):
+        self.folder, self.running = os.path.realpath(folder) + "/", {}
+
+    def look(self):
+        """Looks once, and returns what was told of those that have ended since."""
+        now, seen = time.time(), set()
+        for number in filter(str.isdigit, os.listdir("/proc")):
+            try:
+                state = text_of(f"/proc/{number}/stat").rpartition(")")[2].split()
+                one = number, state[19]
+                if one not in self.running and not self.begin(one, now):
+                    continue
+                seen.add(one)
+                told = self.running[one]
+                told["cpu"], told["t1"] = (int(state[11]) + int(state[12])) / TICKS, now
+                told["rss"] = max(told["rss"], int(state[21]) * PAGE, self.most(number))
+            except (OSError, ValueError):
+                # (it has ended meanwhile, or is none of ours)
+                continue
+        return [self.running.pop(it) for it in [*self.running] if it not in seen]
+
+    def begin(self, one, now):
+        """Notes a process that runs what is to be watched, and returns whether it does."""
+        file = os.readlink(f"/proc/{one[0]}/exe")
+        if file.startswith(self.folder) or "/rt-run-" in file:
+            words = text_of(f"/proc/{one[0]}/cmdline").replace("\0", " ").strip()
+            self.running[one] = {"pid": int(one[0]), "cmd": words, "cwd": os.readlink(f"/proc/{one[0]}/cwd"), "t0": now, "cpu": 0, "rss": 0, "t1": now}
+        return one in self.running
+
+    def most(self, number):
+        """Returns the most memory that a process has held."""
+        found = re.search(r"VmHWM:\s+(\d+)", text_of(f"/proc/{number}/status"))
+        return 1024 * int(found[1]) if found else 0
+
+
+def main(path):
+    watch = Watch(kit.folder_of_kit())
+    with open(path, "a", buffering=1, encoding="utf-8") as out:
+        while True:
+            for told in watch.look():
+                out.write(json.dumps(told) + "\n")
+            time.sleep(1)
+
+
+if __name__ == "__main__":
+    if len(sys.argv) != 2 or sys.argv[1].startswith("-"):
+        sys.exit(__doc__)
+    try:
+        main(sys.argv[1])
+    except KeyboardInterrupt:
+        pass
