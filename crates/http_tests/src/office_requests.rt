@@ -35,7 +35,8 @@ fn cut_off(
     case: &Case<'_>,
 ) -> Result<(), Fail> {
     for end in 0..case.request.len() {
-        let served = serve(alloc, office, case.at, &case.request[..end])?;
+        let cut = case.request.get(..end).unwrap_or(case.request);
+        let served = serve(alloc, office, case.at, cut)?;
         assert_eq!(rt; served.handled, Err(HandleFault::Short), "{end} bytes");
         assert!(rt; served.given.is_empty());
     }
