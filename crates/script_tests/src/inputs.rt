@@ -1,7 +1,8 @@
 //! Inputs of megabytes, and what is given out of many lines.
-use crate::replays::run;
+use crate::replays::zone;
 use crate::streams::{Kept, Slow};
 use command_io::{MOST_BYTES, ReadFault, Status, read_whole};
+use script_replay::replay;
 use std::alloc::{AllocError, Global};
 use std::io::ErrorKind;
 use std::test::Fail;
@@ -24,7 +25,7 @@ fn inputs_of_4194304_bytes_are_run(rt: HostRuntime) -> Result<(), Fail> {
     for (text, output) in &LAST_BYTES {
         let all = behind_lines(rt.alloc(), MOST_BYTES - 1, text)?;
         let mut input = all.as_bytes();
-        let ended = run(rt.alloc(), &mut input, Vec::new(rt.alloc()))?;
+        let ended = replay(rt.alloc(), zone()?, &mut input, Vec::new(rt.alloc()));
         assert_eq!(rt; ended.output.as_slice(), output.as_bytes());
         assert_eq!(rt; ended.status, Status::Refused);
     }
@@ -56,7 +57,7 @@ fn whole_lines_are_given_out(rt: HostRuntime) -> Result<(), Fail> {
     let text = questions(rt.alloc())?;
     let mut input = text.as_bytes();
     let kept = Kept::new(rt.alloc(), usize::MAX, 8192);
-    let ended = run(rt.alloc(), &mut input, kept)?;
+    let ended = replay(rt.alloc(), zone()?, &mut input, kept);
     assert_eq!(rt; ended.status, Status::Fine);
     assert_eq!(rt; ended.output.got.len(), 20_000);
     assert_eq!(rt; ended.output.calls, 3);

@@ -2,9 +2,8 @@
 use crate::streams::{Kept, Slow};
 use command_io::Status;
 use interval_core::Zone;
-use script_run::{Replayed, replay};
-use std::alloc::Global;
-use std::io::{ErrorKind, Read, Write};
+use script_run::replay;
+use std::io::ErrorKind;
 use std::test::Fail;
 
 // A device with a meter, a read of it, and its reply.
@@ -33,15 +32,6 @@ pub(crate) fn zone() -> Result<Zone, Fail> {
     }
 }
 
-/// Runs a script from a reader.
-pub(crate) fn run<R: Read, W: Write + Drop>(
-    alloc: Global,
-    input: &mut R,
-    output: W,
-) -> Result<Replayed<W>, Fail> {
-    Ok(replay(alloc, zone()?, input, output))
-}
-
 static SCRIPTS: [(&str, &str, Status); 3] = [
     ("", "", Status::Fine),
     (READING, READING_PRINTED, Status::Fine),
@@ -52,7 +42,7 @@ static SCRIPTS: [(&str, &str, Status); 3] = [
 fn scripts_are_run(rt: HostRuntime) -> Result<(), Fail> {
     for (text, output, status) in &SCRIPTS {
         let mut input = text.as_bytes();
-        let ended = run(rt.alloc(), &mut input, Vec::new(rt.alloc()))?;
+        let ended = replay(rt.alloc(), zone()?, &mut input, Vec::new(rt.alloc()));
         assert_eq!(rt; ended.output.as_slice(), output.as_bytes(), "{text}");
         assert_eq!(rt; ended.status, *status, "{text}");
     }
@@ -64,7 +54,7 @@ fn each_failing_read_ends_a_script(rt: HostRuntime) -> Result<(), Fail> {
     for kind in [ErrorKind::Interrupted, ErrorKind::BrokenPipe] {
         for failing in 1..READING.len() + 2 {
             let mut slow = Slow::of(READING.as_bytes(), failing, kind);
-            let ended = run(rt.alloc(), &mut slow, Vec::new(rt.alloc()))?;
+            let ended = replay(rt.alloc(), zone()?, &mut slow, Vec::new(rt.alloc()));
             assert_eq!(rt; ended.status, Status::Failed);
             assert!(rt; ended.output.is_empty());
             assert_eq!(rt; slow.calls, failing);
@@ -78,7 +68,8 @@ fn each_failing_write_ends_a_script(rt: HostRuntime) -> Result<(), Fail> {
     for most in [1, 7, 8192] {
         for failing in 1..200 {
             let mut input = READING.as_bytes();
-            let ended = run(rt.alloc(), &mut input, Kept::new(rt.alloc(), failing, most))?;
+            let kept = Kept::new(rt.alloc(), failing, most);
+            let ended = replay(rt.alloc(), zone()?, &mut input, kept);
             let whole = ended.output.is_whole(&rt, READING_PRINTED);
             assert_eq!(rt; ended.status == Status::Fine, whole);
         }
