@@ -17,7 +17,7 @@ const COUNTER: &str = "0 device d 1 60 1
 0 connect d";
 
 /// What goes before, a script, and what is printed of it.
-static SCRIPTS: [(&str, &str, &str); 12] = [
+static SCRIPTS: [(&str, &str, &str); 14] = [
     (
         READ,
         "meter m1
@@ -195,6 +195,30 @@ meter m1 last 104 sf 0 at 2800 total 200000 open
 1800 100000
 2700 11112
 end 3
+",
+    ),
+    (
+        READ,
+        "2800 exchange main 5300 0 m2 0 0 100000
+meter m1
+meter m2
+intervals m1",
+        "ok
+meter m1 last 5300 sf 0 at 2800 total 300000 ended
+meter m2 last 0 sf 0 at 2800 total 0 open
+900 177777
+1800 111111
+2700 11112
+end 3
+",
+    ),
+    (
+        WAITING,
+        "1900 failed inv
+poll 1",
+        "poll 1 lost 3
+ok
+poll 1 lost 3
 ",
     ),
     // A reply that comes too late, and a connection that is closed.

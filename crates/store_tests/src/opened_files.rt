@@ -85,12 +85,18 @@ static RANGES: [(&str, i64); 3] = [
 
 static KEPT_RANGES: [(&str, i64); 2] = [("SELECT count(*) FROM ranges", 1), (KEPT, 1_000_000)];
 
+/// What queries show of a file.
+fn shows(rt: &impl Abort, conn: &mut Connection<MemStore>, numbers: &[(&str, i64)]) {
+    for (query, shown) in numbers {
+        assert_eq!(rt; number(conn, query), Ok(*shown), "{query}");
+    }
+}
+
 /// Opens a file, which shows these numbers and those of each file, and is opened again.
 fn is_brought(rt: &impl Abort, conn: &mut Connection<MemStore>, ranges: &[(&str, i64)]) {
     assert_eq!(rt; fault(open(conn)), 0);
-    for (query, shown) in BROUGHT.iter().chain(ranges) {
-        assert_eq!(rt; number(conn, query), Ok(*shown), "{query}");
-    }
+    shows(rt, conn, &BROUGHT);
+    shows(rt, conn, ranges);
     assert_eq!(rt; fault(open(conn)), 0);
 }
 
