@@ -62,7 +62,8 @@ fn start_of(given: &GivenStart) -> Option<Event> {
 
 /// The event of a script's line, and its moment.
 pub(crate) fn event_of(alloc: Global, line: &str) -> Option<(u64, Event)> {
-    match ScriptLine::read(alloc, line.as_bytes()).ok()? {
+    let said = ScriptLine::read(alloc, line.as_bytes()).ok()?;
+    match said {
         ScriptLine::Event { at, event } => Some((at, event)),
         ScriptLine::Start { at, start } => Some((at, start_of(&start)?)),
         _ => None,
@@ -71,8 +72,9 @@ pub(crate) fn event_of(alloc: Global, line: &str) -> Option<(u64, Event)> {
 
 /// The command of a script's line, and its moment.
 pub(crate) fn command_of(alloc: Global, line: &str) -> Option<(u64, Command)> {
-    match event_of(alloc, line)? {
-        (at, Event::Command(command)) => Some((at, command)),
+    let (at, event) = event_of(alloc, line)?;
+    match event {
+        Event::Command(command) => Some((at, command)),
         _ => None,
     }
 }

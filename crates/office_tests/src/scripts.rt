@@ -34,11 +34,14 @@ pub(crate) fn feed(
 
 /// Asks the office what a line asks, and prints its answer.
 fn ask(alloc: Global, office: &mut Tried, line: &str, output: &mut Vec<u8>) -> io::Result<()> {
-    match ScriptLine::read(alloc, line.as_bytes()) {
-        Ok(ScriptLine::Meter { name }) => ask_meter(office, &name, output),
-        Ok(ScriptLine::Poll { number }) => ask_poll(office, number, output),
-        Ok(ScriptLine::Intervals { name }) => ask_intervals(alloc, office, &name, output),
-        Ok(ScriptLine::Days { name }) => ask_days(alloc, office, &name, output),
+    let Ok(said) = ScriptLine::read(alloc, line.as_bytes()) else {
+        return Ok(());
+    };
+    match &said {
+        ScriptLine::Meter { name } => ask_meter(office, name, output),
+        ScriptLine::Poll { number } => ask_poll(office, *number, output),
+        ScriptLine::Intervals { name } => ask_intervals(alloc, office, name, output),
+        ScriptLine::Days { name } => ask_days(alloc, office, name, output),
         _ => Ok(()),
     }
 }
