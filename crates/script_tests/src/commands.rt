@@ -27,13 +27,14 @@ fn same(said: &Command, wanted: &Command) -> bool {
 
 // Whether a line is this command at the moment 5.
 fn says(alloc: Global, text: &str, wanted: &Command) -> bool {
-    match ScriptLine::read(alloc, text.as_bytes()) {
+    let read = ScriptLine::read(alloc, text.as_bytes());
+    match &read {
         Ok(
             ScriptLine::Event {
                 at: 5,
                 event: Event::Command(said),
             },
-        ) => same(&said, wanted),
+        ) => same(said, wanted),
         _ => false,
     }
 }
@@ -141,36 +142,35 @@ fn reads_readings_by_hand(rt: HostRuntime) {
     }
 }
 
-fn corrections() -> [(&'static str, Command); 3] {
-    let register = Name::new(b"main");
-    let reset = Reset {
-        register,
+#[test]
+fn reads_resets(rt: HostRuntime) {
+    let wanted = Command::Reset(Reset {
+        register: Name::new(b"main"),
         before: 5200,
         after: 7,
-    };
-    let rescale = Rescale {
-        register,
-        before: 5200,
-        after: 520,
-        sf: 1,
-    };
-    let close = Close {
-        register,
-        raw: 5300,
-        rolls: 2,
-    };
-    [
-        ("5 reset main 5200 7", Command::Reset(reset)),
-        ("5 rescale main 5200 520 1", Command::Rescale(rescale)),
-        ("5 close main 5300 2", Command::Close(close)),
-    ]
+    });
+    assert!(rt; says(rt.alloc(), "5 reset main 5200 7", &wanted));
 }
 
 #[test]
-fn reads_corrections(rt: HostRuntime) {
-    for (text, wanted) in &corrections() {
-        assert!(rt; says(rt.alloc(), text, wanted), "{text}");
-    }
+fn reads_rescales(rt: HostRuntime) {
+    let wanted = Command::Rescale(Rescale {
+        register: Name::new(b"main"),
+        before: 5200,
+        after: 520,
+        sf: 1,
+    });
+    assert!(rt; says(rt.alloc(), "5 rescale main 5200 520 1", &wanted));
+}
+
+#[test]
+fn reads_closings(rt: HostRuntime) {
+    let wanted = Command::Close(Close {
+        register: Name::new(b"main"),
+        raw: 5300,
+        rolls: 2,
+    });
+    assert!(rt; says(rt.alloc(), "5 close main 5300 2", &wanted));
 }
 
 #[test]

@@ -2,7 +2,7 @@
 use mb_wire::ReadSpan;
 use office_events::{Event, Name};
 use poll_core::Closing;
-use script_lines::{GivenStart, LineFault, ScriptLine};
+use script_lines::{GivenList, GivenStart, LineFault, ScriptLine};
 use std::alloc::{AllocError, Global};
 use std::test::Fail;
 
@@ -32,13 +32,20 @@ fn is_event(event: &Event, wanted: Said) -> bool {
     }
 }
 
+// Whether a list of `inv` has this text.
+fn is_list(list: &GivenList, wanted: Said) -> bool {
+    match wanted {
+        Said::List(bytes) => { list.device == Name::new(b"inv") && list.text.as_slice() == bytes }
+        _ => false,
+    }
+}
+
 // Whether a line says this at the moment.
 fn says(alloc: Global, text: &[u8], moment: u64, wanted: Said) -> bool {
-    match (ScriptLine::read(alloc, text), wanted) {
-        (Ok(ScriptLine::Event { at, event }), _) => at == moment && is_event(&event, wanted),
-        (Ok(ScriptLine::List { at, list }), Said::List(bytes)) => {
-            at == moment && list.device == Name::new(b"inv") && list.text.as_slice() == bytes
-        }
+    let read = ScriptLine::read(alloc, text);
+    match &read {
+        Ok(ScriptLine::Event { at, event }) => *at == moment && is_event(event, wanted),
+        Ok(ScriptLine::List { at, list }) => *at == moment && is_list(list, wanted),
         _ => false,
     }
 }
@@ -126,10 +133,11 @@ fn reads_starts(rt: HostRuntime) {
 
 // What a line asks: a letter for the question, and the name.
 fn asked(alloc: Global, text: &str) -> Option<(char, Option<Name>)> {
-    match ScriptLine::read(alloc, text.as_bytes()) {
-        Ok(ScriptLine::Meter { name }) => Some(('m', name)),
-        Ok(ScriptLine::Intervals { name }) => Some(('i', name)),
-        Ok(ScriptLine::Days { name }) => Some(('d', name)),
+    let read = ScriptLine::read(alloc, text.as_bytes());
+    match &read {
+        Ok(ScriptLine::Meter { name }) => Some(('m', *name)),
+        Ok(ScriptLine::Intervals { name }) => Some(('i', *name)),
+        Ok(ScriptLine::Days { name }) => Some(('d', *name)),
         Ok(ScriptLine::Poll { number: 3 }) => Some(('p', None)),
         _ => None,
     }
