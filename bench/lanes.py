@@ -38,7 +38,8 @@ class Lanes:
             return None
         crate = max(ready, key=self.behind.get)
         # (what those that run have yet to take isn't free)
-        room = self.rt.free() - max(sum(it.memory for it in self.running.values()) - held(self.group), 0)
+        planned, held = sum(it.memory for it in self.running.values()), sum(much for _, much in members(self.group))
+        room = self.rt.free() - max(planned - held, 0)
         much = self.memory[crate]
         if self.running and much > room:
             return None
@@ -68,13 +69,12 @@ class Lanes:
         return round(pace * max([*chains, whole / self.lanes]) / 60)
 
 
-def held(group):
-    """Returns the bytes that the processes of a group hold."""
-    much = 0
+def members(group):
+    """Yields the processes of a group, and those of this one that may yet join it, with the bytes that each holds."""
     for state in pathlib.Path("/proc").glob("[0-9]*/stat"):
         try:
-            words = state.read_text(errors="replace").rpartition(")")[2].split()
+            kind, parent, of, *words = state.read_text(errors="replace").rpartition(")")[2].split()
         except OSError:
             continue
-        much += int(words[21]) * os.sysconf("SC_PAGE_SIZE") * (int(words[2]) == group)
-    return much
+        if kind != "Z" and (int(of) == group or int(parent) == os.getpid()):
+            yield int(state.parent.name), int(words[18]) * os.sysconf("SC_PAGE_SIZE")
