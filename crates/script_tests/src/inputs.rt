@@ -2,7 +2,7 @@
 use crate::replays::zone;
 use crate::streams::{Kept, Slow};
 use command_io::{MOST_BYTES, ReadFault, Status, read_whole};
-use script_replay::replay;
+use script_run::replay;
 use std::alloc::{AllocError, Global};
 use std::io::ErrorKind;
 use std::test::Fail;
