@@ -15,15 +15,15 @@ impl RowSink<Share> for NoRows {
 
 /// The names that are looked up.
 #[derive(Clone, Copy)]
-struct Names {
+struct AskedNames {
     inv: Name,
     main: Name,
     m1: Name,
     desk: Name,
 }
 
-fn names() -> Option<Names> {
-    Some(Names {
+fn names() -> Option<AskedNames> {
+    Some(AskedNames {
         inv: Name::new(b"inv")?,
         main: Name::new(b"main")?,
         m1: Name::new(b"m1")?,
@@ -36,7 +36,7 @@ fn look<T: Drop>(answer: Result<T, BooksFault>) -> bool {
     matches!(answer, Ok(_) | Err(BooksFault::Store(StoreFault::Damaged)))
 }
 
-fn ask_devices<B: Books>(books: &mut B, names: &Names) -> bool {
+fn ask_devices<B: Books>(books: &mut B, names: &AskedNames) -> bool {
     look(books.devices())
         && look(books.list(&names.inv))
         && look(books.register(&names.main))
@@ -44,7 +44,7 @@ fn ask_devices<B: Books>(books: &mut B, names: &Names) -> bool {
         && look(books.register_count(&names.inv))
 }
 
-fn ask_meters<B: Books>(books: &mut B, names: &Names) -> bool {
+fn ask_meters<B: Books>(books: &mut B, names: &AskedNames) -> bool {
     look(books.meter(&names.m1))
         && look(books.installation(&names.main))
         && look(books.installation_count())
@@ -53,7 +53,7 @@ fn ask_meters<B: Books>(books: &mut B, names: &Names) -> bool {
         && look(books.register_intervals(&names.main, &mut NoRows))
 }
 
-fn ask_polls<B: Books>(books: &mut B, names: &Names) -> bool {
+fn ask_polls<B: Books>(books: &mut B, names: &AskedNames) -> bool {
     look(books.poll(1))
         && look(books.poll_count())
         && look(books.pending())
