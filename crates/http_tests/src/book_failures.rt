@@ -25,6 +25,11 @@ fn opened(alloc: Global, books: FailingBooks) -> Result<Office<FailingBooks>, Fa
     }
 }
 
+// Whether the books failed.
+fn is_refused(served: &Served) -> bool {
+    served.given.starts_with(FAILED)
+}
+
 // Serves a request, and serves it again where the books failed.
 fn serve_again(
     alloc: Global,
@@ -32,7 +37,7 @@ fn serve_again(
     case: &Case<'_>,
 ) -> Result<Served, AllocError> {
     let served = serve(alloc, office, case.at, case.request)?;
-    if served.given.as_slice() == FAILED {
+    if is_refused(&served) {
         return serve(alloc, office, case.at, case.request);
     }
     Ok(served)

@@ -91,21 +91,13 @@ const M1: &str = "meter m1 last 5300 sf 0 at 2800 total 300000 ended
 end 3
 ";
 
-fn shows_m1(
-    rt: &impl Abort,
-    alloc: Global,
-    office: &mut Office<SqlBooks<MemStore>>,
-) -> Result<(), Fail> {
-    let text = play(alloc, office, "meter m1\nintervals m1")?;
-    assert_eq!(rt; str::from_utf8(&text)?, M1);
-    Ok(())
-}
-
 #[test]
 fn a_repeat_is_answered_again(rt: HostRuntime) -> Result<(), Fail> {
     let mut office = after(rt.alloc(), READ)?;
     are_answered(&rt, rt.alloc(), &mut office, &REQUESTS);
     let mut again = reopened(rt.alloc(), office)?;
     are_answered(&rt, rt.alloc(), &mut again, &REQUESTS[1..]);
-    shows_m1(&rt, rt.alloc(), &mut again)
+    let text = play(rt.alloc(), &mut again, "meter m1\nintervals m1")?;
+    assert_eq!(rt; text.as_slice(), M1.as_bytes());
+    Ok(())
 }

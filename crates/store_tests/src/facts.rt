@@ -17,7 +17,7 @@ pub(crate) fn whole<const N: usize>(
     given: [Option<Fact>; N],
 ) -> Result<Vec<Fact>, Fail> {
     let mut facts = Vec::new(alloc);
-    for fact in given {
+    for fact in Vec::from_array(alloc, given)? {
         facts.push(fact.ok_or("no fact")?)?;
     }
     Ok(facts)
