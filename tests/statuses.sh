@@ -28,17 +28,6 @@ run() {
     status=$?
 }
 
-run ''
-is 'no input' 0 '' ''
-run '# a comment\n\n1000 tick\r\n1000 tick'
-is 'lines that are skipped, a carriage return, a last line with no end' 0 "$(printf 'ok\nok')" ''
-run '1000 device inv 300 5 1\n'
-is 'a refusal is an answer' 0 'refused 12' ''
-run 'x\n'
-is 'a line that fits no form' 1 'bad line 1' ''
-run '1000 tick\n\n1000  tick\n1000 tick\n'
-is 'lines before it are carried out, and none after' 1 "$(printf 'ok\nbad line 3')" ''
-
 for words in '' replay plan chain loop; do
     if [ "$words" = plan ]; then
         limit="$(printf 'row 1 fault 2')"
@@ -61,38 +50,6 @@ for words in '' replay plan chain loop; do
     is "$words: a read that fails" 3 '' 'failed'
 done
 
-run '1000 tick\n' replay
-is 'replay' 0 'ok' ''
-run '1000 tick\n' replay --zone CET-1CEST,M3.5.0,M10.5.0/3
-is 'replay in a zone' 0 'ok' ''
-for words in replay loop; do
-    run '1000 tick\n' "$words" --zone nowhere
-    is "$words: a text that is no zone" 2 '' \
-        "error: invalid value 'nowhere' for '--zone <TEXT>': no POSIX time zone, as UTC0 or CET-1CEST,M3.5.0,M10.5.0/3"
-done
-
-run 'name,function,address,count,type,scale\n' plan
-is 'plan: a header that is another' 1 'row 1 fault 2' ''
-run '40000 53756e53ffff\n' chain
-is 'chain' 0 "$(printf 'base 40000\nend 40002')" ''
-run '40000 53756e53\n' chain
-is 'chain: a word that lacks' 1 'fault 2 40002' ''
-run '65536\n' chain
-is 'chain: a bad line' 1 'bad line 1' ''
-
-device='1000 device inv 1 5 1\n1000 register main inv 3 40094 @40096\n1000 install main m1 5000 0 100000\n'
-run "area holding 40094 3\nset holding 40095 5200\n${device}1900 connect inv\n1900 start inv 3 40094 3\nmeter m1\n" loop
-is 'loop' 0 "$(printf 'ok\nok\nok\nok\nok\nok\nstarted 1 1 1 00000000000601039c9e0003\npoll 1 answered\nreading m1 5200 rolls 0 step 200000\nok\nmeter m1 last 5200 sf 0 at 1900 total 200000 open')" ''
-run '1000 bytes inv 00\n' loop
-is 'loop: bytes' 1 'bad line 1' ''
-
-run 'area holding 0 1\nx\n' stand-in --port 1 --connections 1
-is 'stand-in: a bad line' 1 'bad line 2' ''
-run '' stand-in --port 1 --connections 1 --host 192.0.2.1
-is 'stand-in: an address of another' 3 '' 'failed'
-run '' stand-in --port 65536 --connections 1
-is 'stand-in: a port out of range' 2 '' "error: invalid value '65536' for '--port <N>': not a number from 1 to 65535"
-
 for words in help --help -h 'help replay' 'plan --help' 'stand-in -h' 'help help'; do
     run '' $words
     [ -s "$room/out" ] || status=none
@@ -100,10 +57,6 @@ for words in help --help -h 'help replay' 'plan --help' 'stand-in -h' 'help help
     is "$words" 0 '' ''
 done
 
-run '' nothing
-is 'no such command' 2 '' "error: unrecognized subcommand 'nothing'"
-run '' plan more
-is 'a word too many' 2 '' "error: unexpected argument 'more' found"
 run '' --version
 is 'no such option' 2 '' "error: unexpected argument '--version' found"
 "$program" "$(printf '\377')" > "$room/out" 2> "$room/err"
@@ -122,8 +75,6 @@ run '' create --db "$office" --zone UTC0
 is 'create: a file with tables' 3 '' 'failed'
 run '' report --db "$office" --register r
 is 'report: no such register' 1 'refused 1' ''
-run '' serve --db "$room" --port 1 --connections 1
-is 'serve: a folder' 3 '' 'failed'
 run '' serve --db "$office" --port 65536 --connections 1
 is 'serve: a port out of range' 2 '' "error: invalid value '65536' for '--port <N>': not a number from 1 to 65535"
 run '' round --db "$office" --device d --port 1

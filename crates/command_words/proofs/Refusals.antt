@@ -4,7 +4,7 @@ use Rattle.std.specs.Borrow.{Bor}
 use Rattle.clap.specs.Words.{IsAmong, Kinds, Text}
 use Rattle.clap.specs.declared.error.kind.ErrorKind.{ErrorKind}
 use Rattle.clap.specs.declared.error.kind.ErrorKind.TheVariants.{DisplayHelp, OutOfMemory}
-use Rattle.command_table.specs.Table.{texts}
+use Rattle.command_words.specs.ClapTable.Table.{texts}
 use Rattle.command_words.specs.Faults.{IsRefusal}
 use Rattle.command_words.specs.Words.{HasFault, IsFaultOf, errors_of}
 use Rattle.command_words.specs.declared.faults.WordsFault.{WordsFault}

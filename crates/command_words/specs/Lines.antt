@@ -2,8 +2,8 @@
 use Rattle.std.specs.Prelude.{ℕ, Bool, List, Option, Some, None, codes, map, if◌then◌else◌}
 use Rattle.std.specs.Str.{bytes_eq}
 use Rattle.clap.specs.Words.{Row, Text}
-use Rattle.word_values.specs.Devices.{Place, devices_in, place_of}
-use Rattle.word_values.specs.Given.{given}
+use Rattle.command_words.specs.Values.Devices.{Place, devices_in, place_of}
+use Rattle.command_words.specs.Values.Given.{given}
 use Rattle.command_words.specs.Options.{is_set, number_at, number_if, text_at, text_or}
 use Rattle.command_words.specs.declared.line.CommandLine.{CommandLine}
 use Rattle.command_words.specs.declared.line.CommandLine.TheVariants as line

@@ -4,8 +4,8 @@ use Rattle.std.specs.Str.{bytes_eq}
 use Rattle.std.specs.Option.{option_map_or}
 use Rattle.clap.specs.Words.{Row, Text, first_of, found_of, rows_of}
 use Rattle.clap.specs.declared.parser.matches.ArgMatches.{ArgMatches}
-use Rattle.word_values.specs.Given.{given}
-use Rattle.word_values.specs.Numbers.{number_up_to}
+use Rattle.command_words.specs.Values.Given.{given}
+use Rattle.command_words.specs.Values.Numbers.{number_up_to}
 use Rattle.command_words.specs.declared.faults.ValueFault.{ValueFault}
 use Rattle.command_words.specs.declared.faults.ValueFault.TheVariants as fault
 

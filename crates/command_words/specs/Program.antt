@@ -1,7 +1,7 @@
 -- The program's commands and options.
 use Rattle.std.specs.Prelude.{List, [], ◌∷◌, codes}
 use Rattle.clap.specs.Words.{App}
-use Rattle.command_table.specs.Table.{command_with, flag, optional_option, program_with, required_option}
+use Rattle.command_words.specs.ClapTable.Table.{command_with, flag, optional_option, program_with, required_option}
 
 abbrev pub commands : List App
 commands =

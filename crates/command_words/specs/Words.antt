@@ -4,7 +4,7 @@ use Rattle.std.specs.Borrow.{Bor}
 use Rattle.clap.specs.Words.{IsAmong, Kinds, Text, fault_of, subcommand_of, subcommand_rows_of}
 use Rattle.clap.specs.declared.parser.matches.ArgMatches.{ArgMatches}
 use Rattle.clap.specs.declared.error.kind.ErrorKind.TheVariants.{DisplayHelp}
-use Rattle.command_table.specs.Table.{texts}
+use Rattle.command_words.specs.ClapTable.Table.{texts}
 use Rattle.command_words.specs.Lines.{Line, line_in, seen}
 use Rattle.command_words.specs.Program.{program}
 use Rattle.command_words.specs.declared.line.CommandLine.{CommandLine}

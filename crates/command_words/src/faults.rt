@@ -1,9 +1,9 @@
 //! Why words are no command line.
 use crate::table::NumberOption;
+use crate::values::DeviceFault;
 use std::error::Error;
 use std::fmt;
 use std::fmt::{Display, Formatter};
-use word_values::DeviceFault;
 
 /// Why the value of an option is none that it takes.
 #[derive(Clone, Copy, Drop)]

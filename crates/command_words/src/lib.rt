@@ -1,14 +1,17 @@
 //! The command line of the program: its commands and options, and what the words spell.
 #![tactic(auto)]
 
+mod clap_table;
 mod faults;
 mod line;
 mod lines;
 mod options;
 mod table;
+mod values;
 mod words;
 
+pub use crate::values::Device;
 pub use faults::WordsFault;
 pub use line::CommandLine;
-pub use word_values::Device;
+pub use values::{DeviceFault, ListFault};
 pub use words::command_of;

@@ -1,5 +1,5 @@
 //! What the program is asked to do.
-use word_values::Device;
+use crate::values::Device;
 
 /// A command with the values of its options, which are texts as they stand in the words, numbers in their ranges, and
 /// seconds.

@@ -1,6 +1,6 @@
 //! The command of what was found.
 ghost use Rattle.clap.specs.Words.{subcommand_rows_of};
-ghost use Rattle.word_values.specs.Devices.{places_of};
+ghost use Rattle.command_words.specs.Values.Devices.{places_of};
 ghost use Rattle.command_words.specs.Lines.{command_in, create_in, devices_at, line_in, report_in};
 ghost use Rattle.command_words.specs.Lines.{round_in, run_in, seen, serve_in, stand_in_in};
 ghost use Rattle.command_words.specs.Options.{Reads, rows_in};
@@ -9,9 +9,9 @@ use crate::faults::ValueFault;
 use crate::line::CommandLine;
 use crate::options::{is_set, number, number_if, text, text_or};
 use crate::table::{CONNECTIONS, EVERY, HOST, LASTS, LISTEN, PORT, ZONE};
+use crate::values::{Device, ListFault, devices_in};
 use clap::ArgMatches;
 use std::alloc::Global;
-use word_values::{Device, ListFault, devices_in};
 
 fn create_line<'a>(found: &ArgMatches<'a>) -> Result<CommandLine<'a>, ValueFault<'a>>
     ensures { Reads seen (create_in (rows_in found.now)) result }

@@ -1,13 +1,13 @@
 //! The values of a command's options.
 ghost use Rattle.std.specs.Prelude.{◌≡◌, ◌≤◌, IfOk, option_map};
-ghost use Rattle.word_values.specs.Numbers.{number_up_to};
+ghost use Rattle.command_words.specs.Values.Numbers.{number_up_to};
 ghost use Rattle.command_words.specs.Options.{Reads, is_set, number_at, number_if, rows_in};
 ghost use Rattle.command_words.specs.Options.{text_at, text_or};
 
 use crate::faults::ValueFault;
 use crate::table::NumberOption;
+use crate::values::number_up_to;
 use clap::ArgMatches;
-use word_values::number_up_to;
 
 // The value of an option, where it has one.
 fn value<'a>(found: &ArgMatches<'a>, option: &str) -> Option<&'a str>

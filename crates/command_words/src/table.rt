@@ -1,5 +1,5 @@
 //! The program's commands and options, with their help.
-use command_table::{CommandText, OptionText, ProgramText, Value};
+use crate::clap_table::{CommandText, OptionText, ProgramText, Value};
 
 /// An option whose value is a number from 1 to the most; the help shows `value` for it.
 #[derive(Clone, Copy, Drop)]

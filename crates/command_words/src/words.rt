@@ -1,17 +1,17 @@
 //! The command that the words spell.
 ghost use Rattle.std.specs.Prelude.{IfErr, IfOk};
 ghost use Rattle.clap.specs.Words.{FailsBy, kind_of};
-ghost use Rattle.command_table.specs.Table.{texts};
+ghost use Rattle.command_words.specs.ClapTable.Table.{texts};
 ghost use Rattle.command_words.specs.Faults.{IsMisreading, IsRefusal};
 ghost use Rattle.command_words.specs.Words.{IsFaultOf, IsFound, Spells, errors_of};
 
+use crate::clap_table::matches_of;
 use crate::faults::{ValueFault, WordsFault};
 use crate::line::CommandLine;
 use crate::lines::line_in;
 use crate::table::PROGRAM;
 use clap::error::ErrorKind;
 use clap::{ArgMatches, Error};
-use command_table::matches_of;
 use std::alloc::Global;
 
 // What `clap` finds in the words.

@@ -1,11 +1,11 @@
 //! Faults of requests, of scripts and of the command line.
 use crate::texts::tells;
 use command_io::ReadFault;
+use command_words::{DeviceFault, ListFault};
 use http_json::BodyFault;
 use http_read::TakeFault;
 use script_lines::LineFault;
 use std::test::Fail;
-use word_values::{DeviceFault, ListFault};
 
 const BODIES: [(BodyFault, &str); 3] = [
     (

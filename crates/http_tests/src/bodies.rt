@@ -1,6 +1,7 @@
 //! The JSON of requests and replies.
 use http_json::{
-    BodyFault, Scale, body_of, close_in, device_in, exchange_in, install_in, manual_in,
+    BodyFault, CloseBody, DeviceBody, ExchangeBody, InstallBody, ManualBody, RescaleBody,
+    ResetBody, Scale, VoidBody, body_of, close_in, device_in, exchange_in, install_in, manual_in,
     register_in, rescale_in, reset_in, void_in,
 };
 use http_reply::{fault_body, refused_body};
@@ -63,35 +64,34 @@ fn numbers_are_those_of_an_i64(rt: HostRuntime) {
     assert_eq!(rt; closing(rt.alloc(), negative), Err(BodyFault::Negative));
 }
 
-// The scale of the register that a body describes.
+static REGISTER: &[u8] = b"{\"name\":\"main\",\"device\":\"inv\",\"function\":3,\"address\":40";
+
+// The scale of the register that a body describes, which begins as each does.
 fn scale(alloc: Global, more: &[u8]) -> Result<Scale, BodyFault> {
-    let front = b"{\"name\":\"main\",\"device\":\"inv\",\"function\":3,\"address\":40";
-    let Ok(mut bytes) = Vec::from_slice(alloc, front) else {
+    let Ok(bytes) = [REGISTER, more].concat(alloc) else {
         return Err(BodyFault::Memory);
     };
-    if bytes.extend_from_slice(more).is_err() {
-        return Err(BodyFault::Memory);
-    }
     let body = body_of(alloc, &bytes)?;
     Ok(register_in(&body)?.scale)
 }
 
+static SCALES: [(&[u8], Result<Scale, BodyFault>); 7] = [
+    (b",\"fixed\":-3}", Ok(Scale::Fixed(-3))),
+    (b",\"scale_at\":42}", Ok(Scale::At(42))),
+    (b",\"scale_at\":-1}", Err(BodyFault::Negative)),
+    (b"}", Err(BodyFault::Malformed)),
+    (b",\"fixed\":0,\"scale_at\":42}", Err(BodyFault::Malformed)),
+    (
+        b",\"fixed\":0,\"scale_at\":null}",
+        Err(BodyFault::Malformed),
+    ),
+    (b",\"fixed\":\"0\"}", Err(BodyFault::Malformed)),
+];
+
 #[test]
 fn a_register_has_one_scale(rt: HostRuntime) {
-    assert_eq!(rt; scale(rt.alloc(), b",\"fixed\":-3}"), Ok(Scale::Fixed(-3)));
-    assert_eq!(rt; scale(rt.alloc(), b",\"scale_at\":42}"), Ok(Scale::At(42)));
-    assert_eq!(rt;
-        scale(rt.alloc(), b",\"scale_at\":-1}"),
-        Err(BodyFault::Negative)
-    );
-    let malformed: [&[u8]; 4] = [
-        b"}",
-        b",\"fixed\":0,\"scale_at\":42}",
-        b",\"fixed\":0,\"scale_at\":null}",
-        b",\"fixed\":\"0\"}",
-    ];
-    for more in malformed {
-        assert_eq!(rt; scale(rt.alloc(), more), Err(BodyFault::Malformed));
+    for (more, want) in &SCALES {
+        assert_eq!(rt; scale(rt.alloc(), more), *want);
     }
 }
 
@@ -101,40 +101,78 @@ static ALL: &[u8] =
 #[test]
 fn commands_of_devices_and_meters_have_their_members(rt: HostRuntime) -> Result<(), Fail> {
     let body = body_of(rt.alloc(), ALL)?;
-    let device = device_in(&body)?;
-    assert_eq!(rt; device.name, "inv");
-    assert_eq!(rt; [device.timeout, device.window], [5, 2]);
-    let install = install_in(&body)?;
-    assert_eq!(rt; install.meter, "m1");
-    assert_eq!(rt; install.raw, 7);
-    assert_eq!(rt; install.range, None);
-    let exchange = exchange_in(&body)?;
-    assert_eq!(rt; [exchange.last, exchange.rolls], [9, 1]);
-    assert_eq!(rt; exchange.install.sf, -1);
+    let device = DeviceBody {
+        name: "inv",
+        unit: 1,
+        timeout: 5,
+        window: 2,
+    };
+    assert_eq!(rt; device_in(&body), Ok(device));
+    let install = InstallBody {
+        meter: "m1",
+        raw: 7,
+        sf: -1,
+        ceiling: 100,
+        range: None,
+    };
+    assert_eq!(rt; install_in(&body), Ok(install));
+    let exchange = ExchangeBody {
+        last: 9,
+        rolls: 1,
+        install,
+    };
+    assert_eq!(rt; exchange_in(&body), Ok(exchange));
     Ok(())
 }
 
 #[test]
 fn commands_of_counters_have_their_members(rt: HostRuntime) -> Result<(), Fail> {
     let body = body_of(rt.alloc(), ALL)?;
-    let reset = reset_in(&body)?;
-    assert_eq!(rt; [reset.before, reset.after], [3, 4]);
-    assert_eq!(rt; rescale_in(&body)?.sf, -1);
-    assert_eq!(rt; void_in(&body)?.place, 6);
-    assert_eq!(rt; manual_in(&body)?.at, None);
-    assert_eq!(rt; close_in(&body)?.rolls, 1);
+    let reset = ResetBody {
+        before: 3,
+        after: 4,
+    };
+    assert_eq!(rt; reset_in(&body), Ok(reset));
+    let rescale = RescaleBody {
+        before: 3,
+        after: 4,
+        sf: -1,
+    };
+    assert_eq!(rt; rescale_in(&body), Ok(rescale));
+    assert_eq!(rt; void_in(&body), Ok(VoidBody { place: 6 }));
+    let manual = ManualBody {
+        raw: 7,
+        rolls: 1,
+        at: None,
+    };
+    assert_eq!(rt; manual_in(&body), Ok(manual));
+    assert_eq!(rt; close_in(&body), Ok(CloseBody { raw: 7, rolls: 1 }));
     Ok(())
 }
 
+// The moment of the reading by hand that a body describes.
+fn moment(alloc: Global, bytes: &[u8]) -> Result<Option<u64>, BodyFault> {
+    let body = body_of(alloc, bytes)?;
+    Ok(manual_in(&body)?.at)
+}
+
+static MOMENTS: [(&[u8], Result<Option<u64>, BodyFault>); 3] = [
+    (b"{\"raw\":7,\"rolls\":0,\"at\":1900}", Ok(Some(1900))),
+    (
+        b"{\"raw\":7,\"rolls\":0,\"at\":null}",
+        Err(BodyFault::Malformed),
+    ),
+    (
+        b"{\"raw\":7,\"rolls\":0,\"at\":-1}",
+        Err(BodyFault::Negative),
+    ),
+];
+
 #[test]
-fn what_may_lack_may_stand(rt: HostRuntime) -> Result<(), Fail> {
-    let body = body_of(rt.alloc(), b"{\"raw\":7,\"rolls\":0,\"at\":1900}")?;
-    assert_eq!(rt; manual_in(&body)?.at, Some(1900));
-    let null = body_of(rt.alloc(), b"{\"raw\":7,\"rolls\":0,\"at\":null}")?;
-    assert_eq!(rt; manual_in(&null).err(), Some(BodyFault::Malformed));
-    let negative = body_of(rt.alloc(), b"{\"raw\":7,\"rolls\":0,\"at\":-1}")?;
-    assert_eq!(rt; manual_in(&negative).err(), Some(BodyFault::Negative));
-    Ok(())
+fn what_may_lack_may_stand(rt: HostRuntime) {
+    for (bytes, want) in &MOMENTS {
+        assert_eq!(rt; moment(rt.alloc(), bytes), *want);
+    }
 }
 
 #[test]

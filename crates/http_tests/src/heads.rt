@@ -61,34 +61,16 @@ fn a_look_reads_on_until_the_head_has_ended(rt: HostRuntime) {
     }
 }
 
-// A head of so many headers.
-fn head_of_headers(alloc: Global, count: u8) -> Result<Vec<u8>, AllocError> {
-    let mut head = Vec::from_slice(alloc, b"GET / HTTP/1.1\r\n")?;
-    for _ in 0..count {
-        head.extend_from_slice(b"A: b\r\n")?;
-    }
-    head.extend_from_slice(b"\r\n")?;
-    Ok(head)
-}
-
-#[test]
-fn a_head_has_at_most_64_headers(rt: HostRuntime) -> Result<(), Fail> {
-    let most = head_of_headers(rt.alloc(), 64)?;
-    assert!(rt; matches!(look_at(&most), Look::Whole(_)));
-    let over = head_of_headers(rt.alloc(), 65)?;
-    assert!(rt; matches!(look_at(&over), Look::TooLarge));
-    assert!(rt; matches!(look_at_first(&over, 407), Look::Open));
-    Ok(())
-}
-
-// A head with a value of so many bytes, 22 more in all.
-fn head_of_value(alloc: Global, count: u16) -> Result<Vec<u8>, AllocError> {
-    let mut head = Vec::from_slice(alloc, b"GET / HTTP/1.1\r\nA:")?;
-    for _ in 0..count {
-        head.extend_from_slice(b"x")?;
-    }
-    head.extend_from_slice(b"\r\n\r\n")?;
-    Ok(head)
+/// A head of so many headers, with a value of so many bytes behind the last.
+pub(crate) fn head_of(
+    alloc: Global,
+    header: &[u8],
+    count: usize,
+    value: usize,
+) -> Result<Vec<u8>, AllocError> {
+    let headers = header.repeat(alloc, count)?;
+    let value = b"x".as_slice().repeat(alloc, value)?;
+    [b"GET / HTTP/1.1".as_slice(), &headers, &value, b"\r\n\r\n"].concat(alloc)
 }
 
 // A look at so many bytes at the front.
@@ -97,8 +79,19 @@ fn look_at_first(bytes: &[u8], count: usize) -> Look {
 }
 
 #[test]
+fn a_head_has_at_most_64_headers(rt: HostRuntime) -> Result<(), Fail> {
+    let most = head_of(rt.alloc(), b"\r\nA: b", 64, 0)?;
+    assert!(rt; matches!(look_at(&most), Look::Whole(_)));
+    let over = head_of(rt.alloc(), b"\r\nA: b", 65, 0)?;
+    assert!(rt; matches!(look_at(&over), Look::TooLarge));
+    assert!(rt; matches!(look_at_first(&over, 407), Look::Open));
+    Ok(())
+}
+
+// But for the value it has 22 bytes.
+#[test]
 fn a_head_has_at_most_8192_bytes(rt: HostRuntime) -> Result<(), Fail> {
-    let most = head_of_value(rt.alloc(), 8170)?;
+    let most = head_of(rt.alloc(), b"\r\nA:", 1, 8170)?;
     assert_eq!(rt; most.len(), 8192);
     assert!(rt; matches!(look_at(&most), Look::Whole(_)));
     assert!(rt; matches!(look_at_first(&most, 8191), Look::Open));
@@ -107,7 +100,7 @@ fn a_head_has_at_most_8192_bytes(rt: HostRuntime) -> Result<(), Fail> {
 
 #[test]
 fn a_head_of_8193_bytes_is_past_the_limit(rt: HostRuntime) -> Result<(), Fail> {
-    let over = head_of_value(rt.alloc(), 8171)?;
+    let over = head_of(rt.alloc(), b"\r\nA:", 1, 8171)?;
     assert_eq!(rt; over.len(), 8193);
     assert!(rt; matches!(look_at(&over), Look::TooLarge));
     assert!(rt; matches!(look_at_first(&over, 8192), Look::TooLarge));

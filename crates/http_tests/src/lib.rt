@@ -1,19 +1,53 @@
-//! Tests of HTTP over links in memory: requests and their heads, bodies and commands, and replies that tell what an office answers.
+//! Tests of HTTP, of an office behind it, and of the program's commands over one: requests and their heads, bodies and replies; an
+//! office over books in memory, also where links and books fail at each call; listeners with clients in the same process; and commands
+//! that serve, report and poll.
 #![tactic(auto)]
 
 #[cfg(test)]
 mod answers;
 #[cfg(test)]
+mod asks;
+#[cfg(test)]
 mod bodies;
+#[cfg(test)]
+mod book_failures;
+#[cfg(test)]
+mod cases;
 #[cfg(test)]
 mod commands;
 #[cfg(test)]
+mod connections;
+#[cfg(test)]
+mod faults;
+#[cfg(test)]
 mod heads;
+#[cfg(test)]
+mod limits;
 #[cfg(test)]
 mod lines;
 #[cfg(test)]
 mod links;
 #[cfg(test)]
+mod narrow;
+#[cfg(test)]
+mod office;
+#[cfg(test)]
+mod office_requests;
+#[cfg(test)]
+mod openings;
+#[cfg(test)]
+mod program_commands;
+#[cfg(test)]
 mod replies;
 #[cfg(test)]
+mod reports;
+#[cfg(test)]
 mod requests;
+#[cfg(test)]
+mod rounds;
+#[cfg(test)]
+mod sockets;
+#[cfg(test)]
+mod stops;
+#[cfg(test)]
+mod tables;

@@ -4,7 +4,8 @@ use http_request::{Ask, ask_of};
 use http_route::{Route, router};
 use http_status::Status;
 use matchit::Router;
-use std::alloc::{AllocError, Global};
+use std::alloc::Global;
+use std::process::Abort;
 use std::test::Fail;
 
 // The status that answers what was read, 200 where all tests pass.
@@ -18,6 +19,22 @@ fn status_of(router: &Router<Route>, bytes: &[u8]) -> u16 {
         Look::NoHead => 400,
         Look::Open => 0,
     }
+}
+
+// Each head that has one of these texts between its front and its back is answered so.
+fn are_answered(
+    rt: &impl Abort,
+    alloc: Global,
+    front: &[u8],
+    cases: &[(&[u8], u16)],
+    back: &[u8],
+) -> Result<(), Fail> {
+    let router = router(alloc)?;
+    for (text, status) in cases {
+        let head = [front, text, back].concat(alloc)?;
+        assert_eq!(rt; status_of(&router, &head), *status);
+    }
+    Ok(())
 }
 
 static LINES: [(&[u8], u16); 24] = [
@@ -49,21 +66,7 @@ static LINES: [(&[u8], u16); 24] = [
 
 #[test]
 fn routes_come_before_methods(rt: HostRuntime) -> Result<(), Fail> {
-    let router = router(rt.alloc())?;
-    for (line, status) in &LINES {
-        let mut head = Vec::from_slice(rt.alloc(), line)?;
-        head.extend_from_slice(b" HTTP/1.1\r\n\r\n")?;
-        assert_eq!(rt; status_of(&router, &head), *status);
-    }
-    Ok(())
-}
-
-// A command with these headers.
-fn command(alloc: Global, headers: &[u8]) -> Result<Vec<u8>, AllocError> {
-    let mut head = Vec::from_slice(alloc, b"POST /devices HTTP/1.1\r\n")?;
-    head.extend_from_slice(headers)?;
-    head.extend_from_slice(b"\r\n")?;
-    Ok(head)
+    are_answered(&rt, rt.alloc(), b"", &LINES, b" HTTP/1.1\r\n\r\n")
 }
 
 static HEADERS: [(&[u8], u16); 14] = [
@@ -103,30 +106,13 @@ static HEADERS: [(&[u8], u16); 14] = [
 
 #[test]
 fn the_headers_of_a_command_are_tested_in_turn(rt: HostRuntime) -> Result<(), Fail> {
-    let router = router(rt.alloc())?;
-    for (headers, status) in &HEADERS {
-        let head = command(rt.alloc(), headers)?;
-        assert_eq!(rt; status_of(&router, &head), *status);
-    }
-    Ok(())
-}
-
-// The status of a command with these values.
-fn status_with(
-    alloc: Global,
-    router: &Router<Route>,
-    size: &[u8],
-    caller: &[u8],
-    number: &[u8],
-) -> Result<u16, AllocError> {
-    let mut headers = Vec::from_slice(alloc, b"Content-Length: ")?;
-    headers.extend_from_slice(size)?;
-    headers.extend_from_slice(b"\r\nOffice-Caller: ")?;
-    headers.extend_from_slice(caller)?;
-    headers.extend_from_slice(b"\r\nOffice-Request: ")?;
-    headers.extend_from_slice(number)?;
-    headers.extend_from_slice(b"\r\n")?;
-    Ok(status_of(router, &command(alloc, &headers)?))
+    are_answered(
+        &rt,
+        rt.alloc(),
+        b"POST /devices HTTP/1.1\r\n",
+        &HEADERS,
+        b"\r\n",
+    )
 }
 
 static SIZES: [(&[u8], u16); 12] = [
@@ -146,14 +132,9 @@ static SIZES: [(&[u8], u16); 12] = [
 
 #[test]
 fn a_length_has_1_to_19_digits(rt: HostRuntime) -> Result<(), Fail> {
-    let router = router(rt.alloc())?;
-    for (size, status) in &SIZES {
-        assert_eq!(rt;
-            status_with(rt.alloc(), &router, size, b"anna", b"7")?,
-            *status
-        );
-    }
-    Ok(())
+    let front = b"POST /devices HTTP/1.1\r\nContent-Length: ";
+    let back = b"\r\nOffice-Caller: anna\r\nOffice-Request: 7\r\n\r\n";
+    are_answered(&rt, rt.alloc(), front, &SIZES, back)
 }
 
 static NUMBERS: [(&[u8], u16); 8] = [
@@ -169,14 +150,9 @@ static NUMBERS: [(&[u8], u16); 8] = [
 
 #[test]
 fn a_request_is_numbered_up_to_an_i64(rt: HostRuntime) -> Result<(), Fail> {
-    let router = router(rt.alloc())?;
-    for (number, status) in &NUMBERS {
-        assert_eq!(rt;
-            status_with(rt.alloc(), &router, b"2", b"anna", number)?,
-            *status
-        );
-    }
-    Ok(())
+    let front =
+        b"POST /devices HTTP/1.1\r\nContent-Length: 2\r\nOffice-Caller: anna\r\nOffice-Request: ";
+    are_answered(&rt, rt.alloc(), front, &NUMBERS, b"\r\n\r\n")
 }
 
 static CALLERS: [(&[u8], u16); 9] = [
@@ -193,14 +169,9 @@ static CALLERS: [(&[u8], u16); 9] = [
 
 #[test]
 fn a_caller_is_a_name(rt: HostRuntime) -> Result<(), Fail> {
-    let router = router(rt.alloc())?;
-    for (caller, status) in &CALLERS {
-        assert_eq!(rt;
-            status_with(rt.alloc(), &router, b"2", caller, b"7")?,
-            *status
-        );
-    }
-    Ok(())
+    let front = b"POST /devices HTTP/1.1\r\nContent-Length: 2\r\nOffice-Caller: ";
+    let back = b"\r\nOffice-Request: 7\r\n\r\n";
+    are_answered(&rt, rt.alloc(), front, &CALLERS, back)
 }
 
 // The route that a request line leads to, and its name.
@@ -215,14 +186,21 @@ fn route_at<'b>(router: &Router<Route>, head: &'b [u8]) -> Option<(Route, Option
     }
 }
 
+static NAMED: [(&[u8], Route, Option<&str>); 3] = [
+    (b"GET /polls/7 HTTP/1.1\r\n\r\n", Route::Poll, Some("7")),
+    (
+        b"GET /meters/a%20b HTTP/1.1\r\n\r\n",
+        Route::Meter,
+        Some("a%20b"),
+    ),
+    (b"GET /meters/\xc3\xa9 HTTP/1.1\r\n\r\n", Route::Meter, None),
+];
+
 #[test]
 fn a_parameter_is_the_name(rt: HostRuntime) -> Result<(), Fail> {
     let router = router(rt.alloc())?;
-    let poll = route_at(&router, b"GET /polls/7 HTTP/1.1\r\n\r\n").ok_or("none")?;
-    assert_eq!(rt; poll, (Route::Poll, Some("7")));
-    let meter = route_at(&router, b"GET /meters/a%20b HTTP/1.1\r\n\r\n").ok_or("none")?;
-    assert_eq!(rt; meter, (Route::Meter, Some("a%20b")));
-    let past = route_at(&router, b"GET /meters/\xc3\xa9 HTTP/1.1\r\n\r\n").ok_or("none")?;
-    assert_eq!(rt; past, (Route::Meter, None));
+    for (head, route, name) in &NAMED {
+        assert_eq!(rt; route_at(&router, head), Some((*route, *name)));
+    }
     Ok(())
 }

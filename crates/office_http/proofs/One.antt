@@ -13,7 +13,7 @@ use Rattle.http_answer.specs.Offices.{Office}
 use Rattle.http_answer.specs.Replies.{ask, command_reply, found_reply, reply_bytes, reply_of, route_reply, unless_failed}
 use Rattle.http_answer.specs.Requests.{name_asked}
 use Rattle.http_answer.specs.Whole.{BodyGives, RepliesToBadHead, RepliesToRequest}
-use Rattle.http_wants.specs.Bodies.{BodiesGiveOne}
+use Rattle.office_http.specs.Wants.Bodies.{BodiesGiveOne}
 use Rattle.office_http.specs.Laws.{RepliesAreOne}
 
 by_route : (office : Office) (start : Start) (body : List ℕ) (g h : Result Command CommandFault) (at : Route) (taken : Option (List ℕ))

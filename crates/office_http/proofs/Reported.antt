@@ -27,9 +27,9 @@ use Rattle.http_route.specs.Routes.{routes}
 use Rattle.http_answer.specs.Offices.{Office}
 use Rattle.http_answer.specs.Replies.{lines_reply, refused, reply_bytes}
 use Rattle.http_answer.specs.Whole.{IsReply}
-use Rattle.http_rows.specs.Reports.{EndsReport, PutsLine, Report, counted, head_before, rows_begun}
-use Rattle.http_rows.proofs.Reports.{first_put}
-use Rattle.http_wants.specs.Wanting.{AsksNothing}
+use Rattle.office_http.specs.Rows.Reports.{EndsReport, PutsLine, Report, counted, head_before, rows_begun}
+use Rattle.office_http.proofs.RowsLemmas.Reports.{first_put}
+use Rattle.office_http.specs.Wants.Wanting.{AsksNothing}
 use Rattle.office_http.specs.Answering.{AnswersAt, IsRegister}
 use Rattle.office_http.specs.Serving.{Puts}
 

@@ -19,7 +19,7 @@ use Rattle.http_answer.specs.Kinds.{done_text}
 use Rattle.http_answer.specs.Offices.{Office}
 use Rattle.http_answer.specs.Replies.{fault_said, refused, reply_bytes, row_reply}
 use Rattle.http_answer.specs.Whole.{IsReply}
-use Rattle.http_wants.specs.Wanting.{AsksNothing, IsAskedFor, IsNoCommand}
+use Rattle.office_http.specs.Wants.Wanting.{AsksNothing, IsAskedFor, IsNoCommand}
 use Rattle.office_http.specs.Answering.{AnswersAt, told}
 use Rattle.office_http.specs.Serving.{Lasts, Serves}
 

@@ -18,7 +18,7 @@ use Rattle.http_route.specs.Routes.{routes}
 use Rattle.http_answer.specs.Offices.{Office}
 use Rattle.http_answer.specs.Replies.{lines_reply, poll_reply, refused, reply_bytes}
 use Rattle.http_answer.specs.Whole.{IsReply}
-use Rattle.http_wants.specs.Wanting.{AsksNothing, AsksOffice}
+use Rattle.office_http.specs.Wants.Wanting.{AsksNothing, AsksOffice}
 use Rattle.office_http.specs.Answering.{AnswersAt}
 
 -- the bytes ask this of the office, or nothing that would change it

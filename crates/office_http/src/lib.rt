@@ -2,10 +2,14 @@
 #![tactic(auto)]
 
 mod answers;
+mod connections;
 mod exchange;
 mod fault;
 mod laws;
+mod rows;
+mod wants;
 
+pub use connections::serve_on;
 pub use exchange::handle;
 pub use fault::HandleFault;
 pub use laws::replies_are_one;

@@ -7,9 +7,9 @@ use Rattle.office_books.specs.Ledgers.{Ledger}
 use Rattle.office_core.specs.Standing.{After, Stands, books_in}
 use Rattle.office_core.specs.Taking.{failures_of}
 use Rattle.office_core.specs.declared.office.Office.{Office}
-use Rattle.office_text.specs.OpenedOffice.{Opens}
-use Rattle.office_text.specs.Reports.{Asks, ReportPrints}
-use Rattle.office_text.specs.EndTexts.{Tells}
+use Rattle.office_program.specs.Texts.OpenedOffice.{Opens}
+use Rattle.office_program.specs.Texts.Reports.{Asks, ReportPrints}
+use Rattle.office_program.specs.Texts.EndTexts.{Tells}
 use Rattle.office_program.specs.Opened.{WithOffice}
 use Rattle.office_program.specs.Report.{Reports, TellsReport}
 use Rattle.office_program.specs.HttpPort.{Serves, ServesPort, TellsServing}

@@ -3,8 +3,8 @@ use Rattle.std.specs.Prelude.{◌≡◌, ℕ, List, Option}
 use Rattle.office_rules.specs.History.{History}
 use Rattle.office_books.specs.Ledgers.{Ledger}
 use Rattle.office_core.specs.declared.office.Office.{Office}
-use Rattle.office_serving.specs.Connections.{ServesUpTo}
-use Rattle.office_text.specs.OpenedOffice.{TellsUnopened}
+use Rattle.office_http.specs.Connections.Connections.{ServesUpTo}
+use Rattle.office_program.specs.Texts.OpenedOffice.{TellsUnopened}
 use Rattle.office_program.specs.Opened.{WithOffice}
 use Rattle.office_program.specs.declared.http_port.Serving.{Serving}
 use Rattle.office_program.specs.declared.http_port.Serving.TheVariants.{Served, Unopened, NoPort, Broken}

@@ -2,3 +2,4 @@ pub mod Opened
 pub mod Report
 pub mod HttpPort
 pub mod PortRound
+pub mod Texts

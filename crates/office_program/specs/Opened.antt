@@ -4,7 +4,7 @@ use Rattle.office_rules.specs.History.{History, Opened}
 use Rattle.office_books.specs.Ledgers.{Ledger}
 use Rattle.office_core.specs.Standing.{books_in}
 use Rattle.office_core.specs.declared.office.Office.{Office}
-use Rattle.office_text.specs.OpenedOffice.{Opens}
+use Rattle.office_program.specs.Texts.OpenedOffice.{Opens}
 
 -- The office was opened, and printed nothing of it; this was done with it behind its opening, between what was opened and
 -- what was left, from what the clock would tell then on; and the books of that are handed back.

@@ -7,8 +7,8 @@ use Rattle.office_core.specs.Taking.{failures_of}
 use Rattle.office_core.specs.declared.office.Office.{Office}
 use Rattle.office_rounds.specs.Rounds.{Wire, desk, passage}
 use Rattle.office_rounds.specs.declared.fault.RoundFault.{RoundFault}
-use Rattle.office_text.specs.OpenedOffice.{TellsUnopened}
-use Rattle.office_text.specs.Rounds.{PollsRound}
+use Rattle.office_program.specs.Texts.OpenedOffice.{TellsUnopened}
+use Rattle.office_program.specs.Texts.Rounds.{PollsRound}
 use Rattle.office_program.specs.Opened.{WithOffice}
 use Rattle.office_program.specs.declared.port_round.Polling.{Polling}
 use Rattle.office_program.specs.declared.port_round.Polling.TheVariants.{Polled, Unopened, Unconnected}

@@ -7,9 +7,9 @@ use Rattle.office_books.specs.Ledgers.{Ledger}
 use Rattle.office_core.specs.Standing.{Stands, books_in}
 use Rattle.office_core.specs.Taking.{failures_of}
 use Rattle.office_core.specs.declared.office.Office.{Office}
-use Rattle.office_text.specs.OpenedOffice.{TellsUnopened}
-use Rattle.office_text.specs.Reports.{ReportPrints}
-use Rattle.office_text.specs.EndTexts.{Tells}
+use Rattle.office_program.specs.Texts.OpenedOffice.{TellsUnopened}
+use Rattle.office_program.specs.Texts.Reports.{ReportPrints}
+use Rattle.office_program.specs.Texts.EndTexts.{Tells}
 use Rattle.office_program.specs.Opened.{WithOffice}
 
 -- All days of the register were printed, or why there are none; and the office was only asked.

@@ -3,15 +3,15 @@ ghost use Rattle.office_core.specs.Leaving.{BooksStand};
 ghost use Rattle.office_core.specs.Standing.{After};
 ghost use Rattle.office_http.specs.Serving as http;
 ghost use Rattle.office_rules.specs.History.{History};
-ghost use Rattle.office_text.specs.Passing.{Lasts};
+ghost use Rattle.office_program.specs.Texts.Passing.{Lasts};
 ghost use Rattle.office_program.specs.HttpPort.{ServesPort, TellsServing};
 
 use crate::command_end::Ended;
+use crate::texts::open_office;
 use command_io::Status;
 use office_books::Books;
 use office_core::Office;
-use office_serving::serve_on;
-use office_text::open_office;
+use office_http::serve_on;
 use socket_link::Clock;
 use std::alloc::Global;
 use std::io::Write;

@@ -3,16 +3,16 @@ ghost use Rattle.office_core.specs.Leaving.{BooksStand};
 ghost use Rattle.office_rounds.specs.Passing as rounds;
 ghost use Rattle.office_core.specs.Standing.{After};
 ghost use Rattle.office_rules.specs.History.{History};
-ghost use Rattle.office_text.specs.Passing.{Lasts};
+ghost use Rattle.office_program.specs.Texts.Passing.{Lasts};
 ghost use Rattle.office_program.specs.PortRound.{PollsPortBehind, TellsPolling};
 
 use crate::command_end::Ended;
+use crate::texts::{open_office, poll_round};
 use command_io::Status;
 use office_books::Books;
 use office_core::Office;
 use office_events::Name;
 use office_rounds::RoundFault;
-use office_text::{open_office, poll_round};
 use socket_link::{Clock, SocketLink};
 use std::alloc::Global;
 use std::io::{self, Write};

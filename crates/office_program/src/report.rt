@@ -1,14 +1,14 @@
 //! The report of a register.
 ghost use Rattle.office_core.specs.Leaving.{BooksStand};
 ghost use Rattle.office_rules.specs.History.{History};
-ghost use Rattle.office_text.specs.Passing.{Lasts};
+ghost use Rattle.office_program.specs.Texts.Passing.{Lasts};
 ghost use Rattle.office_program.specs.Report.{TellsReport};
 
 use crate::command_end::Ended;
+use crate::texts::{open_office, report_days};
 use command_io::Status;
 use office_books::Books;
 use office_events::Name;
-use office_text::{open_office, report_days};
 use socket_link::Clock;
 use std::alloc::Global;
 use std::io::Write;

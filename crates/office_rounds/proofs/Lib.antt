@@ -8,3 +8,5 @@ pub mod Connecting
 pub mod Closings
 pub mod Overs
 pub mod Wholes
+pub mod DeviceRoundsLemmas
+pub mod DriverLemmas

@@ -5,3 +5,5 @@ pub mod Rounds
 pub mod Passing
 pub mod Taking
 pub mod Stepping
+pub mod DeviceRounds
+pub mod Driver

@@ -1,6 +1,8 @@
 //! Rounds: the whole plan of a device, polled once over a link.
 #![tactic(auto)]
 
+mod device_rounds;
+mod driver;
 mod fault;
 mod fed_events;
 mod gives;
@@ -9,5 +11,7 @@ mod round;
 mod round_end;
 mod steps;
 
+pub use device_rounds::{Round, Stage, Sum};
+pub use driver::{Happening, Witness, turn};
 pub use fault::RoundFault;
 pub use round::{MOST_TAKES, round_over};

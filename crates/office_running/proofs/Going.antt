@@ -11,17 +11,17 @@ use Rattle.office_http.specs.Serving as http
 use Rattle.office_http.specs.Serving.{with_asked}
 use Rattle.office_rounds.specs.Passing as rounds
 use Rattle.office_rounds.specs.FedEvents as telling
-use Rattle.office_serving.specs.Connections as serving
-use Rattle.office_serving.specs.Connections.{Request, ServesUpTo}
-use Rattle.office_serving.proofs.Served.{handled}
-use Rattle.hub_rounds.specs.declared.round.Round.{Round}
-use Rattle.hub_asking.specs.Answer as asking
-use Rattle.hub_asking.specs.declared.answer.Asked.{Asked}
-use Rattle.hub_asking.specs.declared.answer.Asked.TheVariants.{Open, Replied, Failed}
-use Rattle.office_hub.specs.Going.{Start, TakesTurn, scene}
-use Rattle.office_hub.specs.Showing.{Shown}
-use Rattle.office_text.specs.OpenedOffice.{Opens}
-use Rattle.office_text.specs.Passing.{Lasts}
+use Rattle.office_http.specs.Connections.Connections as serving
+use Rattle.office_http.specs.Connections.Connections.{Request, ServesUpTo}
+use Rattle.office_http.proofs.ConnectionsLemmas.Served.{handled}
+use Rattle.office_rounds.specs.declared.device_rounds.round.Round.{Round}
+use Rattle.run_status.specs.RunHttp.Answer as asking
+use Rattle.run_status.specs.declared.run_http.answer.Asked.{Asked}
+use Rattle.run_status.specs.declared.run_http.answer.Asked.TheVariants.{Open, Replied, Failed}
+use Rattle.office_rounds.specs.Driver.Going.{Start, TakesTurn, scene}
+use Rattle.office_rounds.specs.Driver.Showing.{Shown}
+use Rattle.office_program.specs.Texts.OpenedOffice.{Opens}
+use Rattle.office_program.specs.Texts.Passing.{Lasts}
 use Rattle.office_running.specs.Runs.{BooksRun, Goes, Step, Fed, Asks, history_behind, with_step}
 
 -- nothing came

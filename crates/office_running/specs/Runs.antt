@@ -9,7 +9,7 @@ use Rattle.office_core.specs.EventRun.{Answered}
 use Rattle.office_core.specs.Standing.{After, Stands, books_in}
 use Rattle.office_core.specs.declared.office.Office.{Office}
 use Rattle.office_http.specs.Serving.{with_asked}
-use Rattle.office_serving.specs.Connections.{Request}
+use Rattle.office_http.specs.Connections.Connections.{Request}
 use Rattle.office_running.specs.declared.leftovers.Left.{Left}
 
 -- what came to the office: an event of the devices, with its answer, or a request of a peer

@@ -4,14 +4,13 @@ ghost use Rattle.office_running.specs.Runs.{Goes};
 use crate::devices::{Seen, Slot};
 use crate::settings::Site;
 use crate::voice::{Standing, Voice};
-use hub_rounds::{Round, Stage};
-use hub_schedule::Phase;
 use mio::{Registry, Token};
 use office_books::Books;
 use office_core::Office;
 use office_events::Piece;
-use office_hub::{Happening, turn};
+use office_rounds::{Happening, Round, Stage, turn};
 use poll_core::Closing;
+use run_schedule::Phase;
 use std::alloc::{AllocError, Global};
 use std::net::Net;
 

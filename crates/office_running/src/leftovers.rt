@@ -2,7 +2,7 @@
 ghost use Rattle.std.specs.Prelude.{IfSome};
 ghost use Rattle.office_core.specs.Leaving.{BooksStand};
 ghost use Rattle.office_rules.specs.History.{History};
-ghost use Rattle.office_text.specs.Passing.{Lasts};
+ghost use Rattle.office_program.specs.Texts.Passing.{Lasts};
 ghost use Rattle.office_running.specs.Runs.{IsLeft};
 
 use crate::fault::RunFault;

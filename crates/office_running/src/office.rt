@@ -1,7 +1,7 @@
 //! A run over books.
 ghost use Rattle.office_core.specs.Leaving.{BooksStand};
 ghost use Rattle.office_rules.specs.History.{History};
-ghost use Rattle.office_text.specs.Passing.{Lasts};
+ghost use Rattle.office_program.specs.Texts.Passing.{Lasts};
 ghost use Rattle.office_running.specs.Runs.{BooksRun};
 
 use crate::event_loop::run_open;
@@ -9,7 +9,7 @@ use crate::fault::RunFault;
 use crate::leftovers::left_in;
 use crate::settings::{Settings, Site};
 use office_books::Books;
-use office_text::open_office;
+use office_program::open_office;
 use socket_link::Clock;
 use std::alloc::Global;
 use std::io::Write;

@@ -2,8 +2,8 @@
 use crate::outbox::{MOST_CALLS, Outbox, Went, went_by};
 use http_head::MOST_BYTES;
 use http_whole::MOST_ROOM;
-use hub_asking::Asked;
 use mio::net::TcpStream;
+use run_status::Asked;
 use std::alloc::Global;
 use std::io::Read;
 use std::net::Shutdown;

@@ -1,10 +1,8 @@
 //! What is kept and told of what the office is fed.
-use hub_desk::{Desk, put_head, put_lines, put_sum};
-use hub_rounds::Sum;
-use hub_status::put;
 use office_events::{Answer, Event, Name, Note, Refusal};
-use office_hub::Witness;
+use office_rounds::{Sum, Witness};
 use poll_core::Closing;
+use run_status::{Desk, put, put_head, put_lines, put_sum};
 use script_text::write_note;
 use std::alloc::{AllocError, Global};
 use std::{io, mem};

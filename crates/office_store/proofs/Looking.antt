@@ -14,8 +14,8 @@ use Rattle.office_books.specs.Rows.{TakesAll, HandsOn}
 use Rattle.store_tables.specs.declared.faults.RowFault.{RowFault}
 use Rattle.store_facts.specs.Holding.{HoldsFacts, LeavesFacts, OnlyLooks}
 use Rattle.store_facts.proofs.Committed.{kept_holds}
-use Rattle.store_finding.specs.Finding as finding
-use Rattle.store_metering.specs.Looking as metering
+use Rattle.store_queries.specs.Finding.Finding as finding
+use Rattle.store_queries.specs.Metering.Looking as metering
 use Rattle.office_store.specs.Answers.{answer_of}
 use Rattle.office_store.specs.Stored.{IsStored, MayBeLeft, ledger_of}
 

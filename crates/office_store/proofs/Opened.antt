@@ -12,7 +12,7 @@ use Rattle.store_files.specs.Layouts.{no_schema}
 use Rattle.store_files.specs.NewFile.{Makes}
 use Rattle.store_files.specs.Upgrade.{IsFile, OpensFile}
 use Rattle.store_facts.specs.Holding.{HasFacts, HoldsFacts, LeavesFacts}
-use Rattle.store_laws.specs.Files.{HasFactsIn, NewFilesHaveNone, OpenedFilesKeepTheirs}
+use Rattle.office_store.specs.Laws.Files.{HasFactsIn, NewFilesHaveNone, OpenedFilesKeepTheirs}
 use Rattle.office_store.specs.Database.{HasFile, HoldsAlone, KeepsFile}
 
 -- while the store is open, a stop leaves the last commit

@@ -7,7 +7,7 @@ use Rattle.sqlite.specs.State.{HasCleanDisk, KeepsCommit}
 use Rattle.office_events.specs.declared.facts.Fact.{Fact}
 use Rattle.store_files.specs.declared.layouts.Layout.{Layout}
 use Rattle.store_facts.specs.Holding.{HoldsFacts, LeavesFacts, IsLeft}
-use Rattle.store_laws.specs.Files.{HasFactsIn}
+use Rattle.office_store.specs.Laws.Files.{HasFactsIn}
 
 module _ {S : Type 0} (g : Ghosts S) (zone : List ℕ) where
   -- The file of the connection, of whichever version, has these facts, if its store gave back what was written.

@@ -17,10 +17,10 @@ ghost use Rattle.office_store.specs.Made.{HandsBackUntouched, connection_in, tol
 ghost use Rattle.office_store.specs.Database.{HasFile, HoldsAlone, KeepsFile};
 
 use crate::books::{SqlBooks, Unopened};
+use crate::laws::{new_files_have_none, opened_files_keep_theirs};
 use sqlite::{Alter, Connection};
 use std::alloc::Global;
 use store_files::OpenFault;
-use store_laws::{new_files_have_none, opened_files_keep_theirs};
 
 impl<S: Alter> SqlBooks<S> {
     /// Makes the tables of new books in a database that has no tables, for the days of a zone. It is one transaction, whose

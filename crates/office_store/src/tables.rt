@@ -1,13 +1,13 @@
 //! Books over the tables of a database.
 use crate::books::SqlBooks;
 use crate::fault_counts::answered;
+use crate::laws::databases_tell_their_facts;
 use interval_core::{Share, Zone};
 use office_books::{Books, BooksFault, Repeat, RowSink};
 use office_events::{
     Device, EntryPlace, Fact, Installation, Name, PlannedList, Poll, PollRow, Register,
 };
 use sqlite::Alter;
-use store_laws::databases_tell_their_facts;
 
 impl<S: Alter + Drop> Books for SqlBooks<S> {
     ghost use Rattle.office_store.specs.Stored.{ledger_of};
@@ -27,67 +27,67 @@ impl<S: Alter + Drop> Books for SqlBooks<S> {
     }
 
     fn devices(&mut self) -> Result<Vec<Device>, BooksFault> {
-        let found = store_finding::devices(&mut self.connection);
+        let found = store_queries::devices(&mut self.connection);
         answered(&mut self.faults, found)
     }
 
     fn list(&mut self, device: &Name) -> Result<Option<PlannedList>, BooksFault> {
-        let found = store_finding::list(self.alloc, &mut self.connection, device);
+        let found = store_queries::list(self.alloc, &mut self.connection, device);
         answered(&mut self.faults, found)
     }
 
     fn register(&mut self, name: &Name) -> Result<Option<Register>, BooksFault> {
-        let found = store_finding::register(&mut self.connection, name);
+        let found = store_queries::register(&mut self.connection, name);
         answered(&mut self.faults, found)
     }
 
     fn registers(&mut self, device: &Name) -> Result<Vec<Register>, BooksFault> {
-        let found = store_finding::registers(&mut self.connection, device);
+        let found = store_queries::registers(&mut self.connection, device);
         answered(&mut self.faults, found)
     }
 
     fn register_count(&mut self, device: &Name) -> Result<usize, BooksFault> {
-        let found = store_finding::register_count(&mut self.connection, device);
+        let found = store_queries::register_count(&mut self.connection, device);
         answered(&mut self.faults, found)
     }
 
     fn meter(&mut self, name: &Name) -> Result<Option<Installation>, BooksFault> {
-        let found = store_metering::meter(&mut self.connection, name);
+        let found = store_queries::meter(&mut self.connection, name);
         answered(&mut self.faults, found)
     }
 
     fn installation(&mut self, register: &Name) -> Result<Option<Installation>, BooksFault> {
-        let found = store_metering::installation(&mut self.connection, register);
+        let found = store_queries::installation(&mut self.connection, register);
         answered(&mut self.faults, found)
     }
 
     fn installation_count(&mut self) -> Result<usize, BooksFault> {
-        let found = store_metering::installation_count(&mut self.connection);
+        let found = store_queries::installation_count(&mut self.connection);
         answered(&mut self.faults, found)
     }
 
     fn entry(&mut self, meter: &Name, place: u64) -> Result<Option<EntryPlace>, BooksFault> {
-        let found = store_metering::entry(self.alloc, &mut self.connection, meter, place);
+        let found = store_queries::entry(self.alloc, &mut self.connection, meter, place);
         answered(&mut self.faults, found)
     }
 
     fn poll(&mut self, number: u64) -> Result<Option<PollRow>, BooksFault> {
-        let found = store_finding::poll(&mut self.connection, number);
+        let found = store_queries::poll(&mut self.connection, number);
         answered(&mut self.faults, found)
     }
 
     fn poll_count(&mut self) -> Result<u64, BooksFault> {
-        let found = store_finding::poll_count(&mut self.connection);
+        let found = store_queries::poll_count(&mut self.connection);
         answered(&mut self.faults, found)
     }
 
     fn pending(&mut self) -> Result<Vec<Poll>, BooksFault> {
-        let found = store_finding::pending(&mut self.connection);
+        let found = store_queries::pending(&mut self.connection);
         answered(&mut self.faults, found)
     }
 
     fn latest(&mut self) -> Result<u64, BooksFault> {
-        let found = store_finding::latest(&mut self.connection);
+        let found = store_queries::latest(&mut self.connection);
         answered(&mut self.faults, found)
     }
 
@@ -97,7 +97,7 @@ impl<S: Alter + Drop> Books for SqlBooks<S> {
         number: u64,
         request: &[u8],
     ) -> Result<Option<Repeat>, BooksFault> {
-        let found = store_finding::repeat(&mut self.connection, caller, number, request);
+        let found = store_queries::repeat(&mut self.connection, caller, number, request);
         answered(&mut self.faults, found)
     }
 
@@ -106,7 +106,7 @@ impl<S: Alter + Drop> Books for SqlBooks<S> {
         meter: &Name,
         sink: &mut K,
     ) -> Result<(), BooksFault> {
-        let found = store_metering::intervals(&mut self.connection, meter, sink);
+        let found = store_queries::intervals(&mut self.connection, meter, sink);
         answered(&mut self.faults, found)
     }
 
@@ -115,13 +115,13 @@ impl<S: Alter + Drop> Books for SqlBooks<S> {
         register: &Name,
         sink: &mut K,
     ) -> Result<(), BooksFault> {
-        let found = store_metering::register_intervals(&mut self.connection, register, sink);
+        let found = store_queries::register_intervals(&mut self.connection, register, sink);
         answered(&mut self.faults, found)
     }
 
     fn book(&mut self, facts: Vec<Fact>) -> Result<(), BooksFault> {
         databases_tell_their_facts();
-        let done = store_booking::book_facts(self.alloc, &mut self.connection, &facts);
+        let done = crate::bookings::book_facts(self.alloc, &mut self.connection, &facts);
         answered(&mut self.faults, done)
     }
 }

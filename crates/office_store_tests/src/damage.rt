@@ -1,10 +1,12 @@
 //! Damage, column by column.
 use crate::columns::{COLUMNS, UNREAD};
-use crate::questions::damaged;
+use crate::made::{found, opened};
+use crate::questions::are_answered;
 use crate::tables::{loose, strict};
+use office_books::{Books, BooksFault, StoreFault};
 use office_core::Office;
-use office_events::{Name, Refusal, StoreCause};
-use office_store::{OpenFault, SqlBooks};
+use office_events::{Device, Fact, Name, Refusal, StoreCause, Timeout, Window};
+use office_store::SqlBooks;
 use sqlite::{Connection, Error, MemStore};
 use std::alloc::Global;
 use std::test::Fail;
@@ -21,27 +23,30 @@ fn set(
     connection.execute_batch(&text)
 }
 
-/// The number of the fault of an opening, and 0 where no look-up of the books tells damage.
-fn told(alloc: Global, connection: Connection<MemStore>) -> Result<u8, Fail> {
-    let mut books = match SqlBooks::open(alloc, connection) {
+/// The number of the fault of an opening, 13 where a look-up of the books tells damage, and 0 where none does.
+fn told(alloc: Global, connection: Result<Connection<MemStore>, Fail>) -> Result<u8, Fail> {
+    let mut books = match SqlBooks::open(alloc, connection?) {
         Ok(books) => books,
         Err(unopened) => return Ok(unopened.fault.number()),
     };
-    Ok(if damaged(&mut books)? == 0 { 0 } else { 13 })
+    if !are_answered(&mut books) {
+        return Err(Fail::from("refused"));
+    }
+    Ok(if books.faults() == 0 { 0 } else { 13 })
 }
 
 /// What is told where a column of tables that refuse nothing has a value.
 fn told_loosely(alloc: Global, column: (&str, &str), value: &str) -> Result<u8, Fail> {
     let mut connection = loose(alloc)?;
     set(alloc, &mut connection, column, value)?;
-    told(alloc, connection)
+    told(alloc, Ok(connection))
 }
 
 /// The same of the books' own tables. Where these refuse the value, that is damage as well.
 fn told_strictly(alloc: Global, column: (&str, &str), value: &str) -> Result<u8, Fail> {
     let mut connection = strict(alloc)?;
     match set(alloc, &mut connection, column, value) {
-        Ok(()) => told(alloc, connection),
+        Ok(()) => told(alloc, Ok(connection)),
         Err(_) => Ok(13),
     }
 }
@@ -62,8 +67,6 @@ fn what_no_column_can_be_is_told(rt: HostRuntime) -> Result<(), Fail> {
 
 #[test]
 fn what_is_not_read_is_not_told(rt: HostRuntime) -> Result<(), Fail> {
-    assert_eq!(rt; told(rt.alloc(), loose(rt.alloc())?)?, 0);
-    assert_eq!(rt; told(rt.alloc(), strict(rt.alloc())?)?, 0);
     for column in &UNREAD {
         for value in ["NULL", "'1x'", "-1"] {
             let told = told_loosely(rt.alloc(), *column, value)?;
@@ -74,9 +77,16 @@ fn what_is_not_read_is_not_told(rt: HostRuntime) -> Result<(), Fail> {
 }
 
 #[test]
+fn rows_without_damage_are_not_told(rt: HostRuntime) -> Result<(), Fail> {
+    assert_eq!(rt; told(rt.alloc(), loose(rt.alloc()))?, 0);
+    assert_eq!(rt; told(rt.alloc(), strict(rt.alloc()))?, 0);
+    Ok(())
+}
+
+#[test]
 fn other_databases_are_no_books(rt: HostRuntime) -> Result<(), Fail> {
     let blank = Connection::open_in_memory(rt.alloc())?;
-    assert_eq!(rt; told(rt.alloc(), blank)?, 1);
+    assert_eq!(rt; told(rt.alloc(), Ok(blank))?, 1);
     for (column, value, fault) in &[("version", "9", 1u8), ("zone", "'x'", 2)] {
         let told = told_strictly(rt.alloc(), ("meta", *column), value)?;
         assert_eq!(rt; told, *fault, "{column}");
@@ -84,17 +94,53 @@ fn other_databases_are_no_books(rt: HostRuntime) -> Result<(), Fail> {
     Ok(())
 }
 
+/// Books in which each entry has a counter below zero.
+fn damaged(alloc: Global) -> Result<SqlBooks<MemStore>, Fail> {
+    let mut connection = strict(alloc)?;
+    set(alloc, &mut connection, ("entries", "raw"), "-1")?;
+    found(alloc, connection)
+}
+
+/// An office over these books.
+fn office(alloc: Global) -> Result<Office<SqlBooks<MemStore>>, Fail> {
+    opened(alloc, damaged(alloc)?, 5000)
+}
+
 #[test]
 fn a_question_is_refused_for_damage(rt: HostRuntime) -> Result<(), Fail> {
-    let mut connection = strict(rt.alloc())?;
-    set(rt.alloc(), &mut connection, ("entries", "raw"), "-1")?;
-    let Ok(books) = SqlBooks::open(rt.alloc(), connection) else {
-        return Err(Fail::from("not found"));
-    };
-    let Ok(mut office) = Office::open(rt.alloc(), books, 5000) else {
-        return Err(Fail::from("not opened"));
-    };
+    let mut office = office(rt.alloc())?;
     let refusal = Refusal::Store(StoreCause::Damaged);
     assert_eq!(rt; office.meter(&Name::new(b"m1")).err(), Some(refusal));
+    Ok(())
+}
+
+/// A device that is known.
+fn device() -> Option<Fact> {
+    Some(Fact::Device(Device {
+        name: Name::new(b"inv")?,
+        unit: 1,
+        timeout: Timeout::new(5)?,
+        window: Window::new(1)?,
+    }))
+}
+
+fn known(alloc: Global) -> Result<Vec<Fact>, Fail> {
+    let device = device().ok_or("no device")?;
+    Ok(vec![in alloc; device]?)
+}
+
+#[test]
+fn failures_are_told_and_counted(rt: HostRuntime) -> Result<(), Fail> {
+    let meter = Name::new(b"m1").ok_or("no name")?;
+    let facts = known(rt.alloc())?;
+    let mut books = damaged(rt.alloc())?;
+    let damaged = BooksFault::Store(StoreFault::Damaged);
+    assert_eq!(rt; books.meter(&meter).err(), Some(damaged));
+    assert_eq!(rt; books.faults(), 1);
+    let refused = BooksFault::Store(StoreFault::Refused);
+    assert_eq!(rt; books.book(facts).err(), Some(refused));
+    assert_eq!(rt; books.faults(), 2);
+    assert_eq!(rt; books.register_count(&meter), Ok(0));
+    assert_eq!(rt; books.faults(), 2);
     Ok(())
 }

@@ -1,8 +1,4 @@
-//! Databases that are no books, and failures that are told and counted.
-use crate::made::{books, found, opened};
-use crate::scripts::{READ, print};
-use office_books::{Books, BooksFault, StoreFault};
-use office_events::{Device, Fact, Name, Timeout, Window};
+//! Databases that are no books are handed back.
 use office_store::SqlBooks;
 use sqlite::{Connection, MemStore};
 use std::alloc::Global;
@@ -44,36 +40,5 @@ fn connections_are_handed_back(rt: HostRuntime) -> Result<(), Fail> {
     made.execute_batch("UPDATE meta SET version = 9")?;
     let (fault, _) = opening(rt.alloc(), made);
     assert_eq!(rt; fault, 1);
-    Ok(())
-}
-
-fn device() -> Result<Fact, Fail> {
-    Ok(Fact::Device(Device {
-        name: Name::new(b"inv").ok_or("no name")?,
-        unit: 1,
-        timeout: Timeout::new(5).ok_or("no timeout")?,
-        window: Window::new(1).ok_or("no window")?,
-    }))
-}
-
-#[test]
-fn failures_are_told_and_counted(rt: HostRuntime) -> Result<(), Fail> {
-    let mut office = opened(rt.alloc(), books(rt.alloc())?, 0)?;
-    let _ = print(rt.alloc(), &mut office, READ, b"m1")?;
-    let mut connection = office.into_books().into_connection();
-    connection.execute_batch("UPDATE entries SET raw = -1")?;
-    let mut books = found(rt.alloc(), connection)?;
-    let meter = Name::new(b"m1").ok_or("no name")?;
-    let damaged = BooksFault::Store(StoreFault::Damaged);
-    assert_eq!(rt; books.meter(&meter).err(), Some(damaged));
-    assert_eq!(rt; books.faults(), 1);
-    let refused = BooksFault::Store(StoreFault::Refused);
-    assert_eq!(rt;
-        books.book(vec![in rt.alloc(); device()?]?).err(),
-        Some(refused)
-    );
-    assert_eq!(rt; books.faults(), 2);
-    assert_eq!(rt; books.register_count(&meter), Ok(0));
-    assert_eq!(rt; books.faults(), 2);
     Ok(())
 }

@@ -9,9 +9,11 @@ mod damage;
 #[cfg(test)]
 mod databases;
 #[cfg(test)]
-mod kept_rows;
-#[cfg(test)]
 mod made;
+#[cfg(test)]
+mod player;
+#[cfg(test)]
+mod printed;
 #[cfg(test)]
 mod questions;
 #[cfg(test)]
@@ -20,5 +22,3 @@ mod requests;
 mod scripts;
 #[cfg(test)]
 mod tables;
-#[cfg(test)]
-mod voids;

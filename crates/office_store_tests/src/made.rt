@@ -18,9 +18,12 @@ pub(crate) fn made<S: Alter + Drop>(
     }
 }
 
+/// A zone in which the clocks go forward on 2024-03-31 and back on 2024-10-27.
+const ZONE: &str = "CET-1CEST,M3.5.0,M10.5.0/3";
+
 /// New books in memory.
 pub(crate) fn books(alloc: Global) -> Result<SqlBooks<MemStore>, Fail> {
-    made(alloc, Connection::open_in_memory(alloc)?, "UTC0")
+    made(alloc, Connection::open_in_memory(alloc)?, ZONE)
 }
 
 /// The books of this connection.

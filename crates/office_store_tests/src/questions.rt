@@ -2,7 +2,6 @@
 use interval_core::Share;
 use office_books::{Books, BooksFault, RowSink, StoreFault};
 use office_events::Name;
-use std::test::Fail;
 
 /// Takes rows, and forgets them.
 #[derive(Drop)]
@@ -14,63 +13,60 @@ impl RowSink<Share> for NoRows {
     fn put(&mut self, _row: Share) {}
 }
 
+/// The names that are looked up.
+#[derive(Clone, Copy)]
+struct AskedNames {
+    inv: Name,
+    main: Name,
+    m1: Name,
+    desk: Name,
+}
+
+fn names() -> Option<AskedNames> {
+    Some(AskedNames {
+        inv: Name::new(b"inv")?,
+        main: Name::new(b"main")?,
+        m1: Name::new(b"m1")?,
+        desk: Name::new(b"desk")?,
+    })
+}
+
 /// Books answer, or tell damage. Nothing else is answered.
-fn look<T: Drop>(answer: Result<T, BooksFault>) -> Result<(), Fail> {
-    match answer {
-        Ok(_) | Err(BooksFault::Store(StoreFault::Damaged)) => Ok(()),
-        Err(_) => Err(Fail::from("refused")),
+fn look<T: Drop>(answer: Result<T, BooksFault>) -> bool {
+    matches!(answer, Ok(_) | Err(BooksFault::Store(StoreFault::Damaged)))
+}
+
+fn ask_devices<B: Books>(books: &mut B, names: &AskedNames) -> bool {
+    look(books.devices())
+        && look(books.list(&names.inv))
+        && look(books.register(&names.main))
+        && look(books.registers(&names.inv))
+        && look(books.register_count(&names.inv))
+}
+
+fn ask_meters<B: Books>(books: &mut B, names: &AskedNames) -> bool {
+    look(books.meter(&names.m1))
+        && look(books.installation(&names.main))
+        && look(books.installation_count())
+        && look(books.entry(&names.m1, 2))
+        && look(books.intervals(&names.m1, &mut NoRows))
+        && look(books.register_intervals(&names.main, &mut NoRows))
+}
+
+fn ask_polls<B: Books>(books: &mut B, names: &AskedNames) -> bool {
+    look(books.poll(1))
+        && look(books.poll_count())
+        && look(books.pending())
+        && look(books.latest())
+        && look(books.repeat(&names.desk, 7, b"void"))
+}
+
+/// Whether each look-up is answered, or tells damage, which the books count.
+pub(crate) fn are_answered<B: Books>(books: &mut B) -> bool {
+    match names() {
+        Some(names) => {
+            ask_devices(books, &names) && ask_meters(books, &names) && ask_polls(books, &names)
+        }
+        None => false,
     }
-}
-
-fn ask_devices<B: Books>(books: &mut B) -> Result<(), Fail> {
-    let inv = Name::new(b"inv").ok_or("no name")?;
-    look(books.devices())?;
-    look(books.list(&inv))
-}
-
-fn ask_registers<B: Books>(books: &mut B) -> Result<(), Fail> {
-    let inv = Name::new(b"inv").ok_or("no name")?;
-    let main = Name::new(b"main").ok_or("no name")?;
-    look(books.register(&main))?;
-    look(books.registers(&inv))?;
-    look(books.register_count(&inv))
-}
-
-fn ask_meters<B: Books>(books: &mut B) -> Result<(), Fail> {
-    let m1 = Name::new(b"m1").ok_or("no name")?;
-    let main = Name::new(b"main").ok_or("no name")?;
-    look(books.meter(&m1))?;
-    look(books.installation(&main))?;
-    look(books.installation_count())
-}
-
-fn ask_rows<B: Books>(books: &mut B) -> Result<(), Fail> {
-    let m1 = Name::new(b"m1").ok_or("no name")?;
-    let main = Name::new(b"main").ok_or("no name")?;
-    look(books.entry(&m1, 2))?;
-    look(books.intervals(&m1, &mut NoRows))?;
-    look(books.register_intervals(&main, &mut NoRows))
-}
-
-fn ask_polls<B: Books>(books: &mut B) -> Result<(), Fail> {
-    look(books.poll(1))?;
-    look(books.poll_count())?;
-    look(books.pending())
-}
-
-fn ask_requests<B: Books>(books: &mut B) -> Result<(), Fail> {
-    let desk = Name::new(b"desk").ok_or("no name")?;
-    look(books.latest())?;
-    look(books.repeat(&desk, 7, b"void"))
-}
-
-/// How many look-ups tell damage.
-pub(crate) fn damaged<B: Books>(books: &mut B) -> Result<u64, Fail> {
-    ask_devices(books)?;
-    ask_registers(books)?;
-    ask_meters(books)?;
-    ask_rows(books)?;
-    ask_polls(books)?;
-    ask_requests(books)?;
-    Ok(books.faults())
 }

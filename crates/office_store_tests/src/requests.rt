@@ -1,10 +1,13 @@
 //! Requests that are sent again.
-use crate::made::{books, found, opened};
-use crate::scripts::{READ, event_of, print};
-use office_books::Books;
+use crate::made::{found, opened};
+use crate::player::{READ, after, event_of, play};
 use office_core::Office;
-use office_events::{Answer, Asked, CommandKind, Event, Name, Piece, Refusal};
+use office_events::{Answer, Asked, Command, CommandKind, Event, Name, Piece, Refusal};
+use office_store::SqlBooks;
+use script_lines::ScriptLine;
+use sqlite::MemStore;
 use std::alloc::Global;
+use std::process::Abort;
 use std::str;
 use std::test::Fail;
 
@@ -32,26 +35,55 @@ static REQUESTS: [(&[u8], &str, Result<Answer, Refusal>); 4] = [
     ),
 ];
 
+/// The command of a line, and its moment.
+fn command_of(alloc: Global, line: &str) -> Option<(u64, Command)> {
+    let line = ScriptLine::read(alloc, line.as_bytes()).ok()?;
+    match event_of(alloc, line)? {
+        (at, Event::Command(command)) => Some((at, command)),
+        _ => None,
+    }
+}
+
 /// What a request is answered that is sent under a caller and a number.
-fn ask<B: Books>(
+fn ask(
     alloc: Global,
-    office: &mut Office<B>,
+    office: &mut Office<SqlBooks<MemStore>>,
     request: &[u8],
     line: &str,
-) -> Result<Result<Answer, Refusal>, Fail> {
-    let (at, event) = event_of(alloc, line)?;
-    let Event::Command(command) = event else {
-        return Err(Fail::from("no command"));
-    };
+) -> Option<Result<Answer, Refusal>> {
+    let (at, command) = command_of(alloc, line)?;
     let asked = Asked {
         caller: Name::new(b"desk"),
         number: 7,
-        request: Piece::new(request.to_vec(alloc)?),
+        request: Piece::new(request.to_vec(alloc).ok()?),
         command,
     };
-    Ok(office.feed(at, &Event::Asked(asked)))
+    Some(office.feed(at, &Event::Asked(asked)))
 }
 
+/// The answers to requests, one after the other.
+fn are_answered(
+    rt: &impl Abort,
+    alloc: Global,
+    office: &mut Office<SqlBooks<MemStore>>,
+    requests: &[(&[u8], &str, Result<Answer, Refusal>)],
+) {
+    for (request, line, answer) in requests {
+        let given = ask(alloc, office, request, line);
+        assert_eq!(rt; given, Some(*answer), "{line}");
+    }
+}
+
+/// An office that is opened anew, over the connection of another.
+fn reopened(
+    alloc: Global,
+    office: Office<SqlBooks<MemStore>>,
+) -> Result<Office<SqlBooks<MemStore>>, Fail> {
+    let connection = office.into_books().into_connection();
+    opened(alloc, found(alloc, connection)?, 5000)
+}
+
+/// What is printed at last of the meter that was exchanged.
 const M1: &str = "meter m1 last 5300 sf 0 at 2800 total 300000 ended
 900 177777
 1800 111111
@@ -59,27 +91,21 @@ const M1: &str = "meter m1 last 5300 sf 0 at 2800 total 300000 ended
 end 3
 ";
 
+fn shows_m1(
+    rt: &impl Abort,
+    alloc: Global,
+    office: &mut Office<SqlBooks<MemStore>>,
+) -> Result<(), Fail> {
+    let text = play(alloc, office, "meter m1\nintervals m1")?;
+    assert_eq!(rt; str::from_utf8(&text)?, M1);
+    Ok(())
+}
+
 #[test]
 fn a_repeat_is_answered_again(rt: HostRuntime) -> Result<(), Fail> {
-    let mut office = opened(rt.alloc(), books(rt.alloc())?, 0)?;
-    let _ = print(rt.alloc(), &mut office, READ, b"m1")?;
-    for (request, line, answer) in &REQUESTS {
-        assert_eq!(rt;
-            ask(rt.alloc(), &mut office, request, line)?,
-            *answer,
-            "{line}"
-        );
-    }
-    let connection = office.into_books().into_connection();
-    let mut again = opened(rt.alloc(), found(rt.alloc(), connection)?, 5000)?;
-    for (request, line, answer) in REQUESTS.iter().skip(1) {
-        assert_eq!(rt;
-            ask(rt.alloc(), &mut again, request, line)?,
-            *answer,
-            "{line}"
-        );
-    }
-    let printed = print(rt.alloc(), &mut again, "", b"m1")?;
-    assert_eq!(rt; str::from_utf8(&printed)?, M1);
-    Ok(())
+    let mut office = after(rt.alloc(), READ)?;
+    are_answered(&rt, rt.alloc(), &mut office, &REQUESTS);
+    let mut again = reopened(rt.alloc(), office)?;
+    are_answered(&rt, rt.alloc(), &mut again, &REQUESTS[1..]);
+    shows_m1(&rt, rt.alloc(), &mut again)
 }

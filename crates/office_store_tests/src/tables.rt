@@ -1,5 +1,5 @@
 //! Databases with rows in each table.
-use office_store::SqlBooks;
+use crate::made::books;
 use sqlite::{Connection, MemStore};
 use std::alloc::Global;
 use std::test::Fail;
@@ -44,10 +44,7 @@ pub(crate) fn loose(alloc: Global) -> Result<Connection<MemStore>, Fail> {
 
 /// New books to which the same rows were added.
 pub(crate) fn strict(alloc: Global) -> Result<Connection<MemStore>, Fail> {
-    let Ok(books) = SqlBooks::create(alloc, Connection::open_in_memory(alloc)?, "UTC0") else {
-        return Err(Fail::from("not made"));
-    };
-    let mut connection = books.into_connection();
+    let mut connection = books(alloc)?.into_connection();
     connection.execute_batch(ROWS)?;
     Ok(connection)
 }

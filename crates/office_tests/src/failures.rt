@@ -1,15 +1,11 @@
 //! Books that fail at each of their calls in turn.
-use crate::scripts::{command_of, feed, print};
-use failing_books::FailingBooks;
-use interval_core::Zone;
+use crate::offices::{Tried, books_failing_at, command_of, opened};
+use crate::scripts::{feed, print, prints};
 use office_books::Books;
-use office_core::Office;
-use office_events::{Asked, Event, Name, Piece, Refusal, StoreCause};
-use office_lists::ListBooks;
+use office_events::{Asked, Event, Name, Piece};
 use std::alloc::Global;
 use std::process::Abort;
 use std::str;
-use std::test::Fail;
 
 enum Kind {
     /// A command or a question. Where the books refuse it, it is asked again.
@@ -209,115 +205,76 @@ const ASKED: &str = "9000 tick\n9000 device b 1 5 1\nmeter m1\npoll 1\nintervals
 
 const STOPPED: &str = "refused 15\nrefused 15\nrefused 15\nrefused 15\nrefused 15\nrefused 15\n";
 
-fn same(rt: &impl Abort, printed: &[u8], wanted: &str) -> Result<(), Fail> {
-    assert_eq!(rt; str::from_utf8(printed)?, wanted);
-    Ok(())
-}
-
-/// Opens an office. Where the books refuse, they are handed back, and it is opened again.
-fn opened(
-    rt: &impl Abort,
-    alloc: Global,
-    books: FailingBooks,
-    moment: u64,
-) -> Result<Office<FailingBooks>, Fail> {
-    let (books, why) = match Office::open(alloc, books, moment) {
-        Ok(office) => return Ok(office),
-        Err(refused) => refused,
-    };
-    assert_eq!(rt;
-        (why, books.faults()),
-        (Refusal::Store(StoreCause::Refused), 1)
-    );
-    match Office::open(alloc, books, moment) {
-        Ok(office) => Ok(office),
-        Err(_) => Err(Fail::from("not opened again")),
-    }
-}
-
-/// What is printed of a command under a caller and a number, with its line as the bytes of the request.
-fn print_request(
-    alloc: Global,
-    office: &mut Office<FailingBooks>,
-    line: &str,
-) -> Result<Vec<u8>, Fail> {
+// A command under a caller and a number, with its line as the bytes of the request.
+fn request_of(alloc: Global, line: &str) -> Option<(u64, Event)> {
     let (at, command) = command_of(alloc, line)?;
     let event = Event::Asked(Asked {
         caller: Name::new(b"desk"),
         number: at,
-        request: Piece::new(line.as_bytes().to_vec(alloc)?),
+        request: Piece::new(line.as_bytes().to_vec(alloc).ok()?),
         command,
     });
+    Some((at, event))
+}
+
+fn print_request(rt: &impl Abort, alloc: Global, office: &mut Tried, line: &str) -> Vec<u8> {
+    let (at, event) = request_of(alloc, line).expect(rt, "a request");
     let mut output = Vec::new(alloc);
-    feed(office, at, &event, &mut output)?;
-    Ok(output)
+    assert!(rt; feed(office, at, &event, &mut output).is_ok());
+    output
 }
 
-fn print_one(
-    alloc: Global,
-    office: &mut Office<FailingBooks>,
-    line: &Line,
-) -> Result<Vec<u8>, Fail> {
+fn print_one(rt: &impl Abort, alloc: Global, office: &mut Tried, line: &Line) -> Vec<u8> {
     match line.kind {
-        Kind::Asks | Kind::Happens(_) => print(alloc, office, line.line),
-        Kind::Requests => print_request(alloc, office, line.line),
+        Kind::Asks | Kind::Happens(_) => print(rt, alloc, office, line.line),
+        Kind::Requests => print_request(rt, alloc, office, line.line),
     }
 }
 
-/// What stands after a line if it stopped the office. A command that the books refused is asked again.
-fn told(
-    rt: &impl Abort,
-    alloc: Global,
-    office: &mut Office<FailingBooks>,
-    line: &Line,
-) -> Result<Option<&'static str>, Fail> {
-    let printed = print_one(alloc, office, line)?;
-    if printed.as_slice() != b"refused 13\n".as_slice() {
-        same(rt, &printed, line.printed)?;
-        return Ok(None);
+// What stands after a line if it stopped the office. A command that the books refused is asked again.
+fn told(rt: &impl Abort, alloc: Global, office: &mut Tried, line: &Line) -> Option<&'static str> {
+    let mut printed = print_one(rt, alloc, office, line);
+    if printed.as_slice() == b"refused 13\n".as_slice() {
+        if let Kind::Happens(rows) = line.kind {
+            return Some(rows);
+        }
+        printed = print_one(rt, alloc, office, line);
     }
-    if let Kind::Happens(rows) = line.kind {
-        return Ok(Some(rows));
-    }
-    same(rt, &print_one(alloc, office, line)?, line.printed)?;
-    Ok(None)
+    assert_eq!(rt; str::from_utf8(&printed), Ok(line.printed));
+    None
 }
 
-/// A stopped office refuses everything. Opened again it has what stood before, and no poll waits.
-fn open_again(
-    rt: &impl Abort,
-    alloc: Global,
-    mut office: Office<FailingBooks>,
-    rows: &str,
-) -> Result<u64, Fail> {
-    same(rt, &print(alloc, &mut office, ASKED)?, STOPPED)?;
-    let mut again = opened(rt, alloc, office.into_books(), 9000)?;
-    same(rt, &print(alloc, &mut again, ROWS)?, rows)?;
-    Ok(again.into_books().faults())
+// A stopped office refuses everything. Opened again it has what stood before, and no poll waits.
+fn open_again(rt: &impl Abort, alloc: Global, mut office: Tried, rows: &str) -> u64 {
+    prints(rt, alloc, &mut office, ASKED, STOPPED);
+    let mut again = opened(rt, alloc, office.into_books(), 9000);
+    prints(rt, alloc, &mut again, ROWS, rows);
+    again.into_books().faults()
 }
 
-/// How often the books failed, where their call of a number does.
-fn play(rt: &impl Abort, alloc: Global, failing: u64) -> Result<u64, Fail> {
-    let zone = Zone::read("UTC0")?;
-    let books = FailingBooks::new(ListBooks::new(alloc, zone), failing);
-    let mut office = opened(rt, alloc, books, 0)?;
+// How often the books failed, where their call of a number does.
+fn play(rt: &impl Abort, alloc: Global, failing: u64) -> u64 {
+    let books = books_failing_at(alloc, failing).expect(rt, "books");
+    let mut office = opened(rt, alloc, books, 0);
     for line in &LINES {
-        if let Some(rows) = told(rt, alloc, &mut office, line)? {
+        if let Some(rows) = told(rt, alloc, &mut office, line) {
             return open_again(rt, alloc, office, rows);
         }
     }
-    let mut last = opened(rt, alloc, office.into_books(), 9000)?;
-    let _ = told(rt, alloc, &mut last, &END)?;
-    Ok(last.into_books().faults())
+    let mut last = opened(rt, alloc, office.into_books(), 9000);
+    let _ = told(rt, alloc, &mut last, &END);
+    last.into_books().faults()
 }
 
 #[test]
-fn each_call_of_the_books_may_fail(rt: HostRuntime) -> Result<(), Fail> {
+fn each_call_of_the_books_may_fail(rt: HostRuntime) {
     for failing in 1..1000 {
-        if play(&rt, rt.alloc(), failing)? == 0 {
+        let faults = play(&rt, rt.alloc(), failing);
+        if faults == 0 {
             assert!(rt; failing as usize > LINES.len(), "{failing} calls");
-            return Ok(());
+            return;
         }
+        assert_eq!(rt; faults, 1);
     }
-    Err(Fail::from("a call fails each time"))
+    panic!(rt; "a call fails each time");
 }

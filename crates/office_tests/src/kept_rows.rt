@@ -1,7 +1,7 @@
 //! Rows that are kept as they are handed on.
 use office_books::RowSink;
 use std::alloc::Global;
-use std::test::Fail;
+use std::io::{self, ErrorKind};
 
 /// The rows so far.
 #[derive(Drop)]
@@ -19,12 +19,12 @@ impl<T: Drop> KeptRows<T> {
     }
 
     /// All rows, where there was memory for each.
-    pub(crate) fn into_rows(self) -> Result<Vec<T>, Fail> {
+    pub(crate) fn into_rows(self) -> io::Result<Vec<T>> {
         let KeptRows { rows, is_whole } = self;
         if is_whole {
             Ok(rows)
         } else {
-            Err(Fail::from("no memory"))
+            Err(io::Error::from(ErrorKind::OutOfMemory))
         }
     }
 }

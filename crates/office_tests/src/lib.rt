@@ -1,5 +1,5 @@
-//! Tests of the office over books in memory: what is printed of events, line by line of scripts; requests that are sent
-//! again; commands by chance, after each of which all rows are computed anew; and books that fail at each of their calls.
+//! Tests of the office: its events, its books in memory, runs from nothing, requests that are sent again, commands by chance
+//! after each of which all rows are computed anew, books and links that fail at each of their calls, and polling on a schedule.
 #![tactic(auto)]
 
 #[cfg(test)]
@@ -7,28 +7,67 @@ mod accounts;
 #[cfg(test)]
 mod acts;
 #[cfg(test)]
+mod benches;
+#[cfg(test)]
 mod chances;
 #[cfg(test)]
-mod entries;
+mod desks;
+#[cfg(test)]
+mod facts;
+#[cfg(test)]
+mod failing_links;
 #[cfg(test)]
 mod failures;
 #[cfg(test)]
+mod fault_texts;
+#[cfg(test)]
+mod headline;
+#[cfg(test)]
 mod kept_rows;
 #[cfg(test)]
-mod polls;
+mod links;
+#[cfg(test)]
+mod list_books;
+#[cfg(test)]
+mod names;
+#[cfg(test)]
+mod offices;
+#[cfg(test)]
+mod peers;
+#[cfg(test)]
+mod planned_lists;
 #[cfg(test)]
 mod questions;
 #[cfg(test)]
 mod random_acts;
 #[cfg(test)]
-mod readings;
+mod refusals;
+#[cfg(test)]
+mod refusing_books;
 #[cfg(test)]
 mod requests;
 #[cfg(test)]
+mod round_breaks;
+#[cfg(test)]
+mod round_faults;
+#[cfg(test)]
 mod rounds;
+mod runs;
+#[cfg(test)]
+mod schedule;
 #[cfg(test)]
 mod scripts;
 #[cfg(test)]
 mod seen;
 #[cfg(test)]
-mod voids;
+mod status;
+#[cfg(test)]
+mod stopped_office;
+#[cfg(test)]
+mod turns;
+#[cfg(test)]
+mod witness;
+#[cfg(test)]
+mod writers;
+
+pub use runs::run_anew;

@@ -2,14 +2,12 @@
 use crate::accounts::{Account, By, account_of};
 use crate::acts::{Act, Doing, act_on, line, next_doing};
 use crate::chances::Chances;
-use crate::scripts::{opened, print};
+use crate::offices::{Tried, new_office};
+use crate::scripts::{print, prints};
 use crate::seen::Seen;
-use office_core::Office;
-use office_lists::ListBooks;
-use std::alloc::Global;
+use std::alloc::{AllocError, Global};
 use std::process::Abort;
 use std::str;
-use std::test::Fail;
 
 const REGISTERS: &str = "0 device inv 1 60 16
 0 register r0 inv 3 0 @2
@@ -17,7 +15,7 @@ const REGISTERS: &str = "0 device inv 1 60 16
 0 connect inv";
 
 /// What is done next.
-fn next_act(alloc: Global, chances: &mut Chances, seen: &mut Seen) -> Result<Act, Fail> {
+fn next_act(alloc: Global, chances: &mut Chances, seen: &mut Seen) -> Result<Act, AllocError> {
     let register = chances.below(2);
     let meter = seen.meter_at(register);
     let account = account_of(alloc, &seen.made, meter)?;
@@ -30,68 +28,71 @@ fn next_act(alloc: Global, chances: &mut Chances, seen: &mut Seen) -> Result<Act
     Ok(act)
 }
 
-/// Whether the device's reply brings an accepted reading.
-fn is_read(alloc: Global, office: &mut Office<ListBooks>, act: &Act) -> Result<bool, Fail> {
+// The reply of the device to what was sent.
+fn reply(alloc: Global, sent: &[u8], act: &Act) -> Option<String> {
     let Act { at, raw, sf, .. } = *act;
-    let [high, low, ..] = office.outgoing() else {
-        return Err(Fail::from("nothing was sent"));
+    let [high, low, ..] = sent else {
+        return None;
     };
     let reply = format!(in alloc;
         "{at} bytes inv {high:02x}{low:02x}00000009010306{raw:08x}{sf:04x}"
-    )?;
-    let printed = print(alloc, office, &reply)?;
-    Ok(str::from_utf8(&printed)?.contains("\nreading "))
+    );
+    reply.ok()
 }
 
-/// Does what is to be done, and notes what was accepted.
-fn carry_out(
-    alloc: Global,
-    office: &mut Office<ListBooks>,
-    seen: &mut Seen,
-    act: &Act,
-) -> Result<(), Fail> {
-    let printed = print(alloc, office, &line(alloc, act)?)?;
+// Whether the device's reply brings an accepted reading.
+fn is_read(rt: &impl Abort, alloc: Global, office: &mut Tried, act: &Act) -> bool {
+    let reply = reply(alloc, office.outgoing(), act).expect(rt, "a reply");
+    let printed = print(rt, alloc, office, &reply);
+    str::from_utf8(&printed).is_ok_and(|text| text.contains("\nreading "))
+}
+
+// Does what is to be done, and notes what was accepted.
+fn carry_out(rt: &impl Abort, alloc: Global, office: &mut Tried, seen: &mut Seen, act: &Act) {
+    let asked = line(alloc, act).expect(rt, "a line");
+    let printed = print(rt, alloc, office, &asked);
     if printed.starts_with(b"refused") {
-        return Ok(());
+        return;
     }
-    if act.doing != Doing::Read || is_read(alloc, office, act)? {
-        seen.add(act)?;
+    if act.doing != Doing::Read || is_read(rt, alloc, office, act) {
+        assert!(rt; seen.add(act).is_ok());
     }
-    Ok(())
 }
 
-/// The rows of a meter as they are to be printed.
-fn rows(alloc: Global, meter: u64, account: &Account) -> Result<String, Fail> {
+// The rows of a meter as they are to be printed.
+fn rows(alloc: Global, meter: u64, account: &Account) -> Option<String> {
     let (raw, sf, at, total) = (account.raw, account.sf, account.at, account.total);
     let word = if account.ended { "ended" } else { "open" };
-    let mut text = format!(in alloc;
-        "meter m{meter} last {raw} sf {sf} at {at} total {total} {word}\n"
-    )?;
+    let mut text = String::new(alloc);
+    writeln!(
+        text,
+        "meter m{meter} last {raw} sf {sf} at {at} total {total} {word}"
+    )
+    .ok()?;
     for (start, mwh) in &account.rows {
-        writeln!(text, "{start} {mwh}")?;
+        writeln!(text, "{start} {mwh}").ok()?;
     }
     let count = account.rows.len();
-    writeln!(text, "end {count}")?;
-    Ok(text)
+    writeln!(text, "end {count}").ok()?;
+    Some(text)
 }
 
-fn compare(
-    rt: &impl Abort,
-    alloc: Global,
-    office: &mut Office<ListBooks>,
-    seen: &Seen,
-) -> Result<(), Fail> {
+fn rows_of(alloc: Global, seen: &Seen, meter: u64) -> Option<String> {
+    let account = account_of(alloc, &seen.made, meter).ok()?;
+    rows(alloc, meter, &account)
+}
+
+// The office prints the rows of each meter as they are by what was accepted.
+fn compare(rt: &impl Abort, alloc: Global, office: &mut Tried, seen: &Seen) {
     for meter in 0..seen.meters {
-        let account = account_of(alloc, &seen.made, meter)?;
-        let asked = format!(in alloc; "meter m{meter}\nintervals m{meter}")?;
-        let printed = print(alloc, office, &asked)?;
-        let wanted = rows(alloc, meter, &account)?;
-        assert_eq!(rt; str::from_utf8(&printed)?, wanted.as_str());
+        let asked = format!(in alloc; "meter m{meter}\nintervals m{meter}");
+        let asked = asked.expect(rt, "questions");
+        let wanted = rows_of(alloc, seen, meter).expect(rt, "rows");
+        prints(rt, alloc, office, &asked, &wanted);
     }
-    Ok(())
 }
 
-/// How many entries came so.
+// How many entries came so.
 fn count(seen: &Seen, by: By) -> usize {
     seen.made.iter().filter(|one| one.by == by).count()
 }
@@ -101,18 +102,17 @@ fn voided(seen: &Seen) -> usize {
 }
 
 #[test]
-fn rows_are_those_of_entries_that_stand(rt: HostRuntime) -> Result<(), Fail> {
-    let mut office = opened(rt.alloc(), "UTC0")?;
-    let _ = print(rt.alloc(), &mut office, REGISTERS)?;
+fn rows_are_those_of_entries_that_stand(rt: HostRuntime) {
+    let mut office = new_office(&rt, rt.alloc());
+    let _ = print(&rt, rt.alloc(), &mut office, REGISTERS);
     let (mut seen, mut chances) = (Seen::new(rt.alloc()), Chances::new(7));
     for _ in 0..200 {
-        let act = next_act(rt.alloc(), &mut chances, &mut seen)?;
-        carry_out(rt.alloc(), &mut office, &mut seen, &act)?;
-        compare(&rt, rt.alloc(), &mut office, &seen)?;
+        let act = next_act(rt.alloc(), &mut chances, &mut seen).expect(&rt, "an act");
+        carry_out(&rt, rt.alloc(), &mut office, &mut seen, &act);
+        compare(&rt, rt.alloc(), &mut office, &seen);
     }
     for by in [By::Opening, By::Reading, By::Hand, By::Change, By::Closing] {
         assert!(rt; count(&seen, by) > 8);
     }
     assert!(rt; voided(&seen) > 4);
-    Ok(())
 }

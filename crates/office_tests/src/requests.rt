@@ -1,9 +1,8 @@
 //! Requests that are sent again.
-use crate::scripts::{READ, answer, command_of, opened, print};
+use crate::offices::{command_of, new_office};
+use crate::scripts::{READ, print, prints};
 use office_events::{Answer, Asked, CommandKind, Event, Name, Piece, Refusal};
 use std::alloc::Global;
-use std::str;
-use std::test::Fail;
 
 /// A command that is asked under a caller and a number, with the bytes of its request.
 struct Request {
@@ -149,33 +148,27 @@ poll 2 pending
 refused 1
 ";
 
-fn asked(alloc: Global, request: &Request) -> Result<(u64, Event), Fail> {
+fn asked(alloc: Global, request: &Request) -> Option<(u64, Event)> {
     let (at, command) = command_of(alloc, request.line)?;
-    let bytes = request.bytes.as_bytes().to_vec(alloc)?;
+    let bytes = request.bytes.as_bytes().to_vec(alloc).ok()?;
     let event = Event::Asked(Asked {
         caller: Name::new(request.caller.as_bytes()),
         number: request.number,
         request: Piece::new(bytes),
         command,
     });
-    Ok((at, event))
+    Some((at, event))
 }
 
 #[test]
-fn requests_act_once(rt: HostRuntime) -> Result<(), Fail> {
-    let mut office = opened(rt.alloc(), "UTC0")?;
-    let _ = print(rt.alloc(), &mut office, READ)?;
+fn requests_act_once(rt: HostRuntime) {
+    let mut office = new_office(&rt, rt.alloc());
+    let _ = print(&rt, rt.alloc(), &mut office, READ);
     for (place, request) in REQUESTS.iter().enumerate() {
-        let (at, event) = asked(rt.alloc(), request)?;
-        assert_eq!(rt;
-            answer(&mut office, at, &event),
-            request.answer,
-            "at {place}"
-        );
+        let (at, event) = asked(rt.alloc(), request).expect(&rt, "a request");
+        assert_eq!(rt; office.feed(at, &event), request.answer, "at {place}");
         let is_start = matches!(request.answer, Ok(Answer::Started { .. }));
         assert_eq!(rt; office.outgoing().is_empty(), !is_start, "at {place}");
     }
-    let printed = print(rt.alloc(), &mut office, ROWS)?;
-    assert_eq!(rt; str::from_utf8(&printed)?, PRINTED);
-    Ok(())
+    prints(&rt, rt.alloc(), &mut office, ROWS, PRINTED);
 }

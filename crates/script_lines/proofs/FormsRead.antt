@@ -7,10 +7,10 @@ use Rattle.office_events.specs.declared.commands.Command.TheVariants as command
 use Rattle.office_events.specs.declared.events.Event.TheVariants as event
 use Rattle.poll_core.specs.declared.outcome.Closing.TheVariants as closing
 use Rattle.script_lines.specs.Forms.{HasForm, IsLine, form_of}
-use Rattle.script_words.specs.Fields.{Number, Of, Spell, Word}
+use Rattle.script_lines.specs.LineWords.Fields.{Number, Of, Spell, Word}
 use Rattle.script_lines.specs.LineReader.{Values, asked_by, SaysBytes, early_verb, first_of, kinds_asked, kinds_of, late_verb, line_asked, line_of, line_said, made, middle_verb, question_of, said_by, said_from, timed_said, verb_of}
 use Rattle.script_lines.specs.Seen.{BringBytes, IsOnly}
-use Rattle.script_words.specs.Values.{number_of}
+use Rattle.script_lines.specs.LineWords.Values.{number_of}
 use Rattle.script_lines.specs.declared.verbs.Question.{Question}
 use Rattle.script_lines.specs.declared.verbs.Question.TheVariants as question
 use Rattle.script_lines.specs.declared.verbs.Verb.{Verb}

@@ -1,3 +1,5 @@
 pub mod FormsRead
 pub mod Made
 pub mod Pieces
+pub mod LineWordsLemmas
+pub mod BankLemmas

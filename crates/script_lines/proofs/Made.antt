@@ -1,7 +1,7 @@
 -- What is made of the values of words, and the fields that they spell.
 use Rattle.std.proofs.Common.{◌≡◌, ℕ, List, [], ◌∷◌, Some, None, Option, refl, sym, ap, ◌∙◌, subst}
 use Rattle.std.specs.Prelude.{option_map}
-use Rattle.script_words.specs.Fields.{Kind, Value, Field, Of, Spell, first_value, missing, spelled}
+use Rattle.script_lines.specs.LineWords.Fields.{Kind, Value, Field, Of, Spell, first_value, missing, spelled}
 use Rattle.script_lines.specs.LineReader.{◌>>=◌, Values, made}
 
 -- the fields of values

@@ -5,9 +5,9 @@ use Rattle.std.specs.Result.{result_ok}
 use Rattle.hex.specs.Hex.{decode_of}
 use Rattle.hex.specs.declared.error.FromHexError.{FromHexError}
 use Rattle.hex.proofs.HexLemmas.{decode_of-ok}
-use Rattle.script_words.specs.Fields.{AnyName, Hex, first_value, nothing_more}
+use Rattle.script_lines.specs.LineWords.Fields.{AnyName, Hex, first_value, nothing_more}
 use Rattle.script_lines.specs.LineReader.{◌>>=◌, SaysPiece, device_bytes_said, made}
-use Rattle.script_words.specs.Values.{bytes_of}
+use Rattle.script_lines.specs.LineWords.Values.{bytes_of}
 use Rattle.script_lines.proofs.Made.{made_again, same, spelled_made}
 
 -- hex of one digit or more spells one byte or more

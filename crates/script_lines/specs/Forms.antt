@@ -6,7 +6,7 @@ use Rattle.office_events.specs.declared.events.Event.{Event}
 use Rattle.office_events.specs.declared.events.Event.TheVariants as event
 use Rattle.poll_core.specs.declared.outcome.Closing.{Closing}
 use Rattle.poll_core.specs.declared.outcome.Closing.TheVariants as closing
-use Rattle.script_words.specs.Fields.{Field, Word, Of, AnyName, Number, Signed, Scale, Hex, Range, Moment, Spell}
+use Rattle.script_lines.specs.LineWords.Fields.{Field, Word, Of, AnyName, Number, Signed, Scale, Hex, Range, Moment, Spell}
 use Rattle.script_lines.specs.declared.script.ScriptLine.{ScriptLine}
 use Rattle.script_lines.specs.declared.script.ScriptLine.TheVariants as line
 

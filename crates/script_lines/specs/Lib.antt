@@ -2,3 +2,5 @@ pub mod Forms
 pub mod LineFaults
 pub mod LineReader
 pub mod Seen
+pub mod LineWords
+pub mod Bank

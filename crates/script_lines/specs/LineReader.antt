@@ -4,9 +4,9 @@ use Rattle.std.specs.Str.{bytes_eq}
 use Rattle.office_events.specs.declared.commands.Command.TheVariants as command
 use Rattle.office_events.specs.declared.events.Event.TheVariants as event
 use Rattle.poll_core.specs.declared.outcome.Closing.TheVariants as closing
-use Rattle.script_words.specs.Fields.{Kind, AnyName, Number, Signed, Scale, Hex, Range, Moment, Value, first_value, nothing_more}
+use Rattle.script_lines.specs.LineWords.Fields.{Kind, AnyName, Number, Signed, Scale, Hex, Range, Moment, Value, first_value, nothing_more}
 use Rattle.script_lines.specs.Seen.{bytes_in}
-use Rattle.script_words.specs.Values.{number_of}
+use Rattle.script_lines.specs.LineWords.Values.{number_of}
 use Rattle.script_lines.specs.declared.verbs.Verb.{Verb}
 use Rattle.script_lines.specs.declared.verbs.Verb.TheVariants as verb
 use Rattle.script_lines.specs.declared.verbs.Question.{Question}

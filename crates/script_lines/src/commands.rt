@@ -3,13 +3,13 @@ ghost use Rattle.std.specs.Prelude.{◌≡◌};
 ghost use Rattle.script_lines.specs.LineReader.{said_by};
 ghost use Rattle.script_lines.specs.declared.verbs.Verb.TheVariants as verb;
 
+use crate::line_words::{
+    Words, next_moment, next_name, next_number, next_range, next_scale, next_signed, nothing_more,
+};
 use crate::script::ScriptLine;
 use office_events::{
     AddDevice, AddRegister, Close, Command, Event, Exchange, Install, Manual, Rescale, Reset,
     StartRound, VoidEntry,
-};
-use script_words::{
-    Words, next_moment, next_name, next_number, next_range, next_scale, next_signed, nothing_more,
 };
 
 // `NAME UNIT TIMEOUT WINDOW`.

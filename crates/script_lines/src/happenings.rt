@@ -3,11 +3,11 @@ ghost use Rattle.std.specs.Prelude.{◌≡◌};
 ghost use Rattle.script_lines.specs.LineReader.{asked_by, said_by};
 ghost use Rattle.script_lines.specs.declared.verbs.Verb.TheVariants as verb;
 
+use crate::line_words::{Words, next_name, next_number, nothing_more};
 use crate::script::{GivenStart, ScriptLine};
 use crate::verbs::Question;
 use office_events::Event;
 use poll_core::Closing;
-use script_words::{Words, next_name, next_number, nothing_more};
 
 // `DEVICE FUNCTION ADDRESS COUNT`.
 pub(crate) fn start(at: u64, words: &mut Words<'_>) -> Option<ScriptLine>

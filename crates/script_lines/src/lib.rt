@@ -1,12 +1,19 @@
 //! The lines of a script: what the words of each one spell.
 #![tactic(auto)]
 
+mod bank;
 mod commands;
 mod happenings;
 mod line_fault;
 mod line_reader;
+mod line_words;
 mod script;
 mod verbs;
 
+pub use bank::{BankLine, GivenArea, GivenCell};
 pub use line_fault::LineFault;
+pub use line_words::{
+    Words, hex_bytes, next_moment, next_name, next_number, next_range, next_scale, next_signed,
+    nothing_more, number,
+};
 pub use script::{GivenList, GivenStart, ScriptLine};

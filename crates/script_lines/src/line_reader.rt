@@ -1,7 +1,7 @@
 //! Reading a line of a script.
 ghost use Rattle.std.specs.Prelude.{◌≡◌, ◌∷◌, IfOk, IsErr, None};
 ghost use Rattle.script_lines.specs.LineReader.{SaysBytes, SaysPiece, device_bytes_said, line_said, said_by, said_from, timed_said};
-ghost use Rattle.script_words.specs.Words.{words_of};
+ghost use Rattle.script_lines.specs.LineWords.Words.{words_of};
 ghost use Rattle.script_lines.specs.declared.verbs.Verb.TheVariants as verb;
 
 use crate::commands::{
@@ -9,10 +9,10 @@ use crate::commands::{
 };
 use crate::happenings::{asked, connect, failed, gone, start, tick};
 use crate::line_fault::LineFault;
+use crate::line_words::{Words, hex_bytes, next_name, nothing_more, number};
 use crate::script::{GivenList, ScriptLine};
 use crate::verbs::{Verb, question_of, verb_of};
 use office_events::{Event, Name, Piece};
-use script_words::{Words, hex_bytes, next_name, nothing_more, number};
 use std::alloc::{AllocError, Global};
 
 impl ScriptLine {

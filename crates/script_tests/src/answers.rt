@@ -1,4 +1,5 @@
 //! What is written of the office's answers.
+use crate::streams::Kept;
 use energy_core::{Cause, Last};
 use mb_wire::ReadSpan;
 use office_events::{
@@ -10,11 +11,13 @@ use script_text::{
     write_accepted, write_answer, write_bad_line, write_faults, write_meter, write_note,
     write_notes, write_poll, write_refusal,
 };
+use std::alloc::Global;
+use std::io;
 use std::test::Fail;
 
 const FRAME: &[u8] = b"\x00\x00\x00\x00\x00\x06\x01\x03\x9c\x9e\x00\x03";
 
-pub(crate) const STARTED: Answer = Answer::Started {
+const STARTED: Answer = Answer::Started {
     first: 1,
     count: 1,
     of: 2,
@@ -37,20 +40,21 @@ fn answers_are_written(rt: HostRuntime) -> Result<(), Fail> {
     Ok(())
 }
 
-/// A poll's outcome, its reading, and one that is held.
-pub(crate) fn notes() -> Option<[Note; 3]> {
+// A poll's outcome, its reading, and one that is held.
+fn notes() -> Option<[Note; 3]> {
+    let meter = Name::new(b"m1")?;
     let answered = Note::Outcome {
         poll: 1,
         outcome: Outcome::Answered,
     };
     let reading = Note::Reading {
-        meter: Name::new(b"m1")?,
+        meter,
         raw: 5200,
         rolls: 0,
         step: 200_000,
     };
     let held = Note::Held {
-        meter: Name::new(b"m1")?,
+        meter,
         raw: 4_294_967_295,
         cause: Cause::TooFast,
     };
@@ -60,17 +64,29 @@ pub(crate) fn notes() -> Option<[Note; 3]> {
 const NOTED: &str =
     "poll 1 answered\nreading m1 5200 rolls 0 step 200000\nheld m1 4294967295 cause 6\n";
 
+const WHOLE: &str =
+    "poll 1 answered\nreading m1 5200 rolls 0 step 200000\nheld m1 4294967295 cause 6\nstarted 1 1 2 00ff\n";
+
 #[test]
-fn notes_are_written_first(rt: HostRuntime) -> Result<(), Fail> {
+fn notes_are_written(rt: HostRuntime) -> Result<(), Fail> {
     let notes = notes().ok_or("no name")?;
     let mut written = Vec::new(rt.alloc());
     write_notes(&notes, &mut written)?;
     assert_eq!(rt; written.as_slice(), NOTED.as_bytes());
-    let mut all = NOTED.as_bytes().to_vec(rt.alloc())?;
-    all.extend_from_slice(b"ok\n")?;
-    let mut written = Vec::new(rt.alloc());
-    write_accepted(&Answer::Noted, &notes, b"", &mut written)?;
-    assert_eq!(rt; written.as_slice(), all.as_slice());
+    Ok(())
+}
+
+// Two bytes are written with each call, and the notes come before the answer.
+#[test]
+fn each_failing_write_is_told(rt: HostRuntime) -> Result<(), Fail> {
+    let notes = notes().ok_or("no name")?;
+    for failing in 1..80 {
+        let mut kept = Kept::new(rt.alloc(), failing, 2);
+        let ended = write_accepted(&STARTED, &notes, b"\x00\xff", &mut kept);
+        let whole = kept.is_whole(&rt, WHOLE);
+        assert_eq!(rt; ended.is_ok(), whole);
+        assert!(rt; whole || failing < 79);
+    }
     Ok(())
 }
 
@@ -224,21 +240,20 @@ static FAULTS: [FaultyRow; 2] = [
     },
 ];
 
-#[test]
-fn faults_are_written(rt: HostRuntime) -> Result<(), Fail> {
-    let mut written = Vec::new(rt.alloc());
+// Faulty rows, and then a line that is none.
+fn wrong_lines(alloc: Global) -> io::Result<Vec<u8>> {
+    let mut written = Vec::new(alloc);
     write_faults(&FAULTS, &mut written)?;
-    assert_eq!(rt;
-        written.as_slice(),
-        b"row 1 fault 2\nrow 514 fault 12\n".as_slice()
-    );
-    Ok(())
+    write_bad_line(3, &mut written)?;
+    Ok(written)
 }
 
 #[test]
-fn bad_lines_are_written(rt: HostRuntime) -> Result<(), Fail> {
-    let mut written = Vec::new(rt.alloc());
-    write_bad_line(3, &mut written)?;
-    assert_eq!(rt; written.as_slice(), b"bad line 3\n".as_slice());
+fn faults_and_bad_lines_are_written(rt: HostRuntime) -> Result<(), Fail> {
+    let written = wrong_lines(rt.alloc())?;
+    assert_eq!(rt;
+        written.as_slice(),
+        b"row 1 fault 2\nrow 514 fault 12\nbad line 3\n".as_slice()
+    );
     Ok(())
 }

@@ -1,9 +1,21 @@
 //! The lines of interval and day rows.
 use interval_core::{Day, DayTotal, Share};
 use row_text::{Line, write_day, write_end, write_interval};
+use std::alloc::Global;
+use std::io;
 use std::test::Fail;
 
-static SHARES: [Share; 2] = [
+// The rows of intervals, and how many there are.
+fn written(alloc: Global, shares: &[Share], count: u64) -> io::Result<Vec<u8>> {
+    let mut told = Vec::new(alloc);
+    for share in shares {
+        write_interval(*share, &mut told)?;
+    }
+    write_end(count, &mut told)?;
+    Ok(told)
+}
+
+const SHARES: [Share; 2] = [
     Share {
         start: 900,
         mwh: 177_777,
@@ -14,32 +26,26 @@ static SHARES: [Share; 2] = [
     },
 ];
 
-#[test]
-fn intervals_are_told(rt: HostRuntime) -> Result<(), Fail> {
-    let mut told = Vec::new(rt.alloc());
-    write_interval(SHARES[0], &mut told)?;
-    write_interval(SHARES[1], &mut told)?;
-    write_end(2, &mut told)?;
-    assert_eq!(rt;
-        told.as_slice(),
-        b"900 177777\n1800 22223\nend 2\n".as_slice()
-    );
-    Ok(())
-}
+const GREATEST: [Share; 1] = [Share {
+    start: u64::MAX,
+    mwh: u64::MAX,
+}];
+
+static INTERVALS: [(&[Share], u64, &str); 2] = [
+    (&SHARES, 2, "900 177777\n1800 22223\nend 2\n"),
+    (
+        &GREATEST,
+        u64::MAX,
+        "18446744073709551615 18446744073709551615\nend 18446744073709551615\n",
+    ),
+];
 
 #[test]
-fn the_greatest_numbers_are_told(rt: HostRuntime) -> Result<(), Fail> {
-    let mut told = Vec::new(rt.alloc());
-    write_interval(
-        Share {
-            start: u64::MAX,
-            mwh: u64::MAX,
-        },
-        &mut told,
-    )?;
-    write_end(u64::MAX, &mut told)?;
-    let wanted = b"18446744073709551615 18446744073709551615\nend 18446744073709551615\n";
-    assert_eq!(rt; told.as_slice(), wanted.as_slice());
+fn intervals_are_told(rt: HostRuntime) -> Result<(), Fail> {
+    for (shares, count, wanted) in &INTERVALS {
+        let told = written(rt.alloc(), shares, *count)?;
+        assert_eq!(rt; told.as_slice(), wanted.as_bytes());
+    }
     Ok(())
 }
 
@@ -75,7 +81,9 @@ static DAYS: [(i16, i8, i8, u32, u128, &str); 4] = [
 #[test]
 fn days_are_told(rt: HostRuntime) -> Result<(), Fail> {
     for (year, month, of_month, count, mwh, wanted) in &DAYS {
-        let day = Day::new(*year, *month, *of_month).ok().ok_or("no day")?;
+        let Ok(day) = Day::new(*year, *month, *of_month) else {
+            return Err(Fail::from("no day"));
+        };
         let total = DayTotal {
             day,
             count: *count,

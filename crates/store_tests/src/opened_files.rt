@@ -1,7 +1,7 @@
 //! A file is opened.
-use crate::empty_books::{fault, new_file, number};
-use sqlite::{Connection, Error, MemStore};
-use std::alloc::Global;
+use crate::new_books::{changed, fault, number};
+use sqlite::{Connection, MemStore};
+use std::process::Abort;
 use std::test::Fail;
 use store_files::open;
 
@@ -22,13 +22,6 @@ static FILES: [(&str, u8); 14] = [
     ("CREATE TABLE notes (x)", 1),
     ("BEGIN", 1),
 ];
-
-/// A new file, to which this is done.
-fn changed(alloc: Global, change: &str) -> Result<Connection<MemStore>, Error> {
-    let mut conn = new_file(alloc)?;
-    conn.execute_batch(change)?;
-    Ok(conn)
-}
 
 #[test]
 fn other_files_are_refused(rt: HostRuntime) -> Result<(), Fail> {
@@ -77,19 +70,40 @@ static BROUGHT: [(&str, i64); 7] = [
     ),
 ];
 
+/// What asks for the range of the meter m1.
+const KEPT: &str = "SELECT \"range\" FROM ranges WHERE meter = 'm1'";
+
+/// What queries show of the ranges where the file was of version 1, and of version 2.
+static RANGES: [(&str, i64); 3] = [
+    ("SELECT count(*) FROM ranges", 2),
+    (KEPT, 4_294_967_296),
+    (
+        "SELECT \"range\" FROM ranges WHERE meter = 'm2'",
+        4_294_967_296,
+    ),
+];
+
+static KEPT_RANGES: [(&str, i64); 2] = [("SELECT count(*) FROM ranges", 1), (KEPT, 1_000_000)];
+
+/// What queries show of a file.
+fn shows(rt: &impl Abort, conn: &mut Connection<MemStore>, numbers: &[(&str, i64)]) {
+    for (query, shown) in numbers {
+        assert_eq!(rt; number(conn, query), Ok(*shown), "{query}");
+    }
+}
+
+/// Opens a file, which shows these numbers and those of each file, and is opened again.
+fn is_brought(rt: &impl Abort, conn: &mut Connection<MemStore>, ranges: &[(&str, i64)]) {
+    assert_eq!(rt; fault(open(conn)), 0);
+    shows(rt, conn, &BROUGHT);
+    shows(rt, conn, ranges);
+    assert_eq!(rt; fault(open(conn)), 0);
+}
+
 #[test]
 fn a_file_of_version_1_is_brought_to_3(rt: HostRuntime) -> Result<(), Fail> {
     let mut conn = changed(rt.alloc(), FIRST)?;
-    assert_eq!(rt; fault(open(&mut conn)), 0);
-    for (query, shown) in &BROUGHT {
-        assert_eq!(rt; number(&mut conn, query)?, *shown, "{query}");
-    }
-    for meter in &["m1", "m2"] {
-        let query = format!(in rt.alloc(); "SELECT \"range\" FROM ranges WHERE meter = '{meter}'")?;
-        assert_eq!(rt; number(&mut conn, &query)?, 4_294_967_296);
-    }
-    assert_eq!(rt; number(&mut conn, "SELECT count(*) FROM ranges")?, 2);
-    assert_eq!(rt; fault(open(&mut conn)), 0);
+    is_brought(&rt, &mut conn, &RANGES);
     Ok(())
 }
 
@@ -97,13 +111,6 @@ fn a_file_of_version_1_is_brought_to_3(rt: HostRuntime) -> Result<(), Fail> {
 fn a_file_of_version_2_is_brought_to_3(rt: HostRuntime) -> Result<(), Fail> {
     let mut conn = changed(rt.alloc(), FIRST)?;
     conn.execute_batch(SECOND)?;
-    assert_eq!(rt; fault(open(&mut conn)), 0);
-    for (query, shown) in &BROUGHT {
-        assert_eq!(rt; number(&mut conn, query)?, *shown, "{query}");
-    }
-    let kept = "SELECT \"range\" FROM ranges WHERE meter = 'm1'";
-    assert_eq!(rt; number(&mut conn, kept)?, 1_000_000);
-    assert_eq!(rt; number(&mut conn, "SELECT count(*) FROM ranges")?, 1);
-    assert_eq!(rt; fault(open(&mut conn)), 0);
+    is_brought(&rt, &mut conn, &KEPT_RANGES);
     Ok(())
 }

@@ -6,7 +6,7 @@ use Rattle.office_laws.specs.Lawfulness.{IsPast}
 use Rattle.office_core.specs.Leaving.{BooksStand}
 use Rattle.office_store.specs.Database.{HoldsAlone}
 use Rattle.office_store.specs.declared.books.SqlBooks.{SqlBooks}
-use Rattle.stored_runs.proofs.Standing.{stands_alone}
+use Rattle.stored_office.proofs.RunsLemmas.Standing.{stands_alone}
 use Rattle.stored_office.specs.BooksFound.{OverBooks, ledger_in}
 
 pub over : {S : Type 0} (g : Ghosts S) (past : History) (found left : SqlBooks S g) (Does : (found left : SqlBooks S g) → Type 0)

@@ -1,1 +1,4 @@
 pub mod BooksFound
+pub mod Tasks
+pub mod Ends
+pub mod Files

@@ -1,19 +1,16 @@
 //! The commands, over the streams and sockets of the process.
 use crate::offices::{create, report, round, run, serve};
 use crate::run_words::settings_of;
-use bank_text::{SetupParts, set_up};
-use chain_text::chain_text;
 use command_io::{Buffered, Status};
 use command_words::CommandLine;
 use interval_core::Zone;
-use list_text::plan_text;
-use program_end::{Ending, Failure, ending_of};
-use script_loop::{Loopback, loop_text};
-use script_replay::replay;
+use script_run::{Loopback, SetupParts, loop_text, replay, set_up};
 use stand_in::answer_all;
 use std::io;
 use std::io::Write;
 use std::net::TcpListener;
+use stored_office::{Ending, Failure, ending_of};
+use sunspec_text::{chain_text, plan_text};
 
 /// Carries a command out.
 pub(crate) fn carry_out<'a>(rt: &HostRuntime, line: &CommandLine<'a>) -> Ending<'a> {

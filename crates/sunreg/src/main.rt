@@ -3,19 +3,20 @@
 
 ghost use Rattle.std.specs.Prelude.{◌≡◌};
 ghost use Rattle.std.specs.Process.{exit_status};
-ghost use Rattle.program_end.specs.Endings.{ending_number};
+ghost use Rattle.stored_office.specs.Ends.Endings.{ending_number};
 
+mod command_output;
 mod commands;
 mod offices;
 mod run_words;
 
 use crate::commands::carry_out;
 use command_words::{WordsFault, command_of};
-use program_end::{Ending, Failure, say};
 use std::alloc::{AllocError, Global};
 use std::env;
 use std::io::{self, ErrorKind, Write};
 use std::process::ExitCode;
+use stored_office::{Ending, Failure, say};
 
 fn main(rt: HostRuntime) -> ExitCode {
     let args = match env::args(&rt) {

@@ -1,20 +1,19 @@
 //! The commands over an office in a file.
 ghost use Rattle.std.specs.Prelude.{IfOk};
-ghost use Rattle.stored_tasks.specs.Tasks.{IsOf};
+ghost use Rattle.stored_office.specs.Tasks.Tasks.{IsOf};
 
+use crate::command_output::CommandOutput;
 use crate::run_words::sites_of;
-use command_io::Buffered;
 use command_words::Device;
 use interval_core::Zone;
-use office_files::{FileFault, make_file, open_file};
 use office_running::Settings;
-use program_end::{Ending, Failure};
 use socket_link::SystemClock;
 use sqlite::{Alter, Connection, FileFrom, FileStore, Unknown};
-use std::io;
-use std::io::{LineWriter, Write};
-use stored_office::create_stored;
-use stored_tasks::{Done, Task, carry_out_stored, ending_of_done};
+use std::io::{self, Printer, Write};
+use stored_office::{
+    Done, Ending, Failure, FileFault, Task, carry_out_stored, create_stored, ending_of_done,
+    make_file, open_file,
+};
 
 /// The host on which HTTP is answered.
 const OWN_HOST: &str = "127.0.0.1";
@@ -88,16 +87,20 @@ fn carry_out_in<'a, D: Databases, W: Write>(
     }
 }
 
-// Carries a task out over the office in a file.
-fn carry_out_at<'a, W: Write>(
+// Carries a task out over the office in a file, and gives out all that it printed.
+fn carry_out_at<'a>(
     rt: &HostRuntime,
     path: &'a str,
     task: Task<'_>,
-    output: &mut W,
+    output: &mut CommandOutput<Printer<'_, HostRuntime>>,
 ) -> Result<Done, Failure<'a>>
     ensures same { IfOk result (IsOf task.entry) }
 {
-    carry_out_in(rt, &OfficeFile { rt, path }, path, task, output)
+    let done = carry_out_in(rt, &OfficeFile { rt, path }, path, task, output);
+    match output.flush() {
+        Ok(()) => done,
+        Err(_) => Err(Failure::Streams),
+    }
 }
 
 /// Makes the tables of a new office.
@@ -113,12 +116,9 @@ pub(crate) fn create<'a>(rt: &HostRuntime, path: &'a str, zone: &'a str) -> Endi
 
 /// Prints the energy of a register by days.
 pub(crate) fn report<'a>(rt: &HostRuntime, path: &'a str, register: &str) -> Ending<'a> {
-    let mut output = Buffered::new(io::writer(rt));
+    let mut output = CommandOutput::in_pieces(io::writer(rt));
     let done = carry_out_at(rt, path, Task::Report { register }, &mut output);
-    match output.flush() {
-        Ok(()) => ending_of_done(done, OWN_HOST, 0),
-        Err(_) => Ending::Failed(Failure::Streams),
-    }
+    ending_of_done(done, OWN_HOST, 0)
 }
 
 /// Answers HTTP on so many connections.
@@ -133,7 +133,7 @@ pub(crate) fn serve<'a>(
         port,
         connections,
     };
-    let mut output = io::writer(rt);
+    let mut output = CommandOutput::in_pieces(io::writer(rt));
     ending_of_done(carry_out_at(rt, path, task, &mut output), OWN_HOST, port)
 }
 
@@ -145,14 +145,10 @@ fn carry_out_by_lines<'a>(
     host: &'a str,
     port: u16,
 ) -> Ending<'a> {
-    let Ok(mut output) = LineWriter::new(rt.alloc(), io::writer(rt)) else {
+    let Ok(mut output) = CommandOutput::by_lines(rt.alloc(), io::writer(rt)) else {
         return Ending::Failed(Failure::Memory);
     };
-    let done = carry_out_at(rt, path, task, &mut output);
-    match output.flush() {
-        Ok(()) => ending_of_done(done, host, port),
-        Err(_) => Ending::Failed(Failure::Streams),
-    }
+    ending_of_done(carry_out_at(rt, path, task, &mut output), host, port)
 }
 
 /// Polls the whole plan of a device once.

@@ -2,8 +2,8 @@
 use command_words::Device;
 use office_events::Name;
 use office_running::{Settings, Site};
-use program_end::Failure;
 use std::net::{SocketAddr, ToSocketAddrs};
+use stored_office::Failure;
 
 /// The settings of a run that answers on a port of this machine alone.
 pub(crate) fn settings_of(listen: u16, every: u32, lasts: Option<u32>, verbose: bool) -> Settings {

@@ -1,6 +1,6 @@
 use Rattle.std.proofs.Common.{ap, subst}
 use Rattle.http_reply.specs.Sending.{OnlyGives, Outgoing}
-use Rattle.http_rows.specs.Reports.{Report}
+use Rattle.office_http.specs.Rows.Reports.{Report}
 use Rattle.interval_core.specs.Report.{day_line}
 use Rattle.office_http.specs.Serving.{Puts}
 use Rattle.office_http.proofs.Reported.{days_told, lines_give}

@@ -1,7 +1,7 @@
 use Rattle.std.proofs.Common.{ap, subst}
 use Rattle.http_route.specs.Routes.{routes}
 use Rattle.http_reply.specs.Sending.{OnlyGives, Outgoing}
-use Rattle.http_rows.specs.Reports.{Report}
+use Rattle.office_http.specs.Rows.Reports.{Report}
 use Rattle.http_answer.specs.Replies.{lines_reply, reply_bytes}
 use Rattle.http_answer.specs.Whole.{IsReply}
 use Rattle.report_lines.specs.Lines.{intervals_text, share_line}

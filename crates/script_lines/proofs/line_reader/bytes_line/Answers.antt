@@ -1,6 +1,6 @@
 use Rattle.std.proofs.Common.{ℕ, List, [], ◌∷◌, Option, refl}
 use Rattle.office_events.specs.declared.events.Event.TheVariants as event
-use Rattle.script_words.specs.Fields.{AnyName, Hex}
+use Rattle.script_lines.specs.LineWords.Fields.{AnyName, Hex}
 use Rattle.script_lines.specs.declared.script.ScriptLine.{ScriptLine}
 use Rattle.script_lines.specs.declared.script.ScriptLine.TheVariants as line
 use Rattle.script_lines.proofs.Made.{made_again}

@@ -1,5 +1,5 @@
 use Rattle.std.proofs.Common.{ℕ, List, [], ◌∷◌, Option, refl}
-use Rattle.script_words.specs.Fields.{AnyName, Hex}
+use Rattle.script_lines.specs.LineWords.Fields.{AnyName, Hex}
 use Rattle.script_lines.specs.declared.script.ScriptLine.{ScriptLine}
 use Rattle.script_lines.specs.declared.script.ScriptLine.TheVariants as line
 use Rattle.script_lines.proofs.Made.{made_again}

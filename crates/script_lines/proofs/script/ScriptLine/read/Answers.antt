@@ -1,5 +1,5 @@
 use Rattle.std.proofs.Common.{refl, sym, ◌∙◌}
-use Rattle.script_words.specs.Words.{words_of}
+use Rattle.script_lines.specs.LineWords.Words.{words_of}
 use Rattle.script_lines.proofs.FormsRead.{is_line, no_line, some_line}
 use Rattle.script_lines.proofs.script.ScriptLine.read.Goals as goal
 

@@ -1,8 +1,0 @@
-//! The text that sets up a stand-in for a device: its bank lines, carried out.
-#![tactic(auto)]
-
-mod setup;
-mod setup_lines;
-
-pub use setup::{Setup, SetupParts, add_in, empty_bank, set_in};
-pub use setup_lines::set_up;

@@ -1,7 +1,0 @@
-//! The chain of models in a device's words, read from lines and printed.
-#![tactic(auto)]
-
-mod chain_printout;
-mod image_lines;
-
-pub use chain_printout::chain_text;

@@ -1,8 +1,0 @@
-use Rattle.command_table.specs.Table.{with_command}
-use Rattle.command_table.proofs.Folds.{fold_more}
-use Rattle.command_table.proofs.clap_command.with_commands.Goals as goal
-
-pub loop-command-preserved : goal.loop-command-preserved
-loop-command-preserved c =
-    fold_more with_command _ c.args.commands.now c.loop-command.command-index _ _ _ c.loop-command-test.true
-    c.loop-command.invariant c.in_ok-program.ensures

@@ -1,0 +1,80 @@
+-- What `clap` takes a program to be that is described by tables.
+use Rattle.std.specs.Prelude.{◌≡◌, Some, List, Result, true, fold, map}
+use Rattle.std.specs.Borrow.{Bor}
+use Rattle.clap.specs.Words.{App, FailsBy, Rule, Text, fault_of, new_app, new_rule, subcommand_of, subcommand_rows_of, with_rule, with_subcommand}
+use Rattle.clap.specs.declared.builder.action.ArgAction.TheVariants.{SetTrue}
+use Rattle.clap.specs.declared.error.Error.{Error}
+use Rattle.clap.specs.declared.parser.matches.ArgMatches.{ArgMatches}
+use Rattle.command_words.specs.declared.clap_table.tables.CommandText.{CommandText}
+use Rattle.command_words.specs.declared.clap_table.tables.OptionText.{OptionText}
+use Rattle.command_words.specs.declared.clap_table.tables.ProgramText.{ProgramText}
+use Rattle.command_words.specs.declared.clap_table.tables.Value.{Value}
+use Rattle.command_words.specs.declared.clap_table.tables.Value.TheVariants as value
+
+-- an option `--name`, whose identifier is its name
+abbrev pub long_rule : Text → Rule
+long_rule name = record (new_rule name) { long = Some name }
+
+-- one that must stand, one that may lack, and one without a value
+abbrev pub required_option : Text → Rule
+required_option name = record (long_rule name) { value_names = 1; required = true }
+
+abbrev pub optional_option : Text → Rule
+optional_option name = record (long_rule name) { value_names = 1 }
+
+abbrev pub flag : Text → Rule
+flag name = record (long_rule name) { action = Some SetTrue }
+
+-- a command with these options
+abbrev pub command_with : Text → List Rule → App
+command_with name options = fold with_rule (new_app name) options
+
+-- a program whose words do not begin with its name
+abbrev pub without_name : App → App
+without_name a = record a { top = record a.top { no_binary_name = true } }
+
+-- a program with these commands
+abbrev pub program_with : Text → List App → App
+program_with name commands =
+    without_name (fold (λ a c. with_subcommand a c.top) (new_app name) commands)
+
+-- ---- what the tables describe
+
+abbrev pub rule_by : Text → Value → Rule
+rule_by name (value.Required shown) = required_option name
+rule_by name (value.Optional shown) = optional_option name
+rule_by name value.Absent = flag name
+
+abbrev pub option_rule : OptionText → Rule
+option_rule o = rule_by o.name.now o.value
+
+-- an app with an option, with several, and with a command, of the tables
+abbrev pub with_option : App → OptionText → App
+with_option a o = with_rule a (option_rule o)
+
+abbrev pub with_options : App → List OptionText → App
+with_options a options = fold with_option a options
+
+abbrev pub command_app : CommandText → App
+command_app c = with_options (new_app c.name.now) c.options.now
+
+abbrev pub with_command : App → CommandText → App
+with_command a c = with_subcommand a (command_app c).top
+
+abbrev pub with_commands : App → List CommandText → App
+with_commands a commands = fold with_command a commands
+
+abbrev pub program_app : ProgramText → App
+program_app p = without_name (with_commands (new_app p.name.now) p.commands.now)
+
+-- ---- what `clap` finds
+
+abbrev pub texts : List (Bor Text) → List Text
+texts words = map (λ word. word.now) words
+
+abbrev pub IsFound : ProgramText → List (Bor Text) → ArgMatches → Type 0
+IsFound program words found =
+    subcommand_rows_of found ≡ subcommand_of (program_app program) (texts words)
+
+abbrev pub Fails : {T : Type 0} → ProgramText → List (Bor Text) → Result T Error → Type 0
+Fails program words result = FailsBy (fault_of (program_app program) (texts words)) result

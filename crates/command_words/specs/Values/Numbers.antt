@@ -1,0 +1,12 @@
+-- Numbers in words.
+use Rattle.std.specs.Prelude.{ℕ, ◌&&◌, List, Option, Some, None, nat_le, if◌then◌else◌}
+use Rattle.digits.specs.Digits.{number_of_digits}
+use Rattle.command_words.specs.declared.values.numbers.TheConstants.{MOST_DIGITS}
+
+abbrev pub from_one_to : ℕ → Option ℕ → Option ℕ
+from_one_to most None = None
+from_one_to most (Some value) = if nat_le 1 value && nat_le value most then Some value else None
+
+-- the number from 1 to the most that one to ten digits spell
+abbrev pub number_up_to : ℕ → List ℕ → Option ℕ
+number_up_to most word = from_one_to most (number_of_digits MOST_DIGITS word)

@@ -1,0 +1,108 @@
+//! The command of `clap` that tables describe.
+ghost use Rattle.std.specs.Prelude.{◌≡◌, IfOk, false};
+ghost use Rattle.clap.specs.Words.{app_of, rule_of};
+ghost use Rattle.clap.specs.declared.builder.command.Command.TheViews.{out-Command as fields_of};
+ghost use Rattle.command_words.specs.ClapTable.Table.{command_app, option_rule, program_app, with_command};
+ghost use Rattle.command_words.specs.ClapTable.Table.{with_commands, with_option, with_options};
+
+use crate::clap_table::tables::{CommandText, OptionText, ProgramText, Value};
+use clap::{Arg, ArgAction, Command};
+use std::alloc::{AllocError, Global};
+
+// The argument of `clap` for an option.
+fn argument<'a>(alloc: Global, option: OptionText<'a>) -> Arg<'a>
+    ensures rule { rule_of result ≡ option_rule option.entry }
+    ensures local { result.global ≡ false }
+{
+    let argument = Arg::new(alloc, option.name)
+        .long(option.name)
+        .help(option.help);
+    match option.value {
+        Value::Required(shown) => argument.value_name(shown).required(true),
+        Value::Optional(shown) => argument.value_name(shown),
+        Value::Absent => argument.action(ArgAction::SetTrue),
+    }
+}
+
+// The command with one more option.
+fn with_option<'a>(
+    alloc: Global,
+    command: Command<'a>,
+    option: OptionText<'a>,
+) -> Result<Command<'a>, AllocError>
+    requires local { (fields_of command).has_globals ≡ false }
+    ensures app { IfOk result (λ c. app_of c ≡ with_option (app_of command.entry) option.entry) }
+    ensures local { IfOk result (λ c. (fields_of c).has_globals ≡ false) }
+{
+    let argument = argument(alloc, option);
+    command.arg(argument)
+}
+
+// The command with these options after its own.
+fn with_options<'a>(
+    alloc: Global,
+    command: Command<'a>,
+    options: &'a [OptionText<'a>],
+) -> Result<Command<'a>, AllocError>
+    requires local { (fields_of command).has_globals ≡ false }
+    ensures app { IfOk result
+        (λ c. app_of c ≡ with_options (app_of command.entry) options.entry.now) }
+    ensures local { IfOk result (λ c. (fields_of c).has_globals ≡ false) }
+{
+    let mut command = command;
+    for option in options {
+        command = with_option(alloc, command, *option)?;
+    }
+    Ok(command)
+}
+
+// The command that a table describes.
+fn leaf_command<'a>(alloc: Global, text: CommandText<'a>) -> Result<Command<'a>, AllocError>
+    ensures app { IfOk result (λ c. app_of c ≡ command_app text.entry) }
+    ensures local { IfOk result (λ c. (fields_of c).has_globals ≡ false) }
+{
+    let command = Command::new(alloc, text.name)
+        .about(text.about)
+        .after_help(text.after);
+    with_options(alloc, command, text.options)
+}
+
+// The program with one more command.
+fn with_command<'a>(
+    alloc: Global,
+    program: Command<'a>,
+    text: CommandText<'a>,
+) -> Result<Command<'a>, AllocError>
+    ensures { IfOk result (λ c. app_of c ≡ with_command (app_of program.entry) text.entry) }
+{
+    let command = leaf_command(alloc, text)?;
+    program.subcommand(command)
+}
+
+// The program with these commands after its own.
+fn with_commands<'a>(
+    alloc: Global,
+    program: Command<'a>,
+    commands: &'a [CommandText<'a>],
+) -> Result<Command<'a>, AllocError>
+    ensures { IfOk result
+        (λ c. app_of c ≡ with_commands (app_of program.entry) commands.entry.now) }
+{
+    let mut program = program;
+    for command in commands {
+        program = with_command(alloc, program, *command)?;
+    }
+    Ok(program)
+}
+
+/// The program that tables describe, whose words do not begin with its name.
+pub(crate) fn command<'a>(alloc: Global, text: ProgramText<'a>) -> Result<Command<'a>, AllocError>
+    ensures { IfOk result (λ c. app_of c ≡ program_app text.entry) }
+{
+    let program = Command::new(alloc, text.name)
+        .about(text.about)
+        .after_help(text.after);
+    let program = with_commands(alloc, program, text.commands)?;
+    let program = program.no_binary_name(true);
+    program.bin_name(text.name)
+}

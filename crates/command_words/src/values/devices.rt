@@ -1,0 +1,133 @@
+//! The list of devices that one option names.
+ghost use Rattle.std.specs.Prelude.{◌≡◌, ◌<◌, ◌≤◌, IfOk, MatchResult, is_ok, length, option_map};
+ghost use Rattle.std.specs.List.{slice_split};
+ghost use Rattle.command_words.specs.Values.Devices.{CutsAtEquals, CutsAtLastColon, device_in, devices_in};
+ghost use Rattle.command_words.specs.Values.Devices.{has_name, have_distinct_names, is_comma, name_in};
+ghost use Rattle.command_words.specs.Values.Devices.{Reads, place_of, texts};
+ghost use Rattle.command_words.specs.Values.Given.{each_of};
+
+use crate::values::list_fault::{DeviceFault, ListFault};
+use crate::values::numbers::number_up_to;
+use std::alloc::{AllocError, Global};
+
+/// The most devices of a list.
+pub const MOST_DEVICES: usize = 64;
+
+/// The highest port.
+pub const MOST_PORT: u32 = 65_535;
+
+/// A device of the list `NAME=HOST:PORT`, its texts as they stand there.
+#[derive(Clone, Copy, Debug, PartialEq, Eq, Drop)]
+pub struct Device<'a> {
+    pub name: &'a str,
+    pub host: &'a str,
+    pub port: u16,
+}
+
+// What stands round the first `=`.
+fn around_equals<'a>(part: &'a str) -> Option<(&'a str, &'a str)>
+    ensures { CutsAtEquals part.now result }
+{
+    part.split_once('=')
+}
+
+// What stands round the last `:`.
+fn around_colon<'a>(address: &'a str) -> Option<(&'a str, &'a str)>
+    ensures { CutsAtLastColon address.now result }
+{
+    address.rsplit_once(':')
+}
+
+// The device that a part names.
+fn device_in<'a>(part: &'a str) -> Option<Device<'a>>
+    ensures { option_map place_of result ≡ device_in part.now }
+{
+    let (name, address) = around_equals(part)?;
+    let (host, port) = around_colon(address)?;
+    if name.is_empty() || host.is_empty() {
+        return None;
+    }
+    let port = number_up_to(MOST_PORT, port)?;
+    Some(Device {
+        name,
+        host,
+        port: port as u16,
+    })
+}
+
+// The parts between the commas.
+fn parts_of<'a>(alloc: Global, text: &'a str) -> Result<Vec<&'a str>, AllocError>
+    ensures { IfOk result (λ parts. texts parts.items ≡ slice_split is_comma text.now) }
+{
+    text.split(',').collect(alloc)
+}
+
+// The name of the device that a part names, also where it names none.
+fn name_of<'a>(part: &'a str) -> &'a str
+    ensures { result.now ≡ name_in part.now }
+{
+    match around_equals(part) {
+        Some((name, _)) => name,
+        None => part,
+    }
+}
+
+// Whether one of the parts has the name.
+fn has_name(parts: &[&str], name: &str) -> bool
+    ensures { result ≡ has_name parts.now name.now }
+{
+    parts.iter().any(|part| name == name_of(part))
+}
+
+// Each name stands once, or one of the parts whose name stands twice.
+fn distinct<'a>(parts: &[&'a str]) -> Result<(), ListFault<'a>>
+    ensures { is_ok result ≡ have_distinct_names parts.now }
+{
+    for (index, part) in parts.iter().enumerate() {
+        if has_name(&parts[index + 1..], name_of(part)) {
+            let fault = DeviceFault::Repeated;
+            return Err(ListFault::Part { part, fault });
+        }
+    }
+    Ok(())
+}
+
+// The devices that the parts name, each its own.
+fn each_device<'a>(alloc: Global, parts: &[&'a str]) -> Result<Vec<Device<'a>>, ListFault<'a>>
+    ensures { Reads (each_of device_in (texts parts.now)) result }
+{
+    let mut devices = Vec::new(alloc);
+    for part in parts {
+        let Some(device) = device_in(part) else {
+            let fault = DeviceFault::Malformed;
+            return Err(ListFault::Part { part, fault });
+        };
+        devices.push(device)?;
+    }
+    Ok(devices)
+}
+
+// There are no more parts than a list has, or the first part that is one too many.
+fn few<'a>(parts: &[&'a str]) -> Result<(), ListFault<'a>>
+    ensures { MatchResult result (λ _. length parts.now ≤ 64) (λ _. 64 < length parts.now) }
+{
+    match parts.get(MOST_DEVICES) {
+        None => Ok(()),
+        Some(part) => {
+            let fault = DeviceFault::TooMany;
+            Err(ListFault::Part { part, fault })
+        }
+    }
+}
+
+/// The devices of a list `NAME=HOST:PORT` joined by commas: 1 to 64, each name once. NAME ends at the first `=`, HOST at
+/// the last `:`; neither is empty. Of several faults a part too many is told first, then a name that stands twice, then a
+/// part that is no device.
+pub fn devices_in<'a>(alloc: Global, text: &'a str) -> Result<Vec<Device<'a>>, ListFault<'a>>
+    ensures { Reads (devices_in text.now) result }
+{
+    let parts = parts_of(alloc, text)?;
+    few(&parts)?;
+    distinct(&parts)?;
+    each_device(alloc, &parts)
+}

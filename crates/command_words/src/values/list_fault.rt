@@ -1,0 +1,75 @@
+//! Why a text is no list of devices.
+use crate::values::devices::{MOST_DEVICES, MOST_PORT};
+use std::alloc::{AllocError, AllocFailed};
+use std::error::Error;
+use std::fmt;
+use std::fmt::{Display, Formatter};
+
+/// Why a part of a list is none of its devices.
+#[derive(Clone, Copy, Debug, PartialEq, Eq, Drop)]
+pub enum DeviceFault {
+    /// It is not `NAME=HOST:PORT`, or its port is out of range.
+    Malformed,
+    /// A later part has its name.
+    Repeated,
+    /// It is one more than a list has.
+    TooMany,
+}
+
+/// Why a text is no list of devices.
+#[derive(Clone, Copy, Debug, PartialEq, Eq, Drop)]
+pub enum ListFault<'a> {
+    /// A part of the list is none of its devices.
+    Part { part: &'a str, fault: DeviceFault },
+    Memory,
+}
+
+impl<'a> From<AllocError> for ListFault<'a> {
+    ghost use Rattle.std.specs.Prelude.{◌≡◌};
+    ghost use Rattle.command_words.specs.declared.values.list_fault.ListFault.TheVariants.{Memory};
+
+    ghost from_gives = { λ _ fault. fault ≡ Memory };
+
+    fn from(_: AllocError) -> ListFault<'a> {
+        ListFault::Memory
+    }
+}
+
+impl<'a, T: Drop> From<AllocFailed<T>> for ListFault<'a> {
+    ghost use Rattle.std.specs.Prelude.{◌≡◌};
+    ghost use Rattle.command_words.specs.declared.values.list_fault.ListFault.TheVariants.{Memory};
+
+    ghost from_gives = { λ _ fault. fault ≡ Memory };
+
+    fn from(_: AllocFailed<T>) -> ListFault<'a> {
+        ListFault::Memory
+    }
+}
+
+impl Display for DeviceFault {
+    fn fmt<W: fmt::Write>(&self, f: &mut Formatter<W>) -> fmt::Result {
+        match self {
+            DeviceFault::Malformed => {
+                write!(f, "not NAME=HOST:PORT with a PORT from 1 to {MOST_PORT}")
+            }
+            DeviceFault::Repeated => write!(f, "its NAME stands twice"),
+            DeviceFault::TooMany => write!(f, "one more than {MOST_DEVICES} devices"),
+        }
+    }
+}
+
+impl Error for DeviceFault {}
+
+impl<'a> Display for ListFault<'a> {
+    fn fmt<W: fmt::Write>(&self, f: &mut Formatter<W>) -> fmt::Result {
+        match self {
+            ListFault::Part { part, fault } => write!(
+                f,
+                "'{part}' is no device of the list: {fault}"
+            ),
+            ListFault::Memory => write!(f, "memory ran out"),
+        }
+    }
+}
+
+impl<'a> Error for ListFault<'a> {}

@@ -1,0 +1,21 @@
+//! Numbers in words.
+ghost use Rattle.std.specs.Prelude.{◌≡◌, ◌≤◌, IfSome};
+ghost use Rattle.command_words.specs.Values.Numbers.{number_up_to};
+
+use digits::number_of_digits;
+
+/// The most digits that a number has.
+pub const MOST_DIGITS: usize = 10;
+
+/// The number from 1 to the most that one to ten digits spell.
+pub fn number_up_to(most: u32, word: &str) -> Option<u32>
+    ensures value { result ≡ number_up_to most word.now }
+    ensures within { IfSome result (λ number. number ≤ most) }
+{
+    let value = number_of_digits(MOST_DIGITS, word.as_bytes())?;
+    if 1 <= value && value <= u64::from(most) {
+        Some(value as u32)
+    } else {
+        None
+    }
+}

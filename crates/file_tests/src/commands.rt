@@ -1,0 +1,140 @@
+//! Commands over an office in a database that is closed and opened between, whatever makes the connections.
+use crate::day::{REPORTED, book_day};
+use crate::files::Connects;
+use command_io::Status;
+use office_store::{OpenFault, SqlBooks};
+use socket_link::ListedClock;
+use std::alloc::Global;
+use std::test::Fail;
+use stored_office::{create_stored, report_stored};
+
+/// How a report ends, and what it prints.
+type Report = (Result<Status, OpenFault>, Vec<u8>);
+
+/// A register, a moment, how the report of it ends, and what it prints.
+type Row = (&'static str, u64, Status, &'static [u8]);
+
+/// Reports of the day, where the clock was set back to before its last event, and behind it.
+static KNOWN: [Row; 2] = [
+    ("main", 3699, Status::Refused, b"refused 3\n"),
+    ("main", 5000, Status::Fine, REPORTED),
+];
+
+/// A name that nothing has, and a meter's.
+static UNKNOWN: [Row; 2] = [
+    ("none", 5000, Status::Refused, b"refused 1\n"),
+    ("m1", 5000, Status::Refused, b"refused 1\n"),
+];
+
+/// A zone, why no office is made for it, and whether there is none then: a text that is no zone makes none, and a second isn't made.
+static MADE: [(&str, Option<OpenFault>, bool); 3] = [
+    ("x", Some(OpenFault::Zone), true),
+    ("UTC0", None, false),
+    ("UTC0", Some(OpenFault::NotOurs), false),
+];
+
+/// Makes an office, and tells why it was not made.
+fn create<C: Connects>(
+    alloc: Global,
+    connects: &C,
+    path: &str,
+    zone: &str,
+) -> Result<Option<OpenFault>, Fail> {
+    Ok(create_stored(alloc, connects.make(path)?, zone).err())
+}
+
+/// Makes an office, and books the day in it.
+fn fill<C: Connects>(alloc: Global, connects: &C, path: &str) -> Result<(), Fail> {
+    if create(alloc, connects, path, "UTC0")?.is_some() {
+        return Err(Fail::from("not made"));
+    }
+    match SqlBooks::open(alloc, connects.open(path)?) {
+        Ok(books) => book_day(alloc, books),
+        Err(_) => Err(Fail::from("no books")),
+    }
+}
+
+/// Makes an office one of a version that isn't known.
+fn set_version<C: Connects>(connects: &C, path: &str) -> Result<(), Fail> {
+    let mut connection = connects.open(path)?;
+    connection.execute_batch("UPDATE meta SET version = 9")?;
+    Ok(())
+}
+
+/// Reports a register at a moment.
+fn report<C: Connects>(
+    alloc: Global,
+    connects: &C,
+    path: &str,
+    register: &str,
+    moment: u64,
+) -> Result<Report, Fail> {
+    let connection = connects.open(path)?;
+    let moments = [moment];
+    let mut clock = ListedClock::new(&moments);
+    let mut printed = Vec::new(alloc);
+    let end = report_stored(alloc, connection, register, &mut clock, &mut printed);
+    Ok((end, printed))
+}
+
+/// Whether each report comes as its row says.
+fn are_reported<C: Connects>(
+    alloc: Global,
+    connects: &C,
+    path: &str,
+    rows: &[Row],
+) -> Result<bool, Fail> {
+    for (register, moment, status, text) in rows {
+        let (end, printed) = report(alloc, connects, path, register, *moment)?;
+        if end != Ok(*status) || printed.as_slice() != *text {
+            return Ok(false);
+        }
+    }
+    Ok(true)
+}
+
+/// Whether a database has no office, and nothing is printed of it.
+fn is_none<C: Connects>(alloc: Global, connects: &C, path: &str) -> Result<bool, Fail> {
+    let (end, printed) = report(alloc, connects, path, "main", 5000)?;
+    Ok(end == Err(OpenFault::NotOurs) && printed.is_empty())
+}
+
+/// Whether an office is made once, and for a zone alone.
+pub(crate) fn is_made_once<C: Connects>(
+    alloc: Global,
+    connects: &C,
+    path: &str,
+) -> Result<bool, Fail> {
+    for (zone, why, none) in &MADE {
+        if create(alloc, connects, path, zone)? != *why
+            || is_none(alloc, connects, path)? != *none
+        {
+            return Ok(false);
+        }
+    }
+    Ok(true)
+}
+
+/// Whether what was booked is reported.
+pub(crate) fn is_reported<C: Connects>(
+    alloc: Global,
+    connects: &C,
+    path: &str,
+) -> Result<bool, Fail> {
+    fill(alloc, connects, path)?;
+    are_reported(alloc, connects, path, &KNOWN)
+}
+
+/// Whether a name that is no register's is refused, and an office of a version that isn't known is none.
+pub(crate) fn is_unknown<C: Connects>(
+    alloc: Global,
+    connects: &C,
+    path: &str,
+) -> Result<bool, Fail> {
+    fill(alloc, connects, path)?;
+    if !are_reported(alloc, connects, path, &UNKNOWN)? {
+        return Ok(false);
+    }
+    set_version(connects, path)?;
+    is_none(alloc, connects, path)
+}

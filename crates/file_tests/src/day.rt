@@ -1,0 +1,51 @@
+//! The events of a day.
+use office_books::Books;
+use office_core::Office;
+use office_events::{Command, Event, StartPoll};
+use script_lines::{GivenStart, ScriptLine};
+use std::alloc::Global;
+use std::test::Fail;
+
+/// A device, its register and its meter; a read of them, and the counter shows 5200 at the scale 0. Then the meter is
+/// exchanged, and the new one is read by hand.
+const DAY: &str = "1000 device inv 1 5 1
+1000 register main inv 3 40094 @40096
+1000 install main m1 5000 0 100000
+1898 connect inv
+1898 start inv 3 40094 3
+1900 bytes inv 000000000009010306000014500000
+2800 exchange main 5300 0 m2 0 0 100000
+3700 manual main 45 0";
+
+/// What is reported of the register `main` behind that day: 300 Wh of the meter m1 and 45 Wh of m2, in four quarter hours.
+pub(crate) const REPORTED: &[u8] = b"1970-01-01   4                   345000\nend 1\n";
+
+fn start_of(given: &GivenStart) -> Result<Command, Fail> {
+    Ok(Command::StartPoll(StartPoll {
+        device: given.device,
+        span: given.span().ok_or("no span")?,
+    }))
+}
+
+/// The event of a line, and its moment.
+fn event_of(alloc: Global, line: &str) -> Result<(u64, Event), Fail> {
+    match ScriptLine::read(alloc, line.as_bytes())? {
+        ScriptLine::Event { at, event } => Ok((at, event)),
+        ScriptLine::Start { at, start } => Ok((at, Event::Command(start_of(&start)?))),
+        _ => Err(Fail::from("no event")),
+    }
+}
+
+/// Books that day, in an office over these books.
+pub(crate) fn book_day<B: Books>(alloc: Global, books: B) -> Result<(), Fail> {
+    let Ok(mut office) = Office::open(alloc, books, 0) else {
+        return Err(Fail::from("not opened"));
+    };
+    for line in DAY.lines() {
+        let (at, event) = event_of(alloc, line)?;
+        if office.feed(at, &event).is_err() {
+            return Err(Fail::from("refused"));
+        }
+    }
+    Ok(())
+}

@@ -1,0 +1,146 @@
+//! What each failure says.
+use office_store::OpenFault;
+use std::alloc::Global;
+use std::process::Abort;
+use std::test::Fail;
+use stored_office::{Failure, FileFault};
+
+// What stands behind the name of a file where its tables were not made, or where no office was opened in it.
+const UNMADE: [(OpenFault, &str); 4] = [
+    (
+        OpenFault::NotOurs,
+        "it has tables already: give another file, or leave out create",
+    ),
+    (
+        OpenFault::Zone,
+        "the zone is no POSIX time zone, such as UTC0 or CET-1CEST,M3.5.0,M10.5.0/3",
+    ),
+    (
+        OpenFault::Store,
+        "the tables can't be written: look at its rights and the disk's room",
+    ),
+    (OpenFault::Memory, "memory ran out"),
+];
+
+const UNOPENED: [(OpenFault, &str); 4] = [
+    (
+        OpenFault::NotOurs,
+        "it holds no office, or one of a later program: sunreg create makes one in a new file",
+    ),
+    (
+        OpenFault::Zone,
+        "the zone in its table meta is no POSIX time zone: give a copy that is whole",
+    ),
+    (
+        OpenFault::Store,
+        "the database in it failed: look at its rights and the disk's room",
+    ),
+    (OpenFault::Memory, "memory ran out"),
+];
+
+const STREAMS: [(Failure<'static>, &str); 5] = [
+    (Failure::Memory, "memory ran out"),
+    (
+        Failure::Streams,
+        "standard input can't be read, standard output can't be written, or memory ran out",
+    ),
+    (Failure::Loopback, "127.0.0.1 can't be listened on"),
+    (
+        Failure::File {
+            path: "a.db",
+            fault: FileFault::Missing,
+        },
+        "a.db: there is no such file: sunreg create makes it",
+    ),
+    (
+        Failure::Stopped,
+        "the office has stopped, since its file or memory failed: look at the disk, and start again",
+    ),
+];
+
+const SOCKETS: [(Failure<'static>, &str); 7] = [
+    (
+        Failure::Port {
+            host: "h",
+            port: 80,
+        },
+        "port 80 of h can't be listened on: is it taken, or is the host another's?",
+    ),
+    (Failure::Listening, "no more connections can be accepted"),
+    (
+        Failure::Unconnected {
+            host: "h",
+            port: 80,
+        },
+        "port 80 of h isn't answered: does the device run, and is this its address?",
+    ),
+    (
+        Failure::Broken {
+            host: "h",
+            port: 80,
+        },
+        "the connection to port 80 of h failed in the round; what was booked stays",
+    ),
+    (
+        Failure::Endless {
+            host: "h",
+            port: 80,
+        },
+        "port 80 of h sent on and on without answering; what was booked stays",
+    ),
+    (
+        Failure::Host { host: "h" },
+        "no address is found for h: is it right, and can names of hosts be looked up here?",
+    ),
+    (
+        Failure::Sockets,
+        "the system can't tell which sockets are ready",
+    ),
+];
+
+// A failure says this text.
+fn tells(rt: &impl Abort, alloc: Global, failure: Failure<'_>, text: &str) -> Result<(), Fail> {
+    assert_eq!(rt; format!(in alloc; "{failure}")?.as_str(), text);
+    Ok(())
+}
+
+#[test]
+fn streams_and_sockets(rt: HostRuntime) -> Result<(), Fail> {
+    for (failure, text) in STREAMS {
+        tells(&rt, rt.alloc(), failure, text)?;
+    }
+    for (failure, text) in SOCKETS {
+        tells(&rt, rt.alloc(), failure, text)?;
+    }
+    Ok(())
+}
+
+#[test]
+fn tables_that_were_not_made(rt: HostRuntime) -> Result<(), Fail> {
+    let path = "a.db";
+    for (fault, why) in UNMADE {
+        let text = format!(in rt.alloc(); "a.db: {why}")?;
+        tells(
+            &rt,
+            rt.alloc(),
+            Failure::Unmade { path, fault },
+            text.as_str(),
+        )?;
+    }
+    Ok(())
+}
+
+#[test]
+fn offices_that_were_not_opened(rt: HostRuntime) -> Result<(), Fail> {
+    let path = "a.db";
+    for (fault, why) in UNOPENED {
+        let text = format!(in rt.alloc(); "a.db: {why}")?;
+        tells(
+            &rt,
+            rt.alloc(),
+            Failure::Unopened { path, fault },
+            text.as_str(),
+        )?;
+    }
+    Ok(())
+}

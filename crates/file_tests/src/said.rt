@@ -1,0 +1,45 @@
+//! What is said of an ending on standard error: nothing of one that is fine or refused, `failed` and a line more of a failure.
+use std::test::Fail;
+use stored_office::{Ending, Failure, say};
+
+// What is said, as a text.
+fn said(rt: &HostRuntime, ending: &Ending<'_>) -> Result<String, Fail> {
+    let mut errors = Vec::new(rt.alloc());
+    say(ending, &mut errors);
+    Ok(String::from_utf8(errors)?)
+}
+
+#[test]
+fn what_standard_output_tells_is_not_said(rt: HostRuntime) -> Result<(), Fail> {
+    assert_eq!(rt; said(&rt, &Ending::Fine)?.as_str(), "");
+    assert_eq!(rt; said(&rt, &Ending::Refused)?.as_str(), "");
+    Ok(())
+}
+
+#[test]
+fn wrong_words_are_said(rt: HostRuntime) -> Result<(), Fail> {
+    let text = String::from_str(rt.alloc(), "error: x\n")?;
+    let endings = [
+        (Ending::Wrong(text), "error: x\n"),
+        (Ending::NoText, "error: the words are not in UTF-8\n"),
+        (
+            Ending::NoZone("nowhere"),
+            "error: invalid value 'nowhere' for '--zone <TEXT>': no POSIX time zone, as UTC0 or CET-1CEST,M3.5.0,M10.5.0/3\n",
+        ),
+    ];
+    for (ending, text) in &endings {
+        assert_eq!(rt; said(&rt, ending)?.as_str(), *text);
+    }
+    Ok(())
+}
+
+#[test]
+fn a_failure_is_said(rt: HostRuntime) -> Result<(), Fail> {
+    let host = "no.such.invalid";
+    let text = said(&rt, &Ending::Failed(Failure::Host { host }))?;
+    assert_eq!(rt;
+        text.as_str(),
+        "failed\nsunreg: no address is found for no.such.invalid: is it right, and can names of hosts be looked up here?\n"
+    );
+    Ok(())
+}

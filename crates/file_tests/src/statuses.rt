@@ -1,0 +1,28 @@
+//! The exit status of each ending: 0 fine; 1 refused; 2 wrong words; 3 a failed file, stream or socket, or no memory.
+use command_io::Status;
+use std::test::Fail;
+use stored_office::{Ending, Failure, ending_of};
+
+#[test]
+fn each_ending_has_its_status(rt: HostRuntime) -> Result<(), Fail> {
+    let text = String::from_str(rt.alloc(), "error: x\n")?;
+    let endings = [
+        (Ending::Fine, 0),
+        (Ending::Refused, 1),
+        (Ending::Wrong(text), 2),
+        (Ending::NoText, 2),
+        (Ending::NoZone("nowhere"), 2),
+        (Ending::Failed(Failure::Memory), 3),
+    ];
+    for (ending, status) in &endings {
+        assert_eq!(rt; ending.number(), *status);
+    }
+    Ok(())
+}
+
+#[test]
+fn commands_that_print(rt: HostRuntime) {
+    for (status, number) in [(Status::Fine, 0), (Status::Refused, 1), (Status::Failed, 3)] {
+        assert_eq!(rt; ending_of(status).number(), number);
+    }
+}

@@ -1,0 +1,123 @@
+//! The ends of tasks over an office: their exit statuses, and which failure is said.
+use command_io::Status;
+use office_events::Refusal;
+use office_program::{Polling, Serving};
+use office_rounds::RoundFault;
+use office_running::RunFault;
+use std::alloc::Global;
+use std::process::Abort;
+use std::test::Fail;
+use stored_office::{Done, Ending, Failure, ending_of_done};
+
+const REPORTS: [(Status, u8, &str); 3] = [
+    (Status::Fine, 0, ""),
+    (Status::Refused, 1, ""),
+    (Status::Failed, 3, "standard input"),
+];
+
+const SERVED: [(Serving, u8, &str); 5] = [
+    (Serving::Served, 0, ""),
+    (Serving::Unopened(Status::Refused), 1, ""),
+    (Serving::Unopened(Status::Failed), 3, "standard input"),
+    (Serving::NoPort, 3, "port 80 of h can't be listened on"),
+    (Serving::Broken, 3, "no more connections"),
+];
+
+const POLLED: [(Polling, u8, &str); 8] = [
+    (Polling::Polled(Ok(())), 0, ""),
+    (
+        Polling::Polled(Err(RoundFault::Refused(Refusal::NotFound))),
+        1,
+        "",
+    ),
+    (
+        Polling::Polled(Err(RoundFault::Link)),
+        3,
+        "the connection to port 80 of h failed",
+    ),
+    (
+        Polling::Polled(Err(RoundFault::Output)),
+        3,
+        "standard input",
+    ),
+    (
+        Polling::Polled(Err(RoundFault::TurnsUsed)),
+        3,
+        "port 80 of h sent on and on",
+    ),
+    (Polling::Unopened(Status::Refused), 1, ""),
+    (Polling::Unopened(Status::Failed), 3, "standard input"),
+    (Polling::Unconnected, 3, "port 80 of h isn't answered"),
+];
+
+const RAN: [(Result<(), RunFault>, u8, &str); 8] = [
+    (Ok(()), 0, ""),
+    (Err(RunFault::Unopened(Status::Refused)), 1, ""),
+    (Err(RunFault::Unopened(Status::Failed)), 3, "standard input"),
+    (Err(RunFault::Port), 3, "port 80 of h can't be listened on"),
+    (Err(RunFault::Sockets), 3, "the system can't tell"),
+    (Err(RunFault::Output), 3, "standard input"),
+    (Err(RunFault::Stopped), 3, "the office has stopped"),
+    (Err(RunFault::Memory), 3, "memory ran out"),
+];
+
+// A failure's text begins so.
+fn begins(rt: &impl Abort, alloc: Global, failure: Failure<'_>, text: &str) -> Result<(), Fail> {
+    let said = format!(in alloc; "{failure}")?;
+    assert!(rt; said.as_str().starts_with(text));
+    assert!(rt; !text.is_empty());
+    Ok(())
+}
+
+// What a task at port 80 of h came to ends with this status, and where that is 3, by a failure whose text begins so.
+fn ends(
+    rt: &impl Abort,
+    alloc: Global,
+    done: Result<Done, Failure<'_>>,
+    status: u8,
+    text: &str,
+) -> Result<(), Fail> {
+    let ending = ending_of_done(done, "h", 80);
+    assert_eq!(rt; ending.number(), status);
+    match &ending {
+        Ending::Failed(failure) => begins(rt, alloc, *failure, text),
+        _ => {
+            assert!(rt; text.is_empty());
+            Ok(())
+        }
+    }
+}
+
+#[test]
+fn reports_and_servers(rt: HostRuntime) -> Result<(), Fail> {
+    for (end, status, text) in REPORTS {
+        ends(&rt, rt.alloc(), Ok(Done::Reported(end)), status, text)?;
+    }
+    for (end, status, text) in SERVED {
+        ends(&rt, rt.alloc(), Ok(Done::Served(end)), status, text)?;
+    }
+    Ok(())
+}
+
+#[test]
+fn rounds_and_runs(rt: HostRuntime) -> Result<(), Fail> {
+    for (end, status, text) in POLLED {
+        ends(&rt, rt.alloc(), Ok(Done::Polled(end)), status, text)?;
+    }
+    for (end, status, text) in RAN {
+        ends(&rt, rt.alloc(), Ok(Done::Ran(end)), status, text)?;
+    }
+    Ok(())
+}
+
+#[test]
+fn tasks_that_were_not_begun(rt: HostRuntime) -> Result<(), Fail> {
+    let host = "h";
+    ends(
+        &rt,
+        rt.alloc(),
+        Err(Failure::Host { host }),
+        3,
+        "no address is found for h",
+    )
+}

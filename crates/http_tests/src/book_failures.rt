@@ -1,0 +1,72 @@
+//! Books that fail at each of their calls in turn. Asked again, a request has its reply.
+use crate::cases::{Case, Served, has_reply, serve};
+use crate::office::polled;
+use crate::tables::{COMMANDS, QUESTIONS};
+use failing_books::FailingBooks;
+use office_books::Books;
+use office_core::Office;
+use std::alloc::{AllocError, Global};
+use std::process::Abort;
+use std::test::Fail;
+
+// What is replied where the books fail.
+static FAILED: &[u8] =
+    b"HTTP/1.1 503 Service Unavailable\r\nContent-Type: application/json\r\nContent-Length: 14\r\nConnection: close\r\n\r\n{\"refused\":13}";
+
+// Opens an office. Where the books fail, they are handed back, and it is opened again.
+fn opened(alloc: Global, books: FailingBooks) -> Result<Office<FailingBooks>, Fail> {
+    let books = match Office::open(alloc, books, 1900) {
+        Ok(office) => return Ok(office),
+        Err(refused) => refused.0,
+    };
+    match Office::open(alloc, books, 1900) {
+        Ok(office) => Ok(office),
+        Err(_) => Err(Fail::from("not opened again")),
+    }
+}
+
+// Serves a request, and serves it again where the books failed.
+fn serve_again(
+    alloc: Global,
+    office: &mut Office<FailingBooks>,
+    case: &Case<'_>,
+) -> Result<Served, AllocError> {
+    let served = serve(alloc, office, case.at, case.request)?;
+    if served.given.as_slice() == FAILED {
+        return serve(alloc, office, case.at, case.request);
+    }
+    Ok(served)
+}
+
+// Serves each request so, and tells how often the books failed.
+fn play(
+    rt: &impl Abort,
+    alloc: Global,
+    mut office: Office<FailingBooks>,
+    cases: &[Case<'_>],
+) -> Result<u64, Fail> {
+    for case in cases {
+        let served = serve_again(alloc, &mut office, case)?;
+        has_reply(rt, alloc, case, &served)?;
+    }
+    Ok(office.into_books().faults())
+}
+
+// Each call of the books fails in turn, until there are no more.
+fn fail_each(rt: &impl Abort, alloc: Global, cases: &[Case<'_>]) -> Result<(), Fail> {
+    for failing in 1..1000 {
+        let books = FailingBooks::new(polled(alloc)?.into_books(), failing);
+        let office = opened(alloc, books)?;
+        if play(rt, alloc, office, cases)? == 0 {
+            assert!(rt; failing as usize > cases.len(), "{failing} calls");
+            return Ok(());
+        }
+    }
+    Err(Fail::from("a call fails each time"))
+}
+
+#[test]
+fn each_call_of_the_books_may_fail(rt: HostRuntime) -> Result<(), Fail> {
+    fail_each(&rt, rt.alloc(), &QUESTIONS)?;
+    fail_each(&rt, rt.alloc(), &COMMANDS)
+}

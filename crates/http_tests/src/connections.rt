@@ -1,0 +1,137 @@
+//! Requests of clients of the same process, which connected and wrote before.
+use crate::office::metered;
+use office_core::Office;
+use office_events::Name;
+use office_http::serve_on;
+use office_lists::ListBooks;
+use socket_link::ListedClock;
+use std::alloc::Global;
+use std::io::{Read, Write};
+use std::net::{Shutdown, TcpListener, TcpStream};
+use std::test::Fail;
+
+/// What a client writes, whether it ends its stream then, and all that it is replied.
+struct Client {
+    bytes: &'static [u8],
+    ends: bool,
+    reply: &'static [u8],
+}
+
+// The meter `m1` is exchanged for `m2`.
+const REQUEST: &[u8] =
+    b"POST /registers/main/exchange HTTP/1.1\r\nContent-Length: 68\r\nOffice-Caller: desk\r\nOffice-Request: 7\r\n\r\n{\"ceiling\":100000,\"last\":5300,\"meter\":\"m2\",\"raw\":0,\"rolls\":0,\"sf\":0}";
+
+const REPLY: &[u8] =
+    b"HTTP/1.1 200 OK\r\nContent-Type: application/json\r\nContent-Length: 19\r\nConnection: close\r\n\r\n{\"done\":\"exchange\"}";
+
+// Clients ask one after the other: the second repeats the first, and the third asks for another last value under the same number.
+static ASKING: [Client; 3] = [
+    Client {
+        bytes: REQUEST,
+        ends: false,
+        reply: REPLY,
+    },
+    Client {
+        bytes: REQUEST,
+        ends: false,
+        reply: REPLY,
+    },
+    Client {
+        bytes: b"POST /registers/main/exchange HTTP/1.1\r\nContent-Length: 68\r\nOffice-Caller: desk\r\nOffice-Request: 7\r\n\r\n{\"ceiling\":100000,\"last\":5301,\"meter\":\"m2\",\"raw\":0,\"rolls\":0,\"sf\":0}",
+        ends: false,
+        reply: b"HTTP/1.1 409 Conflict\r\nContent-Type: application/json\r\nContent-Length: 14\r\nConnection: close\r\n\r\n{\"refused\":11}",
+    },
+];
+
+// One client ends inside its request, one says nothing until its time is over, and one is served.
+static FAILING: [Client; 3] = [
+    Client {
+        bytes: b"POST /registers/main",
+        ends: true,
+        reply: b"",
+    },
+    Client {
+        bytes: b"",
+        ends: false,
+        reply: b"",
+    },
+    Client {
+        bytes: REQUEST,
+        ends: false,
+        reply: REPLY,
+    },
+];
+
+/// A client of a listener that connected and wrote bytes.
+pub(crate) fn client_of(
+    rt: &HostRuntime,
+    listener: &TcpListener,
+    bytes: &[u8],
+) -> Result<TcpStream, Fail> {
+    let mut client = TcpStream::connect(rt, listener.local_addr()?)?;
+    client.write_all(bytes)?;
+    Ok(client)
+}
+
+// The streams of clients.
+fn streams_of(
+    rt: &HostRuntime,
+    listener: &TcpListener,
+    clients: &[Client],
+) -> Result<Vec<TcpStream>, Fail> {
+    let mut streams = Vec::new(rt.alloc());
+    for client in clients {
+        let mut stream = client_of(rt, listener, client.bytes)?;
+        if client.ends {
+            stream.shutdown(Shutdown::Write)?;
+        }
+        streams.push(stream)?;
+    }
+    Ok(streams)
+}
+
+// Whether each client has its reply, and its stream ends.
+fn are_replied(alloc: Global, streams: &mut [TcpStream], clients: &[Client]) -> Result<bool, Fail> {
+    for (stream, client) in streams.iter_mut().zip(clients) {
+        let mut got = Vec::new(alloc);
+        stream.read_to_end(&mut got)?;
+        if got.as_slice() != client.reply {
+            return Ok(false);
+        }
+    }
+    Ok(true)
+}
+
+// The energy of `m1`, where it was ended.
+fn energy_of_ended(office: &mut Office<ListBooks>) -> Option<u64> {
+    match office.meter(&Name::new(b"m1")) {
+        Ok(row) if row.ended => Some(row.total),
+        _ => None,
+    }
+}
+
+// Whether three clients are replied while the clock tells these moments, and the meter is exchanged once.
+fn are_served(rt: &HostRuntime, clients: &[Client; 3], moments: &[u64]) -> Result<bool, Fail> {
+    let mut office = metered(rt.alloc())?;
+    let listener = TcpListener::bind(rt, "127.0.0.1:0")?;
+    let mut streams = streams_of(rt, &listener, clients)?;
+    let mut clock = ListedClock::new(moments);
+    let served = serve_on(rt.alloc(), &listener, 3, &mut office, &mut clock);
+    if served.is_err() || energy_of_ended(&mut office) != Some(300_000) {
+        return Ok(false);
+    }
+    are_replied(rt.alloc(), &mut streams, clients)
+}
+
+#[test]
+fn each_connection_has_its_reply(rt: HostRuntime) -> Result<(), Fail> {
+    assert!(rt; are_served(&rt, &ASKING, &[2800])?);
+    Ok(())
+}
+
+#[test]
+fn a_fault_ends_its_connection_alone(rt: HostRuntime) -> Result<(), Fail> {
+    let moments = [2800, 2800, 2800, 2800, 2800, 2811, 2811];
+    assert!(rt; are_served(&rt, &FAILING, &moments)?);
+    Ok(())
+}

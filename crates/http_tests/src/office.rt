@@ -1,0 +1,92 @@
+//! Offices over books in memory that requests by HTTP told of the device `inv`, its register `main` and the meter `m1` there.
+use crate::cases::serve;
+use interval_core::Zone;
+use mb_wire::ReadSpan;
+use office_core::Office;
+use office_events::{Command, Event, Name, Piece, StartPoll};
+use office_lists::ListBooks;
+use std::alloc::Global;
+use std::test::Fail;
+
+// A device, a register and a meter.
+static REQUESTS: [&[u8]; 3] = [
+    b"POST /devices HTTP/1.1\r\nContent-Length: 46\r\nOffice-Caller: desk\r\nOffice-Request: 1\r\n\r\n{\"name\":\"inv\",\"unit\":1,\"timeout\":5,\"window\":1}",
+    b"POST /registers HTTP/1.1\r\nContent-Length: 76\r\nOffice-Caller: desk\r\nOffice-Request: 2\r\n\r\n{\"name\":\"main\",\"device\":\"inv\",\"function\":3,\"address\":40094,\"scale_at\":40096}",
+    b"POST /registers/main/install HTTP/1.1\r\nContent-Length: 49\r\nOffice-Caller: desk\r\nOffice-Request: 3\r\n\r\n{\"meter\":\"m1\",\"raw\":5000,\"sf\":0,\"ceiling\":100000}",
+];
+
+/// Books in memory that hold nothing.
+pub(crate) fn blank(alloc: Global) -> Result<ListBooks, Fail> {
+    Ok(ListBooks::new(alloc, Zone::read("UTC0")?))
+}
+
+/// An office over such books.
+pub(crate) fn opened(alloc: Global) -> Result<Office<ListBooks>, Fail> {
+    match Office::open(alloc, blank(alloc)?, 0) {
+        Ok(office) => Ok(office),
+        Err(_) => Err(Fail::from("not opened")),
+    }
+}
+
+// An office to which these requests came at moment 1000.
+fn told(alloc: Global, requests: &[&[u8]]) -> Result<Office<ListBooks>, Fail> {
+    let mut office = opened(alloc)?;
+    for request in requests {
+        if serve(alloc, &mut office, 1000, request)?.handled.is_err() {
+            return Err(Fail::from("not served"));
+        }
+    }
+    Ok(office)
+}
+
+/// An office with a device and a register, at which no meter was installed.
+pub(crate) fn unmetered(alloc: Global) -> Result<Office<ListBooks>, Fail> {
+    told(alloc, &REQUESTS[..2])
+}
+
+/// An office whose meter showed 5000 at moment 1000.
+pub(crate) fn metered(alloc: Global) -> Result<Office<ListBooks>, Fail> {
+    told(alloc, &REQUESTS)
+}
+
+// 3 registers from 40094: the counter 5200 and the scale 0.
+static FRAME: &[u8] = b"\x00\x00\x00\x00\x00\x09\x01\x03\x06\x00\x00\x14\x50\x00\x00";
+
+/// The device is connected, its poll is started, and the reply comes.
+pub(crate) fn poll(alloc: Global) -> Result<[Event; 3], Fail> {
+    let inv = Name::new(b"inv");
+    Ok([
+        Event::Connected(inv),
+        Event::Command(Command::StartPoll(StartPoll {
+            device: inv,
+            span: ReadSpan::new(3, 40_094, 3).ok_or("no span")?,
+        })),
+        Event::Bytes(inv, Piece::new(FRAME.to_vec(alloc)?)),
+    ])
+}
+
+// The office behind these events, each at its moment.
+fn behind(
+    mut office: Office<ListBooks>,
+    moments: &[u64],
+    events: &[Event],
+) -> Result<Office<ListBooks>, Fail> {
+    for (moment, event) in moments.iter().zip(events) {
+        if office.feed(*moment, event).is_err() {
+            return Err(Fail::from("refused"));
+        }
+    }
+    Ok(office)
+}
+
+/// An office that has polled its device: the meter has gone from 5000 to 5200, which is 200 Wh.
+pub(crate) fn polled(alloc: Global) -> Result<Office<ListBooks>, Fail> {
+    let events = poll(alloc)?;
+    behind(metered(alloc)?, &[1898, 1898, 1900], &events)
+}
+
+/// Books in which the poll 1 of the device waits since moment 2000.
+pub(crate) fn waiting(alloc: Global) -> Result<ListBooks, Fail> {
+    let events = poll(alloc)?;
+    Ok(behind(unmetered(alloc)?, &[2000, 2000], &events)?.into_books())
+}

@@ -1,0 +1,65 @@
+//! Offices that are opened by a command, or not.
+use crate::narrow::Narrow;
+use crate::office::{blank, waiting};
+use command_io::Status;
+use failing_books::FailingBooks;
+use office_events::EndedPoll;
+use office_program::open_office;
+use poll_core::{LostCause, Outcome};
+use socket_link::ListedClock;
+use std::alloc::Global;
+use std::io::Write;
+use std::test::Fail;
+
+#[test]
+fn what_waited_is_lost(rt: HostRuntime) -> Result<(), Fail> {
+    let books = waiting(rt.alloc())?;
+    let mut printed = Vec::new(rt.alloc());
+    let mut clock = ListedClock::new(&[2100]);
+    let Ok(mut office) = open_office(rt.alloc(), books, &mut clock, &mut printed) else {
+        return Err(Fail::from("not opened"));
+    };
+    assert!(rt; printed.is_empty());
+    let Ok(row) = office.poll(1) else {
+        return Err(Fail::from("no poll"));
+    };
+    let lost = EndedPoll {
+        poll: 1,
+        at: 2100,
+        outcome: Outcome::Lost(LostCause::Restart),
+    };
+    assert_eq!(rt; row.ended, Some(lost));
+    Ok(())
+}
+
+// How the opening ends of an office whose clock was set back, and which prints to this writer.
+fn set_back<W: Write>(alloc: Global, output: &mut W) -> Result<Status, Fail> {
+    let mut clock = ListedClock::new(&[1999]);
+    match open_office(alloc, waiting(alloc)?, &mut clock, output) {
+        Ok(_) => Err(Fail::from("opened")),
+        Err(unopened) => Ok(unopened.status),
+    }
+}
+
+#[test]
+fn a_clock_that_was_set_back_is_refused(rt: HostRuntime) -> Result<(), Fail> {
+    let mut printed = Vec::new(rt.alloc());
+    assert_eq!(rt; set_back(rt.alloc(), &mut printed)?, Status::Refused);
+    assert_eq!(rt; printed.as_slice(), b"refused 3\n".as_slice());
+    let mut narrow = Narrow { room: 4 };
+    assert_eq!(rt; set_back(rt.alloc(), &mut narrow)?, Status::Failed);
+    Ok(())
+}
+
+#[test]
+fn a_store_that_fails_is_told(rt: HostRuntime) -> Result<(), Fail> {
+    let books = FailingBooks::new(blank(rt.alloc())?, 1);
+    let mut printed = Vec::new(rt.alloc());
+    let mut clock = ListedClock::new(&[0]);
+    let Err(unopened) = open_office(rt.alloc(), books, &mut clock, &mut printed) else {
+        return Err(Fail::from("opened"));
+    };
+    assert_eq!(rt; unopened.status.number(), 1);
+    assert_eq!(rt; printed.as_slice(), b"refused 13\n".as_slice());
+    Ok(())
+}

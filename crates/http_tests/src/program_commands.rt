@@ -1,0 +1,110 @@
+//! Commands of the program over books in memory, also where the clock was set back.
+use crate::office::metered;
+use command_io::Status;
+use office_events::Refusal;
+use office_lists::ListBooks;
+use office_program::{Polling, Serving, poll_books, report_books, serve_books};
+use office_rounds::RoundFault;
+use socket_link::ListedClock;
+use std::alloc::Global;
+use std::net::TcpListener;
+use std::test::Fail;
+
+/// Books of an office that has a device, a register and a meter since moment 1000.
+fn books(alloc: Global) -> Result<ListBooks, Fail> {
+    Ok(metered(alloc)?.into_books())
+}
+
+/// A listener of this machine, and its port.
+fn taken(rt: &HostRuntime) -> Result<(TcpListener, u16), Fail> {
+    let listener = TcpListener::bind(rt, "127.0.0.1:0")?;
+    let port = listener.local_addr()?.port();
+    Ok((listener, port))
+}
+
+// A clock that was set back is `refused 3`, and a register that isn't there `refused 1`.
+static REPORTS: [(u64, &[u8]); 2] = [(999, b"refused 3\n"), (1000, b"refused 1\n")];
+
+#[test]
+fn a_report_is_refused(rt: HostRuntime) -> Result<(), Fail> {
+    for (moment, text) in &REPORTS {
+        let books = books(rt.alloc())?;
+        let moments = [*moment];
+        let mut clock = ListedClock::new(&moments);
+        let mut printed = Vec::new(rt.alloc());
+        let done = report_books(rt.alloc(), books, "none", &mut clock, &mut printed);
+        assert_eq!(rt; done.end, Status::Refused);
+        assert_eq!(rt; printed.as_slice(), *text);
+    }
+    Ok(())
+}
+
+/// How serving at a port ends, where the clock tells a moment, and what it prints.
+fn serve(rt: &HostRuntime, moment: u64, port: u16) -> Result<(Serving, Vec<u8>), Fail> {
+    let books = books(rt.alloc())?;
+    let place = ("127.0.0.1", port);
+    let moments = [moment];
+    let mut clock = ListedClock::new(&moments);
+    let mut printed = Vec::new(rt.alloc());
+    let done = serve_books(rt, rt.alloc(), books, place, 0, &mut clock, &mut printed);
+    Ok((done.end, printed))
+}
+
+// The opening comes first, and then the port.
+#[test]
+fn serving_ends_by_its_first_fault(rt: HostRuntime) -> Result<(), Fail> {
+    let (_taken, port) = taken(&rt)?;
+    let cases: [(u64, u16, Serving, &[u8]); 3] = [
+        (
+            999,
+            port,
+            Serving::Unopened(Status::Refused),
+            b"refused 3\n",
+        ),
+        (1000, port, Serving::NoPort, b""),
+        (1000, 0, Serving::Served, b""),
+    ];
+    for (moment, port, end, text) in cases {
+        let (ended, printed) = serve(&rt, moment, port)?;
+        assert_eq!(rt; ended, end);
+        assert_eq!(rt; printed.as_slice(), text);
+    }
+    Ok(())
+}
+
+/// How a round at a port ends, where the clock tells a moment, and what it prints.
+fn poll(rt: &HostRuntime, moment: u64, port: u16) -> Result<(Polling, Vec<u8>), Fail> {
+    let books = books(rt.alloc())?;
+    let place = ("127.0.0.1", port);
+    let moments = [moment];
+    let mut clock = ListedClock::new(&moments);
+    let mut printed = Vec::new(rt.alloc());
+    let done = poll_books(
+        rt,
+        rt.alloc(),
+        books,
+        "inv",
+        place,
+        &mut clock,
+        &mut printed,
+    );
+    Ok((done.end, printed))
+}
+
+// The opening comes first, then the device, and then its list, which it lacks. Port 1 is nobody's.
+#[test]
+fn a_round_ends_by_its_first_fault(rt: HostRuntime) -> Result<(), Fail> {
+    let (_device, port) = taken(&rt)?;
+    let no_list = Polling::Polled(Err(RoundFault::Refused(Refusal::NotFound)));
+    let cases: [(u64, u16, Polling, &[u8]); 3] = [
+        (999, 1, Polling::Unopened(Status::Refused), b"refused 3\n"),
+        (1000, 1, Polling::Unconnected, b""),
+        (1000, port, no_list, b"ok\nok\nrefused 1\n"),
+    ];
+    for (moment, port, end, text) in cases {
+        let (ended, printed) = poll(&rt, moment, port)?;
+        assert_eq!(rt; ended, end);
+        assert_eq!(rt; printed.as_slice(), text);
+    }
+    Ok(())
+}

@@ -1,0 +1,59 @@
+//! Links over sockets, links that have only so much time, and clocks.
+use crate::connections::client_of;
+use mb_wire::{Link, LinkFailed, MemoryLink, Took};
+use socket_link::{Clock, HurriedLink, ListedClock, SocketLink, SystemClock};
+use std::io::{self, Read};
+use std::net::{TcpListener, TcpStream};
+use std::test::Fail;
+
+// A link to the client that came next.
+fn link_of(listener: &TcpListener) -> io::Result<SocketLink<TcpStream>> {
+    SocketLink::new(listener.accept()?.0)
+}
+
+#[test]
+fn a_socket_gives_takes_idles_and_ends(rt: HostRuntime) -> Result<(), Fail> {
+    let listener = TcpListener::bind(&rt, "127.0.0.1:0")?;
+    let mut peer = client_of(&rt, &listener, b"hello")?;
+    let mut link = link_of(&listener)?;
+    let mut piece = [0; 16];
+    assert_eq!(rt; link.take(&mut piece), Ok(Took::Bytes(5)));
+    assert_eq!(rt; &piece[..5], b"hello".as_slice());
+    assert_eq!(rt; link.take(&mut piece), Ok(Took::Idle));
+    assert_eq!(rt; link.give(b"you"), Ok(3));
+    let mut answer = [0; 3];
+    assert!(rt; peer.read_exact(&mut answer).is_ok());
+    assert_eq!(rt; &answer, b"you");
+    drop(peer);
+    assert_eq!(rt; link.take(&mut piece), Ok(Took::End));
+    assert_eq!(rt; [link.takes(), link.failures()], [3, 0]);
+    Ok(())
+}
+
+#[test]
+fn a_link_fails_once_its_time_is_over(rt: HostRuntime) {
+    let mut given = [0; 8];
+    let mut clock = ListedClock::new(&[10, 10, 11]);
+    let mut inner = MemoryLink::new(b"hello", &mut given, 3, None);
+    let mut link = HurriedLink::new(&mut inner, &mut clock, 10);
+    let mut piece = [0; 16];
+    assert_eq!(rt; link.take(&mut piece), Ok(Took::Bytes(3)));
+    assert_eq!(rt; link.give(b"you"), Ok(3));
+    assert_eq!(rt; link.take(&mut piece), Err(LinkFailed));
+    assert_eq!(rt; link.give(b"you"), Err(LinkFailed));
+    assert_eq!(rt; [link.takes(), link.failures()], [2, 2]);
+    assert_eq!(rt; inner.given(), b"you".as_slice());
+}
+
+#[test]
+fn a_list_of_moments_ends_with_its_last(rt: HostRuntime) {
+    let mut clock = ListedClock::new(&[5, 3]);
+    assert_eq!(rt; [clock.now(), clock.now(), clock.now()], [5, 3, 3]);
+    assert_eq!(rt; ListedClock::new(&[]).now(), 0);
+}
+
+// Past the first second of 2020.
+#[test]
+fn the_system_has_a_clock(rt: HostRuntime) {
+    assert!(rt; SystemClock::new(&rt).now() > 1_577_836_800);
+}

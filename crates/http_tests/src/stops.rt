@@ -1,0 +1,82 @@
+//! Books that fail while rows are handed on, or while a poll is settled.
+use crate::cases::{Case, play, serve};
+use crate::office::{poll, polled};
+use crate::tables::{COMMANDS, QUESTIONS};
+use failing_books::FailingBooks;
+use office_core::Office;
+use office_events::Refusal;
+use office_http::HandleFault;
+use std::alloc::Global;
+use std::test::Fail;
+
+static INTERVALS: &[u8] = b"GET /meters/m1/intervals HTTP/1.1\r\n\r\n";
+
+// What is given of the intervals, where the books fail behind their last row.
+fn cut(alloc: Global, failing: u64) -> Result<Option<Vec<u8>>, Fail> {
+    let books = FailingBooks::after_rows(polled(alloc)?.into_books(), failing);
+    let Ok(mut office) = Office::open(alloc, books, 1900) else {
+        return Ok(None);
+    };
+    let served = serve(alloc, &mut office, 2800, INTERVALS)?;
+    match served.handled {
+        Err(HandleFault::Cut) => Ok(Some(served.given)),
+        _ => Ok(None),
+    }
+}
+
+static ROWS: &[u8] =
+    b"HTTP/1.1 200 OK\r\nContent-Type: text/plain\r\nConnection: close\r\n\r\n900 177777\n1800 22223\n";
+
+#[test]
+fn a_text_that_is_cut_has_no_end(rt: HostRuntime) -> Result<(), Fail> {
+    let mut cuts = 0u8;
+    for failing in 1..20 {
+        if let Some(given) = cut(rt.alloc(), failing)? {
+            assert_eq!(rt; given.as_slice(), ROWS);
+            cuts = cuts.saturating_add(1);
+        }
+    }
+    assert_eq!(rt; cuts, 1);
+    Ok(())
+}
+
+// An office that has stopped, where a call of the books is one that settles a poll.
+fn stopped(alloc: Global, failing: u64) -> Result<Option<Office<FailingBooks>>, Fail> {
+    let books = FailingBooks::new(polled(alloc)?.into_books(), failing);
+    let Ok(mut office) = Office::open(alloc, books, 1900) else {
+        return Ok(None);
+    };
+    let mut stops = false;
+    for event in &poll(alloc)? {
+        stops = matches!(office.feed(1900, event), Err(Refusal::Store(_)));
+    }
+    if stops {
+        return Ok(Some(office));
+    }
+    Ok(None)
+}
+
+// An office that stops at the first call of the books where it can.
+fn first_stopped(alloc: Global) -> Result<Office<FailingBooks>, Fail> {
+    for failing in 1..20 {
+        if let Some(office) = stopped(alloc, failing)? {
+            return Ok(office);
+        }
+    }
+    Err(Fail::from("it never stops"))
+}
+
+#[test]
+fn a_stopped_office_is_unavailable(rt: HostRuntime) -> Result<(), Fail> {
+    let mut office = first_stopped(rt.alloc())?;
+    for request in [INTERVALS, COMMANDS[0].request, QUESTIONS[12].request] {
+        let case = Case {
+            at: 2800,
+            request,
+            status: "503 Service Unavailable",
+            body: "{\"refused\":15}",
+        };
+        play(&rt, rt.alloc(), &mut office, &case, 400)?;
+    }
+    Ok(())
+}

@@ -1,5 +1,0 @@
-use Rattle.http_wants.proofs.Bodies.{one_command}
-use Rattle.http_wants.proofs.laws.bodies_give_one_command.Goals as goal
-
-pub returns : goal.returns
-returns c = one_command c.lists_are_planned_once.ensures c.texts_spell_one_list.ensures.one

@@ -1,8 +1,0 @@
-//! The plan of a point list, printed.
-#![tactic(auto)]
-
-mod list_printout;
-mod plan_printout;
-
-pub use list_printout::plan_text;
-pub use plan_printout::print_plan;

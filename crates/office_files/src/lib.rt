@@ -1,8 +1,0 @@
-//! The file of an office: a connection to it, or why there is none.
-#![tactic(auto)]
-
-mod faults;
-mod files;
-
-pub use faults::FileFault;
-pub use files::{FileConnection, make_file, open_file};

@@ -1,0 +1,73 @@
+-- What the bytes that were read want of an office.
+use Rattle.std.specs.Prelude.{◌≡◌, ◌⊎◌, ℕ, true, List, Ok, Err}
+use Rattle.http_commands.specs.Given.{Gives}
+use Rattle.http_commands.specs.Few.{HasFewRows}
+use Rattle.http_commands.specs.declared.fault.CommandFault.{CommandFault}
+use Rattle.http_commands.specs.declared.fault.CommandFault.TheVariants.{Memory}
+use Rattle.http_request.specs.HeadTests.{Start}
+use Rattle.http_route.specs.Routes.{Table}
+use Rattle.http_route.specs.Targets.{is_question, name_in, name_of}
+use Rattle.http_route.specs.declared.routes.Route.{Route}
+use Rattle.http_route.specs.declared.targets.Found.{Found}
+use Rattle.http_status.specs.declared.Status.{Status}
+use Rattle.http_whole.specs.Whole.{HoldsRequest}
+use Rattle.office_events.specs.declared.commands.Command.{Command}
+use Rattle.office_events.specs.declared.events.Asked.{Asked}
+use Rattle.http_answer.specs.Kinds.{done_text}
+use Rattle.http_answer.specs.Offices.{Office}
+use Rattle.http_answer.specs.Replies.{asked_of, fault, fault_said, question_reply, reply_bytes, row_reply}
+use Rattle.http_answer.specs.Requests.{name_asked}
+use Rattle.http_answer.specs.Whole.{IsCommand, IsReply}
+use Rattle.office_http.specs.declared.wants.kinds.Want.{Want}
+use Rattle.office_http.specs.declared.wants.kinds.Want.TheVariants as want
+
+-- The bytes hold a request that asks this of the office: all tests of its head pass, and its body gives a command.
+pub record AsksOffice (table : Table) (bytes : List ℕ) (asked : Asked) : Type 0 where
+  pub start : Start
+  pub body : List ℕ
+  pub holds : HoldsRequest table bytes start body
+  pub route : Route
+  pub leads : IsCommand table start route
+  pub command : Command
+  pub gives : Gives route (name_asked (name_in table start.target)) body (Ok command)
+  pub is : asked ≡ asked_of start body command
+
+-- they ask nothing that would change it
+abbrev pub AsksNothing : Table → (bytes : List ℕ) → Type 0
+AsksNothing table bytes = (asked : Asked) → AsksOffice table bytes asked → ⊥
+
+-- whatever the office answers, this is the reply, and the office is asked to change nothing
+pub record IsToldOff (table : Table) (bytes text : List ℕ) : Type 0 where
+  pub nothing : AsksNothing table bytes
+  pub reply : (office : Office) → IsReply office table bytes text
+
+-- the office is asked a question, and what it answers is the reply
+pub record IsQuestion (table : Table) (bytes : List ℕ) (found : Found) : Type 0 where
+  pub asks : is_question found.route ≡ true
+  pub nothing : AsksNothing table bytes
+  pub reply : (office : Office)
+      → IsReply office table bytes (reply_bytes (question_reply office found.route (name_of found)))
+
+-- the office is asked to change something, and what it answers is the reply
+pub record IsAskedFor (table : Table) (bytes : List ℕ) (asked : Asked) : Type 0 where
+  pub asks : AsksOffice table bytes asked
+  pub reply : (office : Office)
+      → IsReply office table bytes (reply_bytes (row_reply done_text (office.asked asked)))
+
+-- A body gives no command for this reason; or memory was wanting, which says nothing of the request.
+abbrev pub IsNoCommand : Table → (bytes : List ℕ) → CommandFault → Type 0
+IsNoCommand table bytes why = (why ≡ Memory) ⊎ IsToldOff table bytes (reply_bytes (fault_said why))
+
+-- what is wanted of the office
+abbrev pub Wants : Table → (bytes : List ℕ) → Want → Type 0
+Wants table bytes (want.Nothing status) = IsToldOff table bytes (reply_bytes (fault status))
+Wants table bytes (want.Answer found) = IsQuestion table bytes found
+Wants table bytes (want.Refused why) = IsNoCommand table bytes why
+Wants table bytes (want.Command asked) = IsAskedFor table bytes asked
+
+-- the faulty rows of a list are few
+abbrev pub HasFewFaults : Want → Type 0
+HasFewFaults (want.Nothing status) = Unit {0}
+HasFewFaults (want.Answer found) = Unit {0}
+HasFewFaults (want.Refused why) = HasFewRows (Err why)
+HasFewFaults (want.Command asked) = Unit {0}

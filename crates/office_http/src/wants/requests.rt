@@ -1,0 +1,76 @@
+//! What a whole request wants of an office.
+ghost use Rattle.std.specs.Prelude.{◌≡◌, ◌⊎◌, Ok, Err};
+ghost use Rattle.http_request.specs.Asking.{TestsHead};
+ghost use Rattle.http_request.specs.HeadTests.{start_at};
+ghost use Rattle.http_request.specs.declared.ask.Ask.TheVariants.{Command as AskedCommand};
+ghost use Rattle.http_whole.specs.Whole.{Holds, IsWhole};
+ghost use Rattle.office_http.specs.Wants.Wanting.{HasFewFaults, Wants};
+
+use crate::wants::kinds::Want;
+use crate::wants::laws::bodies_give_one_command;
+use http_answer::{
+    asked, commands_are_replied_to, faults_are_replied_to, kept_request, name_asked,
+    questions_are_replied_to,
+};
+use http_commands::{CommandFault, command_in};
+use http_head::{Head, Look};
+use http_request::{Ask, Posted};
+use http_route::{Found, Route};
+use http_whole::{ask_in, body_in};
+use matchit::Router;
+use std::alloc::Global;
+
+// The command that a request asks for, with what is kept of the request.
+fn wanted_command<'b>(
+    alloc: Global,
+    router: &Router<Route>,
+    bytes: &'b [u8],
+    head: &Head,
+    found: &Found<'b>,
+    posted: &Posted<'b>,
+) -> Want<'b>
+    requires holds { IsWhole router.now bytes.now head.now }
+    requires asks { TestsHead router.now (start_at bytes.now head.now)
+        (Ok (AskedCommand found.now posted.now)) }
+    ensures wants { Wants router.now bytes.now result }
+    ensures few { HasFewFaults result }
+{
+    bodies_give_one_command();
+    let body = body_in(router, bytes, head);
+    let given = command_in(alloc, found.route, name_asked(found.name), body);
+    if matches!(given, Err(CommandFault::Memory)) {
+        return Want::Refused(CommandFault::Memory);
+    }
+    commands_are_replied_to(router, bytes, head, found, posted, &given);
+    match given {
+        Err(why) => Want::Refused(why),
+        Ok(command) => {
+            match kept_request(alloc, head.method.of(bytes), head.target.of(bytes), body) {
+                Ok(kept) => Want::Command(asked(posted, kept, command)),
+                Err(_) => Want::Refused(CommandFault::Memory),
+            }
+        }
+    }
+}
+
+/// What a whole request wants of an office. Want of memory comes before the office is asked.
+pub fn wanted<'b>(alloc: Global, router: &Router<Route>, bytes: &'b [u8], look: &Look) -> Want<'b>
+    requires { Holds router.now bytes.now look.now }
+    ensures wants { Wants router.now bytes.now result }
+    ensures few { HasFewFaults result }
+{
+    match ask_in(router, bytes, look) {
+        Err(status) => {
+            faults_are_replied_to(router, bytes, look, status);
+            Want::Nothing(status)
+        }
+        Ok(Ask::Question(found)) => {
+            questions_are_replied_to(router, bytes, look, &found);
+            Want::Answer(found)
+        }
+        Ok(Ask::Command(found, posted)) => match look {
+            Look::Whole(head) => wanted_command(alloc, router, bytes, head, &found, &posted),
+            Look::TooLarge | Look::NoHead | Look::Open => unreachable!(),
+        },
+    }
+}

@@ -1,0 +1,30 @@
+-- Days that were handed on, and what is printed of them.
+use Rattle.std.proofs.Common.{◌≡◌, ◌≤◌, ◌<◌, ◌^◌, ℕ, Option, List, [], ◌++◌, length, refl, ap, arith}
+use Rattle.std.specs.List.{flat_map}
+use Rattle.std.specs.Prelude.{Result, Ok, Err}
+use Rattle.std.proofs.Math.Nat.{min-eq_left}
+use Rattle.interval_core.specs.declared.totals.DayTotal.{DayTotal}
+use Rattle.interval_core.specs.declared.zone.Zone.{Zone}
+use Rattle.office_books.specs.Rows.{TakesAll}
+use Rattle.office_core.specs.Asking.{HandsDays}
+use Rattle.office_events.specs.declared.refusals.Refusal.{Refusal}
+use Rattle.office_rules.specs.History.{History, facts_of}
+use Rattle.office_program.specs.Texts.Lines.{counted}
+use Rattle.office_program.specs.Texts.Reports.{IsReport, last_line}
+use Rattle.report_lines.specs.Lines.{day_line, end_line}
+
+-- a number of 64 bits counts them all
+counts : (n : ℕ) → n < 2 ^ 64 → counted n ≡ n
+counts n few = min-eq_left (let fits : n ≤ 18446744073709551615 = omega (arith, few) in fits)
+
+-- what a sink took of the days is a report, with its last line
+pub reported : {S : Type 0} (takes : S → DayTotal → S → Type 0) (zone : Zone) (past : History) (register : Option (List ℕ))
+    (before after : ℕ) (from to : S) (reply : Result (Unit {0}) Refusal)
+    → HandsDays takes zone (facts_of past) register before after from to reply
+    → (shown : List DayTotal) × TakesAll takes from shown to
+    × IsReport zone past register reply (flat_map day_line shown ++ last_line (counted (length shown)) reply)
+reported takes zone past register before after from to (Ok done) hands =
+    let days = hands.whole.days in
+    let text = ap (λ n. flat_map day_line days ++ end_line n) (counts (length days) hands.whole.few) in
+    (days, hands.whole.took, (days, hands.whole.are, text))
+reported takes zone past register before after from to (Err why) hands = ([], hands.none, refl)

@@ -1,0 +1,25 @@
+-- Days that are written as they come.
+use Rattle.std.specs.Prelude.{◌≡◌, ℕ, ◌+◌, min, true, false, List, Option}
+use Rattle.std.specs.Io.KnownBytes.{Appends}
+use Rattle.office_program.specs.declared.texts.lines.DayLines.{DayLines}
+use Rattle.sun_points.specs.Writing.{GotPart}
+
+-- a count stops at the greatest number of 64 bits
+abbrev pub counted : ℕ → ℕ
+counted n = min n 18446744073709551615
+
+-- A text for so many days was written and they were counted, or a part of it, where a write failed.
+pub record HasWritten {W : Type 0} (contents : W → Option (List ℕ)) (text : List ℕ) (count : ℕ)
+    (old new : DayLines W) : Type 0 where
+  pub output : new.output.ghost_name ≡ old.output.ghost_name
+  pub whole : new.failed ≡ false
+      → Appends (contents old.output.now) (contents new.output.now) text
+      × (new.count ≡ counted (old.count + count))
+  pub part : new.failed ≡ true → GotPart text (contents old.output.now) (contents new.output.now)
+
+-- The line of a day is written, unless a write failed before: then the day is dropped.
+pub record WritesLine {W : Type 0} (contents : W → Option (List ℕ)) (line : List ℕ)
+    (old new : DayLines W)
+    : Type 0 where
+  pub written : old.failed ≡ false → HasWritten contents line 1 old new
+  pub dropped : old.failed ≡ true → new ≡ old

@@ -1,0 +1,46 @@
+-- The opening of an office at the moment that a clock tells.
+use Rattle.std.specs.Prelude.{ℕ, List, ◌∷◌, Option}
+use Rattle.command_io.specs.declared.status.Status.{Status}
+use Rattle.command_io.specs.declared.status.Status.TheVariants.{Refused}
+use Rattle.office_events.specs.declared.refusals.Refusal.{Refusal}
+use Rattle.office_rules.specs.History.{History, Opened}
+use Rattle.office_books.specs.Ledgers.{Ledger}
+use Rattle.office_core.specs.Reopening.{IsNotOpened}
+use Rattle.office_core.specs.Standing.{Stands, books_in}
+use Rattle.office_core.specs.declared.office.Office.{Office}
+use Rattle.script_text.specs.AnswerText.{refused_line}
+use Rattle.socket_link.specs.Clocks as clocks
+use Rattle.office_program.specs.Texts.EndTexts.{IsTold}
+use Rattle.office_program.specs.declared.texts.opened_office.Unopened.{Unopened}
+
+-- The office stands behind its opening: what waited is lost.
+pub record Opens {B : Type 0} (ledger : B → Ledger) (past : History)
+    (moments later : Option (List ℕ))
+    (office : Office B) : Type 0 where
+  pub at : ℕ
+  pub timed : clocks.Tells moments later at
+  pub stands : Stands ledger (Opened at ∷ past) office
+
+-- So it does, unless a wrong answer of a store was taken as true.
+abbrev pub OpensWhereClean : {B : Type 0} → (B → Ledger) → (past : History)
+    → (moments later : Option (List ℕ)) → Office B → Type 0
+OpensWhereClean ledger past moments later office =
+    (ledger (books_in office)).is_clean → Opens ledger past moments later office
+
+-- The opening is refused as its definition says, or failed outside; the books stand as they did, and the reason is printed.
+pub record TellsUnopened (past : History) (moments later : Option (List ℕ)) (old new : Ledger)
+    (status : Status)
+    (had holds : Option (List ℕ)) : Type 0 where
+  pub at : ℕ
+  pub timed : clocks.Tells moments later at
+  pub why : Refusal
+  pub refused : IsNotOpened past at old new why
+  pub told : IsTold (refused_line why) Refused status had holds
+
+-- So it is with the books handed back, unless a wrong answer of a store was taken as true.
+abbrev pub TellsWhereClean : {B : Type 0} → (B → Ledger) → (past : History)
+    → (moments later : Option (List ℕ)) → (books : B) → (had holds : Option (List ℕ))
+    → Unopened B → Type 0
+TellsWhereClean ledger past moments later books had holds unopened =
+    (ledger unopened.books).is_clean → TellsUnopened past moments later (ledger books)
+    (ledger unopened.books) unopened.status had holds

@@ -1,0 +1,57 @@
+-- The report of a register: its days, or why there are none.
+use Rattle.std.specs.Prelude.{◌≡◌, ℕ, List, map, Option, Result, Ok, Err}
+use Rattle.std.specs.Option.{option_and_then}
+use Rattle.command_io.specs.declared.status.Status.{Status}
+use Rattle.command_io.specs.declared.status.Status.TheVariants.{Fine, Refused}
+use Rattle.interval_core.specs.Days.{account_of}
+use Rattle.interval_core.specs.declared.totals.DayTotal.{DayTotal}
+use Rattle.interval_core.specs.declared.zone.Zone.{Zone}
+use Rattle.office_events.specs.declared.refusals.Refusal.{Refusal}
+use Rattle.office_rules.specs.Facts.{register_of}
+use Rattle.office_rules.specs.History.{History, facts_of}
+use Rattle.office_books.specs.Ledgers.{Ledger}
+use Rattle.office_core.specs.Asking.{AreDaysNamed, IsFound, OnlyAsks, is_there}
+use Rattle.office_core.specs.declared.office.Office.{Office}
+use Rattle.report_lines.specs.Lines.{days_text, end_line}
+use Rattle.script_text.specs.AnswerText.{refused_line}
+use Rattle.office_program.specs.Texts.EndTexts.{Tells}
+
+-- a report that is told is a success, and one that is refused is a refusal
+abbrev pub meant_by : Result (Unit {0}) Refusal → Status
+meant_by (Ok done) = Fine
+meant_by (Err why) = Refused
+
+-- the last line tells how many days there are, or why there are none
+abbrev pub last_line : (count : ℕ) → Result (Unit {0}) Refusal → List ℕ
+last_line count (Ok done) = end_line count
+last_line count (Err why) = refused_line why
+
+-- All days of the register by the clocks of the zone, in their order; or the reason alone.
+abbrev pub IsReport : Zone → History → (register : Option (List ℕ)) → Result (Unit {0}) Refusal
+    → (text : List ℕ) → Type 0
+IsReport zone past register (Ok done) text =
+    (days : List DayTotal) × AreDaysNamed zone (facts_of past) register (map account_of days)
+    × (text ≡ days_text days)
+IsReport zone past register (Err why) text = text ≡ refused_line why
+
+-- What is printed with which end. It is refused where there is no register of the name, and else only where the books or
+-- memory failed or the office had stopped, over the count of the books' failures before and after.
+pub record ReportPrints (zone : Zone) (past : History) (register : Option (List ℕ))
+    (before after : ℕ)
+    (text : List ℕ) (meant : Status) : Type 0 where
+  pub reply : Result (Unit {0}) Refusal
+  pub answer : IsFound (is_there (option_and_then (register_of (facts_of past)) register)) before
+      after reply
+  pub is : IsReport zone past register reply text
+  pub means : meant ≡ meant_by reply
+
+-- It is printed so, or a part of it, since a write failed; told of a past that the office had accepted.
+abbrev pub ReportsBehind : Zone → (register : Option (List ℕ)) → (before after : ℕ) → Status
+    → (old new : Option (List ℕ)) → (past : History) → Type 0
+ReportsBehind zone register before after status old new past =
+    Tells (ReportPrints zone past register before after) status old new
+
+-- The office was only asked.
+pub record Asks {B : Type 0} (ledger : B → Ledger) (old new : Office B) : Type 0 where
+  pub reply : Result (Unit {0}) Refusal
+  pub only : OnlyAsks ledger old new reply

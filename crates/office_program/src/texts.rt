@@ -1,0 +1,11 @@
+//! What the commands over an office print, and how they end.
+
+mod end_texts;
+mod lines;
+mod opened_office;
+mod report;
+mod round;
+
+pub use opened_office::{Unopened, open_office};
+pub use report::report_days;
+pub use round::{poll_round, round_status};

@@ -1,0 +1,49 @@
+//! The report of a register.
+ghost use Rattle.office_core.specs.Standing.{After, books_in};
+ghost use Rattle.office_core.specs.Taking.{failures_of};
+ghost use Rattle.office_program.specs.Texts.Reports.{Asks, ReportsBehind, last_line, meant_by};
+ghost use Rattle.office_program.specs.Texts.EndTexts.{IsTold};
+
+use crate::texts::end_texts::{ended, print_refusal};
+use crate::texts::lines::DayLines;
+use command_io::Status;
+use office_books::Books;
+use office_core::Office;
+use office_events::{Name, Refusal};
+use row_text::write_end;
+use std::io::Write;
+
+// How many days there were, or why there are none.
+fn print_last<W: Write>(told: Result<(), Refusal>, count: u64, output: &mut W) -> Status
+    ensures { IsTold (last_line count told) (meant_by told) result
+        (W.contents output.old) (W.contents output.new) }
+{
+    match told {
+        Ok(()) => {
+            let written = write_end(count, output);
+            ended(written, Status::Fine)
+        }
+        Err(why) => print_refusal(why, output),
+    }
+}
+
+/// Prints the energy of a register by civil days, a line a day, and then how many they are; where the office refuses that,
+/// `refused N` alone. `None` is a name that no register can have.
+pub fn report_days<B: Books, W: Write>(
+    office: &mut Office<B>,
+    register: &Option<Name>,
+    output: &mut W,
+) -> Status
+    ensures prints { After B.ledger office.old office.new
+        (ReportsBehind (B.ledger (books_in office.old)).zone register.now
+        (failures_of B.ledger office.old) (failures_of B.ledger office.new)
+        result (W.contents output.old) (W.contents output.new)) }
+    ensures asks { Asks B.ledger office.old office.new }
+{
+    let mut days = DayLines::to(output);
+    let told = office.days(register, &mut days);
+    if days.failed {
+        return Status::Failed;
+    }
+    print_last(told, days.count, days.output)
+}

@@ -1,0 +1,70 @@
+//! The round of a device.
+ghost use Rattle.std.specs.Prelude.{◌≡◌, Err};
+ghost use Rattle.office_core.specs.Standing.{After};
+ghost use Rattle.office_core.specs.Taking.{failures_of};
+ghost use Rattle.office_rounds.specs.Passing.{AreAtMost, AreTakes, CountsFailures, Lasts};
+ghost use Rattle.office_rounds.specs.Rounds.{desk, passage, wire};
+ghost use Rattle.office_program.specs.Texts.Rounds as rounds;
+ghost use Rattle.office_program.specs.Texts.Rounds.{IsRefusalTold, PollsRoundBehind};
+
+use crate::texts::end_texts::print_refusal;
+use command_io::Status;
+use mb_wire::Link;
+use office_books::Books;
+use office_core::Office;
+use office_events::Name;
+use office_rounds::{RoundFault, round_over};
+use socket_link::Clock;
+use std::alloc::Global;
+use std::io::Write;
+
+// Prints the refusal that broke a round off, if one did.
+fn print_cause<W: Write>(done: Result<(), RoundFault>, output: &mut W) -> Result<(), RoundFault>
+    ensures { IsRefusalTold done result (W.contents output.old) (W.contents output.new) }
+{
+    match done {
+        Err(RoundFault::Refused(why)) => match print_refusal(why, output) {
+            Status::Refused => done,
+            Status::Fine | Status::Failed => Err(RoundFault::Output),
+        },
+        _ => done,
+    }
+}
+
+/// Polls the whole plan of a device once, over a link that was just made, and prints what `round_over` prints; where the
+/// office refused an event, `refused N` behind it. `None` is a name that no device can have.
+pub fn poll_round<L: Link, B: Books, C: Clock, W: Write>(
+    alloc: Global,
+    link: &mut L,
+    office: &mut Office<B>,
+    device: Option<Name>,
+    clock: &mut C,
+    output: &mut W,
+) -> Result<(), RoundFault>
+    ensures rounds { After B.ledger office.old office.new (PollsRoundBehind B.ledger device
+        (passage
+        (desk (W.contents output.old) (C.moments clock.old) (failures_of B.ledger office.old))
+        (desk (W.contents output.new) (C.moments clock.new) (failures_of B.ledger office.new))
+        (wire (L.remaining link.old) (L.given link.old))
+        (wire (L.remaining link.new) (L.given link.new))) office.new result) }
+    ensures turns { AreAtMost 100000 (L.taken link.old) (L.taken link.new) }
+    ensures used { result ≡ Err RoundFault.TurnsUsed
+        → AreTakes 100000 (L.taken link.old) (L.taken link.new) }
+    ensures failures { CountsFailures result (L.failed link.old) (L.failed link.new) }
+    ensures lasts { Lasts B.ledger office.old office.new }
+{
+    let done = round_over(alloc, link, office, device, clock, output);
+    print_cause(done, output)
+}
+
+/// How the command of a round ends: a refusal of the office is one, and the link, the printing or the count of turns a
+/// failure.
+pub fn round_status(done: Result<(), RoundFault>) -> Status
+    ensures { result ≡ rounds.round_status done }
+{
+    match done {
+        Ok(()) => Status::Fine,
+        Err(RoundFault::Refused(_)) => Status::Refused,
+        Err(RoundFault::Link | RoundFault::Output | RoundFault::TurnsUsed) => Status::Failed,
+    }
+}

@@ -1,0 +1,135 @@
+-- How a round goes on: by its connection, by what the office answers to what was fed for it, and by what the office tells.
+use Rattle.std.specs.Prelude.{◌≡◌, ℕ, ◌+◌, ◌-◌, ◌^◌, ◌==◌, nat_lt, nat_le, min, ◌&&◌, Bool, true, false, List, [], ◌++◌, length, Option, Some, None, Result, Ok, Err, if◌then◌else◌}
+use Rattle.std.specs.List.{filter}
+use Rattle.poll_core.specs.declared.outcome.Closing.{Closing}
+use Rattle.poll_core.specs.declared.outcome.Closing.TheVariants as closing
+use Rattle.office_events.specs.declared.answers.Answer.{Answer}
+use Rattle.office_events.specs.declared.answers.Answer.TheVariants as answer
+use Rattle.office_events.specs.declared.answers.Note.{Note}
+use Rattle.office_events.specs.declared.commands.Command.TheVariants as command
+use Rattle.office_events.specs.declared.events.Event.{Event}
+use Rattle.office_events.specs.declared.events.Event.TheVariants as event
+use Rattle.office_events.specs.declared.refusals.Refusal.{Refusal}
+use Rattle.office_rounds.specs.DeviceRounds.Polls.{numbers, waits}
+use Rattle.office_rounds.specs.DeviceRounds.Stages as stages
+use Rattle.office_rounds.specs.DeviceRounds.Sums as sums
+use Rattle.office_rounds.specs.declared.device_rounds.round.Round.{Round}
+use Rattle.office_rounds.specs.declared.device_rounds.stage.Stage.{Stage}
+use Rattle.office_rounds.specs.declared.device_rounds.stage.Stage.TheVariants.{Off, Joining, Starting, Waiting, Leaving}
+
+abbrev pub unconnected : (device : Option (List ℕ)) → Round
+unconnected device = record {
+  device = device;
+  stage = Off;
+  polls = record { items = [] };
+  started = 0;
+  planned = 0;
+  sum = sums.none;
+}
+
+abbrev pub is_wishing : Round → Bool
+is_wishing round = stages.is_wishing round.stage
+
+-- What the office is to be told next: the connection; the reads from the first on that was not started; that the device
+-- is gone.
+abbrev pub wish_at : Stage → (device : Option (List ℕ)) → (started : ℕ) → Option Event
+wish_at Off device started = None
+wish_at Joining device started = Some (event.Connected device)
+wish_at Starting device started =
+    Some (event.Command (command.StartRound (record { device = device; from = started })))
+wish_at Waiting device started = None
+wish_at (Leaving closing) device started = Some (event.Gone device closing)
+
+abbrev pub wish_of : Round → Option Event
+wish_of round = wish_at round.stage round.device round.started
+
+-- A connection that stands begins a round, where none goes on.
+abbrev pub joined_at : Stage → Round → Round
+joined_at Off round = record {
+  device = round.device;
+  stage = Joining;
+  polls = record { items = [] };
+  started = 0;
+  planned = 0;
+  sum = sums.none;
+}
+joined_at Joining round = round
+joined_at Starting round = round
+joined_at Waiting round = round
+joined_at (Leaving closing) round = round
+
+abbrev pub joined : Round → Round
+joined round = joined_at round.stage round
+
+abbrev pub leaving : Closing → Round → Round
+leaving closing round = record round { stage = stages.left closing round.stage }
+
+-- the round is broken off
+abbrev pub broken_off : Round → Round
+broken_off round = record round { stage = Leaving closing.Failed }
+
+-- behind a start replies are waited for; where none waits the device has none to give, and is gone
+abbrev pub stage_behind : List ℕ → Stage
+stage_behind polls = if length polls == 0 then Leaving closing.Gone else Waiting
+
+abbrev pub begun : (first count planned : ℕ) → Round → Round
+begun first count planned round = record {
+  device = round.device;
+  stage = stage_behind (round.polls.items ++ numbers first count);
+  polls = record { items = round.polls.items ++ numbers first count };
+  started = min (round.started + count) (2 ^ 64 - 1);
+  planned = planned;
+  sum = round.sum;
+}
+
+-- A start tells the number of the first poll, how many there are, and how many reads the plan has. No device has more than
+-- 16 that wait.
+abbrev pub started_by : Answer → Round → Round
+started_by answer.Noted round = broken_off round
+started_by (answer.Done kind) round = broken_off round
+started_by (answer.Again kind) round = broken_off round
+started_by (answer.Started first count of) round =
+    if nat_le (length round.polls.items + count) 16 then begun first count of round
+    else broken_off round
+
+-- What was fed for a round is answered. Behind its connection the reads are started from the first on; a refusal breaks it
+-- off, or was of the connection.
+abbrev pub answered_at : Stage → Result Answer Refusal → Round → Round
+answered_at Off result round = round
+answered_at Joining (Ok given) round = record round { stage = Starting }
+answered_at Joining (Err why) round = record round { stage = Off }
+answered_at Starting (Ok given) round = started_by given round
+answered_at Starting (Err why) round = broken_off round
+answered_at Waiting (Ok given) round = round
+answered_at Waiting (Err why) round = broken_off round
+answered_at (Leaving closing) result round = record round { stage = Off }
+
+abbrev pub answered : Result Answer Refusal → Round → Round
+answered result round = answered_at round.stage result round
+
+-- Behind the end of a poll the reads that are left are started; where none is left and none waits, the device is gone.
+abbrev pub gone_on : Round → Round
+gone_on round =
+    if nat_lt round.started round.planned then record round { stage = Starting }
+    else if length round.polls.items == 0 then record round { stage = Leaving closing.Gone }
+    else round
+
+abbrev pub going_on : Stage → (ended : Bool) → Round → Round
+going_on Off ended round = round
+going_on Joining ended round = round
+going_on Starting ended round = round
+going_on Waiting true round = gone_on round
+going_on Waiting false round = round
+going_on (Leaving closing) ended round = round
+
+-- what is left of its polls, behind these notes
+abbrev pub polls_left : List Note → Round → List ℕ
+polls_left notes round = filter (waits notes) round.polls.items
+
+abbrev pub heard : List Note → Round → Round
+heard notes round =
+    going_on round.stage (nat_lt (length (polls_left notes round)) (length round.polls.items))
+    (record round {
+      polls = record { items = polls_left notes round };
+      sum = sums.noted_all round.polls.items notes round.sum;
+    })

@@ -1,0 +1,132 @@
+//! The polls of a round that wait.
+ghost use Rattle.std.specs.Prelude.{◌≡◌, ◌==◌, ◌≤◌, ◌+◌, ◌++◌};
+ghost use Rattle.std.specs.List.{filter, list_any};
+ghost use Rattle.arrayvec.specs.ArrayVec.{array_vec_len};
+ghost use Rattle.office_rounds.specs.DeviceRounds.Polls as specs;
+
+use arrayvec::ArrayVec;
+use office_events::Note;
+use poll_core::Outcome;
+
+/// How many polls of a device may wait at a time.
+pub const MOST_WAITING: usize = 16;
+
+/// The numbers of polls that wait.
+pub type Polls = ArrayVec<u64, 16>;
+
+// Whether a note tells how the poll ended.
+fn ends(note: &Note, poll: u64) -> bool
+    ensures { result ≡ specs.ends poll note.now }
+{
+    match note {
+        Note::Outcome { poll: ended, .. } => *ended == poll,
+        Note::Reading { .. } => false,
+        Note::Held { .. } => false,
+    }
+}
+
+// Whether a note tells how the poll ended.
+fn has_ended(notes: &[Note], poll: u64) -> bool
+    ensures { result ≡ list_any (specs.ends poll) notes.now }
+{
+    notes.iter().any(|note| ends(note, poll))
+}
+
+// Whether no note tells how the poll ended.
+fn waits(notes: &[Note], poll: u64) -> bool
+    ensures { result ≡ specs.waits notes.now poll }
+{
+    !has_ended(notes, poll)
+}
+
+/// The polls that wait on, behind these notes.
+pub(crate) fn waiting_behind(polls: &Polls, notes: &[Note]) -> Polls
+    ensures { result.items ≡ filter (specs.waits notes.now) polls.now.items }
+{
+    let mut left = Polls::new();
+    for poll in polls.as_slice() {
+        if waits(notes, *poll) {
+            left.push(*poll);
+        }
+    }
+    left
+}
+
+/// Adds so many polls, whose numbers follow one another.
+pub(crate) fn add(polls: &mut Polls, first: u64, count: u64)
+    requires { array_vec_len polls.old + count ≤ 16 }
+    ensures { polls.new.items ≡ polls.old.items ++ specs.numbers first count }
+{
+    for k in 0..count {
+        polls.push(first.saturating_add(k));
+    }
+}
+
+/// How many polls of a round were answered, how many were silent, and how many ended otherwise. Each count stays at
+/// 2^64 - 1.
+#[derive(Clone, Copy, Debug, PartialEq, Eq)]
+pub struct Sum {
+    pub answered: u64,
+    pub silent: u64,
+    pub failed: u64,
+}
+
+impl Sum {
+    ghost use Rattle.std.specs.Prelude.{◌≡◌};
+    ghost use Rattle.office_rounds.specs.DeviceRounds.Sums as sums;
+
+    /// No poll has ended.
+    pub fn none() -> Sum
+        ensures { result ≡ sums.none }
+    {
+        Sum {
+            answered: 0,
+            silent: 0,
+            failed: 0,
+        }
+    }
+
+    // A poll has ended.
+    fn end(&mut self, outcome: Outcome)
+        ensures { self.new ≡ sums.ended outcome self.old }
+    {
+        match outcome {
+            Outcome::Answered => self.answered = self.answered.saturating_add(1),
+            Outcome::Exception(_) => self.failed = self.failed.saturating_add(1),
+            Outcome::Silent => self.silent = self.silent.saturating_add(1),
+            Outcome::Malformed(_) => self.failed = self.failed.saturating_add(1),
+            Outcome::Lost(_) => self.failed = self.failed.saturating_add(1),
+        }
+    }
+
+    // The office has told this.
+    fn note(&mut self, polls: &Polls, note: &Note)
+        ensures { self.new ≡ sums.noted polls.now.items note.now self.old }
+    {
+        match *note {
+            Note::Outcome { poll, outcome } => {
+                if is_among(polls, poll) {
+                    self.end(outcome);
+                }
+            }
+            Note::Reading { .. } => {}
+            Note::Held { .. } => {}
+        }
+    }
+
+    /// The office has told all of this.
+    pub(crate) fn note_all(&mut self, polls: &Polls, notes: &[Note])
+        ensures { self.new ≡ sums.noted_all polls.now.items notes.now self.old }
+    {
+        for note in notes {
+            self.note(polls, note);
+        }
+    }
+}
+
+// Whether a poll is one of them.
+fn is_among(polls: &Polls, poll: u64) -> bool
+    ensures { result ≡ list_any (λ one. one == poll) polls.now.items }
+{
+    polls.as_slice().iter().any(|one| *one == poll)
+}

@@ -1,0 +1,154 @@
+//! The round of one device: its stage, its polls that wait, how they ended.
+use crate::device_rounds::polls::{MOST_WAITING, Polls, Sum, add, waiting_behind};
+use crate::device_rounds::stage::Stage;
+use office_events::{Answer, Command, Event, Name, Note, Refusal, StartRound};
+use poll_core::Closing;
+
+/// How far the round of a device has come, by what the office told.
+#[derive(Drop)]
+pub struct Round {
+    pub device: Option<Name>,
+    pub stage: Stage,
+    /// Its polls that wait.
+    pub polls: Polls,
+    /// How many reads were started.
+    pub started: u64,
+    /// How many reads the plan has.
+    pub planned: u64,
+    /// How its polls ended, until the device is connected again.
+    pub sum: Sum,
+}
+
+impl Round {
+    ghost use Rattle.std.specs.Prelude.{◌≡◌, Result};
+    ghost use Rattle.office_events.specs.declared.answers.Answer.{Answer};
+    ghost use Rattle.office_rounds.specs.DeviceRounds.Rounds as rounds;
+
+    /// No device is connected.
+    pub fn new(device: Option<Name>) -> Round
+        ensures { result ≡ rounds.unconnected device }
+    {
+        Round {
+            device,
+            stage: Stage::Off,
+            polls: Polls::new(),
+            started: 0,
+            planned: 0,
+            sum: Sum::none(),
+        }
+    }
+
+    /// What the office is to be told next, if anything.
+    pub fn wish(&self) -> Option<Event>
+        ensures { result ≡ rounds.wish_of self.now }
+    {
+        match self.stage {
+            Stage::Off => None,
+            Stage::Joining => Some(Event::Connected(self.device)),
+            Stage::Starting => Some(Event::Command(Command::StartRound(StartRound {
+                device: self.device,
+                from: self.started,
+            }))),
+            Stage::Waiting => None,
+            Stage::Leaving(closing) => Some(Event::Gone(self.device, closing)),
+        }
+    }
+
+    /// The connection stands: a round begins, where none goes on.
+    pub fn join(&mut self)
+        ensures { self.new ≡ rounds.joined self.old }
+    {
+        if matches!(self.stage, Stage::Off) {
+            self.stage = Stage::Joining;
+            self.polls = Polls::new();
+            self.started = 0;
+            self.planned = 0;
+            self.sum = Sum::none();
+        }
+    }
+
+    /// The connection has ended.
+    pub fn leave(&mut self, closing: Closing)
+        ensures { self.new ≡ rounds.leaving closing self.old }
+    {
+        self.stage = self.stage.left(closing);
+    }
+
+    // Reads were started.
+    fn start(&mut self, answer: Answer)
+        ensures { self.new ≡ rounds.started_by answer self.old }
+    {
+        match answer {
+            Answer::Started { first, count, of } => {
+                if count > 16 || self.polls.len() + count as usize > MOST_WAITING {
+                    self.stage = Stage::Leaving(Closing::Failed);
+                } else {
+                    self.begin(first, count, of);
+                }
+            }
+            Answer::Noted => self.stage = Stage::Leaving(Closing::Failed),
+            Answer::Done(_) => self.stage = Stage::Leaving(Closing::Failed),
+            Answer::Again(_) => self.stage = Stage::Leaving(Closing::Failed),
+        }
+    }
+
+    /// The office has answered what was fed for this round.
+    pub fn answer(&mut self, answer: Result<Answer, Refusal>)
+        ensures { self.new ≡ rounds.answered answer self.old }
+    {
+        match (self.stage, answer) {
+            (Stage::Off, _) => {}
+            (Stage::Joining, Ok(_)) => self.stage = Stage::Starting,
+            (Stage::Joining, Err(_)) => self.stage = Stage::Off,
+            (Stage::Starting, Ok(given)) => self.start(given),
+            (Stage::Starting, Err(_)) => self.stage = Stage::Leaving(Closing::Failed),
+            (Stage::Waiting, Ok(_)) => {}
+            (Stage::Waiting, Err(_)) => self.stage = Stage::Leaving(Closing::Failed),
+            (Stage::Leaving(_), _) => self.stage = Stage::Off,
+        }
+    }
+
+    // Goes on behind the end of a poll.
+    fn go_on(&mut self)
+        ensures { self.new ≡ rounds.gone_on self.old }
+    {
+        if self.started < self.planned {
+            self.stage = Stage::Starting;
+        } else if self.polls.is_empty() {
+            self.stage = Stage::Leaving(Closing::Gone);
+        }
+    }
+
+    /// The office has told this.
+    pub fn hear(&mut self, notes: &[Note])
+        ensures { self.new ≡ rounds.heard notes.now self.old }
+    {
+        let before = self.polls.len();
+        self.sum.note_all(&self.polls, notes);
+        self.polls = waiting_behind(&self.polls, notes);
+        if matches!(self.stage, Stage::Waiting) && self.polls.len() < before {
+            self.go_on();
+        }
+    }
+}
+
+impl Round {
+    ghost use Rattle.std.specs.Prelude.{◌≡◌, ◌+◌, ◌≤◌};
+    ghost use Rattle.arrayvec.specs.ArrayVec.{array_vec_len};
+    ghost use Rattle.office_rounds.specs.DeviceRounds.Rounds.{begun};
+
+    // So many polls wait more, of so many reads.
+    fn begin(&mut self, first: u64, count: u64, of: u64)
+        requires { array_vec_len self.old.polls + count ≤ 16 }
+        ensures { self.new ≡ begun first count of self.old }
+    {
+        add(&mut self.polls, first, count);
+        self.started = self.started.saturating_add(count);
+        self.planned = of;
+        if self.polls.is_empty() {
+            self.stage = Stage::Leaving(Closing::Gone);
+        } else {
+            self.stage = Stage::Waiting;
+        }
+    }
+}

@@ -1,0 +1,58 @@
+//! One event that an office is fed.
+ghost use Rattle.std.specs.Prelude.{◌≡◌};
+ghost use Rattle.office_core.specs.Taking.{failures_of};
+ghost use Rattle.office_rounds.specs.Passing.{Lasts};
+ghost use Rattle.office_rounds.specs.Driver.Turns as turns;
+ghost use Rattle.office_rounds.specs.Driver.Turns.{answered_for, wished};
+ghost use Rattle.office_rounds.specs.Driver.Going.{FeedsNext, scene};
+
+use crate::device_rounds::{Round, first_wishing, hear_all};
+use crate::driver::witness::Witness;
+use office_books::Books;
+use office_core::Office;
+use office_events::{Answer, Event, Refusal};
+
+// A round takes what was answered to what was fed for it.
+fn answer_for(rounds: &mut [Round], place: Option<usize>, answer: Result<Answer, Refusal>)
+    ensures { rounds.new ≡ answered_for place answer rounds.old }
+{
+    if let Some(place) = place {
+        if place < rounds.len() {
+            rounds[place].answer(answer);
+        }
+    }
+}
+
+/// Feeds an event for the round of a place, or of none.
+pub(crate) fn feed_one<B: Books, V: Witness>(
+    rounds: &mut [Round],
+    place: Option<usize>,
+    event: &Event,
+    office: &mut Office<B>,
+    at: u64,
+    witness: &mut V,
+)
+    ensures feeds { FeedsNext B.ledger V.sees at (wished place event.now)
+        (scene office.old (failures_of B.ledger office.old) rounds.old witness.old)
+        (scene office.new (failures_of B.ledger office.new) rounds.new witness.new) }
+    ensures lasts { Lasts B.ledger office.old office.new }
+{
+    let answer = office.feed(at, event);
+    answer_for(rounds, place, answer);
+    let notes = office.notes();
+    let frames = office.outgoing();
+    hear_all(rounds, notes);
+    witness.see(place, at, event, answer, notes, frames);
+}
+
+/// The place of the first round that wishes something, and what it wishes.
+pub(crate) fn first_wish(rounds: &[Round]) -> Option<(usize, Event)>
+    ensures { turns.as_wished result ≡ turns.first_wish rounds.now }
+{
+    let place = first_wishing(rounds)?;
+    if place < rounds.len() {
+        let event = rounds[place].wish()?;
+        return Some((place, event));
+    }
+    None
+}

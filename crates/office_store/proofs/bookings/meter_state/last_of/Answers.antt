@@ -1,0 +1,26 @@
+use Rattle.std.proofs.Common.{sym, ◌∙◌, ap, slice_get}
+use Rattle.std.specs.Option.{option_copied}
+use Rattle.store_tables.specs.declared.faults.RowFault.TheVariants.{Damaged}
+use Rattle.store_meters.specs.Rows.{IsInstalled, IsSoundInstalled, installed_columns, installed_shown, is_meter}
+use Rattle.store_meters.specs.Trees as tree
+use Rattle.office_store.specs.Bookings.Places.{StandsThere}
+use Rattle.office_store.proofs.BookingsLemmas.Leaving.{no_answer}
+use Rattle.office_store.proofs.BookingsLemmas.Seen.{asked_refused, asked_stopped, seen_told}
+use Rattle.office_store.proofs.bookings.meter_state.last_of.Goals as goal
+
+pub returns-in_err-rows-clause-does : goal.returns-in_err-rows-clause-does
+returns-in_err-rows-clause-does g c =
+    no_answer _ g.S.Store c.args.tx.now.conn.now c.installation_rows.new.tx.conn.now c.in_err-rows.field-0.0 c.from_residual.result _ c.in_err-rows.ensures.asks c.from_residual.ensures.1
+
+pub returns-in-None-clause-does : goal.returns-in-None-clause-does
+returns-in-None-clause-does g c = asked_refused g.S.Store c.args.tx.now.conn.now c.installation_rows.new.tx.conn.now _ Damaged _ c.in_ok-rows.ensures.asks
+
+pub returns-in_err-found-in-Some-clause-does : goal.returns-in_err-found-in-Some-clause-does
+returns-in_err-found-in-Some-clause-does g c =
+    asked_stopped _ g.S.Store c.args.tx.now.conn.now c.installation_rows.new.tx.conn.now _ c.from_residual-in_err-found-in-Some.result _ c.in_ok-rows.ensures.asks c.from_residual-in_err-found-in-Some.ensures.1
+
+pub returns-clause-does : goal.returns-clause-does
+returns-clause-does g c =
+    seen_told (is_meter c.args.meter.now) installed_shown g.S.Store c.args.tx.now.conn.now c.installation_rows.new.tx.conn.now tree.installations installed_columns c.in_ok-rows.rows c.in_ok-rows.rows.items
+    c.in-Some.row.now c.in_ok-found-in-Some.found c.in_ok-found-in-Some.found.row.last IsInstalled IsSoundInstalled StandsThere (λ x seen. ap (λ row. row.last) seen.row)
+    c.in_ok-rows.ensures.asks c.in_ok-rows.ensures.shows (ap (λ xs. slice_get xs 0) (sym c.deref.ensures.value) ∙ (sym c.first.ensures.value ∙ ap option_copied c.in-Some.is)) c.in_ok-found-in-Some.ensures.read

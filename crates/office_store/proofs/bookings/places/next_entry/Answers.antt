@@ -1,0 +1,16 @@
+use Rattle.std.proofs.Common.{ap, ◌∙◌}
+use Rattle.store_entries.specs.Rows.{entry_columns, entry_place, is_of}
+use Rattle.store_entries.specs.Trees as tree
+use Rattle.office_store.specs.Bookings.Places.{next_in}
+use Rattle.office_store.proofs.BookingsLemmas.Leaving.{no_answer}
+use Rattle.office_store.proofs.BookingsLemmas.Behind.{next_told}
+use Rattle.office_store.proofs.bookings.places.next_entry.Goals as goal
+
+pub returns-in_err-rows-clause-does : goal.returns-in_err-rows-clause-does
+returns-in_err-rows-clause-does g c =
+    no_answer _ g.S.Store c.args.tx.now.conn.now c.last_entry_rows.new.tx.conn.now c.in_err-rows.field-0.0 c.from_residual.result _ c.in_err-rows.ensures.asks c.from_residual.ensures.1
+
+pub returns-clause-does : goal.returns-clause-does
+returns-clause-does g c =
+    next_told (is_of c.args.meter.now) entry_place g.S.Store c.args.tx.now.conn.now c.last_entry_rows.new.tx.conn.now tree.entries entry_columns c.in_ok-rows.rows c.in_ok-rows.rows.items c.next_place.result
+    c.in_ok-rows.ensures.asks c.in_ok-rows.ensures.shows (c.next_place.ensures.next ∙ ap next_in c.deref.ensures.value)

@@ -1,0 +1,5 @@
+use Rattle.office_store.proofs.LawsLemmas.Found.{found_files_keep_theirs as lemma}
+use Rattle.office_store.proofs.laws.laws.found_files_keep_theirs.Goals as goal
+
+pub returns : goal.returns
+returns c = lemma

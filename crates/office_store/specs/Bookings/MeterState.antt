@@ -1,0 +1,70 @@
+-- Where a meter stands, and what an entry makes of it.
+use Rattle.std.specs.Prelude.{◌≡◌, ℕ, ◌+◌, true, Bool, List, Some, Ok, if◌then◌else◌}
+use Rattle.energy_core.specs.declared.entries.Last.{Last}
+use Rattle.energy_core.specs.declared.entries.Step.{Step}
+use Rattle.energy_core.specs.declared.entries.Entry.{Entry}
+use Rattle.energy_core.specs.Admission.{entered as entered_behind}
+use Rattle.interval_core.specs.Share.{shares_of}
+use Rattle.store_tables.specs.Answer.{IsFound}
+use Rattle.store_tables.specs.Content.{Content, HasRows, Edits, with_row, changed_where}
+use Rattle.store_meters.specs.declared.rows.LastRow.{LastRow}
+use Rattle.store_meters.specs.Trees as meter_tree
+use Rattle.store_meters.specs.Rows.{Installed, Ranged, installed_columns, ranged_columns, is_meter, is_range_of, HasRange}
+use Rattle.store_entries.specs.Trees as entry_tree
+use Rattle.store_entries.specs.declared.rows.EntryRow.{EntryRow}
+use Rattle.store_entries.specs.Rows.{entry_columns, entry_place, is_of}
+use Rattle.store_intervals.specs.StepShares.{BooksShares}
+use Rattle.store_facts.specs.Rows.{entered}
+use Rattle.store_facts.specs.Recording.{IsBehind}
+use Rattle.office_store.specs.declared.bookings.meter_state.Standing.{Standing}
+use Rattle.office_store.specs.declared.bookings.meter_entries.Advance.{Advance}
+use Rattle.office_store.specs.Bookings.Places.{StandsThere}
+
+-- The tables say that the meter stands there, and nothing was changed.
+pub record IsStanding (meter : List ℕ) (standing : Standing)
+    (content after : Content) : Type 0 where
+  pub same : after ≡ content
+  pub behind : IsBehind entry_tree.entries entry_columns (is_of meter) entry_place standing.place
+      content
+  pub last : (rows : List Installed)
+      → HasRows meter_tree.installations installed_columns rows content
+      → IsFound (is_meter meter) StandsThere rows (Some standing.last)
+  pub range : (rows : List Ranged) → HasRows meter_tree.ranges ranged_columns rows content
+      → IsFound (is_range_of meter) HasRange rows (Some standing.range)
+
+-- the counter, as a row has it, and a row of it, with the whole energy
+abbrev pub counter_of : LastRow → Last
+counter_of last = record { at = last.moment; raw = last.raw; sf = last.sf }
+
+abbrev pub stands_at : Last → (total : ℕ) → LastRow
+stands_at last total = record { moment = last.at; raw = last.raw; sf = last.sf; total = total }
+
+-- Where the entry is booked, this is where the meter stands then, and the step up to there.
+abbrev pub Advances : Standing → Entry → Advance → Type 0
+Advances standing e advance =
+    (last : Last) (step : Step)
+    → entered_behind standing.range standing.last.total (counter_of standing.last) e
+    ≡ Ok (last, step)
+    → (advance.last ≡ stands_at last (standing.last.total + step.mwh)) × (advance.step ≡ step)
+
+-- a meter that stands there, closed or as it was
+abbrev pub settled : LastRow → (is_closing : Bool) → Installed → Installed
+settled last is_closing i =
+    record i {
+      row = record i.row
+          { last = last; is_ended = if is_closing then true else i.row.is_ended };
+    }
+
+abbrev pub Settles : (meter : List ℕ) → LastRow → (is_closing : Bool) → Content → Content → Type 0
+Settles meter last is_closing =
+    Edits meter_tree.installations installed_columns
+    (changed_where (is_meter meter) (settled last is_closing))
+
+-- One more entry of a meter: its row, the energy of its step, and where the meter stands then.
+pub record EntersEntry (meter : List ℕ) (row : EntryRow) (advance : Advance) (is_closing : Bool)
+    (content after : Content) : Type 0 where
+  pub one : Content
+  pub two : Content
+  pub entry : Edits entry_tree.entries entry_columns (with_row (entered meter row)) content one
+  pub energy : BooksShares meter (shares_of advance.step) one two
+  pub stands : Settles meter advance.last is_closing two after

@@ -1,0 +1,94 @@
+//! Facts that are booked in one transaction.
+ghost use Rattle.std.specs.Prelude.{◌≡◌, ℕ, List, false};
+ghost use Rattle.sqlite.specs.Held.{state};
+ghost use Rattle.store_facts.specs.Going.{Goes, Commits};
+ghost use Rattle.store_facts.specs.Holding.{BooksFacts};
+ghost use Rattle.store_facts.specs.Recording.{Records, RecordsAll};
+
+use crate::bookings::devices::enter_device;
+use crate::bookings::lists::enter_list;
+use crate::bookings::meter_entries::enter_entry;
+use crate::bookings::meters::enter_opening;
+use crate::bookings::polls::{enter_hold, enter_outcome, enter_poll, enter_reply};
+use crate::bookings::registers::enter_register;
+use crate::bookings::voids::enter_void;
+use office_events::Fact;
+use sqlite::{Alter, Connection, Transaction};
+use std::alloc::Global;
+use store_tables::{RowFault, touch};
+
+/// Enters a fact.
+fn enter_fact<S: Alter>(
+    alloc: Global,
+    tx: &mut Transaction<'_, S>,
+    fact: &Fact,
+) -> Result<(), RowFault>
+    ensures same_reference { tx.new.conn.ghost_name ≡ tx.old.conn.ghost_name }
+    ensures does { Goes (state S.Store tx.old.conn.now) (state S.Store tx.new.conn.now) result
+        (Records fact.now) }
+{
+    match fact {
+        Fact::Device(device) => enter_device(tx, device),
+        Fact::List(put) => enter_list(alloc, tx, put),
+        Fact::Register(register) => enter_register(tx, register),
+        Fact::Opening(opening) => enter_opening(tx, opening),
+        Fact::Entry(booked) => enter_entry(tx, booked),
+        Fact::Hold(held) => enter_hold(tx, held),
+        Fact::Void(voided) => enter_void(alloc, tx, voided),
+        Fact::Poll(poll) => enter_poll(tx, poll),
+        Fact::Outcome(ended) => enter_outcome(tx, ended),
+        Fact::Reply(reply) => enter_reply(tx, reply),
+    }
+}
+
+/// Enters facts, one after the other.
+fn enter_facts<S: Alter>(
+    alloc: Global,
+    tx: &mut Transaction<'_, S>,
+    facts: &[Fact],
+) -> Result<(), RowFault>
+    ensures same_reference { tx.new.conn.ghost_name ≡ tx.old.conn.ghost_name }
+    ensures does { Goes (state S.Store tx.old.conn.now) (state S.Store tx.new.conn.now) result
+        (RecordsAll facts.now) }
+{
+    for fact in facts {
+        enter_fact(alloc, tx, fact)?;
+    }
+    Ok(())
+}
+
+/// Enters facts, and commits them, all of them or none. The commit is the last call of the database.
+fn commit_facts<S: Alter>(
+    alloc: Global,
+    conn: &mut Connection<S>,
+    facts: &[Fact],
+) -> Result<(), RowFault>
+    requires autocommit { conn.old.in_transaction ≡ false }
+    ensures autocommit { conn.new.in_transaction ≡ false }
+    ensures does { Commits (state S.Store conn.old) (state S.Store conn.new) result
+        (RecordsAll facts.now) }
+{
+    let mut tx = conn.transaction();
+    enter_facts(alloc, &mut tx, facts)?;
+    tx.commit()?;
+    Ok(())
+}
+
+/// Books facts that may follow those that are known, all of them or none, whatever stops the call. The commit is its last
+/// call of the database; to book no facts makes none.
+pub fn book_facts<S: Alter>(
+    alloc: Global,
+    conn: &mut Connection<S>,
+    facts: &[Fact],
+) -> Result<(), RowFault>
+    requires autocommit { conn.old.in_transaction ≡ false }
+    ensures autocommit { conn.new.in_transaction ≡ false }
+    ensures books { (zone : List ℕ)
+        → BooksFacts S.Store zone facts.now conn.old conn.new result }
+{
+    if facts.is_empty() {
+        return Ok(());
+    }
+    touch(conn)?;
+    commit_facts(alloc, conn, facts)
+}

@@ -1,0 +1,26 @@
+//! Devices.
+ghost use Rattle.std.specs.Prelude.{◌≡◌};
+ghost use Rattle.sqlite.specs.Held.{state};
+ghost use Rattle.office_events.specs.declared.facts.Fact.TheVariants as fact;
+ghost use Rattle.store_facts.specs.Going.{Goes};
+ghost use Rattle.store_facts.specs.Recording.{Records};
+
+use crate::bookings::places::next_device;
+use office_events::Device;
+use sqlite::{Alter, Transaction};
+use store_facts::{device_row, text};
+use store_lists::insert_device;
+use store_tables::RowFault;
+
+/// Enters a device, at the place behind the last.
+pub fn enter_device<S: Alter>(tx: &mut Transaction<'_, S>, device: &Device) -> Result<(), RowFault>
+    ensures same_reference { tx.new.conn.ghost_name ≡ tx.old.conn.ghost_name }
+    ensures does { Goes (state S.Store tx.old.conn.now) (state S.Store tx.new.conn.now) result
+        (Records (fact.Device device.now)) }
+{
+    let name = text(&device.name)?;
+    let place = next_device(tx)?;
+    let row = device_row(*device, place);
+    insert_device(tx, name, row)?;
+    Ok(())
+}

@@ -1,0 +1,169 @@
+//! Entries of meters.
+ghost use Rattle.std.specs.Prelude.{◌≡◌, ◌≤◌, ◌<◌, IsTrue, IfOk, OnOk};
+ghost use Rattle.sqlite.specs.Held.{state};
+ghost use Rattle.energy_core.specs.Account.{moment_of};
+ghost use Rattle.interval_core.specs.Share.{interval_count};
+ghost use Rattle.meter_journal.specs.Journal as journal;
+ghost use Rattle.office_events.specs.declared.facts.Fact.TheVariants as fact;
+ghost use Rattle.store_tables.specs.Columns.{is_within};
+ghost use Rattle.store_tables.specs.Limits.{latest_moment};
+ghost use Rattle.store_meters.specs.Rows.{IsSoundLast, greatest_total};
+ghost use Rattle.store_entries.specs.Rows.{IsSoundEntry};
+ghost use Rattle.store_facts.specs.Going.{Goes};
+ghost use Rattle.store_facts.specs.Recording.{Records};
+ghost use Rattle.office_store.specs.Bookings.MeterState.{Advances, EntersEntry, Settles};
+
+use crate::bookings::meter_state::{Standing, standing_of};
+use crate::bookings::registers::is_scale;
+use energy_core::{Entry, Last, MAX_INTERVALS, Ranged, Step, Terms};
+use meter_journal::EntryKind;
+use office_events::BookedEntry;
+use office_laws::{
+    entries_move_on, installations_are_in_range, meters_are_kept, other_meters_stay,
+    voids_leave_no_trace,
+};
+use sqlite::{Alter, Transaction};
+use store_entries::{EntryRow, insert_entry};
+use store_facts::{entry_row, last_row, text};
+use store_intervals::book_step;
+use store_meters::{LastRow, end_installation, move_installation};
+use store_tables::{LATEST_MOMENT, RowFault};
+
+/// Where a meter stands after one more entry, and the step up to there.
+#[derive(Clone, Copy, Debug, PartialEq, Eq)]
+pub struct Advance {
+    pub last: LastRow,
+    pub step: Step,
+}
+
+/// Whether entries of a kind close their meter.
+fn is_closing(kind: EntryKind) -> bool
+    ensures { result ≡ journal.is_closing kind }
+{
+    match kind {
+        EntryKind::Closing => true,
+        EntryKind::Reading | EntryKind::Manual | EntryKind::Reset | EntryKind::Rescale => false,
+    }
+}
+
+/// Whether the tables can have a counter's moment and scale.
+pub fn is_sound(last: &Last) -> bool
+    ensures moment { IsTrue result → last.now.at ≤ latest_moment }
+    ensures scale { IsTrue result → IsTrue (is_within 3 last.now.sf) }
+{
+    last.at <= LATEST_MOMENT && is_scale(last.sf)
+}
+
+/// Whether the tables can have the moment of an entry.
+fn is_in_time(entry: &Entry) -> bool
+    ensures { IsTrue result → moment_of entry.now ≤ latest_moment }
+{
+    match *entry {
+        Entry::Step { at, .. } | Entry::Change { at, .. } => at <= LATEST_MOMENT,
+    }
+}
+
+/// What an entry makes of a meter. One that may not be booked where the meter stands is damage.
+fn go_on(standing: &Standing, entry: &Entry) -> Result<Advance, RowFault>
+    requires { IsSoundLast standing.now.last }
+    ensures advances { IfOk result (Advances standing.now entry.now) }
+    ensures sound { IfOk result (λ advance. IsSoundLast advance.last) }
+    ensures forward { IfOk result (λ advance. advance.step.from < advance.step.till) }
+    ensures intervals { IfOk result (λ advance. interval_count advance.step ≤ MAX_INTERVALS) }
+    ensures energy { IfOk result (λ advance. advance.step.mwh ≤ greatest_total) }
+    ensures till { IfOk result (λ advance. advance.step.till ≤ latest_moment) }
+    ensures moment { OnOk result (moment_of entry.now ≤ latest_moment) }
+{
+    let last = standing.last;
+    let range = standing.range;
+    let Some(counter) = Ranged::new(range) else {
+        return Err(RowFault::Damaged);
+    };
+    if range <= u64::from(last.raw) || last.sf < -3 || 3 < last.sf {
+        return Err(RowFault::Damaged);
+    }
+    let terms = Terms {
+        ceiling: 1,
+        total: last.total,
+    };
+    let stands = Last {
+        at: last.moment,
+        raw: last.raw,
+        sf: last.sf,
+    };
+    let Ok((next, step)) = energy_core::enter(&counter, &terms, &stands, entry) else {
+        return Err(RowFault::Damaged);
+    };
+    if !is_sound(&next) || LATEST_MOMENT < step.till || !is_in_time(entry) {
+        return Err(RowFault::Damaged);
+    }
+    Ok(Advance {
+        last: last_row(next, last.total + step.mwh),
+        step,
+    })
+}
+
+/// Says where a meter stands now, and whether it was closed.
+pub fn settle<S: Alter>(
+    tx: &mut Transaction<'_, S>,
+    meter: &str,
+    last: LastRow,
+    is_closing: bool,
+) -> Result<(), RowFault>
+    requires { IsSoundLast last }
+    ensures same_reference { tx.new.conn.ghost_name ≡ tx.old.conn.ghost_name }
+    ensures does { Goes (state S.Store tx.old.conn.now) (state S.Store tx.new.conn.now) result
+        (Settles meter.now last is_closing) }
+{
+    move_installation(tx, meter, last)?;
+    if !is_closing {
+        return Ok(());
+    }
+    end_installation(tx, meter)?;
+    Ok(())
+}
+
+/// Adds an entry and the energy of its step, and says where its meter stands then.
+fn book_entry<S: Alter>(
+    tx: &mut Transaction<'_, S>,
+    meter: &str,
+    row: EntryRow,
+    advance: &Advance,
+    is_closing: bool,
+) -> Result<(), RowFault>
+    requires row { IsSoundEntry row }
+    requires last { IsSoundLast advance.now.last }
+    requires forward { advance.now.step.from < advance.now.step.till }
+    requires intervals { interval_count advance.now.step ≤ MAX_INTERVALS }
+    requires energy { advance.now.step.mwh ≤ greatest_total }
+    requires till { advance.now.step.till ≤ latest_moment }
+    ensures same_reference { tx.new.conn.ghost_name ≡ tx.old.conn.ghost_name }
+    ensures does { Goes (state S.Store tx.old.conn.now) (state S.Store tx.new.conn.now) result
+        (EntersEntry meter.now row advance.now is_closing) }
+{
+    insert_entry(tx, meter, row)?;
+    book_step(tx, meter, &advance.step)?;
+    settle(tx, meter, advance.last, is_closing)
+}
+
+/// Enters an entry of a meter behind its others: its row, its step's energy interval by interval, and where the meter
+/// stands then.
+pub fn enter_entry<S: Alter>(
+    tx: &mut Transaction<'_, S>,
+    booked: &BookedEntry,
+) -> Result<(), RowFault>
+    ensures same_reference { tx.new.conn.ghost_name ≡ tx.old.conn.ghost_name }
+    ensures does { Goes (state S.Store tx.old.conn.now) (state S.Store tx.new.conn.now) result
+        (Records (fact.Entry booked.now)) }
+{
+    entries_move_on();
+    other_meters_stay();
+    meters_are_kept();
+    installations_are_in_range();
+    voids_leave_no_trace();
+    let meter = text(&booked.meter)?;
+    let standing = standing_of(tx, meter)?;
+    let advance = go_on(&standing, &booked.entry)?;
+    let row = entry_row(booked.kind, booked.entry, standing.place, &advance.last.sf);
+    book_entry(tx, meter, row, &advance, is_closing(booked.kind))
+}

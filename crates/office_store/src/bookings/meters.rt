@@ -1,0 +1,37 @@
+//! Meters that are installed.
+ghost use Rattle.std.specs.Prelude.{◌≡◌};
+ghost use Rattle.sqlite.specs.Held.{state};
+ghost use Rattle.office_events.specs.declared.facts.Fact.TheVariants as fact;
+ghost use Rattle.store_facts.specs.Going.{Goes};
+ghost use Rattle.store_facts.specs.Recording.{Records};
+
+use crate::bookings::places::next_installation;
+use office_events::Opening;
+use office_laws::openings_begin;
+use sqlite::{Alter, Transaction};
+use store_entries::insert_entry;
+use store_facts::{begun_row, is_sound_opening, opening_row, text};
+use store_meters::{insert_installation, insert_range};
+use store_tables::RowFault;
+
+/// Enters a meter that was installed, at the place behind the last.
+pub fn enter_opening<S: Alter>(
+    tx: &mut Transaction<'_, S>,
+    opening: &Opening,
+) -> Result<(), RowFault>
+    ensures same_reference { tx.new.conn.ghost_name ≡ tx.old.conn.ghost_name }
+    ensures does { Goes (state S.Store tx.old.conn.now) (state S.Store tx.new.conn.now) result
+        (Records (fact.Opening opening.now)) }
+{
+    openings_begin();
+    if !is_sound_opening(opening) {
+        return Err(RowFault::Damaged);
+    }
+    let meter = text(&opening.meter)?;
+    let register = text(&opening.register)?;
+    let place = next_installation(tx)?;
+    insert_installation(tx, meter, register, begun_row(opening, place))?;
+    insert_range(tx, meter, opening.range)?;
+    insert_entry(tx, meter, opening_row(opening))?;
+    Ok(())
+}

@@ -1,0 +1,104 @@
+//! The place behind the last row of a table.
+ghost use Rattle.std.specs.Prelude.{◌≡◌, IfOk};
+ghost use Rattle.sqlite.specs.Held.{state};
+ghost use Rattle.store_tables.specs.Answer.{every};
+ghost use Rattle.store_tables.specs.Limits.{IsPlace};
+ghost use Rattle.store_entries.specs.Rows.{entry_columns, entry_place, is_of};
+ghost use Rattle.store_entries.specs.Trees as entry_tree;
+ghost use Rattle.store_lists.specs.Rows.{device_columns, device_place, register_columns};
+ghost use Rattle.store_lists.specs.Rows.{register_place};
+ghost use Rattle.store_lists.specs.Trees as list_tree;
+ghost use Rattle.store_meters.specs.Rows.{installed_columns, installed_place};
+ghost use Rattle.store_meters.specs.Trees as meter_tree;
+ghost use Rattle.store_polls.specs.Rows.{hold_columns, hold_place};
+ghost use Rattle.store_polls.specs.Trees as poll_tree;
+ghost use Rattle.store_facts.specs.Going.{Goes};
+ghost use Rattle.store_facts.specs.Recording.{IsNext};
+ghost use Rattle.office_store.specs.Bookings.Places.{place_behind, next_in, Answered};
+
+use sqlite::{Alter, Row, Transaction};
+use store_entries::last_entry_rows;
+use store_lists::{last_device_rows, last_register_rows};
+use store_meters::last_installation_rows;
+use store_polls::last_hold_rows;
+use store_tables::{GREATEST_PLACE, RowFault, whole};
+
+/// The place behind the one that a row shows.
+fn behind(row: &Row) -> Result<u64, RowFault>
+    ensures next { result ≡ place_behind row.now }
+    ensures sound { IfOk result IsPlace }
+{
+    let place = whole(row, 0, 1, GREATEST_PLACE)?;
+    if GREATEST_PLACE <= place {
+        Err(RowFault::Damaged)
+    } else {
+        Ok(place + 1)
+    }
+}
+
+/// The place behind the last one, which the first of these rows shows, and 1 where there is none.
+fn next_place(rows: &[Row]) -> Result<u64, RowFault>
+    ensures next { result ≡ next_in rows.now }
+    ensures sound { IfOk result IsPlace }
+{
+    match rows.first() {
+        None => Ok(1),
+        Some(row) => behind(row),
+    }
+}
+
+/// The place of the next device.
+pub fn next_device<S: Alter>(tx: &mut Transaction<'_, S>) -> Result<u64, RowFault>
+    ensures same_reference { tx.new.conn.ghost_name ≡ tx.old.conn.ghost_name }
+    ensures sound { IfOk result IsPlace }
+    ensures does { Goes (state S.Store tx.old.conn.now) (state S.Store tx.new.conn.now) result
+        (Answered result (IsNext list_tree.devices device_columns every device_place)) }
+{
+    let rows = last_device_rows(tx)?;
+    next_place(&rows)
+}
+
+/// The place of the next held reading.
+pub fn next_hold<S: Alter>(tx: &mut Transaction<'_, S>) -> Result<u64, RowFault>
+    ensures same_reference { tx.new.conn.ghost_name ≡ tx.old.conn.ghost_name }
+    ensures sound { IfOk result IsPlace }
+    ensures does { Goes (state S.Store tx.old.conn.now) (state S.Store tx.new.conn.now) result
+        (Answered result (IsNext poll_tree.holds hold_columns every hold_place)) }
+{
+    let rows = last_hold_rows(tx)?;
+    next_place(&rows)
+}
+
+/// The place of the next register.
+pub fn next_register<S: Alter>(tx: &mut Transaction<'_, S>) -> Result<u64, RowFault>
+    ensures same_reference { tx.new.conn.ghost_name ≡ tx.old.conn.ghost_name }
+    ensures sound { IfOk result IsPlace }
+    ensures does { Goes (state S.Store tx.old.conn.now) (state S.Store tx.new.conn.now) result
+        (Answered result (IsNext list_tree.registers register_columns every register_place)) }
+{
+    let rows = last_register_rows(tx)?;
+    next_place(&rows)
+}
+
+/// The place of the next installation.
+pub fn next_installation<S: Alter>(tx: &mut Transaction<'_, S>) -> Result<u64, RowFault>
+    ensures same_reference { tx.new.conn.ghost_name ≡ tx.old.conn.ghost_name }
+    ensures sound { IfOk result IsPlace }
+    ensures does { Goes (state S.Store tx.old.conn.now) (state S.Store tx.new.conn.now) result
+        (Answered result
+        (IsNext meter_tree.installations installed_columns every installed_place)) }
+{
+    let rows = last_installation_rows(tx)?;
+    next_place(&rows)
+}
+
+/// The place of the next entry of a meter.
+pub fn next_entry<S: Alter>(tx: &mut Transaction<'_, S>, meter: &str) -> Result<u64, RowFault>
+    ensures same_reference { tx.new.conn.ghost_name ≡ tx.old.conn.ghost_name }
+    ensures sound { IfOk result IsPlace }
+    ensures does { Goes (state S.Store tx.old.conn.now) (state S.Store tx.new.conn.now) result
+        (Answered result (IsNext entry_tree.entries entry_columns (is_of meter.now) entry_place)) }
+{
+    let rows = last_entry_rows(tx, meter)?;
+    next_place(&rows)
+}

@@ -1,0 +1,82 @@
+//! Polls, their outcomes, readings that were held, and replies.
+ghost use Rattle.std.specs.Prelude.{◌≡◌};
+ghost use Rattle.sqlite.specs.Held.{state};
+ghost use Rattle.office_events.specs.declared.facts.Fact.TheVariants as fact;
+ghost use Rattle.store_facts.specs.Going.{Goes};
+ghost use Rattle.store_facts.specs.Recording.{Records};
+
+use crate::bookings::places::next_hold;
+use office_events::{EndedPoll, HeldReading, MAX_REQUEST, Poll, Reply};
+use office_laws::holds_change_nothing;
+use sqlite::{Alter, Transaction};
+use store_facts::{hold_row, outcome_row, poll_row, reply_kind, text};
+use store_polls::{insert_hold, insert_outcome, insert_poll, insert_reply};
+use store_tables::{GREATEST_PLACE, LATEST_MOMENT, RowFault};
+
+/// Enters a poll that was started.
+pub fn enter_poll<S: Alter>(tx: &mut Transaction<'_, S>, poll: &Poll) -> Result<(), RowFault>
+    ensures same_reference { tx.new.conn.ghost_name ≡ tx.old.conn.ghost_name }
+    ensures does { Goes (state S.Store tx.old.conn.now) (state S.Store tx.new.conn.now) result
+        (Records (fact.Poll poll.now)) }
+{
+    if poll.number < 1 || GREATEST_PLACE < poll.number || LATEST_MOMENT < poll.at {
+        return Err(RowFault::Damaged);
+    }
+    let device = text(&poll.device)?;
+    insert_poll(tx, device, poll_row(*poll))?;
+    Ok(())
+}
+
+/// Enters how a poll ended.
+pub fn enter_outcome<S: Alter>(
+    tx: &mut Transaction<'_, S>,
+    ended: &EndedPoll,
+) -> Result<(), RowFault>
+    ensures same_reference { tx.new.conn.ghost_name ≡ tx.old.conn.ghost_name }
+    ensures does { Goes (state S.Store tx.old.conn.now) (state S.Store tx.new.conn.now) result
+        (Records (fact.Outcome ended.now)) }
+{
+    if ended.poll < 1 || GREATEST_PLACE < ended.poll || LATEST_MOMENT < ended.at {
+        return Err(RowFault::Damaged);
+    }
+    insert_outcome(tx, outcome_row(*ended))?;
+    Ok(())
+}
+
+/// Enters a held reading, at the place behind the last.
+pub fn enter_hold<S: Alter>(tx: &mut Transaction<'_, S>, held: &HeldReading) -> Result<(), RowFault>
+    ensures same_reference { tx.new.conn.ghost_name ≡ tx.old.conn.ghost_name }
+    ensures does { Goes (state S.Store tx.old.conn.now) (state S.Store tx.new.conn.now) result
+        (Records (fact.Hold held.now)) }
+{
+    holds_change_nothing();
+    if held.poll < 1 || GREATEST_PLACE < held.poll || LATEST_MOMENT < held.at {
+        return Err(RowFault::Damaged);
+    }
+    let meter = text(&held.meter)?;
+    let place = next_hold(tx)?;
+    insert_hold(tx, meter, hold_row(*held, place))?;
+    Ok(())
+}
+
+/// Enters a reply that is kept.
+pub fn enter_reply<S: Alter>(tx: &mut Transaction<'_, S>, reply: &Reply) -> Result<(), RowFault>
+    ensures same_reference { tx.new.conn.ghost_name ≡ tx.old.conn.ghost_name }
+    ensures does { Goes (state S.Store tx.old.conn.now) (state S.Store tx.new.conn.now) result
+        (Records (fact.Reply reply.now)) }
+{
+    if MAX_REQUEST < reply.number || LATEST_MOMENT < reply.at {
+        return Err(RowFault::Damaged);
+    }
+    let caller = text(&reply.caller)?;
+    let kind = reply_kind(reply.kind);
+    insert_reply(
+        tx,
+        caller,
+        reply.number,
+        reply.request.as_slice(),
+        kind,
+        reply.at,
+    )?;
+    Ok(())
+}

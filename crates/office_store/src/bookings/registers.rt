@@ -1,0 +1,53 @@
+//! Registers.
+ghost use Rattle.std.specs.Prelude.{◌≡◌, true};
+ghost use Rattle.sqlite.specs.Held.{state};
+ghost use Rattle.office_events.specs.declared.facts.Fact.TheVariants as fact;
+ghost use Rattle.store_tables.specs.Columns.{is_within};
+ghost use Rattle.store_lists.specs.Rows.{IsSoundScale};
+ghost use Rattle.store_facts.specs.Going.{Goes};
+ghost use Rattle.store_facts.specs.Recording.{Records};
+ghost use Rattle.store_facts.specs.Rows.{scale_as};
+
+use crate::bookings::places::next_register;
+use office_events::{LAST_COUNTER, Register, ScaleSource};
+use sqlite::{Alter, Transaction};
+use store_facts::{register_row, text};
+use store_lists::insert_register;
+use store_tables::RowFault;
+
+/// Whether a scale factor is one that a register may have.
+pub fn is_scale(sf: i16) -> bool
+    ensures { result ≡ is_within 3 sf }
+{
+    -3 <= sf && sf <= 3
+}
+
+/// Whether the table can have a register's scale.
+fn is_sound(source: ScaleSource) -> bool
+    ensures { result ≡ true → IsSoundScale (scale_as source) }
+{
+    match source {
+        ScaleSource::Fixed(sf) => is_scale(sf),
+        ScaleSource::Register(_) => true,
+    }
+}
+
+/// Enters a register, at the place behind the last.
+pub fn enter_register<S: Alter>(
+    tx: &mut Transaction<'_, S>,
+    register: &Register,
+) -> Result<(), RowFault>
+    ensures same_reference { tx.new.conn.ghost_name ≡ tx.old.conn.ghost_name }
+    ensures does { Goes (state S.Store tx.old.conn.now) (state S.Store tx.new.conn.now) result
+        (Records (fact.Register register.now)) }
+{
+    if LAST_COUNTER < u64::from(register.address) || !is_sound(register.scale) {
+        return Err(RowFault::Damaged);
+    }
+    let name = text(&register.name)?;
+    let device = text(&register.device)?;
+    let place = next_register(tx)?;
+    let row = register_row(*register, place);
+    insert_register(tx, name, device, row)?;
+    Ok(())
+}

@@ -1,0 +1,25 @@
+//! The end of a connection.
+ghost use Rattle.std.specs.Prelude.{ℕ, List};
+ghost use Rattle.sqlite.specs.Files.{over_files};
+ghost use Rattle.sqlite_store.specs.FileStore.{view};
+ghost use Rattle.sqlite_trees.specs.View.{IsClean};
+ghost use Rattle.office_events.specs.declared.facts.Fact.{Fact};
+ghost use Rattle.store_facts.specs.Holding.{LeavesFacts};
+ghost use Rattle.office_store.specs.Stops.Stops.{LeaveInFiles};
+
+use crate::stops::laws::stops_leave_facts;
+use sqlite::{Connection, FileStore};
+use sqlite_disk::Disk;
+
+/// Ends a connection to files and hands back their store. Where a stop of the connection left the facts of one of some
+/// lists, the next open finds them in whatever a stop left of the files, and in whatever it leaves of them from now on.
+pub fn end<D: Disk + Drop>(connection: Connection<FileStore<D>>) -> FileStore<D>
+    ensures before { IsClean (view result) → (zone : List ℕ) (left : List (List Fact))
+        → LeavesFacts over_files zone connection left
+        → LeaveInFiles D.Disk zone left connection.store }
+    ensures after { IsClean (view result) → (zone : List ℕ) (left : List (List Fact))
+        → LeavesFacts over_files zone connection left → LeaveInFiles D.Disk zone left result }
+{
+    stops_leave_facts::<D>();
+    connection.into_store()
+}

@@ -1,0 +1,86 @@
+//! Scripts are played line by line.
+use crate::made::{books, opened};
+use crate::printed::Printed;
+use office_books::Books;
+use office_core::Office;
+use office_events::{Command, Event, PlannedList, PutList, StartPoll};
+use office_store::SqlBooks;
+use point_list::read_list;
+use script_lines::{GivenList, GivenStart, ScriptLine};
+use sqlite::MemStore;
+use std::alloc::Global;
+use std::test::Fail;
+
+/// A device, its register and its meter; a read of them, and the counter shows 5200 at the scale 0.
+pub(crate) const READ: &str = "1000 device inv 1 5 1
+1000 register main inv 3 40094 @40096
+1000 install main m1 5000 0 100000
+1898 connect inv
+1898 start inv 3 40094 3
+1900 bytes inv 000000000009010306000014500000";
+
+fn start_of(given: &GivenStart) -> Option<Event> {
+    Some(Event::Command(Command::StartPoll(StartPoll {
+        device: given.device,
+        span: given.span()?,
+    })))
+}
+
+fn list_of(alloc: Global, given: &GivenList) -> Option<Event> {
+    let points = read_list(alloc, given.text.as_slice()).ok()?;
+    let list = PlannedList::new(alloc, points).ok()?;
+    Some(Event::Command(Command::PutList(PutList {
+        device: given.device,
+        list,
+    })))
+}
+
+/// The event that a line brings, and its moment.
+pub(crate) fn event_of(alloc: Global, line: ScriptLine) -> Option<(u64, Event)> {
+    match line {
+        ScriptLine::Event { at, event } => Some((at, event)),
+        ScriptLine::Start { at, start } => Some((at, start_of(&start)?)),
+        ScriptLine::List { at, list } => Some((at, list_of(alloc, &list)?)),
+        _ => None,
+    }
+}
+
+/// Carries out a line.
+fn play_line<B: Books>(
+    alloc: Global,
+    office: &mut Office<B>,
+    line: &str,
+    printed: &mut Printed,
+) -> Result<(), Fail> {
+    let told = match ScriptLine::read(alloc, line.as_bytes())? {
+        ScriptLine::Meter { name } => printed.meter(office, &name),
+        ScriptLine::Intervals { name } => printed.intervals(office, &name),
+        ScriptLine::Days { name } => printed.days(office, &name),
+        ScriptLine::Poll { number } => printed.poll(office, number),
+        line => {
+            let (at, event) = event_of(alloc, line).ok_or("no event")?;
+            printed.feed(office, at, &event)
+        }
+    };
+    Ok(told?)
+}
+
+/// What is printed of the lines of a script.
+pub(crate) fn play<B: Books>(
+    alloc: Global,
+    office: &mut Office<B>,
+    script: &str,
+) -> Result<Vec<u8>, Fail> {
+    let mut printed = Printed::new(alloc);
+    for line in script.lines() {
+        play_line(alloc, office, line, &mut printed)?;
+    }
+    Ok(printed.into_text()?)
+}
+
+/// An office over new books in memory, after a script.
+pub(crate) fn after(alloc: Global, script: &str) -> Result<Office<SqlBooks<MemStore>>, Fail> {
+    let mut office = opened(alloc, books(alloc)?, 0)?;
+    let _ = play(alloc, &mut office, script)?;
+    Ok(office)
+}

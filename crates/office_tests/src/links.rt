@@ -1,0 +1,71 @@
+//! Links to devices that answer nothing, and what a device sends that does.
+use mb_wire::{LastTake, Link, LinkFailed, Took};
+use std::alloc::{AllocError, Global};
+
+/// The reply to the second read of the list: a register of 7.
+pub(crate) const SECOND_REPLY: &[u8] = b"\x00\x01\x00\x00\x00\x05\x01\x03\x02\x00\x07";
+
+/// The reply to the first read of the list: 125 registers of 0.
+pub(crate) fn first_reply(alloc: Global) -> Result<Vec<u8>, AllocError> {
+    let mut bytes = b"\x00\x00\x00\x00\x00\xfd\x01\x03\xfa".to_vec(alloc)?;
+    bytes.extend_from_slice(&[0; 250])?;
+    Ok(bytes)
+}
+
+/// The replies to both.
+pub(crate) fn replies(alloc: Global) -> Result<Vec<u8>, AllocError> {
+    let mut bytes = first_reply(alloc)?;
+    bytes.extend_from_slice(SECOND_REPLY)?;
+    Ok(bytes)
+}
+
+/// A link that takes whatever it is given, and brings nothing.
+#[derive(Drop)]
+pub(crate) struct IdleLink {
+    takes: u64,
+    last: Option<LastTake>,
+}
+
+impl IdleLink {
+    pub(crate) fn new() -> IdleLink {
+        IdleLink {
+            takes: 0,
+            last: None,
+        }
+    }
+}
+
+impl Link for IdleLink {
+    ghost failed = { λ link. 0 };
+
+    ghost taken = { λ link. link.takes };
+
+    ghost ended = { λ link. 0 };
+
+    ghost last = { λ link. link.last };
+
+    fn take(&mut self, piece: &mut [u8]) -> Result<Took, LinkFailed> {
+        self.takes = self.takes.saturating_add(1);
+        self.last = Some(LastTake {
+            room: piece.len(),
+            answer: Ok(Took::Idle),
+        });
+        Ok(Took::Idle)
+    }
+
+    fn give(&mut self, bytes: &[u8]) -> Result<usize, LinkFailed> {
+        Ok(bytes.len())
+    }
+
+    fn failures(&self) -> u64 {
+        0
+    }
+
+    fn takes(&self) -> u64 {
+        self.takes
+    }
+
+    fn last_take(&self) -> Option<LastTake> {
+        self.last
+    }
+}

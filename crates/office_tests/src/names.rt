@@ -1,0 +1,62 @@
+//! Names, terms and pieces at their limits.
+use office_events::{Name, Piece, Timeout, Window};
+
+const NAMES: [(&[u8], bool); 8] = [
+    (b"a", true),
+    (b"Meter-1_of_house", true),
+    (b"Meter-1_of_houses", false),
+    (b"", false),
+    (b"1a", false),
+    (b"_a", false),
+    (b"a.b", false),
+    (b"a b", false),
+];
+
+#[test]
+fn names_at_their_limits(rt: HostRuntime) {
+    for (text, is_name) in NAMES {
+        assert_eq!(rt; Name::new(text).is_some(), is_name);
+    }
+}
+
+#[test]
+fn a_name_is_its_text(rt: HostRuntime) {
+    let name = Name::new(b"m1").expect(&rt, "a name");
+    let other = Name::new(b"m2").expect(&rt, "another");
+    assert_eq!(rt; name.as_bytes(), b"m1".as_slice());
+    assert!(rt; name.is(&name));
+    assert!(rt; !name.is(&other));
+}
+
+// A number, and whether it is a timeout, and a window.
+const TERMS: [(u64, bool, bool); 6] = [
+    (0, false, false),
+    (1, true, true),
+    (16, true, true),
+    (17, true, false),
+    (60, true, false),
+    (61, false, false),
+];
+
+#[test]
+fn terms_at_their_limits(rt: HostRuntime) {
+    for (n, is_timeout, is_window) in TERMS {
+        let timeout = Timeout::new(n);
+        let window = Window::new(n);
+        assert_eq!(rt;
+            timeout.map(|timeout| timeout.seconds()),
+            is_timeout.then_some(n)
+        );
+        assert_eq!(rt;
+            window.map(|window| window.polls() as u64),
+            is_window.then_some(n)
+        );
+    }
+}
+
+#[test]
+fn a_copied_piece(rt: HostRuntime) {
+    let bytes = b"abc".to_vec(rt.alloc()).expect(&rt, "bytes");
+    let copy = Piece::new(bytes).clone().expect(&rt, "a copy");
+    assert_eq!(rt; copy.as_slice(), b"abc".as_slice());
+}

@@ -1,0 +1,60 @@
+//! Places of connections.
+use run_schedule::{Admission, Peers};
+
+fn at(place: usize) -> Option<Admission> {
+    Some(Admission {
+        place,
+        drops: false,
+    })
+}
+
+// 64 connections that say nothing, one a second.
+fn full() -> Peers {
+    let mut peers = Peers::new();
+    for second in 0..64 {
+        let _place = peers.admit(second, 10);
+    }
+    peers
+}
+
+#[test]
+fn places_are_given_in_order(rt: HostRuntime) {
+    let mut peers = Peers::new();
+    for place in 0..64 {
+        assert_eq!(rt; peers.admit(100, 10), at(place));
+    }
+    peers.end(7);
+    assert_eq!(rt; peers.admit(101, 10), at(7));
+}
+
+#[test]
+fn the_oldest_that_has_not_asked_makes_room(rt: HostRuntime) {
+    let mut peers = full();
+    peers.ask(0);
+    for place in 1..4 {
+        let drops = true;
+        assert_eq!(rt; peers.admit(64, 10), Some(Admission { place, drops }));
+    }
+}
+
+#[test]
+fn none_makes_room_where_all_have_asked(rt: HostRuntime) {
+    let mut peers = full();
+    for place in 0..64 {
+        peers.ask(place);
+    }
+    assert_eq!(rt; peers.admit(64, 10), None);
+    peers.end(63);
+    assert_eq!(rt; peers.admit(64, 10), at(63));
+}
+
+#[test]
+fn a_silent_connection_lasts_ten_seconds(rt: HostRuntime) {
+    let mut peers = full();
+    assert!(rt; !peers.is_over(5, 14));
+    assert!(rt; peers.is_over(5, 15));
+    peers.ask(5);
+    assert!(rt; peers.is_over(5, 15));
+    peers.end(5);
+    assert!(rt; !peers.is_over(5, 1000));
+}

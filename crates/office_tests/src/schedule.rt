@@ -1,0 +1,81 @@
+//! When devices are due.
+use run_schedule::{Phase, Timing, Watch, next_due, next_pause, retry_at, round_until};
+
+// The last is a quarter of an hour behind 2023-11-14 22:13:20 UTC, which is no multiple.
+#[test]
+fn a_device_is_due_at_multiples(rt: HostRuntime) {
+    let cases = [
+        (60, 0, 60),
+        (60, 59, 60),
+        (60, 60, 120),
+        (1, 41, 42),
+        (900, 1_700_000_000, 1_700_000_100),
+        (86_400, 1_700_000_000, 1_700_006_400),
+    ];
+    for (every, now, due) in cases {
+        if 0 < every && every < 100_000 && now < 2_000_000_000 {
+            assert_eq!(rt; next_due(every, now), due);
+        }
+    }
+}
+
+#[test]
+fn what_is_late_is_not_made_up_for(rt: HostRuntime) {
+    assert_eq!(rt; next_due(60, 187), 240);
+}
+
+#[test]
+fn pauses_grow(rt: HostRuntime) {
+    let mut pause = 0;
+    for longer in [1, 2, 4, 8, 16, 32, 60, 60] {
+        pause = next_pause(pause);
+        assert_eq!(rt; pause, longer);
+    }
+    assert_eq!(rt; retry_at(100, 8, 120), 108);
+    assert_eq!(rt; retry_at(100, 32, 120), 120);
+}
+
+#[test]
+fn a_round_lasts_a_minute_at_least(rt: HostRuntime) {
+    assert_eq!(rt; round_until(10, 1000), 1060);
+    assert_eq!(rt; round_until(900, 1000), 1900);
+}
+
+// The clock is set back by 40 seconds, and catches up.
+#[test]
+fn a_clock_that_is_set_back_is_told_once(rt: HostRuntime) {
+    let mut watch = Watch::new(1000);
+    let cases = [
+        (1001, 1001, None),
+        (961, 1001, Some(40)),
+        (962, 1001, None),
+        (1002, 1002, None),
+        (1000, 1002, Some(2)),
+    ];
+    for (now, moment, told) in cases {
+        let reading = watch.read(now);
+        assert_eq!(rt; reading.moment, moment);
+        assert_eq!(rt; reading.set_back, told);
+    }
+}
+
+// A connection takes five seconds at most; it fails three times, and stands then.
+#[test]
+fn a_device_is_tried_again(rt: HostRuntime) {
+    let mut timing = Timing::new(60, 100);
+    assert!(rt; !timing.is_due(119));
+    assert!(rt; timing.is_due(120));
+    for (now, again) in [(120, 121), (121, 123), (125, 129)] {
+        if now < 1000 {
+            timing.begin(now);
+            assert!(rt; timing.is_over(now + 5));
+            timing.fail(60, now);
+            assert_eq!(rt; timing.at, again);
+        }
+    }
+    timing.stand(60, 129);
+    assert_eq!(rt; timing.phase, Phase::Polling);
+    assert!(rt; timing.is_over(189));
+    timing.rest(60, 130);
+    assert_eq!(rt; timing.at, 180);
+}

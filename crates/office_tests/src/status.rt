@@ -1,0 +1,115 @@
+//! The status and the metrics of a known history.
+use energy_core::Cause;
+use office_events::{Name, Note};
+use poll_core::{LostCause, Outcome};
+use run_status::{Counts, DeviceState, put_metrics, put_status};
+use std::str;
+
+fn outcome(outcome: Outcome) -> Note {
+    Note::Outcome { poll: 1, outcome }
+}
+
+// Two polls were answered, and one each ended otherwise; a reading was accepted, two were held.
+fn counts() -> Counts {
+    let mut counts = Counts::new();
+    counts.note_all(&[
+        outcome(Outcome::Answered),
+        outcome(Outcome::Answered),
+        outcome(Outcome::Exception(2)),
+        outcome(Outcome::Silent),
+    ]);
+    counts.note_all(&[outcome(Outcome::Lost(LostCause::Gone))]);
+    if let Some(meter) = Name::new(b"m1") {
+        counts.note_all(&[
+            Note::Reading {
+                meter,
+                raw: 7,
+                rolls: 0,
+                step: 100,
+            },
+            Note::Held {
+                meter,
+                raw: 0,
+                cause: Cause::NotAccumulated,
+            },
+            Note::Held {
+                meter,
+                raw: 9,
+                cause: Cause::NotBelowRange,
+            },
+        ]);
+    }
+    counts.refuse();
+    counts
+}
+
+fn devices() -> [DeviceState; 2] {
+    [
+        DeviceState {
+            name: Name::new(b"inv"),
+            connected: true,
+            latest: Some(1_700_000_000),
+        },
+        DeviceState {
+            name: Name::new(b"roof-2"),
+            connected: false,
+            latest: None,
+        },
+    ]
+}
+
+const STATUS: &str =
+    "{\"devices\":[{\"name\":\"inv\",\"connected\":true,\"last_reading\":1700000000},{\"name\":\"roof-2\",\"connected\":false,\"last_reading\":null}],\"polls\":{\"answered\":2,\"exception\":1,\"silent\":1,\"malformed\":0,\"lost\":1},\"readings\":1,\"held\":{\"not_accumulated\":1,\"scale_changed\":0,\"not_later\":0,\"span_too_long\":0,\"gap_too_long\":0,\"too_fast\":0,\"total_full\":0,\"not_below_range\":1},\"refusals\":1}\n";
+
+#[test]
+fn the_status_is_json(rt: HostRuntime) {
+    let mut text = Vec::new(rt.alloc());
+    assert!(rt; put_status(&mut text, &counts(), &devices()).is_ok());
+    assert_eq!(rt; str::from_utf8(&text), Ok(STATUS));
+}
+
+const METRICS: &str = "# HELP sunreg_polls_total Polls that ended, by outcome.
+# TYPE sunreg_polls_total counter
+sunreg_polls_total{outcome=\"answered\"} 2
+sunreg_polls_total{outcome=\"exception\"} 1
+sunreg_polls_total{outcome=\"silent\"} 1
+sunreg_polls_total{outcome=\"malformed\"} 0
+sunreg_polls_total{outcome=\"lost\"} 1
+# HELP sunreg_readings_total Readings that were accepted.
+# TYPE sunreg_readings_total counter
+sunreg_readings_total 1
+# HELP sunreg_refusals_total Events of devices that the office refused.
+# TYPE sunreg_refusals_total counter
+sunreg_refusals_total 1
+# HELP sunreg_held_readings_total Readings that were held, by cause.
+# TYPE sunreg_held_readings_total counter
+sunreg_held_readings_total{cause=\"not_accumulated\"} 1
+sunreg_held_readings_total{cause=\"scale_changed\"} 0
+sunreg_held_readings_total{cause=\"not_later\"} 0
+sunreg_held_readings_total{cause=\"span_too_long\"} 0
+sunreg_held_readings_total{cause=\"gap_too_long\"} 0
+sunreg_held_readings_total{cause=\"too_fast\"} 0
+sunreg_held_readings_total{cause=\"total_full\"} 0
+sunreg_held_readings_total{cause=\"not_below_range\"} 1
+# HELP sunreg_device_connected Whether a round of a device goes on.
+# TYPE sunreg_device_connected gauge
+sunreg_device_connected{device=\"inv\"} 1
+sunreg_device_connected{device=\"roof-2\"} 0
+# HELP sunreg_last_reading_timestamp_seconds When the latest reading of a device was accepted.
+# TYPE sunreg_last_reading_timestamp_seconds gauge
+sunreg_last_reading_timestamp_seconds{device=\"inv\"} 1700000000
+";
+
+#[test]
+fn the_metrics_are_in_text_format(rt: HostRuntime) {
+    let mut text = Vec::new(rt.alloc());
+    assert!(rt; put_metrics(&mut text, &counts(), &devices()).is_ok());
+    assert_eq!(rt; str::from_utf8(&text), Ok(METRICS));
+}
+
+#[test]
+fn no_device_is_an_empty_list(rt: HostRuntime) {
+    let mut text = Vec::new(rt.alloc());
+    assert!(rt; put_status(&mut text, &Counts::new(), &[]).is_ok());
+    assert!(rt; text.starts_with(b"{\"devices\":[],\"polls\":"));
+}

@@ -1,0 +1,108 @@
+//! Turns over made-up happenings.
+use crate::benches::{Bench, Moment, Step, play};
+use crate::witness::Seen;
+use office_rounds::Stage;
+use poll_core::Closing;
+use std::alloc::Global;
+use std::process::Abort;
+
+fn seen(rt: &impl Abort, alloc: Global, moments: &[Moment]) -> Bench<Seen> {
+    play(rt, alloc, moments, Seen::new(alloc))
+}
+
+// What happens, and what is seen of it.
+static TURNS: [(&[Moment], &str); 6] = [
+    // two devices are polled at once
+    (
+        &[
+            (1001, Step::Stands(1)),
+            (1001, Step::Stands(0)),
+            (1002, Step::First(1)),
+            (1002, Step::First(0)),
+            (1002, Step::Second(0)),
+            (1002, Step::Second(1)),
+        ],
+        "1C 1S 0C 0S 1Ba 1S 0Ba 0S 0Ba 0G 1Ba 1G ",
+    ),
+    // both wait at once, and both are silent at one tick
+    (
+        &[
+            (1001, Step::Stands(0)),
+            (1001, Step::Stands(1)),
+            (1003, Step::Tick),
+            (1006, Step::Tick),
+            (1011, Step::Tick),
+        ],
+        "0C 0S 1C 1S T Tss 0S 1S Tss 0G 1G ",
+    ),
+    // an end loses the polls of that device alone
+    (
+        &[
+            (1001, Step::Stands(0)),
+            (1001, Step::Stands(1)),
+            (1002, Step::Ended(0, Closing::Failed)),
+            (1002, Step::Ended(0, Closing::Gone)),
+            (1003, Step::First(1)),
+        ],
+        "0C 0S 1C 1S 0Fl 1Ba 1S ",
+    ),
+    // a device comes again after it failed
+    (
+        &[
+            (1001, Step::Stands(0)),
+            (1002, Step::Ended(0, Closing::Failed)),
+            (1003, Step::Stands(0)),
+        ],
+        "0C 0S 0Fl 0C 0S ",
+    ),
+    // bytes of a device that is not polled, and a place at which no device is
+    (
+        &[
+            (1001, Step::First(0)),
+            (1001, Step::Stands(2)),
+            (1001, Step::Ended(1, Closing::Gone)),
+        ],
+        "",
+    ),
+    // a moment before the latest breaks the round off; the hub itself never feeds one: `Watch` sees to that
+    (
+        &[(1001, Step::Stands(0)), (999, Step::First(0))],
+        "0C 0S 0B! 0F! ",
+    ),
+];
+
+#[test]
+fn turns_feed_what_rounds_wish(rt: HostRuntime) {
+    for (moments, text) in TURNS {
+        let bench = seen(&rt, rt.alloc(), moments);
+        assert_eq!(rt; bench.witness.text.as_str(), text);
+    }
+}
+
+static TO_ITS_END: [Moment; 3] = [
+    (1001, Step::Stands(0)),
+    (1002, Step::First(0)),
+    (1003, Step::Second(0)),
+];
+
+#[test]
+fn a_device_is_polled_to_its_end(rt: HostRuntime) {
+    let bench = seen(&rt, rt.alloc(), &TO_ITS_END);
+    assert_eq!(rt; bench.witness.text.as_str(), "0C 0S 0Ba 0S 0Ba 0G ");
+    assert_eq!(rt; bench.witness.frames, 24);
+}
+
+static COME_AGAIN: [Moment; 3] = [
+    (1001, Step::Stands(0)),
+    (1002, Step::Ended(0, Closing::Failed)),
+    (1003, Step::Stands(0)),
+];
+
+#[test]
+fn a_device_that_came_again_waits(rt: HostRuntime) {
+    let bench = seen(&rt, rt.alloc(), &COME_AGAIN);
+    let mut stages = bench.rounds.iter().map(|round| round.stage);
+    assert_eq!(rt; stages.next(), Some(Stage::Waiting));
+    assert_eq!(rt; stages.next(), Some(Stage::Off));
+    assert_eq!(rt; stages.next(), None);
+}

@@ -1,8 +1,0 @@
-//! The end of a command of the program: its exit status, and what is said of it.
-#![tactic(auto)]
-
-mod ending;
-mod failure;
-
-pub use ending::{Ending, ending_of, say};
-pub use failure::Failure;

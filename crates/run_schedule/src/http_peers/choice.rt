@@ -1,0 +1,56 @@
+//! The place for a new connection.
+ghost use Rattle.std.specs.Prelude.{◌≡◌, position};
+ghost use Rattle.std.specs.Option.{option_map};
+ghost use Rattle.run_schedule.specs.HttpPeers.Places as specs;
+ghost use Rattle.run_schedule.specs.HttpPeers.Places.{IsChosen, IsOldest};
+
+use crate::http_peers::place::Place;
+
+// The older one of a connection that has not asked, by its place and its end, and that of the next place.
+fn older(best: Option<(usize, u64)>, i: usize, place: Place) -> Option<(usize, u64)>
+    ensures { result ≡ specs.older best i place }
+{
+    match (best, place) {
+        (best, Place::Free) => best,
+        (best, Place::Asked(_)) => best,
+        (None, Place::Silent(until)) => Some((i, until)),
+        (Some(best), Place::Silent(until)) => {
+            if until < best.1 {
+                Some((i, until))
+            } else {
+                Some(best)
+            }
+        }
+    }
+}
+
+// The oldest connection that has not asked, by its place and its end: the one that ends first.
+fn oldest_silent(places: &[Place]) -> Option<(usize, u64)>
+    ensures { IsOldest places.now (option_map (λ best. best.0) result) }
+{
+    let mut oldest = None;
+    for (i, place) in places.iter().enumerate() {
+        oldest = older(oldest, i, *place);
+    }
+    oldest
+}
+
+fn first_free(places: &[Place]) -> Option<usize>
+    ensures { result ≡ position specs.is_free places.now }
+{
+    places.iter().position(|place| place.is_free())
+}
+
+/// The place for a new connection: the first free one; where none is free, that of the oldest connection that has not asked
+/// yet; none where all have asked.
+pub fn place_for(places: &[Place]) -> Option<usize>
+    ensures { IsChosen places.now result }
+{
+    match first_free(places) {
+        Some(place) => Some(place),
+        None => match oldest_silent(places) {
+            Some(oldest) => Some(oldest.0),
+            None => None,
+        },
+    }
+}

@@ -1,0 +1,10 @@
+//! When devices are polled, and which peers are attended: over moments and numbers alone.
+#![tactic(auto)]
+
+mod http_peers;
+mod timing;
+
+pub use http_peers::{Admission, MOST_PEERS, Peers, place_for};
+pub use timing::{
+    MOST_EVERY, PEER_SECONDS, Phase, Timing, Watch, next_due, next_pause, retry_at, round_until,
+};

@@ -1,0 +1,14 @@
+//! When devices are due, how long things may take, and which moment an event comes at. Times are whole seconds since
+//! 1970-01-01 UTC, or counts of them.
+
+mod grid;
+mod limits;
+mod pauses;
+mod timing;
+mod watch;
+
+pub use grid::next_due;
+pub use limits::{CONNECT_SECONDS, LEAST_ROUND, MOST_EVERY, PEER_SECONDS, round_until, until};
+pub use pauses::{MOST_PAUSE, next_pause, retry_at};
+pub use timing::{Phase, Timing};
+pub use watch::{Reading, Watch};

@@ -1,0 +1,3 @@
+pub mod StatusLemmas
+pub mod MonitorLemmas
+pub mod RunHttpLemmas

@@ -1,0 +1,53 @@
+-- How notes of the office are counted.
+use Rattle.std.specs.Prelude.{ℕ, ◌+◌, ◌-◌, ◌^◌, min, List, [], ◌∷◌, replicate, slice_index, slice_set}
+use Rattle.energy_core.specs.Verdict.{cause_number}
+use Rattle.energy_core.specs.declared.verdicts.Cause.{Cause}
+use Rattle.poll_core.specs.declared.outcome.Outcome.{Outcome}
+use Rattle.poll_core.specs.declared.outcome.Outcome.TheVariants.{Answered, Exception, Silent, Malformed, Lost}
+use Rattle.office_events.specs.declared.answers.Note.{Note}
+use Rattle.office_events.specs.declared.answers.Note.TheVariants as note
+use Rattle.run_status.specs.declared.status.counts.Counts.{Counts}
+
+-- one more; it stays at 2^64 - 1
+abbrev pub one_more : ℕ → ℕ
+one_more n = min (n + 1) (2 ^ 64 - 1)
+
+abbrev pub nothing : Counts
+nothing = record {
+  answered = 0;
+  exceptions = 0;
+  silent = 0;
+  malformed = 0;
+  lost = 0;
+  readings = 0;
+  held = replicate 8 0;
+  refusals = 0;
+}
+
+abbrev pub ended : Outcome → Counts → Counts
+ended Answered counts = record counts { answered = one_more counts.answered }
+ended (Exception code) counts = record counts { exceptions = one_more counts.exceptions }
+ended Silent counts = record counts { silent = one_more counts.silent }
+ended (Malformed wrong) counts = record counts { malformed = one_more counts.malformed }
+ended (Lost cause) counts = record counts { lost = one_more counts.lost }
+
+-- the place of a cause is its number less one
+abbrev pub held_for : Cause → Counts → Counts
+held_for cause counts =
+    record counts {
+      held = slice_set counts.held (cause_number cause - 1)
+          (one_more (slice_index counts.held (cause_number cause - 1)));
+    }
+
+abbrev pub noted : Note → Counts → Counts
+noted (note.Outcome poll outcome) counts = ended outcome counts
+noted (note.Reading meter raw rolls step) counts =
+    record counts { readings = one_more counts.readings }
+noted (note.Held meter raw cause) counts = held_for cause counts
+
+abbrev pub noted_all : List Note → Counts → Counts
+noted_all [] counts = counts
+noted_all (one ∷ notes) counts = noted_all notes (noted one counts)
+
+abbrev pub refused : Counts → Counts
+refused counts = record counts { refusals = one_more counts.refusals }

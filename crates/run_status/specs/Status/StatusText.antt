@@ -1,0 +1,64 @@
+-- `/status`: the counts and the devices, as JSON. Each definition gives a text with something at its end.
+use Rattle.std.specs.Prelude.{ℕ, Bool, true, false, List, [], ◌∷◌, ◌++◌, Option, Some, None, codes, decimal, slice_index}
+use Rattle.run_status.specs.declared.status.counts.Counts.{Counts}
+use Rattle.run_status.specs.declared.status.status.DeviceState.{DeviceState}
+
+-- a name has letters, digits, `_` and `-` alone, so it stands in JSON as it is
+abbrev pub with_name_of : List ℕ → (before : List ℕ) → Option (List ℕ) → List ℕ
+with_name_of text before None = text ++ before
+with_name_of text before (Some name) = text ++ before ++ name
+
+abbrev pub with_name : List ℕ → (before : List ℕ) → DeviceState → List ℕ
+with_name text before device = with_name_of text before device.name
+
+abbrev pub with_connected : List ℕ → Bool → List ℕ
+with_connected text true = text ++ codes "\",\"connected\":true"
+with_connected text false = text ++ codes "\",\"connected\":false"
+
+-- the moment of its latest reading
+abbrev pub with_latest : List ℕ → Option ℕ → List ℕ
+with_latest text None = text ++ codes ",\"last_reading\":null"
+with_latest text (Some moment) = text ++ codes ",\"last_reading\":" ++ decimal moment
+
+abbrev pub with_device : (before : List ℕ) → List ℕ → DeviceState → List ℕ
+with_device before text device =
+    with_latest (with_connected (with_name text before device) device.connected) device.latest
+    ++ codes "}"
+
+abbrev pub with_more_devices : List ℕ → List DeviceState → List ℕ
+with_more_devices text [] = text
+with_more_devices text (device ∷ devices) =
+    with_more_devices (with_device (codes ",{\"name\":\"") text device) devices
+
+abbrev pub with_devices : List ℕ → List DeviceState → List ℕ
+with_devices text [] = text
+with_devices text (device ∷ devices) =
+    with_more_devices (with_device (codes "{\"name\":\"") text device) devices
+
+-- polls that ended, by how they did, and readings that were accepted
+abbrev pub with_polls : List ℕ → Counts → List ℕ
+with_polls text counts =
+    text ++ codes "],\"polls\":{\"answered\":" ++ decimal counts.answered ++ codes ",\"exception\":"
+    ++ decimal counts.exceptions
+    ++ codes ",\"silent\":" ++ decimal counts.silent ++ codes ",\"malformed\":"
+    ++ decimal counts.malformed
+    ++ codes ",\"lost\":" ++ decimal counts.lost ++ codes "},\"readings\":"
+    ++ decimal counts.readings
+
+-- readings that were held, by their cause
+abbrev pub with_held : List ℕ → List ℕ → List ℕ
+with_held text held =
+    text ++ codes ",\"held\":{\"not_accumulated\":" ++ decimal (slice_index held 0)
+    ++ codes ",\"scale_changed\":" ++ decimal (slice_index held 1)
+    ++ codes ",\"not_later\":" ++ decimal (slice_index held 2) ++ codes ",\"span_too_long\":"
+    ++ decimal (slice_index held 3)
+    ++ codes ",\"gap_too_long\":" ++ decimal (slice_index held 4) ++ codes ",\"too_fast\":"
+    ++ decimal (slice_index held 5)
+    ++ codes ",\"total_full\":" ++ decimal (slice_index held 6) ++ codes ",\"not_below_range\":"
+    ++ decimal (slice_index held 7)
+
+abbrev pub with_status : List ℕ → Counts → List DeviceState → List ℕ
+with_status text counts devices =
+    with_held (with_polls (with_devices (text ++ codes "{\"devices\":[") devices) counts)
+    counts.held
+    ++ codes "},\"refusals\":" ++ decimal counts.refusals ++ codes "}\n"

@@ -1,0 +1,131 @@
+//! Lines that a person reads.
+ghost use Rattle.std.specs.Prelude.{◌≡◌, OnOk};
+ghost use Rattle.run_status.specs.Monitor.Lines as lines;
+
+use crate::status::{put, put_number, put_word};
+use office_events::{Answer, Event, Name, Note, Refusal};
+use office_rounds::Sum;
+use poll_core::Closing;
+use std::alloc::AllocError;
+
+/// Puts a moment and a name, and `-` for a name that no device can have. Want of memory leaves a part of the text.
+pub fn put_head(text: &mut Vec<u8>, at: u64, name: &Option<Name>) -> Result<(), AllocError>
+    ensures { OnOk result (text.new.items ≡ lines.with_head at name.now text.old.items) }
+{
+    put_number(text, b"", at)?;
+    match name {
+        Some(name) => put_word(text, b" ", name.as_bytes()),
+        None => put(text, b" -"),
+    }
+}
+
+// Puts that a device came or went.
+fn put_event(
+    text: &mut Vec<u8>,
+    at: u64,
+    name: &Option<Name>,
+    event: &Event,
+) -> Result<(), AllocError>
+    ensures { OnOk result (text.new.items
+        ≡ lines.with_event at name.now event.now text.old.items) }
+{
+    match event {
+        Event::Connected(_) => {
+            put_head(text, at, name)?;
+            put(text, b" connected\n")
+        }
+        Event::Gone(_, Closing::Gone) => {
+            put_head(text, at, name)?;
+            put(text, b" gone\n")
+        }
+        Event::Gone(_, Closing::Failed) => {
+            put_head(text, at, name)?;
+            put(text, b" failed\n")
+        }
+        Event::Bytes(_, _) => Ok(()),
+        Event::Tick => Ok(()),
+        Event::Command(_) => Ok(()),
+        Event::Asked(_) => Ok(()),
+    }
+}
+
+// Puts an event of a device that was accepted, or that it was refused.
+fn put_answered(
+    text: &mut Vec<u8>,
+    at: u64,
+    name: &Option<Name>,
+    event: &Event,
+    answer: Result<Answer, Refusal>,
+) -> Result<(), AllocError>
+    ensures { OnOk result (text.new.items
+        ≡ lines.with_answer at name.now event.now answer text.old.items) }
+{
+    match answer {
+        Ok(_) => put_event(text, at, name, event),
+        Err(why) => {
+            put_head(text, at, name)?;
+            put_number(text, b" refused ", u64::from(why.number()))?;
+            put(text, b"\n")
+        }
+    }
+}
+
+// Puts a reading that was held, and why.
+fn put_note(text: &mut Vec<u8>, at: u64, name: &Option<Name>, note: &Note) -> Result<(), AllocError>
+    ensures { OnOk result (text.new.items ≡ lines.with_note at name.now note.now text.old.items) }
+{
+    match note {
+        Note::Outcome { .. } => Ok(()),
+        Note::Reading { .. } => Ok(()),
+        Note::Held { meter, raw, cause } => {
+            put_head(text, at, name)?;
+            put_word(text, b" held ", meter.as_bytes())?;
+            put_number(text, b" ", u64::from(*raw))?;
+            put_number(text, b" cause ", u64::from(cause.number()))?;
+            put(text, b"\n")
+        }
+    }
+}
+
+fn put_notes(
+    text: &mut Vec<u8>,
+    at: u64,
+    name: &Option<Name>,
+    notes: &[Note],
+) -> Result<(), AllocError>
+    ensures { OnOk result (text.new.items
+        ≡ lines.with_notes at name.now notes.now text.old.items) }
+{
+    for note in notes {
+        put_note(text, at, name, note)?;
+    }
+    Ok(())
+}
+
+/// Puts the lines of an event that was fed for a device: that it came or went, or that the office refused, and each reading
+/// that was held. A poll has no line. Want of memory leaves a part of the text.
+pub fn put_lines(
+    text: &mut Vec<u8>,
+    at: u64,
+    name: &Option<Name>,
+    event: &Event,
+    answer: Result<Answer, Refusal>,
+    notes: &[Note],
+) -> Result<(), AllocError>
+    ensures { OnOk result (text.new.items
+        ≡ lines.with_lines at name.now event.now answer notes.now text.old.items) }
+{
+    put_answered(text, at, name, event, answer)?;
+    put_notes(text, at, name, notes)
+}
+
+/// Puts how the polls of a round ended.
+pub fn put_sum(text: &mut Vec<u8>, at: u64, name: &Option<Name>, sum: Sum) -> Result<(), AllocError>
+    ensures { OnOk result (text.new.items ≡ lines.with_sum at name.now sum text.old.items) }
+{
+    put_head(text, at, name)?;
+    put_number(text, b" round answered ", sum.answered)?;
+    put_number(text, b" silent ", sum.silent)?;
+    put_number(text, b" failed ", sum.failed)?;
+    put(text, b"\n")
+}

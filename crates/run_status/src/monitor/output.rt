@@ -1,0 +1,30 @@
+//! What is to be sent to a device.
+ghost use Rattle.std.specs.Prelude.{◌≡◌};
+ghost use Rattle.run_status.specs.Monitor.Output as sending;
+
+use office_events::Event;
+
+// Whether it tells that a connection has ended.
+fn is_end(event: &Event) -> bool
+    ensures { result ≡ sending.is_end event.now }
+{
+    match event {
+        Event::Connected(_) => false,
+        Event::Bytes(_, _) => false,
+        Event::Tick => false,
+        Event::Gone(_, _) => true,
+        Event::Command(_) => false,
+        Event::Asked(_) => false,
+    }
+}
+
+/// Puts frames behind what is to be sent, where there is memory; what is left once a connection has ended is not sent.
+#[tactic(auto, using(crate::proofs::MonitorLemmas::Queues::put_or_not))]
+pub(crate) fn put_frames(queue: &mut Vec<u8>, event: &Event, frames: &[u8])
+    ensures { sending.IsPut event.now frames.now queue.old.items queue.new.items }
+{
+    if is_end(event) {
+        queue.clear();
+    }
+    let _done = queue.extend_from_slice(frames);
+}

@@ -1,0 +1,11 @@
+//! What an office that polls has counted since it was opened, and the texts that tell it.
+
+mod counts;
+mod metrics;
+mod pieces;
+mod status;
+
+pub use counts::Counts;
+pub use metrics::put_metrics;
+pub use pieces::{put, put_number, put_word};
+pub use status::{DeviceState, put_status};

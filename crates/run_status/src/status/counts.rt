@@ -1,0 +1,90 @@
+//! What a run counts: polls by outcome, readings, held readings by cause, refusals.
+use energy_core::Cause;
+use office_events::Note;
+use poll_core::Outcome;
+
+/// What was counted. Each count stays at 2^64 - 1.
+#[derive(Clone, Copy, Debug, PartialEq, Eq)]
+pub struct Counts {
+    /// Polls that ended, by how they did.
+    pub answered: u64,
+    pub exceptions: u64,
+    pub silent: u64,
+    pub malformed: u64,
+    pub lost: u64,
+    /// Readings that were accepted.
+    pub readings: u64,
+    /// Readings that were held, by their cause; that of the number 1 first.
+    pub held: [u64; 8],
+    /// Events that the office refused.
+    pub refusals: u64,
+}
+
+impl Counts {
+    ghost use Rattle.std.specs.Prelude.{◌≡◌};
+    ghost use Rattle.run_status.specs.Status.Counts as counting;
+
+    /// Nothing was counted.
+    pub fn new() -> Counts
+        ensures { result ≡ counting.nothing }
+    {
+        Counts {
+            answered: 0,
+            exceptions: 0,
+            silent: 0,
+            malformed: 0,
+            lost: 0,
+            readings: 0,
+            held: [0; 8],
+            refusals: 0,
+        }
+    }
+
+    // A poll has ended.
+    fn end(&mut self, outcome: Outcome)
+        ensures { self.new ≡ counting.ended outcome self.old }
+    {
+        match outcome {
+            Outcome::Answered => self.answered = self.answered.saturating_add(1),
+            Outcome::Exception(_) => self.exceptions = self.exceptions.saturating_add(1),
+            Outcome::Silent => self.silent = self.silent.saturating_add(1),
+            Outcome::Malformed(_) => self.malformed = self.malformed.saturating_add(1),
+            Outcome::Lost(_) => self.lost = self.lost.saturating_add(1),
+        }
+    }
+
+    // A reading was held.
+    fn hold(&mut self, cause: Cause)
+        ensures { self.new ≡ counting.held_for cause self.old }
+    {
+        let place = usize::from(cause.number()) - 1;
+        self.held[place] = self.held[place].saturating_add(1);
+    }
+
+    // The office has told this.
+    fn note(&mut self, note: &Note)
+        ensures { self.new ≡ counting.noted note.now self.old }
+    {
+        match *note {
+            Note::Outcome { outcome, .. } => self.end(outcome),
+            Note::Reading { .. } => self.readings = self.readings.saturating_add(1),
+            Note::Held { cause, .. } => self.hold(cause),
+        }
+    }
+
+    /// The office has told all of this.
+    pub fn note_all(&mut self, notes: &[Note])
+        ensures { self.new ≡ counting.noted_all notes.now self.old }
+    {
+        for note in notes {
+            self.note(note);
+        }
+    }
+
+    /// The office has refused an event.
+    pub fn refuse(&mut self)
+        ensures { self.new ≡ counting.refused self.old }
+    {
+        self.refusals = self.refusals.saturating_add(1);
+    }
+}

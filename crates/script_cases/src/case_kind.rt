@@ -1,0 +1,45 @@
+//! What kinds of cases there are.
+
+/// The command that reads a case.
+#[derive(Clone, Copy, PartialEq, Eq)]
+pub(crate) enum Command {
+    Replay,
+    Loop,
+    Chain,
+    Plan,
+}
+
+/// The command that reads a case, and whether each line of the case is a text of its own.
+#[derive(Clone, Copy)]
+pub(crate) struct Kind {
+    pub(crate) command: Command,
+    pub(crate) by_lines: bool,
+}
+
+fn whole(command: Command) -> Option<Kind> {
+    Some(Kind {
+        command,
+        by_lines: false,
+    })
+}
+
+fn by_lines(command: Command) -> Option<Kind> {
+    Some(Kind {
+        command,
+        by_lines: true,
+    })
+}
+
+/// The kind of a case, by the ending of its file's name.
+pub(crate) fn kind_of(ending: &str) -> Option<Kind> {
+    match ending {
+        "script" => whole(Command::Replay),
+        "scripts" => by_lines(Command::Replay),
+        "loop" => whole(Command::Loop),
+        "loops" => by_lines(Command::Loop),
+        "chain" => whole(Command::Chain),
+        "chains" => by_lines(Command::Chain),
+        "plan" => whole(Command::Plan),
+        _ => None,
+    }
+}

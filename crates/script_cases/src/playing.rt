@@ -1,0 +1,136 @@
+//! A case, played.
+use crate::case_kind::{Command, Kind};
+use command_io::Status;
+use interval_core::Zone;
+use script_run::{Loopback, loop_text, replay};
+use std::io::{self, ErrorKind, Write};
+use sunspec_text::{chain_text, plan_text};
+
+/// What a case prints: its text as a whole, or each line behind the first by itself.
+pub(crate) fn play<'r>(
+    rt: &'r HostRuntime,
+    loopback: &mut Loopback<'r, HostRuntime>,
+    kind: Kind,
+    text: &[u8],
+) -> io::Result<Vec<u8>> {
+    let mut printed = Vec::new(rt.alloc());
+    let zone = zone_of(text);
+    if kind.by_lines {
+        for line in behind_first(text).split_inclusive(|byte| *byte == b'\n') {
+            play_text(rt, loopback, kind.command, zone, line, &mut printed)?;
+        }
+    } else if kind.command == Command::Plan {
+        play_text(
+            rt,
+            loopback,
+            kind.command,
+            zone,
+            behind_first(text),
+            &mut printed,
+        )?;
+    } else {
+        play_text(rt, loopback, kind.command, zone, text, &mut printed)?;
+    }
+    Ok(printed)
+}
+
+// Plays a text, and adds what it prints; the status must be that of what was printed.
+fn play_text<'r>(
+    rt: &'r HostRuntime,
+    loopback: &mut Loopback<'r, HostRuntime>,
+    command: Command,
+    zone: &str,
+    text: &[u8],
+    printed: &mut Vec<u8>,
+) -> io::Result<()> {
+    let before = printed.len();
+    let status = carry_out(rt, loopback, command, zone, text, printed)?;
+    let ended = if is_refused(printed.get(before..).unwrap_or(b"")) {
+        Status::Refused
+    } else {
+        Status::Fine
+    };
+    if status != ended {
+        printed.extend_from_slice(b"and its status is another\n")?;
+    }
+    Ok(())
+}
+
+fn carry_out<'r>(
+    rt: &'r HostRuntime,
+    loopback: &mut Loopback<'r, HostRuntime>,
+    command: Command,
+    zone: &str,
+    text: &[u8],
+    printed: &mut Vec<u8>,
+) -> io::Result<Status> {
+    let mut input = text;
+    match command {
+        Command::Replay => {
+            let run = replay(
+                rt.alloc(),
+                read_zone(zone)?,
+                &mut input,
+                Vec::new(rt.alloc()),
+            );
+            printed.extend_from_slice(&run.output)?;
+            Ok(run.status)
+        }
+        Command::Loop => {
+            let zone = read_zone(zone)?;
+            Ok(loop_text(rt.alloc(), zone, &mut input, loopback, printed))
+        }
+        Command::Chain => Ok(chain_text(rt.alloc(), &mut input, printed)),
+        Command::Plan => Ok(plan_text(rt.alloc(), &mut input, printed)),
+    }
+}
+
+fn read_zone(text: &str) -> io::Result<Zone> {
+    match Zone::read(text) {
+        Ok(zone) => Ok(zone),
+        Err(_) => Err(io::Error::from(ErrorKind::InvalidInput)),
+    }
+}
+
+// The zone that the second line names, as `# zone TEXT`.
+fn zone_of(text: &[u8]) -> &str {
+    let second = behind_first(text).split(|byte| *byte == b'\n').next();
+    match second.and_then(|line| line.strip_prefix(b"# zone ".as_slice())) {
+        Some(zone) => str::from_utf8(zone).unwrap_or("UTC0"),
+        None => "UTC0",
+    }
+}
+
+// A text behind its first line.
+fn behind_first(text: &[u8]) -> &[u8] {
+    match text.iter().position(|byte| *byte == b'\n') {
+        Some(at) => text.get(at + 1..).unwrap_or(b""),
+        None => b"",
+    }
+}
+
+// Whether what was printed ends on a refusal of the input: `bad line N`, `too long`, `fault ..` or `row R fault N`.
+fn is_refused(printed: &[u8]) -> bool {
+    let ended = printed.strip_suffix(b"\n".as_slice()).unwrap_or(printed);
+    let last = ended.rsplit(|byte| *byte == b'\n').next().unwrap_or(ended);
+    [b"bad line ".as_slice(), b"too long", b"fault ", b"row "]
+        .iter()
+        .any(|word| last.starts_with(word))
+}
+
+/// The number of the first line in which two texts differ, from 1.
+pub(crate) fn differs_at(left: &[u8], right: &[u8]) -> Option<u64> {
+    if left == right {
+        return None;
+    }
+    let mut line = 1u64;
+    for (one, other) in left.iter().zip(right.iter()) {
+        if one != other {
+            break;
+        }
+        if *one == b'\n' {
+            line = line.saturating_add(1);
+        }
+    }
+    Some(line)
+}

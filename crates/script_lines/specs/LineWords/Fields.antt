@@ -1,0 +1,74 @@
+-- What one word of a line spells.
+use Rattle.std.specs.Prelude.{◌≡◌, ℕ, ℤ, List, [], ◌∷◌, Option, Some, None, option_map}
+use Rattle.energy_core.specs.declared.limits.TheConstants.{MAX_RANGE}
+use Rattle.office_events.specs.declared.commands.GivenScale.{GivenScale}
+use Rattle.script_lines.specs.LineWords.Values.{bytes_of, name_of, number_of, scale_of, signed_of}
+
+-- what kind of thing a word spells
+pub data Kind : Type 0 where
+  -- a name, or none where it is no name of the office's
+  AnyName : Kind
+  Number : Kind
+  Signed : Kind
+  Scale : Kind
+  Hex : Kind
+  Range : Kind
+  Moment : Kind
+
+abbrev pub Value : Kind → Type 0
+Value AnyName = Option (List ℕ)
+Value Number = ℕ
+Value Signed = ℤ
+Value Scale = GivenScale
+Value Hex = List ℕ
+Value Range = ℕ
+Value Moment = Option ℕ
+
+-- what a word spells
+abbrev pub spelled : (kind : Kind) → List ℕ → Option (Value kind)
+spelled AnyName word = name_of word
+spelled Number word = number_of word
+spelled Signed word = signed_of word
+spelled Scale word = scale_of word
+spelled Hex word = bytes_of word
+spelled Range word = number_of word
+spelled Moment word = option_map Some (number_of word)
+
+-- What a word says that is missing, where it may be: no bytes, the range of an acc32 counter, no moment.
+abbrev pub missing : (kind : Kind) → Option (Value kind)
+missing AnyName = None
+missing Number = None
+missing Signed = None
+missing Scale = None
+missing Hex = Some []
+missing Range = Some MAX_RANGE
+missing Moment = Some None
+
+-- a word of a line: itself, or what it spells
+pub data Field : Type 0 where
+  Word : List ℕ → Field
+  Of : (kind : Kind) → Value kind → Field
+
+abbrev pub Spells : List ℕ → Field → Type 0
+Spells word (Word text) = word ≡ text
+Spells word (Of kind value) = spelled kind word ≡ Some value
+
+abbrev pub IsMissing : Field → Type 0
+IsMissing (Word text) = ⊥
+IsMissing (Of kind value) = missing kind ≡ Some value
+
+-- each word spells its field, and the words of the last fields may be missing
+abbrev pub Spell : List (List ℕ) → List Field → Type 0
+Spell [] [] = Unit {0}
+Spell [] (field ∷ fields) = IsMissing field × Spell [] fields
+Spell (word ∷ words) [] = ⊥
+Spell (word ∷ words) (field ∷ fields) = Spells word field × Spell words fields
+
+-- the value of the first word and the words behind it
+abbrev pub first_value : (kind : Kind) → List (List ℕ) → Option (Value kind × List (List ℕ))
+first_value kind [] = option_map (λ value. (value, [])) (missing kind)
+first_value kind (word ∷ words) = option_map (λ value. (value, words)) (spelled kind word)
+
+abbrev pub nothing_more : List (List ℕ) → Option (Unit {0})
+nothing_more [] = Some tt
+nothing_more (word ∷ words) = None

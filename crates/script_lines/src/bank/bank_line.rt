@@ -1,0 +1,145 @@
+//! Reading a line of a stand-in device.
+ghost use Rattle.std.specs.Prelude.{◌≡◌};
+ghost use Rattle.script_lines.specs.Bank.BankLine as said;
+ghost use Rattle.script_lines.specs.LineWords.Words.{words_of};
+
+use crate::bank::bank::{BankLine, GivenArea, GivenCell};
+use crate::line_words::{Words, next_number, nothing_more};
+use mb_device::{Kind, Trick};
+
+/// The most bytes of a frame that are a part of one.
+const MOST_CUT: u64 = 259;
+
+impl BankLine {
+    ghost use Rattle.script_lines.specs.Bank.Seen.{ReadsBank};
+
+    /// The line that a text spells.
+    pub fn read(line: &[u8]) -> Option<BankLine>
+        ensures { ReadsBank (words_of line.now) result }
+    {
+        line_in(line)
+    }
+}
+
+fn line_in(line: &[u8]) -> Option<BankLine>
+    ensures { result ≡ said.bank_said (words_of line.now) }
+{
+    let mut words = Words::of(line);
+    let first = words.next_word()?;
+    if first == b"area".as_slice() {
+        area(&mut words)
+    } else if first == b"set".as_slice() {
+        cell(&mut words)
+    } else if first == b"trick".as_slice() {
+        frame(&mut words)
+    } else {
+        None
+    }
+}
+
+// `KIND START COUNT`.
+fn area(words: &mut Words<'_>) -> Option<BankLine>
+    ensures { result ≡ said.area_said words.old }
+{
+    let (kind, start, count) = kind_and_numbers(words)?;
+    Some(BankLine::Area(GivenArea { kind, start, count }))
+}
+
+// `KIND ADDRESS VALUE`.
+fn cell(words: &mut Words<'_>) -> Option<BankLine>
+    ensures { result ≡ said.set_said words.old }
+{
+    let (kind, address, value) = kind_and_numbers(words)?;
+    Some(BankLine::Set(GivenCell {
+        kind,
+        address,
+        value,
+    }))
+}
+
+// `N KIND`, or `N cut K`.
+fn frame(words: &mut Words<'_>) -> Option<BankLine>
+    ensures { result ≡ said.frame_said words.old }
+{
+    let frame = next_number(words)?;
+    let trick = trick_in(words)?;
+    Some(BankLine::Trick { frame, trick })
+}
+
+fn kind_and_numbers(words: &mut Words<'_>) -> Option<(Kind, u64, u64)>
+    ensures { result ≡ said.three_said words.old }
+{
+    let kind = kind_of(words.next_word()?)?;
+    let (first, second) = two(words)?;
+    Some((kind, first, second))
+}
+
+fn two(words: &mut Words<'_>) -> Option<(u64, u64)>
+    ensures { result ≡ said.two_said words.old }
+{
+    let first = next_number(words)?;
+    let second = next_number(words)?;
+    nothing_more(words)?;
+    Some((first, second))
+}
+
+fn kind_of(word: &[u8]) -> Option<Kind>
+    ensures { result ≡ said.kind_of word.now }
+{
+    if word == b"coil".as_slice() {
+        Some(Kind::Coil)
+    } else if word == b"discrete".as_slice() {
+        Some(Kind::Discrete)
+    } else if word == b"holding".as_slice() {
+        Some(Kind::Holding)
+    } else if word == b"input".as_slice() {
+        Some(Kind::Input)
+    } else {
+        None
+    }
+}
+
+fn trick_in(words: &mut Words<'_>) -> Option<Trick>
+    ensures { result ≡ said.trick_said words.old }
+{
+    let word = words.next_word()?;
+    if word == b"cut".as_slice() {
+        return cut(words);
+    }
+    let trick = plain_of(word)?;
+    nothing_more(words)?;
+    Some(trick)
+}
+
+// `K`, 0 to 259.
+fn cut(words: &mut Words<'_>) -> Option<Trick>
+    ensures { result ≡ said.cut_said words.old }
+{
+    let count = next_number(words)?;
+    nothing_more(words)?;
+    if count <= MOST_CUT {
+        Some(Trick::Cut(count as u16))
+    } else {
+        None
+    }
+}
+
+fn plain_of(word: &[u8]) -> Option<Trick>
+    ensures { result ≡ said.plain_of word.now }
+{
+    if word == b"drop".as_slice() {
+        Some(Trick::Drop)
+    } else if word == b"twice".as_slice() {
+        Some(Trick::Twice)
+    } else if word == b"later".as_slice() {
+        Some(Trick::Later)
+    } else if word == b"id".as_slice() {
+        Some(Trick::Id)
+    } else if word == b"unit".as_slice() {
+        Some(Trick::Unit)
+    } else if word == b"garble".as_slice() {
+        Some(Trick::Garble)
+    } else {
+        None
+    }
+}

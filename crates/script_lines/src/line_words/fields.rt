@@ -1,0 +1,103 @@
+//! What the next word of a line spells.
+ghost use Rattle.std.specs.Prelude.{◌≡◌, option_map};
+ghost use Rattle.script_lines.specs.LineWords.Fields.{AnyName, Number, Signed, Scale, Range, Moment, first_value, nothing_more};
+ghost use Rattle.script_lines.specs.LineWords.Values.{name_of, scale_of, signed_of};
+
+use crate::line_words::values::number;
+use crate::line_words::words::Words;
+use energy_core::MAX_RANGE;
+use office_events::{GivenScale, Name};
+
+// Any word: the name that it is, or none where the office knows no such names. An empty word is none.
+fn any_name(word: &[u8]) -> Option<Option<Name>>
+    ensures { result ≡ name_of word.now }
+{
+    match word {
+        [] => None,
+        _ => Some(Name::new(word)),
+    }
+}
+
+// A number, before which `-` may stand.
+fn signed_number(word: &[u8]) -> Option<i64>
+    ensures { result ≡ signed_of word.now }
+{
+    match word {
+        [b'-', digits @ ..] => {
+            let magnitude = number(digits)?;
+            Some(-(magnitude as i64))
+        }
+        _ => {
+            let magnitude = number(word)?;
+            Some(magnitude as i64)
+        }
+    }
+}
+
+// `@` and the address of a register, or a fixed scale.
+fn given_scale(word: &[u8]) -> Option<GivenScale>
+    ensures { result ≡ scale_of word.now }
+{
+    match word {
+        [b'@', digits @ ..] => Some(GivenScale::Register(number(digits)?)),
+        _ => Some(GivenScale::Fixed(signed_number(word)?)),
+    }
+}
+
+/// The name that the next word is, or none where it is no name.
+pub fn next_name(words: &mut Words<'_>) -> Option<Option<Name>>
+    ensures { option_map (λ name. (name, words.new)) result ≡ first_value AnyName words.old }
+{
+    any_name(words.next_word()?)
+}
+
+/// The number that the next word is.
+pub fn next_number(words: &mut Words<'_>) -> Option<u64>
+    ensures { option_map (λ number. (number, words.new)) result ≡ first_value Number words.old }
+{
+    number(words.next_word()?)
+}
+
+/// The number, before which `-` may stand, that the next word is.
+pub fn next_signed(words: &mut Words<'_>) -> Option<i64>
+    ensures { option_map (λ number. (number, words.new)) result ≡ first_value Signed words.old }
+{
+    signed_number(words.next_word()?)
+}
+
+/// The scale that the next word tells.
+pub fn next_scale(words: &mut Words<'_>) -> Option<GivenScale>
+    ensures { option_map (λ scale. (scale, words.new)) result ≡ first_value Scale words.old }
+{
+    given_scale(words.next_word()?)
+}
+
+/// The range of a meter, which may be missing.
+pub fn next_range(words: &mut Words<'_>) -> Option<u64>
+    ensures { option_map (λ range. (range, words.new)) result ≡ first_value Range words.old }
+{
+    match words.next_word() {
+        Some(word) => number(word),
+        None => Some(MAX_RANGE),
+    }
+}
+
+/// A moment, which may be missing.
+pub fn next_moment(words: &mut Words<'_>) -> Option<Option<u64>>
+    ensures { option_map (λ moment. (moment, words.new)) result ≡ first_value Moment words.old }
+{
+    match words.next_word() {
+        Some(word) => Some(Some(number(word)?)),
+        None => Some(None),
+    }
+}
+
+/// No word is left.
+pub fn nothing_more(words: &mut Words<'_>) -> Option<()>
+    ensures { result ≡ nothing_more words.old }
+{
+    match words.next_word() {
+        Some(_) => None,
+        None => Some(()),
+    }
+}

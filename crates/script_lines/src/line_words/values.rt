@@ -1,0 +1,63 @@
+//! What words spell.
+ghost use Rattle.std.specs.Prelude.{◌≡◌, ◌≤◌, IfOk, IfSome, IsErr, IsSome};
+ghost use Rattle.std.specs.List.{list_all};
+ghost use Rattle.hex.specs.Hex.{is_hex_digit};
+ghost use Rattle.script_lines.specs.LineWords.Values.{SpellsBytes, bytes_of, is_paired, number_of};
+
+use digits::number_of_digits;
+use std::alloc::{AllocError, Global};
+
+/// The greatest number that a word spells.
+const GREATEST: u64 = 9_223_372_036_854_775_807;
+
+/// The most digits of a number.
+const MOST_DIGITS: usize = 19;
+
+/// The most hex digits of a word.
+const MOST_HEX_DIGITS: usize = 131_072;
+
+/// The number that a word of one to nineteen digits spells, up to 2^63 - 1.
+pub fn number(word: &[u8]) -> Option<u64>
+    ensures value { result ≡ number_of word.now }
+    ensures most { IfSome result (λ value. value ≤ 9223372036854775807) }
+{
+    let value = number_of_digits(MOST_DIGITS, word)?;
+    if value <= GREATEST { Some(value) } else { None }
+}
+
+/// The bytes that a word of hex digits spells, in either case: one to 65,536 whole bytes.
+#[tactic(auto, using(crate::proofs::LineWordsLemmas::HexWords::no_bytes, crate::proofs::LineWordsLemmas::HexWords::hex_spells))]
+pub fn hex_bytes(alloc: Global, word: &[u8]) -> Result<Option<Vec<u8>>, AllocError>
+    ensures value { IfOk result (SpellsBytes word.now) }
+    ensures memory { IsErr result → IsSome (bytes_of word.now) }
+{
+    if word.is_empty() || word.len() > MOST_HEX_DIGITS {
+        return Ok(None);
+    }
+    if !is_hex(word) {
+        return Ok(None);
+    }
+    match hex::decode(alloc, word) {
+        Ok(bytes) => Ok(Some(bytes)),
+        Err(_) => Err(AllocError),
+    }
+}
+
+// Whether a word is pairs of hex digits.
+fn is_hex(word: &[u8]) -> bool
+    ensures { result ≡ is_paired word.now }
+{
+    word.len() % 2 == 0 && are_hex_digits(word)
+}
+
+fn are_hex_digits(word: &[u8]) -> bool
+    ensures { result ≡ list_all is_hex_digit word.now }
+{
+    word.iter().all(|&byte| is_hex_digit(byte))
+}
+
+fn is_hex_digit(byte: u8) -> bool
+    ensures { result ≡ is_hex_digit byte }
+{
+    matches!(byte, b'A'..=b'F' | b'a'..=b'f' | b'0'..=b'9')
+}

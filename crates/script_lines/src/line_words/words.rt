@@ -1,0 +1,56 @@
+//! The words of a line.
+ghost use Rattle.std.specs.Prelude.{◌≡◌, ◌==◌, position};
+
+use std::marker::Model;
+
+/// What stands between the spaces of a line, one at a time. Where two spaces stand side by side, or one
+/// at either end, there is an empty word.
+#[derive(Debug, Drop)]
+pub struct Words<'a> {
+    // What is left of the line, less a space before it; none once the last word was taken.
+    rest: Option<&'a [u8]>,
+}
+
+impl<'a> Model for Words<'a> {
+    ghost use Rattle.std.specs.Prelude.{ℕ, List, option_copied};
+    ghost use Rattle.script_lines.specs.LineWords.Words.{words_left};
+
+    ghost Value = { List (List ℕ) };
+
+    ghost view = { λ s. words_left (option_copied s.rest) };
+}
+
+impl<'a> Words<'a> {
+    ghost use Rattle.std.specs.Prelude.{[], ◌∷◌, MatchOption};
+    ghost use Rattle.script_lines.specs.LineWords.Words.{words_of};
+
+    pub fn of(line: &'a [u8]) -> Self
+        ensures { result ≡ words_of line.now }
+    {
+        Words { rest: Some(line) }
+    }
+
+    pub fn next_word(&mut self) -> Option<&'a [u8]>
+        ensures { MatchOption result
+            ((self.old ≡ []) × (self.new ≡ []))
+            (λ word. self.old ≡ word.now ∷ self.new) }
+    {
+        let rest = self.rest?;
+        match first_space(rest) {
+            Some(at) => {
+                self.rest = Some(&rest[at + 1..]);
+                Some(&rest[..at])
+            }
+            None => {
+                self.rest = None;
+                Some(rest)
+            }
+        }
+    }
+}
+
+fn first_space(line: &[u8]) -> Option<usize>
+    ensures { result ≡ position (λ byte. byte == 32) line.now }
+{
+    line.iter().position(|byte| *byte == b' ')
+}

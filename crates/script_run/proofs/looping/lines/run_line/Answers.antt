@@ -1,0 +1,14 @@
+use Rattle.std.proofs.Common.{inl, inr}
+use Rattle.script_lines.specs.LineWords.Words.{words_of}
+use Rattle.script_run.specs.Looping.Lines.{AreWrong, SaidPrints, SaysBytes, WordsPrint}
+use Rattle.script_run.proofs.LoopingLemmas.Carrying.{runs_as}
+use Rattle.script_run.proofs.looping.lines.run_line.Goals as goal
+
+pub returns-in-Ok : goal.returns-in-Ok
+returns-in-Ok g c =
+    let words = words_of c.args.line.now in
+    let said = c.in-Ok.said in
+    runs_as c.run_script_line.result (SaidPrints said) (WordsPrint words) (SaysBytes said) (AreWrong c.args.run.now.connected words) _ _
+    (λ now printed next prints. inr (c.in-None.ensures, said, c.in-Ok.ensures.is, prints))
+    (λ bytes. inr (c.in-None.ensures, inr (said, c.in-Ok.ensures.is, bytes)))
+    c.run_script_line.ensures

@@ -1,0 +1,5 @@
+use Rattle.stand_in.specs.Exchanges.{Exchanged}
+use Rattle.script_run.proofs.looping.wires.answer.Given as goal
+
+abbrev pub invariant-loop-turn : goal.invariant-loop-turn
+invariant-loop-turn g l = Exchanged l.fn.bank l.bank

@@ -1,0 +1,38 @@
+-- What the lines of a text set up, and what is printed of it.
+use Rattle.std.specs.Prelude.{◌≡◌, ◌⊎◌, ◌<◌, ◌≤◌, ℕ, Bool, true, false, List, [], ◌∷◌, ◌++◌, length, Ok, Err}
+use Rattle.std.specs.declared.result.Result.{Result}
+use Rattle.script_lines.specs.Bank.Forms.{IsBankLine}
+use Rattle.script_lines.specs.declared.bank.bank.BankLine.{BankLine}
+use Rattle.command_io.specs.Input.{most_bytes, too_long}
+use Rattle.command_io.specs.Lines.{Line, speaking_lines}
+use Rattle.command_io.specs.declared.status.Status.{Status}
+use Rattle.command_io.specs.declared.status.Status.TheVariants.{Refused}
+use Rattle.office_events.specs.declared.refusals.Refusal.TheVariants.{Limit}
+use Rattle.script_text.specs.AnswerText.{bad_line, refused_line}
+use Rattle.script_lines.specs.LineWords.Words.{words_of}
+use Rattle.script_run.specs.Bank.Settings.{Setting, after_line, takes}
+
+-- nothing is printed of a line that the bank takes
+abbrev pub taken_text : Bool → List ℕ
+taken_text true = []
+taken_text false = refused_line Limit
+
+-- a line that has none of the forms
+pub record IsBad (bad : Line) : Type 0 where
+  pub none : (said : BankLine) → IsBankLine (words_of bad.text) said → ⊥
+
+-- The lines are carried out one after the other, up to one that is none: that ends it, and prints its number.
+abbrev pub SetsUp : Setting → List Line → (printed : List ℕ) → (ended : Result Setting Status)
+    → Type 0
+SetsUp now [] printed ended = (printed ≡ []) × (ended ≡ Ok now)
+SetsUp now (first ∷ lines) printed ended =
+    (IsBad first × (printed ≡ bad_line first.number) × (ended ≡ Err Refused))
+    ⊎ ((said : BankLine) × IsBankLine (words_of first.text) said
+    × ((rest : List ℕ) × (printed ≡ taken_text (takes now.maps said) ++ rest)
+    × SetsUp (after_line now said) lines rest ended))
+
+-- an input sets up what its lines do, where it isn't too long
+pub record InputSetsUp (now : Setting) (input printed : List ℕ) (ended : Result Setting Status) :
+    Type 0 where
+  pub long : most_bytes < length input → (printed ≡ too_long) × (ended ≡ Err Refused)
+  pub lines : length input ≤ most_bytes → SetsUp now (speaking_lines input) printed ended

@@ -1,0 +1,66 @@
+-- What is printed of what comes back from the stand-in.
+use Rattle.std.specs.Prelude.{◌≡◌, ◌⊎◌, ◌≤◌, ◌++◌, ℕ, Bool, true, false, List, [], ◌∷◌, Option, Result, Ok, Err, codes, flat_map, is_ok, length}
+use Rattle.office_events.specs.declared.answers.Answer.{Answer}
+use Rattle.office_events.specs.declared.events.Event.{Event}
+use Rattle.office_events.specs.declared.events.Event.TheVariants as event
+use Rattle.office_events.specs.declared.refusals.Refusal.{Refusal}
+use Rattle.office_rules.specs.History.{History}
+use Rattle.office_rules.specs.Notes.{notes_after}
+use Rattle.script_run.specs.declared.looping.answers.Came.{Came}
+use Rattle.script_run.specs.declared.looping.answers.Came.TheVariants as came
+use Rattle.script_run.specs.declared.looping.wires.TheConstants.{MOST_TAKES}
+use Rattle.script_run.specs.Replaying.Events.{IsReply}
+use Rattle.script_run.specs.Replaying.Stages.{Stage, after_reply}
+use Rattle.script_text.specs.AnswerText.{note_line, refused_line}
+
+-- what the office is fed of it
+abbrev pub fed : (device : Option (List ℕ)) → Came → Event
+fed device (came.Piece bytes) = event.Bytes device bytes
+fed device (came.Over closing) = event.Gone device closing
+
+-- the notes of an accepted event, or the number of the refusal
+abbrev pub fed_text : History → (at : ℕ) → Event → Result Answer Refusal → List ℕ
+fed_text past at e (Ok given) = flat_map note_line (notes_after past at e (Ok given))
+fed_text past at e (Err why) = refused_line why
+
+-- an event is fed, and accepted or not
+pub record FedPrints (now : Stage) (at : ℕ) (e : Event) (accepted : Bool) (printed : List ℕ)
+    (next : Stage)
+    : Type 0 where
+  pub reply : Result Answer Refusal
+  pub is : IsReply now at e reply
+  pub accepts : accepted ≡ is_ok reply
+  pub text : printed ≡ fed_text now.past at e reply
+  pub after : next ≡ after_reply now at e reply
+
+-- What came back was fed piece by piece and accepted; the list has the latest first.
+abbrev pub FedAll : (device : Option (List ℕ)) → (at : ℕ) → Stage → List Came → (printed : List ℕ)
+    → (next : Stage) → Type 0
+FedAll device at now [] printed next = (printed ≡ []) × (next ≡ now)
+FedAll device at now (latest ∷ earlier) printed next =
+    (before here : List ℕ) × (mid : Stage) × FedAll device at now earlier before mid
+    × FedPrints mid at (fed device latest) true here next × (printed ≡ before ++ here)
+
+-- Then `ok` is printed, or what came next was refused.
+abbrev pub FedEnds : (device : Option (List ℕ)) → (at : ℕ) → Stage → (printed : List ℕ)
+    → (next : Stage) → Type 0
+FedEnds device at now printed next =
+    ((printed ≡ codes "ok\n") × (next ≡ now))
+    ⊎ ((last : Came) × FedPrints now at (fed device last) false printed next)
+
+-- how often something is taken from the connection for a start
+abbrev pub most_takes : ℕ
+most_takes = MOST_TAKES
+
+-- What comes back on a device's connection is fed, and prints this.
+pub record AnswersPrint (device : Option (List ℕ)) (at : ℕ) (now : Stage) (printed : List ℕ)
+    (next : Stage)
+    : Type 0 where
+  pub brought : List Came
+  pub before : List ℕ
+  pub mid : Stage
+  pub all : FedAll device at now brought before mid
+  pub few : length brought ≤ most_takes
+  pub ending : List ℕ
+  pub ends : FedEnds device at mid ending next
+  pub text : printed ≡ before ++ ending

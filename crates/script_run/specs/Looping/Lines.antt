@@ -1,0 +1,165 @@
+-- What a line of a loop prints, and where the loop stands then.
+use Rattle.std.specs.Prelude.{◌≡◌, ◌⊎◌, ◌++◌, ℕ, Bool, true, false, List, Option, Some, None, Result, Ok, Err, codes}
+use Rattle.script_lines.specs.Bank.Forms.{IsBankLine}
+use Rattle.script_lines.specs.declared.bank.bank.BankLine.{BankLine}
+use Rattle.script_lines.specs.declared.bank.bank.BankLine.TheVariants as bank
+use Rattle.script_run.specs.Bank.Settings.{takes, with_area, with_cell}
+use Rattle.mb_device.specs.Maps.{Maps}
+use Rattle.mb_wire.specs.Spans.{IsSpan}
+use Rattle.mb_wire.specs.declared.span.ReadSpan.{ReadSpan}
+use Rattle.office_events.specs.declared.answers.Answer.{Answer}
+use Rattle.office_events.specs.declared.commands.Command.{Command}
+use Rattle.office_events.specs.declared.commands.Command.TheVariants as command
+use Rattle.office_events.specs.declared.events.Event.{Event}
+use Rattle.office_events.specs.declared.events.Event.TheVariants as event
+use Rattle.office_events.specs.declared.refusals.Refusal.{Refusal}
+use Rattle.office_events.specs.declared.refusals.Refusal.TheVariants as refusal
+use Rattle.script_lines.specs.Forms.{IsLine}
+use Rattle.script_lines.specs.declared.script.GivenStart.{GivenStart}
+use Rattle.script_lines.specs.declared.script.ScriptLine.{ScriptLine}
+use Rattle.script_lines.specs.declared.script.ScriptLine.TheVariants as line
+use Rattle.script_run.specs.Replaying.Events.{EventPrints, IsRefused, IsReply, IsSpanOf, reply_text, start_event}
+use Rattle.script_run.specs.Replaying.Lines.{LinePrints}
+use Rattle.script_run.specs.Replaying.Stages.{after_reply}
+use Rattle.script_text.specs.AnswerText.{refused_line}
+use Rattle.script_run.specs.Looping.Answers.{AnswersPrint}
+use Rattle.stand_in.specs.Exchanges.{Exchanged}
+use Rattle.script_run.specs.Looping.Standings.{LoopStage}
+
+-- An area and a trick stand before the first line that connects.
+abbrev pub MayStand : (connected : Bool) → BankLine → Type 0
+MayStand connected (bank.Area area) = connected ≡ false
+MayStand connected (bank.Set cell) = Unit {0}
+MayStand connected (bank.Trick frame trick) = connected ≡ false
+
+abbrev pub MayNotStand : (connected : Bool) → BankLine → Type 0
+MayNotStand connected (bank.Area area) = connected ≡ true
+MayNotStand connected (bank.Set cell) = ⊥
+MayNotStand connected (bank.Trick frame trick) = connected ≡ true
+
+abbrev pub taken_text : Bool → List ℕ
+taken_text true = codes "ok\n"
+taken_text false = refused_line refusal.Limit
+
+abbrev pub maps_with : Maps → BankLine → Maps
+maps_with maps (bank.Area area) = with_area maps area
+maps_with maps (bank.Set cell) = with_cell maps cell
+maps_with maps (bank.Trick frame trick) = maps
+
+-- A line of the bank prints whether the bank takes it.
+pub record BankPrints (said : BankLine) (now : LoopStage) (printed : List ℕ) (next : LoopStage)
+    : Type 0 where
+  pub stands : MayStand now.connected said
+  pub text : printed ≡ taken_text (takes now.maps said)
+  pub script : next.script ≡ now.script
+  pub maps : next.maps ≡ maps_with now.maps said
+  pub connected : next.connected ≡ now.connected
+
+-- The stand-in has no part in it.
+pub record StandsBy (now next : LoopStage) : Type 0 where
+  pub maps : next.maps ≡ now.maps
+  pub connected : next.connected ≡ now.connected
+
+-- Where a start is accepted, what was started is printed, its frames go to the stand-in, and what comes back is fed.
+abbrev pub Started : Result Answer Refusal → (at : ℕ) → (device : Option (List ℕ)) → Event
+    → (now : LoopStage)
+    → (printed : List ℕ) → (next : LoopStage) → Type 0
+Started (Ok given) at device e now printed next =
+    (rest : List ℕ) × (printed ≡ reply_text now.script.past at e (Ok given) ++ rest)
+    × AnswersPrint device at (after_reply now.script at e (Ok given)) rest next.script
+    × Exchanged now.maps next.maps
+Started (Err why) at device e now printed next =
+    (printed ≡ refused_line why) × (next.script ≡ after_reply now.script at e (Err why))
+    × (next.maps ≡ now.maps)
+
+pub record StartsPrint (at : ℕ) (device : Option (List ℕ)) (e : Event) (now : LoopStage)
+    (printed : List ℕ) (next : LoopStage) : Type 0 where
+  pub reply : Result Answer Refusal
+  pub is : IsReply now.script at e reply
+  pub started : Started reply at device e now printed next
+  pub connected : next.connected ≡ now.connected
+
+-- any other event prints the office's reply
+pub record PlainPrints (at : ℕ) (e : Event) (now : LoopStage) (printed : List ℕ) (next : LoopStage)
+    : Type 0 where
+  pub prints : EventPrints now.script at e printed next.script
+  pub by : StandsBy now next
+
+-- so does a connection, and from then on a line has asked for one
+pub record ConnectPrints (at : ℕ) (e : Event) (now : LoopStage) (printed : List ℕ)
+    (next : LoopStage)
+    : Type 0 where
+  pub prints : EventPrints now.script at e printed next.script
+  pub maps : next.maps ≡ now.maps
+  pub connected : next.connected ≡ true
+
+-- the device of whose plan a command starts reads
+abbrev pub round_of : Command → Option (Option (List ℕ))
+round_of (command.StartRound round) = Some round.device
+round_of other = None
+
+abbrev pub CommandPrints : (round : Option (Option (List ℕ))) → (at : ℕ) → Event → (now : LoopStage)
+    → (printed : List ℕ) → (next : LoopStage) → Type 0
+CommandPrints (Some device) at e now printed next = StartsPrint at device e now printed next
+CommandPrints None at e now printed next = PlainPrints at e now printed next
+
+-- A line has no bytes of a device: they are the stand-in's.
+abbrev pub HappensPrints : (at : ℕ) → Event → (now : LoopStage) → (printed : List ℕ)
+    → (next : LoopStage) → Type 0
+HappensPrints at (event.Connected device) now printed next =
+    ConnectPrints at (event.Connected device) now printed next
+HappensPrints at (event.Bytes device piece) now printed next = ⊥
+HappensPrints at event.Tick now printed next = PlainPrints at event.Tick now printed next
+HappensPrints at (event.Gone device closing) now printed next =
+    PlainPrints at (event.Gone device closing) now printed next
+HappensPrints at (event.Command asked) now printed next =
+    CommandPrints (round_of asked) at (event.Command asked) now printed next
+HappensPrints at (event.Asked asked) now printed next =
+    PlainPrints at (event.Asked asked) now printed next
+
+abbrev pub IsBytes : Event → Type 0
+IsBytes (event.Bytes device piece) = Unit {0}
+IsBytes other = ⊥
+
+-- A start prints so where its numbers are registers that can be read, and else that it is refused.
+abbrev pub ReadPrints : (at : ℕ) → GivenStart → (now : LoopStage) → (printed : List ℕ)
+    → (next : LoopStage) → Type 0
+ReadPrints at start now printed next =
+    ((span : ReadSpan) × IsSpanOf start span
+    × StartsPrint at start.device (start_event start span) now printed next)
+    ⊎ ((IsSpan start.function start.address start.count → ⊥)
+    × IsRefused now.script printed next.script × StandsBy now next)
+
+-- a line that a script prints alike
+pub record AlikePrints (said : ScriptLine) (now : LoopStage) (printed : List ℕ) (next : LoopStage)
+    : Type 0 where
+  pub prints : LinePrints now.script said printed next.script
+  pub by : StandsBy now next
+
+abbrev pub SaidPrints : ScriptLine → (now : LoopStage) → (printed : List ℕ) → (next : LoopStage)
+    → Type 0
+SaidPrints (line.Event at e) now printed next = HappensPrints at e now printed next
+SaidPrints (line.Start at start) now printed next = ReadPrints at start now printed next
+SaidPrints said now printed next = AlikePrints said now printed next
+
+abbrev pub SaysBytes : ScriptLine → Type 0
+SaysBytes (line.Event at e) = IsBytes e
+SaysBytes other = ⊥
+
+abbrev pub IsNoBankLine : List (List ℕ) → Type 0
+IsNoBankLine words = (said : BankLine) → IsBankLine words said → ⊥
+
+-- Words that are a line of the bank or of a script, carried out.
+abbrev pub WordsPrint : List (List ℕ) → (now : LoopStage) → (printed : List ℕ) → (next : LoopStage)
+    → Type 0
+WordsPrint words now printed next =
+    ((said : BankLine) × IsBankLine words said × BankPrints said now printed next)
+    ⊎ (IsNoBankLine words × (said : ScriptLine) × IsLine words said
+    × SaidPrints said now printed next)
+
+-- Words that are none, or may not stand where they do.
+abbrev pub AreWrong : (connected : Bool) → List (List ℕ) → Type 0
+AreWrong connected words =
+    ((said : BankLine) × IsBankLine words said × MayNotStand connected said)
+    ⊎ (IsNoBankLine words × (((said : ScriptLine) → IsLine words said → ⊥)
+    ⊎ ((said : ScriptLine) × IsLine words said × SaysBytes said)))

@@ -1,0 +1,66 @@
+-- Where a loop stands, and what it has written.
+use Rattle.std.specs.Prelude.{◌≡◌, ℕ, Bool, List, Option, Result, Ok, Err, ⊤}
+use Rattle.std.specs.Io.KnownBytes.{Appends}
+use Rattle.mb_device.specs.Maps.{Maps}
+use Rattle.office_core.specs.Standing.{Stands}
+use Rattle.office_core.specs.declared.office.Office.{Office}
+use Rattle.office_lists.specs.Listed.{ledger_of}
+use Rattle.office_lists.specs.declared.list_books.ListBooks.{ListBooks}
+use Rattle.office_rules.specs.History.{History}
+use Rattle.script_run.specs.Replaying.TextRun.{stage_of}
+use Rattle.script_run.specs.Replaying.Stages.{Stage}
+
+-- Where the script stands, what the stand-in holds, and whether a line has asked for a connection.
+pub record LoopStage : Type 0 where
+  pub script : Stage
+  pub maps : Maps
+  pub connected : Bool
+
+-- what a run is under way with, and what was written
+pub record Desk : Type 0 where
+  pub office : Office ListBooks
+  pub maps : Maps
+  pub connected : Bool
+  pub output : Option (List ℕ)
+
+abbrev pub desk : Office ListBooks → Maps → (connected : Bool) → (output : Option (List ℕ)) → Desk
+desk office maps connected output =
+    record { office = office; maps = maps; connected = connected; output = output }
+
+abbrev pub stage_on : History → Desk → LoopStage
+stage_on past here =
+    record { script = stage_of past here.office; maps = here.maps; connected = here.connected }
+
+-- This was printed, and the office stands after it.
+pub record CarriedOut (Prints : LoopStage → List ℕ → LoopStage → Type 0) (past : History)
+    (from to : Desk)
+    : Type 0 where
+  pub printed : List ℕ
+  pub after : History
+  pub prints : Prints (stage_on past from) printed (stage_on after to)
+  pub appended : Appends from.output to.output printed
+  pub stands : Stands ledger_of after to.office
+
+-- Whoever asks carries it out, after every past after which the office stood; unless the writer or memory failed, of which
+-- nothing is said.
+abbrev pub CarriesOut : {X E : Type 0} → Result X E → (X → LoopStage → List ℕ → LoopStage → Type 0)
+    → (from to : Desk) → Type 0
+CarriesOut (Ok x) Prints from to =
+    (past : History) → Stands ledger_of past from.office → CarriedOut (Prints x) past from to
+CarriesOut (Err error) Prints from to = ⊤
+
+-- So it is where only the script goes on.
+pub record Carried (Prints : Stage → List ℕ → Stage → Type 0) (past : History)
+    (office office' : Office ListBooks) (output output' : Option (List ℕ)) : Type 0 where
+  pub printed : List ℕ
+  pub after : History
+  pub prints : Prints (stage_of past office) printed (stage_of after office')
+  pub appended : Appends output output' printed
+  pub stands : Stands ledger_of after office'
+
+abbrev pub Carries : {X E : Type 0} → Result X E → (X → Stage → List ℕ → Stage → Type 0)
+    → (office office' : Office ListBooks) → (output output' : Option (List ℕ)) → Type 0
+Carries (Ok x) Prints office office' output output' =
+    (past : History) → Stands ledger_of past office
+    → Carried (Prints x) past office office' output output'
+Carries (Err error) Prints office office' output output' = ⊤

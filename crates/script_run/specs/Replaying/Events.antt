@@ -1,0 +1,91 @@
+-- What an event of a script prints.
+use Rattle.std.specs.Prelude.{◌≡◌, ◌≢◌, ◌⊎◌, ℕ, false, List, [], ◌++◌, flat_map, Result, Ok, Err}
+use Rattle.mb_wire.specs.Spans.{IsSpan, code_of}
+use Rattle.mb_wire.specs.declared.span.ReadSpan.{ReadSpan}
+use Rattle.read_plan.specs.PlannedLists.{IsPlanned, Planned}
+use Rattle.point_list.specs.Lists.{SpellsList, list_faults, rows_read}
+use Rattle.point_list.specs.declared.fault.FaultyRow.{FaultyRow}
+use Rattle.office_events.specs.declared.answers.Answer.{Answer}
+use Rattle.office_events.specs.declared.commands.Command.TheVariants.{StartPoll, PutList}
+use Rattle.office_events.specs.declared.events.Event.{Event}
+use Rattle.office_events.specs.declared.events.Event.TheVariants.{Command}
+use Rattle.office_events.specs.declared.refusals.Refusal.{Refusal}
+use Rattle.office_events.specs.declared.refusals.Refusal.TheVariants as refusal
+use Rattle.office_rules.specs.History.{History}
+use Rattle.office_rules.specs.Notes.{notes_after, outgoing_after}
+use Rattle.office_rules.specs.Refusals.{decision_of}
+use Rattle.office_core.specs.Failing.{is_failure}
+use Rattle.office_core.specs.Taking.{SettlesNothing}
+use Rattle.script_lines.specs.declared.script.GivenList.{GivenList}
+use Rattle.script_lines.specs.declared.script.GivenStart.{GivenStart}
+use Rattle.script_run.specs.Replaying.Stages.{Stage, Fails, TellsStop, after_reply}
+use Rattle.script_text.specs.AnswerText.{accepted_text, fault_line, refused_line}
+
+-- The office replies as its definition says, or it failed. What settles nothing in an office that goes
+-- on never fails.
+pub record IsReply (now : Stage) (at : ℕ) (e : Event) (reply : Result Answer Refusal) : Type 0 where
+  pub answer : (reply ≡ decision_of now.past at e) ⊎ Fails reply
+  pub stops : TellsStop now reply
+  pub quiet : now.stopped ≡ false → SettlesNothing now.past at e → is_failure reply ≡ false
+
+-- The notes of an accepted event and its answer, or the number of the refusal.
+abbrev pub reply_text : History → (at : ℕ) → Event → Result Answer Refusal → List ℕ
+reply_text past at e (Ok given) =
+    accepted_text given (notes_after past at e (Ok given)) (outgoing_after past at e (Ok given))
+reply_text past at e (Err why) = refused_line why
+
+-- An event prints the office's reply.
+pub record EventPrints (now : Stage) (at : ℕ) (e : Event) (printed : List ℕ) (next : Stage)
+    : Type 0 where
+  pub reply : Result Answer Refusal
+  pub is : IsReply now at e reply
+  pub text : printed ≡ reply_text now.past at e reply
+  pub after : next ≡ after_reply now at e reply
+
+-- the registers of a start's numbers
+pub record IsSpanOf (start : GivenStart) (span : ReadSpan) : Type 0 where
+  pub function : code_of span.function ≡ start.function
+  pub address : span.address ≡ start.address
+  pub count : span.count ≡ start.count
+
+abbrev pub start_event : GivenStart → ReadSpan → Event
+start_event start span = Command (StartPoll (record { device = start.device; span = span }))
+
+-- The office isn't asked.
+pub record IsRefused (now : Stage) (printed : List ℕ) (next : Stage) : Type 0 where
+  pub text : printed ≡ refused_line refusal.Limit
+  pub same : next ≡ now
+
+-- A start prints the office's reply to it, where its numbers are registers that can be read, and else
+-- that it is refused.
+abbrev pub StartPrints : Stage → (at : ℕ) → GivenStart → (printed : List ℕ) → (next : Stage)
+    → Type 0
+StartPrints now at start printed next =
+    ((span : ReadSpan) × IsSpanOf start span
+    × EventPrints now at (start_event start span) printed next)
+    ⊎ ((IsSpan start.function start.address start.count → ⊥) × IsRefused now printed next)
+
+-- the faulty rows of a text
+abbrev pub faults_of : List ℕ → List FaultyRow
+faults_of text = list_faults (rows_read text)
+
+abbrev pub list_event : GivenList → Planned → Event
+list_event list planned = Command (PutList (record { device = list.device; list = planned }))
+
+-- The text spells a list, with the reads of its plan.
+pub record IsListOf (text : List ℕ) (list : Planned) : Type 0 where
+  pub points : SpellsList text list.points
+  pub planned : IsPlanned list
+
+-- A line for each faulty row, and then that the list is refused; the office isn't asked.
+pub record FaultsPrint (now : Stage) (text printed : List ℕ) (next : Stage) : Type 0 where
+  pub some : faults_of text ≢ []
+  pub lines : printed ≡ flat_map fault_line (faults_of text) ++ refused_line refusal.Limit
+  pub same : next ≡ now
+
+-- A list prints the office's reply to it, or else each of its faulty rows.
+abbrev pub ListPrints : Stage → (at : ℕ) → GivenList → (printed : List ℕ) → (next : Stage) → Type 0
+ListPrints now at list printed next =
+    ((planned : Planned) × IsListOf list.text planned
+    × EventPrints now at (list_event list planned) printed next)
+    ⊎ FaultsPrint now list.text printed next

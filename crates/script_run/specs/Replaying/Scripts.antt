@@ -1,0 +1,53 @@
+-- What a script prints, and the exit status. This is what a run of a script promises.
+use Rattle.std.specs.Prelude.{◌≡◌, ◌⊎◌, ◌<◌, ◌≤◌, ℕ, List, [], ◌∷◌, ◌++◌, length}
+use Rattle.command_io.specs.Input.{most_bytes, too_long}
+use Rattle.command_io.specs.Lines.{Line, speaking_lines}
+use Rattle.command_io.specs.declared.status.Status.{Status}
+use Rattle.command_io.specs.declared.status.Status.TheVariants.{Fine, Refused}
+use Rattle.interval_core.specs.declared.zone.Zone.{Zone}
+use Rattle.office_events.specs.declared.refusals.Refusal.TheVariants as refusal
+use Rattle.script_lines.specs.LineWords.Words.{words_of}
+use Rattle.script_run.specs.Replaying.Lines.{BadPrints, BeginsText, LineBegins, WordsPrint}
+use Rattle.script_run.specs.Replaying.Stages.{Stage, beginning}
+use Rattle.script_text.specs.AnswerText.{refused_line}
+
+-- The lines of a script print one after the other, from where it stands. A line that is none ends
+-- the run.
+abbrev pub ScriptPrints : Stage → List Line → (printed : List ℕ) → Status → Type 0
+ScriptPrints now [] printed status = (printed ≡ []) × (status ≡ Fine)
+ScriptPrints now (first ∷ lines) printed status =
+    (BadPrints first printed × (status ≡ Refused))
+    ⊎ ((here rest : List ℕ) × (next : Stage) × WordsPrint now (words_of first.text) here next
+    × ScriptPrints next lines rest status × (printed ≡ here ++ rest))
+
+-- What is there of it where a run was broken off: what some first lines print, and the beginning of
+-- what the next one prints.
+abbrev pub ScriptBegins : Stage → List Line → (part : List ℕ) → Type 0
+ScriptBegins now [] part = part ≡ []
+ScriptBegins now (first ∷ lines) part =
+    LineBegins now first part
+    ⊎ ((here rest : List ℕ) × (next : Stage) × WordsPrint now (words_of first.text) here next
+    × ScriptBegins next lines rest × (part ≡ here ++ rest))
+
+-- what is printed where memory was wanting for an office
+abbrev pub no_office : List ℕ
+no_office = refused_line refusal.Memory
+
+-- A text prints what its lines print, or that there is no office.
+abbrev pub TextPrints : Zone → (text printed : List ℕ) → Status → Type 0
+TextPrints zone text printed status =
+    ((printed ≡ no_office) × (status ≡ Refused))
+    ⊎ ScriptPrints (beginning zone) (speaking_lines text) printed status
+
+abbrev pub TextBegins : Zone → (text part : List ℕ) → Type 0
+TextBegins zone text part =
+    BeginsText part no_office ⊎ ScriptBegins (beginning zone) (speaking_lines text) part
+
+-- An input prints what its text prints, where it isn't too long.
+pub record ReplayPrints (zone : Zone) (input printed : List ℕ) (status : Status) : Type 0 where
+  pub long : most_bytes < length input → (status ≡ Refused) × (printed ≡ too_long)
+  pub text : length input ≤ most_bytes → TextPrints zone input printed status
+
+pub record ReplayBegins (zone : Zone) (input part : List ℕ) : Type 0 where
+  pub long : most_bytes < length input → BeginsText part too_long
+  pub text : length input ≤ most_bytes → TextBegins zone input part

@@ -1,0 +1,149 @@
+//! What lines have set up.
+ghost use Rattle.std.specs.Prelude.{◌≡◌, IfOk, OnErr};
+ghost use Rattle.script_run.specs.Bank.Settings as setting;
+
+use mb_device::{Area, Bank, Trick};
+use script_lines::{BankLine, GivenArea, GivenCell};
+use std::alloc::{AllocError, Global};
+use std::marker::Model;
+
+/// A stand-in: what it holds, and what becomes of its answers.
+#[derive(Drop)]
+pub struct Setup {
+    bank: Bank,
+    tricks: Vec<(u64, Trick)>,
+}
+
+impl Model for Setup {
+    ghost use Rattle.script_run.specs.Bank.Settings.{Setting};
+
+    ghost Value = { Setting };
+
+    ghost view = { λ s. record { maps = s.bank; tricks = s.tricks.items } };
+}
+
+/// A stand-in, taken apart.
+#[derive(Drop)]
+pub struct SetupParts {
+    pub bank: Bank,
+    /// The first trick with the number of a frame is played on its answer.
+    pub tricks: Vec<(u64, Trick)>,
+}
+
+// An area of the bank with these numbers, where there can be one.
+fn area_of(given: GivenArea) -> Option<Area>
+    ensures { result ≡ setting.area_of given }
+{
+    let GivenArea { kind, start, count } = given;
+    if start <= 65535 && count <= 4_294_967_295 {
+        Some(Area {
+            kind,
+            start: start as u16,
+            count: count as u32,
+        })
+    } else {
+        None
+    }
+}
+
+impl Setup {
+    ghost use Rattle.script_run.specs.Bank.Settings.{IsUnset, after_area, after_cell, after_line, takes, takes_area, takes_cell};
+
+    /// A stand-in that has no addresses yet, and plays no tricks.
+    pub fn new(alloc: Global) -> Result<Setup, AllocError>
+        ensures { IfOk result IsUnset }
+    {
+        let bank = empty_bank(alloc)?;
+        Ok(Setup {
+            bank,
+            tricks: Vec::new(alloc),
+        })
+    }
+
+    pub fn into_parts(self) -> SetupParts
+        ensures bank { result.bank ≡ self.maps }
+        ensures tricks { result.tricks.items ≡ self.tricks }
+    {
+        let Setup { bank, tricks } = self;
+        SetupParts { bank, tricks }
+    }
+
+    // Adds an area, where the bank takes it.
+    fn add_area(&mut self, given: GivenArea) -> bool
+        ensures taken { result ≡ takes_area self.old.maps given }
+        ensures after { self.new ≡ after_area self.old given }
+    {
+        add_in(&mut self.bank, given)
+    }
+
+    /// Keeps a value, and says whether the bank has the address and takes the value.
+    pub fn set_cell(&mut self, given: GivenCell) -> bool
+        ensures taken { result ≡ takes_cell self.old.maps given }
+        ensures after { self.new ≡ after_cell self.old given }
+    {
+        set_in(&mut self.bank, given)
+    }
+
+    fn add_trick(&mut self, frame: u64, trick: Trick) -> Result<(), AllocError>
+        ensures done { IfOk result (λ done. self.new ≡ setting.with_trick self.old frame trick) }
+        ensures kept { OnErr result (self.new ≡ self.old) }
+    {
+        self.tricks.push((frame, trick))?;
+        Ok(())
+    }
+
+    /// Carries out a line, and says whether the bank takes it; one that it does not take changes nothing. Tricks are
+    /// always taken.
+    pub fn carry_out(&mut self, line: &BankLine) -> Result<bool, AllocError>
+        ensures taken { IfOk result (λ taken. taken ≡ takes self.old.maps line.now) }
+        ensures after { IfOk result (λ taken. self.new ≡ after_line self.old line.now) }
+        ensures kept { OnErr result (self.new ≡ self.old) }
+    {
+        match *line {
+            BankLine::Area(area) => Ok(self.add_area(area)),
+            BankLine::Set(cell) => Ok(self.set_cell(cell)),
+            BankLine::Trick { frame, trick } => {
+                self.add_trick(frame, trick)?;
+                Ok(true)
+            }
+        }
+    }
+}
+
+/// A bank that has no addresses.
+pub fn empty_bank(alloc: Global) -> Result<Bank, AllocError>
+    ensures { IfOk result setting.AreUnset }
+{
+    match Bank::new(alloc, &[]) {
+        Ok(bank) => Ok(bank),
+        Err(_) => Err(AllocError),
+    }
+}
+
+/// Adds an area to a bank, with all values 0, and says whether the bank takes it.
+pub fn add_in(bank: &mut Bank, given: GivenArea) -> bool
+    ensures taken { result ≡ setting.takes_area bank.old given }
+    ensures after { bank.new ≡ setting.with_area bank.old given }
+{
+    match area_of(given) {
+        Some(area) => bank.add(&area).is_ok(),
+        None => false,
+    }
+}
+
+/// Keeps a value in a bank, and says whether the bank has the address and takes the value.
+pub fn set_in(bank: &mut Bank, given: GivenCell) -> bool
+    ensures taken { result ≡ setting.takes_cell bank.old given }
+    ensures after { bank.new ≡ setting.with_cell bank.old given }
+{
+    let GivenCell {
+        kind,
+        address,
+        value,
+    } = given;
+    if address <= 65535 && value <= 65535 {
+        bank.set(kind, address as u16, value as u16)
+    } else {
+        false
+    }
+}

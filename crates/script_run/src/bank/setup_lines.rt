@@ -1,0 +1,82 @@
+//! Reading what lines set up.
+ghost use Rattle.script_run.specs.Bank.Running as running;
+
+use crate::bank::setup::Setup;
+use command_io::{InputLines, Status, read_input};
+use office_events::Refusal;
+use script_lines::BankLine;
+use script_text::{write_bad_line, write_refusal};
+use std::alloc::Global;
+use std::io::{Read, Write};
+
+// Carries out a line, and prints `refused 12` where the bank does not take it.
+fn carry_out<W: Write>(setup: &mut Setup, said: &BankLine, output: &mut W) -> Result<(), Status>
+    ensures { running.Carries setup.old said.now result setup.new
+        (W.contents output.old) (W.contents output.new) }
+{
+    match setup.carry_out(said) {
+        Ok(true) => Ok(()),
+        Ok(false) => match write_refusal(Refusal::Limit, output) {
+            Ok(()) => Ok(()),
+            Err(_) => Err(Status::Failed),
+        },
+        Err(_) => Err(Status::Failed),
+    }
+}
+
+// Carries out the line of a text, or says how it ends.
+fn run_line<W: Write>(
+    setup: &mut Setup,
+    number: u64,
+    line: &[u8],
+    output: &mut W,
+) -> Result<(), Status>
+    ensures { running.LineRuns setup.old (record { number = number; text = line.now }) result
+        setup.new (W.contents output.old) (W.contents output.new) }
+{
+    match BankLine::read(line) {
+        Some(said) => carry_out(setup, &said, output),
+        None => match write_bad_line(number, output) {
+            Ok(()) => Err(Status::Refused),
+            Err(_) => Err(Status::Failed),
+        },
+    }
+}
+
+// Carries out the lines of a text.
+fn run_text<W: Write>(setup: &mut Setup, text: &[u8], output: &mut W) -> Result<(), Status>
+    ensures { running.TextRuns setup.old text.now result setup.new
+        (W.contents output.old) (W.contents output.new) }
+{
+    let mut lines = InputLines::of(text);
+    while let Some(line) = lines.next_line() {
+        match run_line(setup, line.number, line.text, output) {
+            Ok(()) => {}
+            Err(status) => return Err(status),
+        }
+    }
+    Ok(())
+}
+
+/// Sets a stand-in up by the lines of an input, and prints `refused 12` for each line that the bank does not take. A line
+/// that is none prints `bad line N` and ends it, as `too long` does for an input of more than `MOST_BYTES` bytes: Refused.
+/// Failed where the input or the output fails, or memory ran out.
+pub fn set_up<R: Read, W: Write>(
+    alloc: Global,
+    input: &mut R,
+    output: &mut W,
+) -> Result<Setup, Status>
+    ensures { running.SetUp (R.remaining input.old) result
+        (W.contents output.old) (W.contents output.new) }
+{
+    let Ok(mut setup) = Setup::new(alloc) else {
+        return Err(Status::Failed);
+    };
+    match read_input(alloc, input, output) {
+        Ok(text) => match run_text(&mut setup, &text, output) {
+            Ok(()) => Ok(setup),
+            Err(status) => Err(status),
+        },
+        Err(status) => Err(status),
+    }
+}

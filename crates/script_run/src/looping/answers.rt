@@ -1,0 +1,122 @@
+//! What comes back from the stand-in.
+ghost use Rattle.std.specs.Prelude.{OnOk, codes};
+ghost use Rattle.std.specs.Io.KnownBytes.{Appends};
+ghost use Rattle.script_run.specs.Looping.Answers.{AnswersPrint, FedPrints};
+ghost use Rattle.script_run.specs.Looping.Standings.{Carries};
+
+use crate::looping::wires::MOST_TAKES;
+use mb_wire::{Link, MAX_ADU, Took};
+use office_core::Office;
+use office_events::{Event, Name, Piece};
+use office_lists::ListBooks;
+use poll_core::Closing;
+use script_text::{write_notes, write_refusal};
+use std::alloc::{AllocError, Global};
+use std::io::{self, Write};
+
+/// What came back from the stand-in.
+#[derive(Drop)]
+pub(crate) enum Came {
+    Piece(Piece),
+    /// The connection ended.
+    Over(Closing),
+}
+
+impl Came {
+    ghost use Rattle.std.specs.Prelude.{◌≡◌};
+    ghost use Rattle.script_run.specs.Looping.Answers.{fed};
+
+    fn is_over(&self) -> bool {
+        match self {
+            Came::Piece(_) => false,
+            Came::Over(_) => true,
+        }
+    }
+
+    // What the office is fed of it.
+    fn into_event(self, device: &Option<Name>) -> Event
+        ensures { result ≡ fed device.now self }
+    {
+        match self {
+            Came::Piece(piece) => Event::Bytes(*device, piece),
+            Came::Over(closing) => Event::Gone(*device, closing),
+        }
+    }
+}
+
+// What the near end of a connection brings, unless it is idle.
+fn next_came<L: Link>(alloc: Global, near: &mut L) -> Result<Option<Came>, AllocError> {
+    let mut piece = [0; MAX_ADU];
+    match near.take(&mut piece) {
+        Ok(Took::Bytes(count)) => {
+            let bytes = Vec::from_slice(alloc, &piece[..count])?;
+            Ok(Some(Came::Piece(Piece::new(bytes))))
+        }
+        Ok(Took::Idle) => Ok(None),
+        Ok(Took::End) => Ok(Some(Came::Over(Closing::Gone))),
+        Err(_) => Ok(Some(Came::Over(Closing::Failed))),
+    }
+}
+
+// Feeds an event, and prints its notes, or why it is refused; says whether it was accepted.
+fn feed<W: Write>(
+    office: &mut Office<ListBooks>,
+    at: u64,
+    event: &Event,
+    output: &mut W,
+) -> io::Result<bool>
+    ensures { Carries result
+        (λ accepted now printed next. FedPrints now at event.now accepted printed next)
+        office.old office.new (W.contents output.old) (W.contents output.new) }
+{
+    match office.feed(at, event) {
+        Ok(_) => match write_notes(office.notes(), output) {
+            Ok(()) => Ok(true),
+            Err(error) => Err(error),
+        },
+        Err(why) => match write_refusal(why, output) {
+            Ok(()) => Ok(false),
+            Err(error) => Err(error),
+        },
+    }
+}
+
+/// Feeds what the near end of a device's connection brings until it is idle, and prints the notes and `ok`, or the first
+/// refusal; says whether the connection stays.
+pub(crate) fn feed_answers<L: Link, W: Write>(
+    alloc: Global,
+    office: &mut Office<ListBooks>,
+    at: u64,
+    device: &Option<Name>,
+    near: &mut L,
+    output: &mut W,
+) -> io::Result<bool>
+    ensures { Carries result
+        (λ stays now printed next. AnswersPrint device.now at now printed next)
+        office.old office.new (W.contents output.old) (W.contents output.new) }
+{
+    for _take in 0..MOST_TAKES {
+        let Some(came) = next_came(alloc, near)? else {
+            write_ok(output)?;
+            return Ok(true);
+        };
+        let over = came.is_over();
+        let accepted = feed(office, at, &came.into_event(device), output)?;
+        if !accepted {
+            return Ok(!over);
+        }
+        if over {
+            write_ok(output)?;
+            return Ok(false);
+        }
+    }
+    write_ok(output)?;
+    Ok(true)
+}
+
+/// Writes `ok`.
+pub(crate) fn write_ok<W: Write>(output: &mut W) -> io::Result<()>
+    ensures { OnOk result (Appends (W.contents output.old) (W.contents output.new) (codes "ok\n")) }
+{
+    output.write_all(b"ok\n")
+}

@@ -1,0 +1,294 @@
+//! Lines, carried out.
+ghost use Rattle.std.specs.Prelude.{◌≡◌, OnOk, true, false};
+ghost use Rattle.std.specs.Io.KnownBytes.{Appends};
+ghost use Rattle.script_run.specs.Bank.Settings as setting;
+ghost use Rattle.script_run.specs.Looping.Lines as form;
+ghost use Rattle.script_run.specs.Looping.Lines.{AreWrong, BankPrints, SaidPrints, WordsPrint};
+ghost use Rattle.script_run.specs.Looping.TextRun.{LineRuns};
+ghost use Rattle.script_run.specs.Looping.Standings.{CarriesOut, desk};
+ghost use Rattle.script_lines.specs.LineWords.Words.{words_of};
+
+use crate::bank::{add_in, set_in};
+use crate::looping::answers::write_ok;
+use crate::looping::stand_in_lines::{connect, leave, start};
+use crate::looping::wires::{Connects, Wires};
+use crate::replaying::{carry_out, feed};
+use mb_device::Bank;
+use mb_wire::Link;
+use office_core::Office;
+use office_events::{Command, Event, Name, Refusal, StartPoll};
+use office_lists::ListBooks;
+use script_lines::{BankLine, GivenStart, LineFault, ScriptLine};
+use script_text::write_refusal;
+use std::alloc::Global;
+use std::io::{self, ErrorKind, Write};
+
+/// What a run is under way with.
+#[derive(Drop)]
+pub(crate) struct Run<'t, L: Link + Drop> {
+    pub(crate) office: Office<ListBooks>,
+    pub(crate) bank: Bank,
+    pub(crate) wires: Wires<'t, L>,
+    /// A line has asked for a connection.
+    pub(crate) connected: bool,
+}
+
+/// Carries a line out, and says whether it is one.
+pub(crate) fn run_line<C: Connects, W: Write>(
+    alloc: Global,
+    run: &mut Run<'_, C::End>,
+    line: &[u8],
+    connects: &mut C,
+    output: &mut W,
+) -> io::Result<bool>
+    ensures { LineRuns result (WordsPrint (words_of line.now))
+        (AreWrong run.old.connected (words_of line.now))
+        (desk run.old.office run.old.bank run.old.connected (W.contents output.old))
+        (desk run.new.office run.new.bank run.new.connected (W.contents output.new)) }
+{
+    match BankLine::read(line) {
+        Some(said) => run_bank_line(run, &said, output),
+        None => match ScriptLine::read(alloc, line) {
+            Ok(said) => run_script_line(alloc, run, said, connects, output),
+            Err(LineFault::Bad) => Ok(false),
+            Err(LineFault::Memory) => Err(io::Error::from(ErrorKind::OutOfMemory)),
+        },
+    }
+}
+
+// Whether a line of the bank may stand here.
+fn may_stand(connected: bool, said: &BankLine) -> bool
+    ensures yes { result ≡ true → form.MayStand connected said.now }
+    ensures no { result ≡ false → form.MayNotStand connected said.now }
+{
+    match *said {
+        BankLine::Area(_) => !connected,
+        BankLine::Set(_) => true,
+        BankLine::Trick { .. } => !connected,
+    }
+}
+
+// Hands a line to the bank, and says whether it takes it. A trick is played from the start of a connection on.
+fn take_line(bank: &mut Bank, said: &BankLine) -> bool
+    ensures taken { result ≡ setting.takes bank.old said.now }
+    ensures after { bank.new ≡ form.maps_with bank.old said.now }
+{
+    match *said {
+        BankLine::Area(area) => add_in(bank, area),
+        BankLine::Set(cell) => set_in(bank, cell),
+        BankLine::Trick { .. } => true,
+    }
+}
+
+// Writes whether the bank has taken a line.
+fn tell_taken<W: Write>(taken: bool, output: &mut W) -> io::Result<()>
+    ensures { OnOk result (Appends (W.contents output.old) (W.contents output.new)
+        (form.taken_text taken)) }
+{
+    if taken {
+        write_ok(output)
+    } else {
+        write_refusal(Refusal::Limit, output)
+    }
+}
+
+// Carries a line of the bank out, and says whether it may stand here.
+fn run_bank_line<L: Link + Drop, W: Write>(
+    run: &mut Run<'_, L>,
+    said: &BankLine,
+    output: &mut W,
+) -> io::Result<bool>
+    ensures { LineRuns result (BankPrints said.now) (form.MayNotStand run.old.connected said.now)
+        (desk run.old.office run.old.bank run.old.connected (W.contents output.old))
+        (desk run.new.office run.new.bank run.new.connected (W.contents output.new)) }
+{
+    if !may_stand(run.connected, said) {
+        return Ok(false);
+    }
+    let taken = take_line(&mut run.bank, said);
+    tell_taken(taken, output)?;
+    Ok(true)
+}
+
+// Carries a line of the script out, and says whether it may stand here.
+fn run_script_line<C: Connects, W: Write>(
+    alloc: Global,
+    run: &mut Run<'_, C::End>,
+    said: ScriptLine,
+    connects: &mut C,
+    output: &mut W,
+) -> io::Result<bool>
+    ensures { LineRuns result (SaidPrints said) (form.SaysBytes said)
+        (desk run.old.office run.old.bank run.old.connected (W.contents output.old))
+        (desk run.new.office run.new.bank run.new.connected (W.contents output.new)) }
+{
+    match said {
+        ScriptLine::Event { at, event } => run_event(alloc, run, at, &event, connects, output),
+        ScriptLine::Start { at, start } => run_start(alloc, run, at, &start, output),
+        ScriptLine::List { .. } => {
+            carry_alike(alloc, run, said, output)?;
+            Ok(true)
+        }
+        ScriptLine::Meter { .. } => {
+            carry_alike(alloc, run, said, output)?;
+            Ok(true)
+        }
+        ScriptLine::Intervals { .. } => {
+            carry_alike(alloc, run, said, output)?;
+            Ok(true)
+        }
+        ScriptLine::Days { .. } => {
+            carry_alike(alloc, run, said, output)?;
+            Ok(true)
+        }
+        ScriptLine::Poll { .. } => {
+            carry_alike(alloc, run, said, output)?;
+            Ok(true)
+        }
+    }
+}
+
+// Carries out a line that a script carries out alike.
+fn carry_alike<L: Link + Drop, W: Write>(
+    alloc: Global,
+    run: &mut Run<'_, L>,
+    said: ScriptLine,
+    output: &mut W,
+) -> io::Result<()>
+    ensures { CarriesOut result (λ done. form.AlikePrints said)
+        (desk run.old.office run.old.bank run.old.connected (W.contents output.old))
+        (desk run.new.office run.new.bank run.new.connected (W.contents output.new)) }
+{
+    carry_out(alloc, &mut run.office, said, output)
+}
+
+// Carries an event out, and says whether it may stand here.
+fn run_event<C: Connects, W: Write>(
+    alloc: Global,
+    run: &mut Run<'_, C::End>,
+    at: u64,
+    event: &Event,
+    connects: &mut C,
+    output: &mut W,
+) -> io::Result<bool>
+    ensures { LineRuns result (form.HappensPrints at event.now) (form.IsBytes event.now)
+        (desk run.old.office run.old.bank run.old.connected (W.contents output.old))
+        (desk run.new.office run.new.bank run.new.connected (W.contents output.new)) }
+{
+    match event {
+        Event::Bytes(_, _) => Ok(false),
+        Event::Connected(device) => {
+            run.connected = true;
+            connect(
+                &mut run.office,
+                &mut run.wires,
+                connects,
+                at,
+                device,
+                output,
+            )?;
+            Ok(true)
+        }
+        Event::Command(command) => {
+            run_command(alloc, run, at, round_of(command), event, output)?;
+            Ok(true)
+        }
+        Event::Gone(device, _) => {
+            leave(&mut run.office, &mut run.wires, at, device, event, output)?;
+            Ok(true)
+        }
+        Event::Tick => {
+            feed(&mut run.office, at, event, output)?;
+            Ok(true)
+        }
+        Event::Asked(_) => {
+            feed(&mut run.office, at, event, output)?;
+            Ok(true)
+        }
+    }
+}
+
+// The device of whose plan a command starts reads.
+fn round_of(command: &Command) -> Option<Option<Name>>
+    ensures { result ≡ form.round_of command.now }
+{
+    match command {
+        Command::StartRound(round) => Some(round.device),
+        Command::AddDevice(_) => None,
+        Command::PutList(_) => None,
+        Command::AddRegister(_) => None,
+        Command::Install(_) => None,
+        Command::Exchange(_) => None,
+        Command::Reset(_) => None,
+        Command::Rescale(_) => None,
+        Command::Manual(_) => None,
+        Command::Close(_) => None,
+        Command::Void(_) => None,
+        Command::StartPoll(_) => None,
+    }
+}
+
+// Carries a command out, which may start reads of a device's plan.
+fn run_command<L: Link + Drop, W: Write>(
+    alloc: Global,
+    run: &mut Run<'_, L>,
+    at: u64,
+    round: Option<Option<Name>>,
+    event: &Event,
+    output: &mut W,
+) -> io::Result<()>
+    ensures { CarriesOut result (λ done. form.CommandPrints round at event.now)
+        (desk run.old.office run.old.bank run.old.connected (W.contents output.old))
+        (desk run.new.office run.new.bank run.new.connected (W.contents output.new)) }
+{
+    match round {
+        Some(device) => start(
+            alloc,
+            &mut run.office,
+            &mut run.wires,
+            &mut run.bank,
+            at,
+            &device,
+            event,
+            output,
+        ),
+        None => feed(&mut run.office, at, event, output),
+    }
+}
+
+// Starts a read, where its numbers are registers that can be read.
+fn run_start<L: Link + Drop, W: Write>(
+    alloc: Global,
+    run: &mut Run<'_, L>,
+    at: u64,
+    given: &GivenStart,
+    output: &mut W,
+) -> io::Result<bool>
+    ensures { LineRuns result (form.ReadPrints at given.now) ⊥
+        (desk run.old.office run.old.bank run.old.connected (W.contents output.old))
+        (desk run.new.office run.new.bank run.new.connected (W.contents output.new)) }
+{
+    match given.span() {
+        Some(span) => {
+            let event = Event::Command(Command::StartPoll(StartPoll {
+                device: given.device,
+                span,
+            }));
+            start(
+                alloc,
+                &mut run.office,
+                &mut run.wires,
+                &mut run.bank,
+                at,
+                &given.device,
+                &event,
+                output,
+            )?;
+            Ok(true)
+        }
+        None => {
+            write_refusal(Refusal::Limit, output)?;
+            Ok(true)
+        }
+    }
+}

@@ -1,0 +1,46 @@
+//! Connections over the loopback network.
+use crate::looping::wires::{Connects, Ends};
+use socket_link::SocketLink;
+use std::io;
+use std::net::{Net, OpenListener, OpenStream, SocketAddr, TcpListener, TcpStream};
+use std::time::Duration;
+
+/// How many milliseconds an end waits for bytes before it is idle.
+const WAIT: u64 = 20;
+
+/// A listener on the loopback network, and connections to it.
+#[derive(Drop)]
+pub struct Loopback<'r, R: Net> {
+    net: &'r R,
+    listener: R::Listener,
+    address: SocketAddr,
+}
+
+impl<'r, R: Net> Loopback<'r, R> {
+    /// A listener on a port that the system chooses.
+    pub fn new(net: &'r R) -> io::Result<Loopback<'r, R>> {
+        let listener = TcpListener::bind(net, "127.0.0.1:0")?;
+        let address = listener.local_addr()?;
+        Ok(Loopback {
+            net,
+            listener,
+            address,
+        })
+    }
+}
+
+impl<R: Net> Connects for Loopback<'_, R> {
+    type End = SocketLink<R::Stream>;
+
+    fn connect(&mut self) -> io::Result<Ends<SocketLink<R::Stream>>> {
+        let near = TcpStream::connect(self.net, self.address)?;
+        let (far, _peer) = self.listener.accept()?;
+        near.set_nodelay(true)?;
+        far.set_nodelay(true)?;
+        let wait = Duration::from_millis(WAIT);
+        Ok(Ends {
+            near: SocketLink::waiting(near, wait)?,
+            far: SocketLink::waiting(far, wait)?,
+        })
+    }
+}

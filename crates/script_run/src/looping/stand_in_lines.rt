@@ -1,0 +1,120 @@
+//! Lines that ask the stand-in for something.
+ghost use Rattle.std.specs.Prelude.{Bool};
+ghost use Rattle.office_events.specs.declared.events.Event.TheVariants as event;
+ghost use Rattle.script_run.specs.Looping.Answers.{AnswersPrint};
+ghost use Rattle.script_run.specs.Looping.Lines.{StartsPrint};
+ghost use Rattle.script_run.specs.Looping.Standings.{Carries, CarriesOut, desk};
+ghost use Rattle.script_run.specs.Replaying.Events.{EventPrints};
+
+use crate::looping::answers::{feed_answers, write_ok};
+use crate::looping::wires::{Connects, Wires};
+use mb_device::Bank;
+use mb_wire::Link;
+use office_core::Office;
+use office_events::{Answer, Event, Name};
+use office_lists::ListBooks;
+use script_text::{write_accepted, write_refusal};
+use std::alloc::Global;
+use std::io::{self, Write};
+
+/// A read or a round is started. Where it is accepted its frames go to the stand-in, and what comes back is fed.
+pub(crate) fn start<L: Link + Drop, W: Write>(
+    alloc: Global,
+    office: &mut Office<ListBooks>,
+    wires: &mut Wires<'_, L>,
+    bank: &mut Bank,
+    at: u64,
+    device: &Option<Name>,
+    event: &Event,
+    output: &mut W,
+) -> io::Result<()>
+    ensures { (connected : Bool) → CarriesOut result
+        (λ done now printed next. StartsPrint at device.now event.now now printed next)
+        (desk office.old bank.old connected (W.contents output.old))
+        (desk office.new bank.new connected (W.contents output.new)) }
+{
+    match office.feed(at, event) {
+        Ok(answer) => {
+            write_accepted(&answer, office.notes(), office.outgoing(), output)?;
+            wires.send(device, office.outgoing(), count_of(&answer), bank);
+            bring_answers(alloc, office, wires, at, device, output)
+        }
+        Err(why) => write_refusal(why, output),
+    }
+}
+
+// How many reads were started.
+fn count_of(answer: &Answer) -> u64 {
+    match *answer {
+        Answer::Started { count, .. } => count,
+        Answer::Noted | Answer::Done(_) | Answer::Again(_) => 0,
+    }
+}
+
+// Feeds what comes back to a device's end, if it has a connection.
+fn bring_answers<L: Link + Drop, W: Write>(
+    alloc: Global,
+    office: &mut Office<ListBooks>,
+    wires: &mut Wires<'_, L>,
+    at: u64,
+    device: &Option<Name>,
+    output: &mut W,
+) -> io::Result<()>
+    ensures { Carries result
+        (λ done now printed next. AnswersPrint device.now at now printed next)
+        office.old office.new (W.contents output.old) (W.contents output.new) }
+{
+    match wires.place_of(device) {
+        Some(place) => {
+            let stays = feed_answers(alloc, office, at, device, wires.near(place), output)?;
+            if !stays {
+                wires.drop_wire(device);
+            }
+            Ok(())
+        }
+        None => write_ok(output),
+    }
+}
+
+/// A device is connected, and its connection to the stand-in made.
+pub(crate) fn connect<C: Connects, W: Write>(
+    office: &mut Office<ListBooks>,
+    wires: &mut Wires<'_, C::End>,
+    connects: &mut C,
+    at: u64,
+    device: &Option<Name>,
+    output: &mut W,
+) -> io::Result<()>
+    ensures { Carries result
+        (λ done now printed next. EventPrints now at (event.Connected device.now) printed next)
+        office.old office.new (W.contents output.old) (W.contents output.new) }
+{
+    match office.feed(at, &Event::Connected(*device)) {
+        Ok(answer) => {
+            wires.connect(device, connects.connect()?)?;
+            write_accepted(&answer, office.notes(), office.outgoing(), output)
+        }
+        Err(why) => write_refusal(why, output),
+    }
+}
+
+/// A device is gone, and its connection to the stand-in with it.
+pub(crate) fn leave<L: Link + Drop, W: Write>(
+    office: &mut Office<ListBooks>,
+    wires: &mut Wires<'_, L>,
+    at: u64,
+    device: &Option<Name>,
+    event: &Event,
+    output: &mut W,
+) -> io::Result<()>
+    ensures { Carries result (λ done now printed next. EventPrints now at event.now printed next)
+        office.old office.new (W.contents output.old) (W.contents output.new) }
+{
+    match office.feed(at, event) {
+        Ok(answer) => {
+            wires.drop_wire(device);
+            write_accepted(&answer, office.notes(), office.outgoing(), output)
+        }
+        Err(why) => write_refusal(why, output),
+    }
+}

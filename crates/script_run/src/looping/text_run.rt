@@ -1,0 +1,160 @@
+//! Running a script.
+ghost use Rattle.std.specs.Prelude.{IfSome};
+ghost use Rattle.script_run.specs.Bank.Settings as setting;
+ghost use Rattle.script_run.specs.Looping.TextRun.{InputRuns, LinesRun, TellsText, TextRuns};
+ghost use Rattle.script_run.specs.Looping.Standings.{desk};
+ghost use Rattle.script_text.specs.AnswerText.{bad_line, refused_line};
+
+use crate::bank::empty_bank;
+use crate::looping::lines::{Run, run_line};
+use crate::looping::wires::{Connects, Wires};
+use command_io::{InputLines, Status, read_input};
+use interval_core::Zone;
+use mb_device::{Bank, Trick};
+use office_core::Office;
+use office_events::{Event, Refusal};
+use office_lists::ListBooks;
+use script_lines::{BankLine, LineFault, ScriptLine};
+use script_text::{write_bad_line, write_refusal};
+use std::alloc::{AllocError, Global};
+use std::io::{Read, Write};
+
+/// Runs a script over an office in memory whose devices are all a stand-in in this process, as `replay`
+/// runs one. Lines of a bank may stand among those of the script: they print `ok`, or `refused 12` where the bank does not
+/// take them; `area` and `trick` stand before the first line that connects. A line that connects a device makes a
+/// connection of it to the stand-in; what a line starts is sent, answered and fed at once, and the notes of that and `ok`
+/// are printed behind what was started. A line with bytes of a device is none.
+pub fn loop_text<R: Read, C: Connects, W: Write>(
+    alloc: Global,
+    zone: Zone,
+    input: &mut R,
+    connects: &mut C,
+    output: &mut W,
+) -> Status
+    ensures { IfSome (R.remaining input.old)
+        (λ all. InputRuns zone all result (W.contents output.old) (W.contents output.new)) }
+{
+    match read_input(alloc, input, output) {
+        Ok(text) => run_text(alloc, zone, &text, connects, output),
+        Err(status) => status,
+    }
+}
+
+// The tricks of a text, up to its first line that connects.
+fn tricks_in(alloc: Global, text: &[u8]) -> Result<Vec<(u64, Trick)>, AllocError> {
+    let mut tricks = Vec::new(alloc);
+    let mut lines = InputLines::of(text);
+    while let Some(line) = lines.next_line() {
+        match BankLine::read(line.text) {
+            Some(BankLine::Trick { frame, trick }) => tricks.push((frame, trick))?,
+            Some(BankLine::Area(_) | BankLine::Set(_)) => {}
+            None => {
+                if connects_device(alloc, line.text)? {
+                    return Ok(tricks);
+                }
+            }
+        }
+    }
+    Ok(tricks)
+}
+
+// Whether a line connects a device.
+fn connects_device(alloc: Global, line: &[u8]) -> Result<bool, AllocError> {
+    match ScriptLine::read(alloc, line) {
+        Ok(ScriptLine::Event { event, .. }) => Ok(matches!(&event, Event::Connected(_))),
+        Ok(_) | Err(LineFault::Bad) => Ok(false),
+        Err(LineFault::Memory) => Err(AllocError),
+    }
+}
+
+// Runs the lines of a text over an office that is opened at moment 0.
+fn run_text<C: Connects, W: Write>(
+    alloc: Global,
+    zone: Zone,
+    text: &[u8],
+    connects: &mut C,
+    output: &mut W,
+) -> Status
+    ensures { TextRuns zone text.now result (W.contents output.old) (W.contents output.new) }
+{
+    let Ok(tricks) = tricks_in(alloc, text) else {
+        return Status::Failed;
+    };
+    let Ok(bank) = empty_bank(alloc) else {
+        return Status::Failed;
+    };
+    run_opened(alloc, zone, text, bank, &tricks, connects, output)
+}
+
+// Runs them with a bank that has no addresses yet.
+fn run_opened<C: Connects, W: Write>(
+    alloc: Global,
+    zone: Zone,
+    text: &[u8],
+    bank: Bank,
+    tricks: &[(u64, Trick)],
+    connects: &mut C,
+    output: &mut W,
+) -> Status
+    requires { setting.AreUnset bank }
+    ensures { TextRuns zone text.now result (W.contents output.old) (W.contents output.new) }
+{
+    match Office::open(alloc, ListBooks::new(alloc, zone), 0) {
+        Ok(office) => {
+            let mut run = Run {
+                office,
+                bank,
+                wires: Wires::new(alloc, tricks),
+                connected: false,
+            };
+            run_lines(alloc, &mut run, text, connects, output)
+        }
+        Err((_, why)) => tell_refused(why, output),
+    }
+}
+
+// Writes why there is no office.
+fn tell_refused<W: Write>(why: Refusal, output: &mut W) -> Status
+    ensures { TellsText (refused_line why) result (W.contents output.old) (W.contents output.new) }
+{
+    match write_refusal(why, output) {
+        Ok(()) => Status::Refused,
+        Err(_) => Status::Failed,
+    }
+}
+
+// Writes the number of a line that is wrong.
+fn tell_bad<W: Write>(number: u64, output: &mut W) -> Status
+    ensures { TellsText (bad_line number) result (W.contents output.old) (W.contents output.new) }
+{
+    match write_bad_line(number, output) {
+        Ok(()) => Status::Refused,
+        Err(_) => Status::Failed,
+    }
+}
+
+// Runs lines one after the other.
+fn run_lines<C: Connects, W: Write>(
+    alloc: Global,
+    run: &mut Run<'_, C::End>,
+    text: &[u8],
+    connects: &mut C,
+    output: &mut W,
+) -> Status
+    ensures { LinesRun result text.now
+        (desk run.old.office run.old.bank run.old.connected (W.contents output.old))
+        (W.contents output.new) }
+{
+    let mut lines = InputLines::of(text);
+    while let Some(line) = lines.next_line() {
+        match run_line(alloc, run, line.text, connects, output) {
+            Ok(fine) => {
+                if !fine {
+                    return tell_bad(line.number, output);
+                }
+            }
+            Err(_) => return Status::Failed,
+        }
+    }
+    Status::Fine
+}

@@ -1,0 +1,12 @@
+//! Scripts, run over an office in memory.
+
+mod events;
+mod lines;
+mod questions;
+mod replayed_script;
+mod rows;
+mod text_run;
+
+pub use events::feed;
+pub use lines::carry_out;
+pub use replayed_script::{Replayed, replay};

@@ -1,0 +1,63 @@
+//! A line of a script, carried out.
+ghost use Rattle.office_lists.specs.Listed.{ledger_of};
+ghost use Rattle.office_rules.specs.History.{History};
+ghost use Rattle.office_core.specs.Standing.{Stands};
+ghost use Rattle.script_run.specs.Replaying.Lines.{LinePrints};
+ghost use Rattle.script_run.specs.Replaying.TextRun.{LineRuns, MayCarryOut};
+
+use crate::replaying::events::{feed, feed_list, feed_start};
+use crate::replaying::questions::{tell_days, tell_intervals, tell_meter, tell_poll};
+use command_io::Status;
+use office_core::Office;
+use office_lists::ListBooks;
+use script_lines::{LineFault, ScriptLine};
+use script_text::write_bad_line;
+use std::alloc::Global;
+use std::io::{self, Write};
+
+/// Carries out a line, and prints its answer.
+pub fn carry_out<W: Write>(
+    alloc: Global,
+    office: &mut Office<ListBooks>,
+    said: ScriptLine,
+    output: &mut W,
+) -> io::Result<()>
+    ensures { (past : History) → Stands ledger_of past office.old
+        → MayCarryOut (λ now printed next. LinePrints now said printed next)
+        past office.old office.new result (W.contents output.old) (W.contents output.new) }
+{
+    match said {
+        ScriptLine::Event { at, event } => feed(office, at, &event, output),
+        ScriptLine::List { at, list } => feed_list(alloc, office, at, &list, output),
+        ScriptLine::Start { at, start } => feed_start(office, at, &start, output),
+        ScriptLine::Meter { name } => tell_meter(office, &name, output),
+        ScriptLine::Intervals { name } => tell_intervals(office, &name, output),
+        ScriptLine::Days { name } => tell_days(office, &name, output),
+        ScriptLine::Poll { number } => tell_poll(office, number, output),
+    }
+}
+
+/// Carries out the line of a text, or says how the run ends.
+pub(crate) fn run_line<W: Write>(
+    alloc: Global,
+    office: &mut Office<ListBooks>,
+    number: u64,
+    line: &[u8],
+    output: &mut W,
+) -> Result<(), Status>
+    ensures { (past : History) → Stands ledger_of past office.old
+        → LineRuns past (record { number = number; text = line.now })
+        office.old office.new result (W.contents output.old) (W.contents output.new) }
+{
+    match ScriptLine::read(alloc, line) {
+        Ok(said) => match carry_out(alloc, office, said, output) {
+            Ok(()) => Ok(()),
+            Err(_) => Err(Status::Failed),
+        },
+        Err(LineFault::Bad) => match write_bad_line(number, output) {
+            Ok(()) => Err(Status::Refused),
+            Err(_) => Err(Status::Failed),
+        },
+        Err(LineFault::Memory) => Err(Status::Failed),
+    }
+}

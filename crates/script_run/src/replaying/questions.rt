@@ -1,0 +1,88 @@
+//! Questions.
+ghost use Rattle.script_run.specs.Replaying.Asked.{DaysPrint, IntervalsPrint, MeterPrints, PollPrints};
+ghost use Rattle.script_run.specs.Replaying.Asked.{last_line};
+ghost use Rattle.script_run.specs.Replaying.TextRun.{CarriesOut};
+ghost use Rattle.sun_points.specs.Writing.{GotText};
+
+use crate::replaying::rows::Rows;
+use office_core::Office;
+use office_events::{Name, Refusal};
+use office_lists::ListBooks;
+use row_text::write_end;
+use script_text::{write_meter, write_poll, write_refusal};
+use std::io::{self, ErrorKind, Write};
+
+/// Where a meter stands.
+pub(crate) fn tell_meter<W: Write>(
+    office: &mut Office<ListBooks>,
+    name: &Option<Name>,
+    output: &mut W,
+) -> io::Result<()>
+    ensures { CarriesOut (MeterPrints name.now)
+        office.old office.new result (W.contents output.old) (W.contents output.new) }
+{
+    match office.meter(name) {
+        Ok(row) => write_meter(&row, output),
+        Err(why) => write_refusal(why, output),
+    }
+}
+
+/// How a poll ended.
+pub(crate) fn tell_poll<W: Write>(
+    office: &mut Office<ListBooks>,
+    number: u64,
+    output: &mut W,
+) -> io::Result<()>
+    ensures { CarriesOut (PollPrints number)
+        office.old office.new result (W.contents output.old) (W.contents output.new) }
+{
+    match office.poll(number) {
+        Ok(row) => write_poll(&row, output),
+        Err(why) => write_refusal(why, output),
+    }
+}
+
+/// The energy of a meter by quarter hours.
+pub(crate) fn tell_intervals<W: Write>(
+    office: &mut Office<ListBooks>,
+    meter: &Option<Name>,
+    output: &mut W,
+) -> io::Result<()>
+    ensures { CarriesOut (λ now printed next. IntervalsPrint now meter.now printed next)
+        office.old office.new result (W.contents output.old) (W.contents output.new) }
+{
+    let mut rows = Rows::to(output);
+    let told = office.intervals(meter, &mut rows);
+    if rows.failed {
+        return Err(io::Error::from(ErrorKind::Other));
+    }
+    write_last(told, rows.count, rows.output)
+}
+
+/// The energy of a register by civil days.
+pub(crate) fn tell_days<W: Write>(
+    office: &mut Office<ListBooks>,
+    register: &Option<Name>,
+    output: &mut W,
+) -> io::Result<()>
+    ensures { CarriesOut (λ now printed next. DaysPrint now register.now printed next)
+        office.old office.new result (W.contents output.old) (W.contents output.new) }
+{
+    let mut rows = Rows::to(output);
+    let told = office.days(register, &mut rows);
+    if rows.failed {
+        return Err(io::Error::from(ErrorKind::Other));
+    }
+    write_last(told, rows.count, rows.output)
+}
+
+// How many rows there were, or why there are no more.
+fn write_last<W: Write>(told: Result<(), Refusal>, count: u64, output: &mut W) -> io::Result<()>
+    ensures { GotText result (last_line count told)
+        (W.contents output.old) (W.contents output.new) }
+{
+    match told {
+        Ok(()) => write_end(count, output),
+        Err(why) => write_refusal(why, output),
+    }
+}

@@ -1,0 +1,51 @@
+//! The lines of a text, one after the other.
+ghost use Rattle.script_run.specs.Replaying.TextRun.{InputRuns, TextRuns};
+ghost use Rattle.std.specs.Prelude.{IfSome};
+
+use crate::replaying::lines::run_line;
+use command_io::{InputLines, Status, read_input};
+use interval_core::Zone;
+use office_core::Office;
+use office_lists::ListBooks;
+use script_text::write_refusal;
+use std::alloc::Global;
+use std::io::{Read, Write};
+
+// Runs the lines of a text over an office in memory, which is opened at moment 0.
+fn run_text<W: Write>(alloc: Global, zone: Zone, text: &[u8], output: &mut W) -> Status
+    ensures { TextRuns zone text.now result (W.contents output.old) (W.contents output.new) }
+{
+    let mut office = match Office::open(alloc, ListBooks::new(alloc, zone), 0) {
+        Ok(office) => office,
+        Err((_, why)) => {
+            return match write_refusal(why, output) {
+                Ok(()) => Status::Refused,
+                Err(_) => Status::Failed,
+            };
+        }
+    };
+    let mut lines = InputLines::of(text);
+    while let Some(line) = lines.next_line() {
+        match run_line(alloc, &mut office, line.number, line.text, output) {
+            Ok(()) => {}
+            Err(status) => return status,
+        }
+    }
+    Status::Fine
+}
+
+/// Runs the script that an input is.
+pub(crate) fn run_input<R: Read, W: Write>(
+    alloc: Global,
+    zone: Zone,
+    input: &mut R,
+    output: &mut W,
+) -> Status
+    ensures { IfSome (R.remaining input.old)
+        (λ all. InputRuns zone all result (W.contents output.old) (W.contents output.new)) }
+{
+    match read_input(alloc, input, output) {
+        Ok(text) => run_text(alloc, zone, &text, output),
+        Err(status) => status,
+    }
+}

@@ -1,0 +1,78 @@
+//! What faults of inputs, of lines and of the program's words say to a person.
+use command_io::ReadFault;
+use command_words::{DeviceFault, ListFault, WordsFault};
+use script_lines::LineFault;
+use std::alloc::Global;
+use std::fmt::Display;
+use std::process::Abort;
+use std::test::Fail;
+
+// Each fault says its text, which has no full stop.
+fn tells<F: Display>(rt: &impl Abort, alloc: Global, texts: &[(F, &str)]) -> Result<(), Fail> {
+    for (fault, text) in texts {
+        assert_eq!(rt; format!(in alloc; "{fault}")?.as_str(), *text);
+        assert!(rt; !text.ends_with('.'));
+    }
+    Ok(())
+}
+
+const LINES: [(LineFault, &str); 2] = [
+    (
+        LineFault::Bad,
+        "the line has none of the forms of a script's lines",
+    ),
+    (LineFault::Memory, "memory ran out"),
+];
+
+const INPUTS: [(ReadFault, &str); 3] = [
+    (ReadFault::TooLong, "the input has more than 4194304 bytes"),
+    (
+        ReadFault::Failed,
+        "a read of the input failed, or was interrupted",
+    ),
+    (ReadFault::Memory, "memory ran out"),
+];
+
+const DEVICES: [(DeviceFault, &str); 3] = [
+    (
+        DeviceFault::Malformed,
+        "not NAME=HOST:PORT with a PORT from 1 to 65535",
+    ),
+    (DeviceFault::Repeated, "its NAME stands twice"),
+    (DeviceFault::TooMany, "one more than 64 devices"),
+];
+
+const PARTS: [(ListFault, &str); 2] = [
+    (
+        ListFault::Part {
+            part: "b=:5020",
+            fault: DeviceFault::Malformed,
+        },
+        "'b=:5020' is no device of the list: not NAME=HOST:PORT with a PORT from 1 to 65535",
+    ),
+    (ListFault::Memory, "memory ran out"),
+];
+
+#[test]
+fn faults_of_inputs_say_their_texts(rt: HostRuntime) -> Result<(), Fail> {
+    tells(&rt, rt.alloc(), &LINES)?;
+    tells(&rt, rt.alloc(), &INPUTS)
+}
+
+#[test]
+fn faults_of_devices_say_their_texts(rt: HostRuntime) -> Result<(), Fail> {
+    tells(&rt, rt.alloc(), &DEVICES)?;
+    tells(&rt, rt.alloc(), &PARTS)
+}
+
+#[test]
+fn faults_of_words_say_their_texts(rt: HostRuntime) -> Result<(), Fail> {
+    let wrong = WordsFault::Wrong(String::from_str(rt.alloc(), "error: x\n")?);
+    let help = WordsFault::Help(String::from_str(rt.alloc(), "Usage: x\n")?);
+    let texts = [
+        (wrong, "error: x\n"),
+        (help, "Usage: x\n"),
+        (WordsFault::Memory, "memory ran out"),
+    ];
+    tells(&rt, rt.alloc(), &texts)
+}

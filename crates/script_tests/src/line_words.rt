@@ -1,0 +1,65 @@
+//! The words of a line, and what they spell.
+use office_events::{GivenScale, Name};
+use script_lines::{
+    Words, hex_bytes, next_moment, next_name, next_number, next_range, next_scale, next_signed,
+    nothing_more, number,
+};
+use std::test::Fail;
+
+#[test]
+fn words_stand_between_spaces(rt: HostRuntime) {
+    let mut words = Words::of(b"a  bc ");
+    for word in [b"a".as_slice(), b"", b"bc", b""] {
+        assert_eq!(rt; words.next_word(), Some(word));
+    }
+    assert_eq!(rt; words.next_word(), None);
+    assert_eq!(rt; words.next_word(), None);
+}
+
+static NUMBERS: [(&[u8], Option<u64>); 7] = [
+    (b"0", Some(0)),
+    (b"0000000000000000007", Some(7)),
+    (b"9223372036854775807", Some(9_223_372_036_854_775_807)),
+    (b"9223372036854775808", None),
+    (b"00000000000000000007", None),
+    (b"", None),
+    (b"1x", None),
+];
+
+#[test]
+fn numbers_have_one_to_nineteen_digits(rt: HostRuntime) {
+    for (word, value) in &NUMBERS {
+        assert_eq!(rt; number(word), *value);
+    }
+}
+
+#[test]
+fn hex_is_of_whole_bytes(rt: HostRuntime) -> Result<(), Fail> {
+    let bytes = hex_bytes(rt.alloc(), b"00fFa9")?.ok_or("no bytes")?;
+    assert_eq!(rt; bytes.as_slice(), b"\x00\xff\xa9".as_slice());
+    assert!(rt; hex_bytes(rt.alloc(), b"00f")?.is_none());
+    assert!(rt; hex_bytes(rt.alloc(), b"")?.is_none());
+    Ok(())
+}
+
+#[test]
+fn each_word_spells_a_value(rt: HostRuntime) {
+    let mut words = Words::of(b"m1 12 -3 @7 65536 900");
+    assert_eq!(rt; next_name(&mut words), Some(Name::new(b"m1")));
+    assert_eq!(rt; next_number(&mut words), Some(12));
+    assert_eq!(rt; next_signed(&mut words), Some(-3));
+    assert_eq!(rt; next_scale(&mut words), Some(GivenScale::Register(7)));
+    assert_eq!(rt; next_range(&mut words), Some(65_536));
+    assert_eq!(rt; next_moment(&mut words), Some(Some(900)));
+    assert_eq!(rt; nothing_more(&mut words), Some(()));
+}
+
+#[test]
+fn some_words_may_be_missing(rt: HostRuntime) {
+    let mut words = Words::of(b"x");
+    assert_eq!(rt; nothing_more(&mut words), None);
+    assert_eq!(rt; next_range(&mut words), Some(4_294_967_296));
+    assert_eq!(rt; next_moment(&mut words), Some(None));
+    assert_eq!(rt; next_number(&mut words), None);
+    assert_eq!(rt; next_name(&mut words), None);
+}

@@ -1,0 +1,76 @@
+//! Writers that fail, and connections that can't be made.
+use crate::replays::zone;
+use crate::streams::Kept;
+use command_io::Status;
+use mb_wire::MemoryLink;
+use script_run::{Connects, Ends, Loopback, loop_text};
+use std::io::{self, ErrorKind};
+use std::test::Fail;
+
+// No connection can be made.
+#[derive(Drop)]
+struct Broken;
+
+impl Connects for Broken {
+    type End = MemoryLink<'static>;
+
+    fn connect(&mut self) -> io::Result<Ends<MemoryLink<'static>>> {
+        Err(io::Error::from(ErrorKind::ConnectionRefused))
+    }
+}
+
+const SCRIPT: &str = "\
+    area holding 40094 3\n\
+    area holding 40094 3\n\
+    1000 device inv 1 5 1\n\
+    1000 connect inv\n\
+    1000 start inv 3 40094 3\n\
+    x\n";
+
+const PRINTED: &str = "\
+    ok\n\
+    refused 12\n\
+    ok\n\
+    ok\n\
+    started 1 1 1 00000000000601039c9e0003\n\
+    poll 1 answered\n\
+    ok\n\
+    bad line 6\n";
+
+// How many bytes are written before a write fails: up to the end of each line, and all.
+static ENDS: [(usize, Status); 9] = [
+    (0, Status::Failed),
+    (3, Status::Failed),
+    (14, Status::Failed),
+    (17, Status::Failed),
+    (20, Status::Failed),
+    (59, Status::Failed),
+    (75, Status::Failed),
+    (78, Status::Failed),
+    (89, Status::Refused),
+];
+
+#[test]
+fn a_writer_that_fails_ends_the_run(rt: HostRuntime) -> Result<(), Fail> {
+    let mut loopback = Loopback::new(&rt)?;
+    for (room, status) in &ENDS {
+        let mut input = SCRIPT.as_bytes();
+        let mut kept = Kept::new(rt.alloc(), room.saturating_add(1), 1);
+        let ended = loop_text(rt.alloc(), zone()?, &mut input, &mut loopback, &mut kept);
+        assert_eq!(rt; kept.got.len(), *room);
+        let whole = kept.is_whole(&rt, PRINTED);
+        assert_eq!(rt; ended, *status, "{room}");
+        assert_eq!(rt; whole, *status == Status::Refused, "{room}");
+    }
+    Ok(())
+}
+
+#[test]
+fn a_connection_that_cannot_be_made_ends_the_run(rt: HostRuntime) -> Result<(), Fail> {
+    let mut printed = Vec::new(rt.alloc());
+    let mut input = SCRIPT.as_bytes();
+    let ended = loop_text(rt.alloc(), zone()?, &mut input, &mut Broken, &mut printed);
+    assert_eq!(rt; ended, Status::Failed);
+    assert_eq!(rt; printed.as_slice(), b"ok\nrefused 12\nok\n".as_slice());
+    Ok(())
+}

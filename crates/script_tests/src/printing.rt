@@ -1,0 +1,148 @@
+//! Chains and plans over streams that fail.
+use crate::streams::{Kept, Slow};
+use command_io::Status;
+use point_list::read_list;
+use std::alloc::Global;
+use std::io::{ErrorKind, Read, Write};
+use std::test::Fail;
+use sunspec_text::{chain_text, plan_text, print_plan};
+
+// What an input is given to.
+#[derive(Clone, Copy)]
+enum Task {
+    Chain,
+    Plan,
+}
+
+impl Task {
+    fn carry_out<R: Read, W: Write>(self, alloc: Global, input: &mut R, output: &mut W) -> Status {
+        match self {
+            Task::Chain => chain_text(alloc, input, output),
+            Task::Plan => plan_text(alloc, input, output),
+        }
+    }
+}
+
+const METER: &str = "\
+    40000 53756e5300010042\n\
+    40070 00670032\n\
+    40094 000f42400000\n\
+    40122 00cb0069\n\
+    40229 ffff\n";
+
+const METER_PRINTED: &str = "\
+    base 40000\n\
+    model 40002 1 66\n\
+    model 40070 103 50\n\
+    point WH 1000000\n\
+    point WH_SF 0\n\
+    model 40122 203 105\n\
+    end 40229\n";
+
+const LIST: &str = "\
+    name,function,area,address,type,scale\n\
+    wh,3,0,40094,acc32,whsf\n\
+    whsf,3,0,40096,sunssf,\n\
+    imp,3,0,40168,acc32,impsf\n\
+    impsf,3,0,40176,sunssf,\n";
+
+const LIST_PRINTED: &str = "\
+    read 1 3 0 40094 83\n\
+    point wh 1 0\n\
+    point whsf 1 2\n\
+    point imp 1 74\n\
+    point impsf 1 82\n";
+
+const FAULTY: &str = "\
+    name,function,area,address,type,scale\n\
+    wh,3,0,65535,acc32,\n\
+    1x,3,0,5,int16,\n\
+    b,5,0,5,int16,\n\
+    b,3,0,6,int16,\n";
+
+const FAULTY_PRINTED: &str = "\
+    row 2 fault 7\n\
+    row 3 fault 3\n\
+    row 4 fault 5\n\
+    row 5 fault 4\n";
+
+static CASES: [(Task, &str, &str, Status); 5] = [
+    (Task::Chain, METER, METER_PRINTED, Status::Fine),
+    (Task::Chain, "", "fault 1\n", Status::Refused),
+    (Task::Plan, LIST, LIST_PRINTED, Status::Fine),
+    (Task::Plan, FAULTY, FAULTY_PRINTED, Status::Refused),
+    (Task::Plan, "", "row 1 fault 2\n", Status::Refused),
+];
+
+#[test]
+fn chains_and_plans_are_printed(rt: HostRuntime) {
+    for (task, text, output, status) in &CASES {
+        let mut input = text.as_bytes();
+        let mut printed = Vec::new(rt.alloc());
+        let ended = task.carry_out(rt.alloc(), &mut input, &mut printed);
+        assert_eq!(rt; ended, *status, "{text}");
+        assert_eq!(rt; printed.as_slice(), output.as_bytes(), "{text}");
+    }
+}
+
+// A read that fails or is interrupted ends the run, and none comes after it.
+#[test]
+fn each_failing_read_ends_it(rt: HostRuntime) {
+    for (task, text, _, _) in &CASES {
+        for kind in [ErrorKind::Interrupted, ErrorKind::BrokenPipe] {
+            for failing in 1..text.len() + 2 {
+                let mut slow = Slow::of(text.as_bytes(), failing, kind);
+                let mut printed = Vec::new(rt.alloc());
+                let ended = task.carry_out(rt.alloc(), &mut slow, &mut printed);
+                assert_eq!(rt; ended, Status::Failed);
+                assert!(rt; printed.is_empty());
+                assert_eq!(rt; slow.calls, failing);
+            }
+        }
+    }
+}
+
+#[test]
+fn each_failing_write_ends_it(rt: HostRuntime) {
+    for (task, text, output, status) in &CASES {
+        let mut whole = false;
+        for failing in 1..200 {
+            let mut input = text.as_bytes();
+            let mut kept = Kept::new(rt.alloc(), failing, 8192);
+            let ended = task.carry_out(rt.alloc(), &mut input, &mut kept);
+            whole = kept.is_whole(&rt, output);
+            let wanted = if whole { *status } else { Status::Failed };
+            assert_eq!(rt; ended, wanted);
+        }
+        assert!(rt; whole);
+    }
+}
+
+static PLANS: [(&str, &str); 4] = [
+    (LIST, LIST_PRINTED),
+    ("name,function,area,address,type,scale\n", ""),
+    (
+        "name,function,area,address,type,scale\nw,3,0,0,int16,s\ns,3,0,124,sunssf,\n",
+        "read 1 3 0 0 125\npoint w 1 0\npoint s 1 124\n",
+    ),
+    (
+        "name,function,area,address,type,scale\na,3,0,0,acc32,\nb,3,0,200,acc32,\n",
+        "read 1 3 0 0 2\nread 2 3 0 200 2\npoint a 1 0\npoint b 2 0\n",
+    ),
+];
+
+#[test]
+fn each_failing_write_of_a_list_is_told(rt: HostRuntime) -> Result<(), Fail> {
+    for (text, output) in &PLANS {
+        let Ok(list) = read_list(rt.alloc(), text.as_bytes()) else {
+            return Err(Fail::from("no list"));
+        };
+        for failing in 1..60 {
+            let mut kept = Kept::new(rt.alloc(), failing, 8192);
+            let ended = print_plan(rt.alloc(), &list, &mut kept);
+            let whole = kept.is_whole(&rt, output);
+            assert_eq!(rt; ended == Status::Fine, whole);
+        }
+    }
+    Ok(())
+}

@@ -1,0 +1,78 @@
+//! Scripts over streams that fail.
+use crate::streams::{Kept, Slow};
+use command_io::Status;
+use interval_core::Zone;
+use script_run::replay;
+use std::io::ErrorKind;
+use std::test::Fail;
+
+// A device with a meter, a read of it, and its reply.
+const READING: &str = "\
+    1000 device inv 1 5 1\n\
+    1000 register main inv 3 40094 @40096\n\
+    1000 install main m1 5000 0 100000\n\
+    1898 connect inv\n\
+    1898 start inv 3 40094 3\n\
+    1900 bytes inv 000000000009010306000014500000\n";
+
+const READING_PRINTED: &str = "\
+    ok\n\
+    ok\n\
+    ok\n\
+    ok\n\
+    started 1 1 1 00000000000601039c9e0003\n\
+    poll 1 answered\n\
+    reading m1 5200 rolls 0 step 200000\n\
+    ok\n";
+
+pub(crate) fn zone() -> Result<Zone, Fail> {
+    match Zone::read("UTC0") {
+        Ok(zone) => Ok(zone),
+        Err(_) => Err(Fail::from("no zone")),
+    }
+}
+
+static SCRIPTS: [(&str, &str, Status); 3] = [
+    ("", "", Status::Fine),
+    (READING, READING_PRINTED, Status::Fine),
+    ("x", "bad line 1\n", Status::Refused),
+];
+
+#[test]
+fn scripts_are_run(rt: HostRuntime) -> Result<(), Fail> {
+    for (text, output, status) in &SCRIPTS {
+        let mut input = text.as_bytes();
+        let ended = replay(rt.alloc(), zone()?, &mut input, Vec::new(rt.alloc()));
+        assert_eq!(rt; ended.output.as_slice(), output.as_bytes(), "{text}");
+        assert_eq!(rt; ended.status, *status, "{text}");
+    }
+    Ok(())
+}
+
+#[test]
+fn each_failing_read_ends_a_script(rt: HostRuntime) -> Result<(), Fail> {
+    for kind in [ErrorKind::Interrupted, ErrorKind::BrokenPipe] {
+        for failing in 1..READING.len() + 2 {
+            let mut slow = Slow::of(READING.as_bytes(), failing, kind);
+            let ended = replay(rt.alloc(), zone()?, &mut slow, Vec::new(rt.alloc()));
+            assert_eq!(rt; ended.status, Status::Failed);
+            assert!(rt; ended.output.is_empty());
+            assert_eq!(rt; slow.calls, failing);
+        }
+    }
+    Ok(())
+}
+
+#[test]
+fn each_failing_write_ends_a_script(rt: HostRuntime) -> Result<(), Fail> {
+    for most in [1, 7, 8192] {
+        for failing in 1..200 {
+            let mut input = READING.as_bytes();
+            let kept = Kept::new(rt.alloc(), failing, most);
+            let ended = replay(rt.alloc(), zone()?, &mut input, kept);
+            let whole = ended.output.is_whole(&rt, READING_PRINTED);
+            assert_eq!(rt; ended.status == Status::Fine, whole);
+        }
+    }
+    Ok(())
+}

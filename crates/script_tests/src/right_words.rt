@@ -1,0 +1,207 @@
+//! Words that spell a command.
+use command_words::{CommandLine, Device, command_of};
+
+const RIGHT: [(&[&str], CommandLine<'static>); 14] = [
+    // no word is replay
+    (&[], CommandLine::Replay { zone: "UTC0" }),
+    (&["replay"], CommandLine::Replay { zone: "UTC0" }),
+    (
+        &["replay", "--zone", "CET-1"],
+        CommandLine::Replay { zone: "CET-1" },
+    ),
+    (&["loop"], CommandLine::Loop { zone: "UTC0" }),
+    (
+        &["loop", "--zone=no zone at all"],
+        CommandLine::Loop {
+            zone: "no zone at all",
+        },
+    ),
+    (&["plan"], CommandLine::Plan),
+    (&["chain"], CommandLine::Chain),
+    // options stand in any order
+    (
+        &["create", "--db", "a b.db", "--zone", "UTC0"],
+        CommandLine::Create {
+            db: "a b.db",
+            zone: "UTC0",
+        },
+    ),
+    (
+        &["create", "--zone", "UTC0", "--db", "a b.db"],
+        CommandLine::Create {
+            db: "a b.db",
+            zone: "UTC0",
+        },
+    ),
+    (
+        &[
+            "serve",
+            "--db",
+            "o.db",
+            "--port",
+            "8080",
+            "--connections",
+            "7",
+        ],
+        CommandLine::Serve {
+            db: "o.db",
+            port: 8080,
+            connections: 7,
+        },
+    ),
+    (
+        &[
+            "round",
+            "--db=o.db",
+            "--device=inv",
+            "--host=meter.lan",
+            "--port=502",
+        ],
+        CommandLine::Round {
+            db: "o.db",
+            device: "inv",
+            host: "meter.lan",
+            port: 502,
+        },
+    ),
+    // at this host where none is given
+    (
+        &[
+            "round", "--db", "o.db", "--device", "\u{e4} b", "--port", "502",
+        ],
+        CommandLine::Round {
+            db: "o.db",
+            device: "\u{e4} b",
+            host: "127.0.0.1",
+            port: 502,
+        },
+    ),
+    // a name stays as it stands
+    (
+        &["report", "--db", "o.db", "--register", "Main,=1 \u{3bc}"],
+        CommandLine::Report {
+            db: "o.db",
+            register: "Main,=1 \u{3bc}",
+        },
+    ),
+    (
+        &[
+            "stand-in",
+            "--host",
+            "::1",
+            "--port",
+            "1502",
+            "--connections",
+            "10",
+        ],
+        CommandLine::StandIn {
+            host: "::1",
+            port: 1502,
+            connections: 10,
+        },
+    ),
+];
+
+#[test]
+fn words_spell_commands(rt: HostRuntime) {
+    for (words, line) in &RIGHT {
+        let Ok(said) = command_of(rt.alloc(), words) else {
+            panic!(rt; "{words:?}");
+        };
+        assert!(rt; said == *line, "{words:?}");
+    }
+}
+
+#[test]
+fn a_stand_in_is_at_this_host_where_none_is_given(rt: HostRuntime) {
+    let words = ["stand-in", "--port", "1502", "--connections", "10"];
+    let expected = CommandLine::StandIn {
+        host: "127.0.0.1",
+        port: 1502,
+        connections: 10,
+    };
+    assert!(rt; command_of(rt.alloc(), &words) == Ok(expected));
+}
+
+static RUN: [&str; 9] = [
+    "run",
+    "--db",
+    "o.db",
+    "--listen",
+    "8080",
+    "--every",
+    "60",
+    "--devices",
+    "inv=192.0.2.7:502",
+];
+
+static RUN_ALL: [&str; 10] = [
+    "run",
+    "--verbose",
+    "--db=o.db",
+    "--listen=8080",
+    "--every=60",
+    "--devices",
+    "inv=meter.lan:502,b=[::1]:1",
+    "--for",
+    "3600",
+    "--",
+];
+
+static DEVICES: [Device<'static>; 1] = [Device {
+    name: "inv",
+    host: "192.0.2.7",
+    port: 502,
+}];
+
+static ALL_DEVICES: [Device<'static>; 2] = [
+    Device {
+        name: "inv",
+        host: "meter.lan",
+        port: 502,
+    },
+    Device {
+        name: "b",
+        host: "[::1]",
+        port: 1,
+    },
+];
+
+#[test]
+fn run_goes_on_where_no_end_is_given(rt: HostRuntime) {
+    match command_of(rt.alloc(), &RUN) {
+        Ok(
+            CommandLine::Run {
+                db,
+                listen,
+                every,
+                devices,
+                lasts,
+                verbose,
+            },
+        ) => {
+            assert!(rt; db == "o.db" && listen == 8080 && every == 60);
+            assert!(rt; lasts == None && !verbose);
+            assert!(rt; devices.as_slice() == DEVICES.as_slice());
+        }
+        _ => panic!(rt; "no run"),
+    }
+}
+
+#[test]
+fn run_takes_an_end_and_verbose(rt: HostRuntime) {
+    match command_of(rt.alloc(), &RUN_ALL) {
+        Ok(
+            CommandLine::Run {
+                devices,
+                lasts,
+                verbose,
+                ..
+            },
+        ) => {
+            assert!(rt; lasts == Some(3600) && verbose);
+            assert!(rt; devices.as_slice() == ALL_DEVICES.as_slice());
+        }
+        _ => panic!(rt; "no run"),
+    }
+}

@@ -1,0 +1,87 @@
+//! Streams that fail at one of their calls.
+use std::alloc::Global;
+use std::io::{self, ErrorKind, Read, Write};
+use std::process::Abort;
+
+/// Gives its text a byte at a time, and one call of `read` fails.
+#[derive(Drop)]
+pub(crate) struct Slow<'a> {
+    text: &'a [u8],
+    pub(crate) calls: usize,
+    failing: usize,
+    kind: ErrorKind,
+}
+
+impl<'a> Slow<'a> {
+    /// The call 0 never comes.
+    pub(crate) fn of(text: &'a [u8], failing: usize, kind: ErrorKind) -> Slow<'a> {
+        Slow {
+            text,
+            calls: 0,
+            failing,
+            kind,
+        }
+    }
+}
+
+impl Read for Slow<'_> {
+    fn read(&mut self, buf: &mut [u8]) -> io::Result<usize> {
+        self.calls = self.calls.saturating_add(1);
+        if self.failing == self.calls {
+            return Err(io::Error::from(self.kind));
+        }
+        match (self.text, buf.first_mut()) {
+            ([first, rest @ ..], Some(place)) => {
+                *place = *first;
+                self.text = rest;
+                Ok(1)
+            }
+            _ => Ok(0),
+        }
+    }
+}
+
+/// Keeps what is written, at most so many bytes a call, and one call of `write` fails.
+#[derive(Drop)]
+pub(crate) struct Kept {
+    pub(crate) got: Vec<u8>,
+    pub(crate) calls: usize,
+    failing: usize,
+    most: usize,
+}
+
+impl Kept {
+    pub(crate) fn new(alloc: Global, failing: usize, most: usize) -> Kept {
+        Kept {
+            got: Vec::new(alloc),
+            calls: 0,
+            failing,
+            most,
+        }
+    }
+
+    /// Whether no call failed; then all of the text was written, and else a part of it, and no call came after.
+    pub(crate) fn is_whole(&self, rt: &impl Abort, output: &str) -> bool {
+        let whole = self.calls < self.failing;
+        assert!(rt; self.calls <= self.failing);
+        assert!(rt; output.as_bytes().starts_with(&self.got));
+        assert_eq!(rt; self.got.as_slice() == output.as_bytes(), whole);
+        whole
+    }
+}
+
+impl Write for Kept {
+    fn write(&mut self, buf: &[u8]) -> io::Result<usize> {
+        self.calls = self.calls.saturating_add(1);
+        if self.failing == self.calls {
+            return Err(io::Error::from(ErrorKind::BrokenPipe));
+        }
+        let count = buf.len().min(self.most);
+        self.got.extend_from_slice(&buf[..count])?;
+        Ok(count)
+    }
+
+    fn flush(&mut self) -> io::Result<()> {
+        Ok(())
+    }
+}

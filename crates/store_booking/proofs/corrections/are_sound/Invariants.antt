@@ -1,6 +1,0 @@
-use Rattle.std.proofs.Common.{take, All}
-use Rattle.store_intervals.specs.Rows.{IsSoundShare}
-use Rattle.store_booking.proofs.corrections.are_sound.Given as goal
-
-abbrev pub invariant-loop-share : goal.invariant-loop-share
-invariant-loop-share l = All IsSoundShare (take l.share-index l.shares)

@@ -1,7 +1,0 @@
-use Rattle.sqlite.specs.Held.{state}
-use Rattle.store_booking.proofs.Voiding.{one_rolled}
-use Rattle.store_booking.proofs.voids.roll_next.Goals as goal
-
-pub returns-clause-does : goal.returns-clause-does
-returns-clause-does g c =
-    one_rolled (state g.S.Store c.args.tx.now.conn.now) (state g.S.Store c.roll_entry.new.tx.conn.now) c.in_ok-roll_entry.field-0 c.args.meter.now c.args.next c.in-Some.rollover c.in-Some.is c.in_ok-roll_entry.ensures.does

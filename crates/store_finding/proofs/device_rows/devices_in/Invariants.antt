@@ -1,7 +1,0 @@
-use Rattle.store_lists.specs.Rows.{device_shown}
-use Rattle.store_finding.specs.Reading.{IsDeviceOf}
-use Rattle.store_finding.proofs.ReadRows.{HasReadSome}
-use Rattle.store_finding.proofs.device_rows.devices_in.Given as goal
-
-abbrev pub invariant-loop-row : goal.invariant-loop-row
-invariant-loop-row l = HasReadSome l.rows.items device_shown IsDeviceOf l.row-index l.devices.items

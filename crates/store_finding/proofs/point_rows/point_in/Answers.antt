@@ -1,9 +1,0 @@
-use Rattle.store_lists.specs.Rows.{point_shown, IsPoint, IsSoundListed}
-use Rattle.store_finding.specs.Points.{IsPointOf, IsReadablePoint}
-use Rattle.store_finding.proofs.ReadRows.{reads_then}
-use Rattle.store_finding.proofs.Lists.{point_found}
-use Rattle.store_finding.proofs.point_rows.point_in.Goals as goal
-
-pub returns : goal.returns
-returns c =
-    reads_then c.args.row.now point_shown IsPoint IsPointOf IsSoundListed IsReadablePoint c.in_ok-found.found c.point_from.result c.in_ok-found.ensures.read (point_found c.in_ok-found.found c.point_from.result c.point_from.ensures)

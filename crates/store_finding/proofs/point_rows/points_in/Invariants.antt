@@ -1,7 +1,0 @@
-use Rattle.store_lists.specs.Rows.{point_shown}
-use Rattle.store_finding.specs.Points.{IsPointOf}
-use Rattle.store_finding.proofs.ReadRows.{HasReadSome}
-use Rattle.store_finding.proofs.point_rows.points_in.Given as goal
-
-abbrev pub invariant-loop-row : goal.invariant-loop-row
-invariant-loop-row l = HasReadSome l.rows.items point_shown IsPointOf l.row-index l.points.items

@@ -1,7 +1,0 @@
-use Rattle.store_polls.specs.Rows.{poll_shown}
-use Rattle.store_finding.specs.Reading.{IsPollOf}
-use Rattle.store_finding.proofs.ReadRows.{HasReadSome}
-use Rattle.store_finding.proofs.poll_rows.polls_in.Given as goal
-
-abbrev pub invariant-loop-row : goal.invariant-loop-row
-invariant-loop-row l = HasReadSome l.rows.items poll_shown IsPollOf l.row-index l.polls.items

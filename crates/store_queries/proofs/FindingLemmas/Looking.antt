@@ -1,0 +1,189 @@
+-- A question after the books were touched, and one look-up after the other.
+use Rattle.std.proofs.Common.{◌≡◌, ◌≢◌, ◌⊎◌, inl, inr, ℕ, List, false, Ok, Err, Result, IfOk, IfErr, OnOk, IsErrAnd, IsTrue, refl, sym, subst, ◌∙◌, arith}
+use Rattle.std.specs.List.{AllByRecursion}
+use Rattle.sqlite.specs.Order.{Row}
+use Rattle.sqlite.specs.Tree.{Trees}
+use Rattle.sqlite.specs.Store.{Ghosts}
+use Rattle.sqlite.specs.Held.{Held, state}
+use Rattle.sqlite.specs.State.{HasCleanDisk, KeepsCommit, Survives}
+use Rattle.sqlite.specs.declared.error.Error.{Error}
+use Rattle.office_events.specs.declared.facts.Fact.{Fact}
+use Rattle.office_rules.specs.Lawful.{AreLawful}
+use Rattle.store_tables.specs.declared.faults.RowFault.{RowFault}
+use Rattle.store_tables.specs.declared.faults.RowFault.TheVariants.{Sql, Damaged}
+use Rattle.store_tables.specs.Content.{Content, AreTables, HasRows}
+use Rattle.store_tables.specs.Asking.{Asks, LooksUp}
+use Rattle.store_tables.proofs.StepLemmas.{kept_then}
+use Rattle.store_facts.specs.Tables.{AreOf}
+use Rattle.store_facts.specs.Holding.{HasFacts, HoldsFacts, OnlyLooks}
+use Rattle.store_queries.specs.Finding.Finding.{Finds, OfLawful}
+
+-- ---- looks, one after the other
+
+module _ {S : Type 0} (g : Ghosts S) (zone : List ℕ) where
+  pub holds_on : (old new : Held S) (facts : List Fact) → OnlyLooks g zone old new → HoldsFacts g zone old facts → HoldsFacts g zone new facts
+  unfolding HoldsFacts
+  holds_on old new facts looks holds clean is_open =
+      let k = looks.kept facts holds clean in
+      subst (HasFacts zone facts) (sym (k.committed is_open)) (holds (looks.clean clean) (k.was_open is_open))
+
+  pub looks_then : (a b c : Held S) → OnlyLooks g zone a b → OnlyLooks g zone b c → OnlyLooks g zone a c
+  looks_then a b c p q = record {
+    clean = λ clean. p.clean (q.clean clean);
+    mode = λ idle. q.mode (p.mode idle);
+    kept = λ facts holds clean. kept_then (state g a) (state g b) (state g c) (p.kept facts holds (q.clean clean)) (q.kept facts (holds_on a b facts p holds) clean);
+    left = λ facts holds clean trees left. p.left facts holds (q.clean clean) trees (q.left facts (holds_on a b facts p holds) clean trees left);
+  }
+
+  pub stays : (a : Held S) → OnlyLooks g zone a a
+  stays a = record {
+    clean = λ clean. clean;
+    mode = λ idle. idle;
+    kept = λ facts holds clean. record { was_open = λ still. still; committed = λ still. refl };
+    left = λ facts holds clean trees left. left;
+  }
+
+-- ---- a question after the books were touched
+
+-- The books were touched: what is seen is what was committed.
+pub record Touched {S : Type 0} (g : Ghosts S) (old mid : Held S) : Type 0 where
+  pub mode : mid.in_transaction ≡ false
+  pub opened : HasCleanDisk (state g mid) → IsTrue (state g mid).is_open × ((state g mid).now ≡ (state g mid).committed)
+  pub kept : HasCleanDisk (state g mid) → KeepsCommit (state g old) (state g mid)
+  pub survives : Survives (state g old) (state g mid) (λ _. ⊥)
+
+-- what is seen has the tables of the facts
+pub record HasSeen {S : Type 0} (g : Ghosts S) (zone : List ℕ) (mid : Held S) (facts : List Fact) : Type 0 where
+  pub content : Content
+  pub tables : AreTables (state g mid).now content
+  pub are : AreOf zone facts content
+
+-- The rows of one table tell what is said of the facts, and can be read where those of the facts can.
+pub record IsTold {A X : Type 0} (facts : List Fact) (content : Content) (tree : ℕ) (columns : X → Row) (IsSound : X → Type 0) (Answers : List X → A → Type 0) (Says : List Fact → A → Type 0) (AreSound : List Fact → Type 0) : Type 0 where
+  pub rows : List X
+  pub there : HasRows tree columns rows content
+  pub tells : (a : A) → Answers rows a → Says facts a
+  pub sound : AreSound facts → AllByRecursion IsSound rows
+
+weaker_ok : {A : Type 0} (P Q : A → Type 0) (r : Result A RowFault) → ((a : A) → P a → Q a) → IfOk r P → IfOk r Q
+weaker_ok P Q (Ok a) f h = f a h
+weaker_ok P Q (Err e) f h = tt
+
+lawfully : {A : Type 0} {P : Type 0} (Q : A → Type 0) (r : Result A RowFault) → P → IfOk r Q → IfOk r (λ a. P × Q a)
+lawfully Q (Ok a) p q = (p, q)
+lawfully Q (Err e) p q = tt
+
+left_or_none : {P : Type 0} → P ⊎ ⊥ → P
+left_or_none (inl p) = p
+left_or_none (inr none) = absurd none
+
+module _ {S : Type 0} (g : Ghosts S) (old mid : Held S) where
+  only_touched : (zone : List ℕ) → mid.in_transaction ≡ false → (HasCleanDisk (state g mid) → KeepsCommit (state g old) (state g mid)) → Survives (state g old) (state g mid) (λ _. ⊥) → OnlyLooks g zone old mid
+  only_touched zone mode kept survives = record {
+    clean = λ clean. omega (arith, survives.clean);
+    mode = λ idle. mode;
+    kept = λ facts holds clean. kept clean;
+    left = λ facts holds clean trees left. left_or_none (survives.crash clean trees left);
+  }
+
+  -- the store didn't answer
+  pub not_touched : {A : Type 0} (e : Error) (r : Result A RowFault) (Says : List Fact → A → Type 0) (AreSound : List Fact → Type 0)
+      → mid.in_transaction ≡ false → (HasCleanDisk (state g mid) → KeepsCommit (state g old) (state g mid)) → Survives (state g old) (state g mid) (λ _. ⊥)
+      → IsErrAnd r (λ d. d ≡ Sql e) → Finds g old mid r Says AreSound
+  not_touched e (Ok a) Says AreSound mode kept survives fails = absurd fails
+  not_touched e (Err d) Says AreSound mode kept survives fails = record {
+    answer = λ zone facts holds clean. tt;
+    fault = λ zone facts holds clean sound is. let f : Sql e ≡ Damaged = sym fails ∙ is in cc;
+    looks = λ zone. only_touched zone mode kept survives;
+  }
+
+  module _ (touched : Touched g old mid) where
+    looks_touched : (zone : List ℕ) → OnlyLooks g zone old mid
+    looks_touched zone = only_touched zone touched.mode touched.kept touched.survives
+
+    seen : (zone : List ℕ) (facts : List Fact) → HoldsFacts g zone old facts → HasCleanDisk (state g mid) → HasSeen g zone mid facts
+    unfolding HoldsFacts
+    seen zone facts holds clean =
+        let opened = touched.opened clean in
+        let k = touched.kept clean in
+        let early : HasCleanDisk (state g old) = omega (arith, touched.survives.clean) in
+        let has = holds early (k.was_open opened.0) in
+        record {
+          content = has.content;
+          tables = subst (λ d. AreTables d has.content) (sym (opened.1 ∙ k.committed opened.0)) has.tables;
+          are = has.are;
+        }
+
+    module _ (new : Held S) (asks : Asks g mid new) where
+      looks_asked : (zone : List ℕ) → OnlyLooks g zone old new
+      looks_asked zone =
+          let first = looks_touched zone in
+          record {
+            clean = λ clean. first.clean (asks.clean clean);
+            mode = λ idle. asks.mode touched.mode;
+            kept = λ facts holds clean.
+                let s = seen zone facts holds (asks.clean clean) in
+                kept_then (state g old) (state g mid) (state g new) (touched.kept (asks.clean clean)) (asks.kept clean s.content s.tables);
+            left = λ facts holds clean trees left.
+                let s = seen zone facts holds (asks.clean clean) in
+                first.left facts holds (asks.clean clean) trees (left_or_none ((asks.survives s.content s.tables).crash clean trees left));
+          }
+
+      -- it was answered
+      pub asked : {A : Type 0} (a : A) (Says : List Fact → A → Type 0) (AreSound : List Fact → Type 0)
+          → (HasCleanDisk (state g new) → (content : Content) → AreTables (state g mid).now content → (zone : List ℕ) (facts : List Fact) → AreOf zone facts content → Says facts a)
+          → Finds g old new (Ok a) Says AreSound
+      asked a Says AreSound tells = record {
+        answer = λ zone facts holds clean. let s = seen zone facts holds (asks.clean clean) in tells clean s.content s.tables zone facts s.are;
+        fault = λ zone facts holds clean sound. tt;
+        looks = looks_asked;
+      }
+
+      -- it was not
+      pub not_asked : {A : Type 0} (e : Error) (r : Result A RowFault) (Says : List Fact → A → Type 0) (AreSound : List Fact → Type 0)
+          → IsErrAnd r (λ d. d ≡ Sql e) → Finds g old new r Says AreSound
+      not_asked e (Ok a) Says AreSound fails = absurd fails
+      not_asked e (Err d) Says AreSound fails = record {
+        answer = λ zone facts holds clean. tt;
+        fault = λ zone facts holds clean sound is. let f : Sql e ≡ Damaged = sym fails ∙ is in cc;
+        looks = looks_asked;
+      }
+
+    -- a look-up of the rows of one table
+    pub looked_up : {A X : Type 0} (new : Held S) (tree : ℕ) (columns : X → Row) (IsSound : X → Type 0) (r : Result A RowFault) (Answers : List X → A → Type 0)
+        → LooksUp g mid new tree columns IsSound r Answers → (stored : List Fact → List X)
+        → ((zone : List ℕ) (facts : List Fact) (content : Content) → AreOf zone facts content → HasRows tree columns (stored facts) content)
+        → Finds g old new r (OfLawful (λ facts. Answers (stored facts))) (λ facts. AllByRecursion IsSound (stored facts))
+    looked_up new tree columns IsSound r Answers it stored rows = record {
+      answer = λ zone facts holds clean.
+          let s = seen zone facts holds (it.asks.clean clean) in
+          lawfully _ r s.are.lawful (it.answer clean s.content s.tables (stored facts) (rows zone facts s.content s.are));
+      fault = λ zone facts holds clean sound.
+          let s = seen zone facts holds (it.asks.clean clean) in it.fault clean s.content s.tables (stored facts) (rows zone facts s.content s.are) sound;
+      looks = looks_asked new it.asks;
+    }
+
+    -- a look-up of the rows of one table, which tell of the facts
+    pub told_of : {A X : Type 0} (new : Held S) (tree : ℕ) (columns : X → Row) (IsSound : X → Type 0) (r : Result A RowFault) (Answers : List X → A → Type 0)
+        → LooksUp g mid new tree columns IsSound r Answers → (Says : List Fact → A → Type 0) (AreSound : List Fact → Type 0)
+        → ((zone : List ℕ) (facts : List Fact) (content : Content) → AreOf zone facts content → IsTold facts content tree columns IsSound Answers Says AreSound)
+        → Finds g old new r Says AreSound
+    told_of new tree columns IsSound r Answers it Says AreSound told = record {
+      answer = λ zone facts holds clean.
+          let s = seen zone facts holds (it.asks.clean clean) in
+          let t = told zone facts s.content s.are in
+          weaker_ok (Answers t.rows) (Says facts) r t.tells (it.answer clean s.content s.tables t.rows t.there);
+      fault = λ zone facts holds clean sound.
+          let s = seen zone facts holds (it.asks.clean clean) in
+          let t = told zone facts s.content s.are in
+          it.fault clean s.content s.tables t.rows t.there (t.sound sound);
+      looks = looks_asked new it.asks;
+    }
+
+    -- no more was asked
+    pub seen_alone : {A : Type 0} (a : A) (Says : List Fact → A → Type 0) (AreSound : List Fact → Type 0) → ((facts : List Fact) → AreLawful facts → Says facts a) → Finds g old mid (Ok a) Says AreSound
+    seen_alone a Says AreSound tells = record {
+      answer = λ zone facts holds clean. tells facts (seen zone facts holds clean).are.lawful;
+      fault = λ zone facts holds clean sound. tt;
+      looks = looks_touched;
+    }

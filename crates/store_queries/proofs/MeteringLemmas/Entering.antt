@@ -1,0 +1,99 @@
+-- The entry of a meter at a place.
+use Rattle.std.proofs.Common.{◌≡◌, ℕ, List, map, filter, reverse, take, Option, Some, None, option_map, Ok, Err, Result, IfOk, refl, sym, ap, subst, ◌∙◌, IsPermutation}
+use Rattle.std.specs.Option.{option_and_then}
+use Rattle.std.specs.List.{filter_map}
+use Rattle.std.proofs.lemmas.List.{reverse-reverse}
+use Rattle.std.proofs.lemmas.Option.{same_Some}
+use Rattle.sqlite.specs.Order.{Row}
+use Rattle.meter_journal.specs.declared.lines.EntryRow.{EntryRow}
+use Rattle.meter_journal.specs.Journal.{Around, entries_in, row_at}
+use Rattle.meter_journal.specs.Laws.{RowsStand}
+use Rattle.meter_journal.specs.Lists.{latest_first}
+use Rattle.meter_journal.specs.Voids.{VoidsChangeTwoRows}
+use Rattle.office_events.specs.declared.facts.Opening.{Opening}
+use Rattle.office_events.specs.declared.facts.Fact.{Fact}
+use Rattle.office_events.specs.declared.questions.Installation.{Installation}
+use Rattle.office_events.specs.declared.questions.EntryPlace.{EntryPlace}
+use Rattle.office_rules.specs.Facts.{same, openings_in, opening_of, voids_in}
+use Rattle.office_rules.specs.Lawful.{AreLawful}
+use Rattle.office_rules.specs.Meters.{rows_of, installation_of, meter_of, entry_at, place_in, standing, is_ended}
+use Rattle.office_laws.specs.Laws.{JournalsFit}
+use Rattle.office_laws.proofs.Lookups.{same_text, find_passes}
+use Rattle.store_tables.specs.declared.faults.RowFault.{RowFault}
+use Rattle.store_tables.specs.Answer.{FirstFirst}
+use Rattle.store_tables.specs.Asking.{Shows}
+use Rattle.store_entries.specs.Rows.{Entered, Voided, is_of, is_void_of, entry_place, entry_shown, voided_shown, voided_place}
+use Rattle.store_facts.specs.Rows.{entered_rows, entries_of, voided}
+use Rattle.store_facts.proofs.Energy.{found_recorded}
+use Rattle.store_queries.specs.Metering.Entries.{AreJournal, ShowsEntries, ShowsVoids, FindsJournal, row_among}
+use Rattle.store_queries.proofs.MeteringLemmas.Journals.{numbered, journal_back, entries_in_order}
+
+-- the opening of a meter has its name
+named : (facts : List Fact) (meter : List ℕ) (o : Opening) → opening_of facts meter ≡ Some o → o.meter ≡ meter
+named facts meter o there = same_text o.meter meter (find_passes (λ (x : Opening). same x.meter meter) (openings_in facts) o there)
+
+pub shows_entries : JournalsFit → RowsStand → (facts : List Fact) (meter : List ℕ) (rows : List Entered) (answer : List Row) → AreLawful facts → ((m : List ℕ) → IsPermutation (filter (is_of m) rows) (entries_of facts m))
+    → Shows (is_of meter) (FirstFirst entry_place) entry_shown rows answer → ShowsEntries meter facts answer
+shows_entries journals stand facts meter rows answer lawful each shows = λ o there.
+    let recorded = found_recorded (λ (x : Opening). same x.meter meter) (openings_in facts) o there in
+    let name = named facts meter o there in
+    let alone : opening_of facts o.meter ≡ Some o = ap (opening_of facts) name ∙ there in
+    let here = subst (λ (m : List ℕ). Shows (is_of m) (FirstFirst entry_place) entry_shown rows answer) (sym name) shows in
+    here.2 ∙ ap (map entry_shown) (entries_in_order facts o rows here.0 (numbered journals stand facts o lawful recorded) alone (each o.meter) here.1)
+
+pub shows_voids : (facts : List Fact) (meter : List ℕ) (answer : List Row) → AreLawful facts → Shows (is_void_of meter) (FirstFirst voided_place) voided_shown (map voided (voids_in facts)) answer → ShowsVoids meter facts answer
+shows_voids facts meter answer lawful shows = record { lawful = lawful; voids = shows.0; shown = shows.2; all = shows.1.all }
+
+pub journal_is : JournalsFit → RowsStand → VoidsChangeTwoRows → (facts : List Fact) (meter : List ℕ) (entries voids : List Row) (rows : List EntryRow) → ShowsEntries meter facts entries → ShowsVoids meter facts voids
+    → AreJournal entries voids rows → FindsJournal meter facts rows
+journal_is journals stand change facts meter entries voids rows shown void are = λ o there.
+    let recorded = found_recorded (λ (x : Opening). same x.meter meter) (openings_in facts) o there in
+    let name = named facts meter o there in
+    let all = subst (λ (m : List ℕ). IsPermutation (filter (is_void_of m) (map voided (voids_in facts))) void.voids) (sym name) void.all in
+    ap reverse (are (reverse (entered_rows o (rows_of facts o))) void.voids (shown o there) void.shown ∙ journal_back journals stand change facts o void.lawful recorded void.voids all)
+    ∙ reverse-reverse (rows_of facts o)
+
+-- what was found at the place of a meter
+by_opening : (facts : List Fact) (place : ℕ) (whole : Installation) (found : Option EntryPlace) (opening : Option Opening) → Some whole ≡ option_map (installation_of facts) opening
+    → ((o : Opening) → opening ≡ Some o → whole ≡ installation_of facts o → found ≡ option_map (place_in facts o) (row_at place (rows_of facts o)))
+    → found ≡ option_and_then (λ o. option_map (place_in facts o) (row_at place (rows_of facts o))) opening
+by_opening facts place whole found None is tells = absurd (let e = is in cc)
+by_opening facts place whole found (Some o) is tells = tells o refl (same_Some _ _ is)
+
+pub entry_is : (facts : List Fact) (meter : List ℕ) (place : ℕ) (whole : Installation) (rows : List EntryRow) (found : Option EntryPlace) → Some whole ≡ meter_of facts meter → FindsJournal meter facts rows
+    → ((o : Opening) → whole ≡ installation_of facts o → latest_first rows ≡ rows_of facts o → found ≡ option_map (place_in facts o) (row_at place (rows_of facts o)))
+    → found ≡ entry_at facts meter place
+entry_is facts meter place whole rows found is journal tells =
+    by_opening facts place whole found (opening_of facts meter) is (λ o there whole_is. tells o whole_is (journal o there))
+
+-- where no meter is, no entry is
+none_at : (facts : List Fact) (place : ℕ) (opening : Option Opening) → None ≡ option_map (installation_of facts) opening
+    → None ≡ option_and_then (λ o. option_map (place_in facts o) (row_at place (rows_of facts o))) opening
+none_at facts place None is = refl
+none_at facts place (Some o) is = absurd (let e = is in cc)
+
+pub no_entry : (facts : List Fact) (meter : List ℕ) (place : ℕ) → None ≡ meter_of facts meter → None ≡ entry_at facts meter place
+no_entry facts meter place is = none_at facts place (opening_of facts meter) is
+
+pub placed_is : (facts : List Fact) (meter text : List ℕ) (place : ℕ) (x : Option Installation) (whole : Installation) (rows told : List EntryRow) (r : Result (Option EntryPlace) RowFault) → x ≡ Some whole → x ≡ meter_of facts meter → text ≡ meter
+    → told ≡ rows → FindsJournal text facts rows
+    → ((o : Opening) → whole ≡ installation_of facts o → latest_first told ≡ rows_of facts o → IfOk r (λ found. found ≡ option_map (place_in facts o) (row_at place (rows_of facts o))))
+    → IfOk r (λ found. found ≡ entry_at facts meter place)
+placed_is facts meter text place x whole rows told (Err e) is found named same_rows journal tells = tt
+placed_is facts meter text place x whole rows told (Ok y) is found named same_rows journal tells =
+    entry_is facts meter place whole rows y (sym is ∙ found) (subst (λ (t : List ℕ). FindsJournal t facts rows) named journal)
+    (λ o whole_is rows_are. tells o whole_is (ap latest_first same_rows ∙ rows_are))
+
+pub from_derefs : (a b c d : List Row) (rows : List EntryRow) → a ≡ c → b ≡ d → AreJournal a b rows → AreJournal c d rows
+from_derefs a b c d rows one two are = subst (λ (l : List Row). AreJournal l d rows) one (subst (λ (l : List Row). AreJournal a l rows) two are)
+
+pub placed_found : (facts : List Fact) (o : Opening) (place : ℕ) (whole before : Installation) (rows firsts : List EntryRow) (index : ℕ) (row : EntryRow) (next : Option EntryRow) → whole ≡ installation_of facts o → latest_first rows ≡ rows_of facts o
+    → row_at place (latest_first rows) ≡ Some (record { before = latest_first (take index rows); row = row; next = next }) → firsts ≡ take index rows → before ≡ standing whole.opening (entries_in (latest_first firsts)) whole.ended
+    → Some (let p : EntryPlace = record { before = before; row = row; next = next } in p) ≡ option_map (place_in facts o) (row_at place (rows_of facts o))
+placed_found facts o place whole before rows firsts index row next whole_is rows_are found first_is stood =
+    let around : Around = record { before = latest_first (take index rows); row = row; next = next } in
+    let at : row_at place (rows_of facts o) ≡ Some around = ap (row_at place) (sym rows_are) ∙ found in
+    let was : before ≡ standing o (entries_in around.before) (is_ended facts o) =
+    stood ∙ ap (λ (rs : List EntryRow). standing whole.opening (entries_in (latest_first rs)) whole.ended) first_is
+    ∙ ap (λ (w : Installation). standing w.opening (entries_in around.before) w.ended) whole_is in
+    ap (λ (b : Installation). Some (let p : EntryPlace = record { before = b; row = row; next = next } in p)) was ∙ sym (ap (option_map (place_in facts o)) at)

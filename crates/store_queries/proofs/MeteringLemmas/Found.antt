@@ -1,0 +1,141 @@
+-- What the rows of the tables of facts say of meters.
+use Rattle.std.proofs.Common.{◌≡◌, ℕ, ◌+◌, ◌==◌, ◌&&◌, Bool, true, List, [], ◌∷◌, map, filter, length, Option, Some, None, option_map, string_bytes, bytes_eq, refl, sym, ap, subst, ◌∙◌, arith, eqb-true, IsPermutation}
+use Rattle.std.specs.List.{AllByRecursion}
+use Rattle.std.proofs.lemmas.Bool.{and_parts}
+use Rattle.std.proofs.lemmas.Option.{same_Some}
+use Rattle.std.proofs.lemmas.List.Elements.{recursion_from_All, All-from_recursion}
+use Rattle.std.proofs.lemmas.List.Sorted.{All-permutation, IsPermutation-sym}
+use Rattle.sqlite_keyed.proofs.ListLemmas.{all_kept}
+use Rattle.meter_journal.specs.declared.lines.EntryRow as journal
+use Rattle.meter_journal.specs.Lists.{AreNumbered}
+use Rattle.office_events.specs.declared.facts.Opening.{Opening}
+use Rattle.office_events.specs.declared.facts.Fact.{Fact}
+use Rattle.office_events.specs.declared.questions.Installation.{Installation}
+use Rattle.office_rules.specs.Facts.{same, openings_in, opening_of, installed_at}
+use Rattle.office_rules.specs.Lawful.{AreLawful}
+use Rattle.office_rules.specs.Meters.{rows_of, installation_of}
+use Rattle.office_laws.specs.Laws.{VoidsLeaveNoTrace}
+use Rattle.office_laws.proofs.Lookups.{same_text, each_found}
+use Rattle.office_laws.proofs.Openings.{openings_apart, found_installed}
+use Rattle.store_tables.specs.Answer.{IsFound, IsLast, every}
+use Rattle.store_meters.specs.declared.rows.Installation as stored
+use Rattle.store_meters.specs.Rows.{Installed, IsInstalled, is_meter, is_at, installed_place, HasInstalledPlace, is_range_of, HasRange}
+use Rattle.store_entries.specs.declared.rows.EntryRow.{EntryRow}
+use Rattle.store_entries.specs.Rows.{Entered, is_of, is_entry, IsRow}
+use Rattle.store_facts.specs.Rows.{placed, installed_row, ranged, opening_row, entered_rows, entries_at, entries_of}
+use Rattle.store_facts.proofs.Energy.{found_recorded}
+use Rattle.store_facts.proofs.Placed.{last_counts}
+use Rattle.store_queries.specs.Metering.Meters.{IsRowOf, FindsRow, FindsRange, FindsFirst, CountsOpenings, opening_from, standing_from, IsStanding}
+use Rattle.store_queries.proofs.MeteringLemmas.Picked.{found_has, none_placed, last_placed, all_placed, all_mapped}
+
+-- each opening is the only one of its meter
+pub alone : (facts : List Fact) → AreLawful facts → AllByRecursion (λ (o : Opening). opening_of facts o.meter ≡ Some o) (openings_in facts)
+alone facts lawful = recursion_from_All _ _ (each_found (λ (o : Opening). o.meter) (openings_in facts) (openings_apart facts lawful))
+
+-- ---- installations
+
+pub row_found : (facts : List Fact) (meter : List ℕ) → AreLawful facts → (found : Option stored.Installation)
+    → IsFound (is_meter meter) IsInstalled (placed (installed_row facts) (openings_in facts)) found → FindsRow facts (opening_of facts meter) found
+row_found facts meter lawful None h =
+    subst (λ (o : Option Opening). FindsRow facts o None)
+    (sym (none_placed (installed_row facts) (λ (o : Opening). same o.meter meter) (is_meter meter) (λ n o. refl) (openings_in facts) h)) refl
+row_found facts meter lawful (Some a) h =
+    let P : Opening → Type 0 = λ o. opening_of facts o.meter ≡ Some o in
+    let it = found_has (is_meter meter) (λ (y : Installed). (o : Opening) × (n : ℕ) × (y ≡ installed_row facts n o) × P o) (placed (installed_row facts) (openings_in facts)) h.0 h.2
+    (all_placed (installed_row facts) P (openings_in facts) (alone facts lawful)) h.3 in
+    let o = it.0.0 in
+    let named : o.meter ≡ meter = same_text o.meter meter (sym (ap (is_meter meter) it.0.2) ∙ it.1) in
+    let there : opening_of facts meter ≡ Some o = subst (λ (t : List ℕ). opening_of facts t ≡ Some o) named it.0.3 in
+    subst (λ (x : Option Opening). FindsRow facts x (Some a)) (sym there)
+    (record { place = it.0.1; row = subst (λ (y : Installed). IsInstalled y a) it.0.2 h.1; alone = it.0.3 })
+
+pub row_found_at : (facts : List Fact) (register : List ℕ) → AreLawful facts → (found : Option stored.Installation)
+    → IsLast (is_at register) IsInstalled installed_place (placed (installed_row facts) (openings_in facts)) found → FindsRow facts (installed_at facts register) found
+row_found_at facts register lawful None h =
+    subst (λ (o : Option Opening). FindsRow facts o None)
+    (sym (none_placed (installed_row facts) (λ (o : Opening). same o.register register) (is_at register) (λ n o. refl) (openings_in facts) h)) refl
+row_found_at facts register lawful (Some a) h =
+    let it = last_placed (installed_row facts) (λ (o : Opening). same o.register register) (is_at register) (λ n o. refl) IsInstalled installed_place (λ n o. refl) (openings_in facts) a h in
+    subst (λ (x : Option Opening). FindsRow facts x (Some a)) (sym it.2)
+    (record { place = it.1; row = it.3; alone = found_installed facts register it.0 lawful it.2 })
+
+pub counted : (facts : List Fact) (found : Option ℕ) → IsLast every HasInstalledPlace installed_place (placed (installed_row facts) (openings_in facts)) found → CountsOpenings facts found
+counted facts None h = let n = last_counts (installed_row facts) installed_place (λ place o. refl) (openings_in facts) None h in omega (arith, n)
+counted facts (Some place) h = let n = last_counts (installed_row facts) installed_place (λ place o. refl) (openings_in facts) (Some place) h in omega (arith, n)
+
+-- ---- ranges
+
+pub range_found : (facts : List Fact) (meter : List ℕ) → AreLawful facts → (found : Option ℕ) → IsFound (is_range_of meter) HasRange (map ranged (openings_in facts)) found → FindsRange meter facts found
+range_found facts meter lawful None h = tt
+range_found facts meter lawful (Some range) h = λ opening there.
+    let P : Opening → Type 0 = λ o. opening_of facts o.meter ≡ Some o in
+    let it = found_has (is_range_of meter) (λ y. (o : Opening) × (y ≡ ranged o) × P o) (map ranged (openings_in facts)) h.0 h.2
+    (all_mapped ranged P (openings_in facts) (alone facts lawful)) h.3 in
+    let o = it.0.0 in
+    let named : o.meter ≡ meter = same_text o.meter meter (sym (ap (is_range_of meter) it.0.1) ∙ it.1) in
+    let here : opening_of facts meter ≡ Some o = subst (λ (t : List ℕ). opening_of facts t ≡ Some o) named it.0.2 in
+    let this : o ≡ opening = same_Some o opening (sym here ∙ there) in
+    h.1 ∙ ap (λ r. r.range) it.0.1 ∙ ap (λ (x : Opening). x.range) this
+
+-- ---- openings
+
+first_alone : (o : Opening) (rows : List journal.EntryRow) → AreNumbered rows → AllByRecursion (λ (e : Entered). e.entry.place ≡ 1 → e.entry ≡ opening_row o) (entered_rows o rows)
+first_alone o [] numbered = (λ is. refl, tt)
+first_alone o (row ∷ rows) numbered = (λ is. absurd (let place = numbered.0 in omega (arith, place, is)), first_alone o rows numbered.1)
+
+pub first_found : VoidsLeaveNoTrace → (facts : List Fact) (meter : List ℕ) (rows : List Entered) → AreLawful facts → ((m : List ℕ) → IsPermutation (filter (is_of m) rows) (entries_of facts m)) → (found : Option EntryRow)
+    → IsFound (is_entry meter 1) IsRow rows found → FindsFirst meter facts found
+first_found law facts meter rows lawful each None h = tt
+first_found law facts meter rows lawful each (Some entry) h = λ opening there.
+    let P : Entered → Type 0 = λ e. e.entry.place ≡ 1 → e.entry ≡ opening_row opening in
+    let recorded = found_recorded (λ (x : Opening). same x.meter meter) (openings_in facts) opening there in
+    let numbered : AreNumbered (rows_of facts opening) = (law facts opening lawful recorded).rows.places in
+    let whole : entries_of facts meter ≡ entered_rows opening (rows_of facts opening) = ap (entries_at facts) there in
+    let first = subst (AllByRecursion P) (sym whole) (first_alone opening (rows_of facts opening) numbered) in
+    let mine = recursion_from_All P _ (All-permutation P _ _ (IsPermutation-sym _ _ (each meter)) (All-from_recursion P _ first)) in
+    let it = found_has (is_entry meter 1) (λ (e : Entered). is_of meter e ≡ true → P e) rows h.0 h.2 (all_kept P (is_of meter) rows mine) h.3 in
+    let y : Entered = h.0 in
+    let parts = and_parts (bytes_eq y.meter meter) (y.entry.place == 1) it.1 in
+    let at_one = parts.1 in
+    let place : y.entry.place ≡ 1 = eqb-true y.entry.place 1 at_one in
+    h.1 ∙ it.0 parts.0 place
+
+-- ---- the installation
+
+pub opening_is : (facts : List Fact) (o : Opening) (row : stored.Installation) (range : ℕ) (first : EntryRow) → IsRowOf facts o row → FindsRange (string_bytes row.meter) facts (Some range) → FindsFirst (string_bytes row.meter) facts (Some first)
+    → opening_from row range first ≡ o
+opening_is facts o row range first is ranges begins =
+    let named : string_bytes row.meter ≡ o.meter = is.row.meter in
+    let there : opening_of facts (string_bytes row.meter) ≡ Some o = ap (opening_of facts) named ∙ is.alone in
+    let range_is : range ≡ o.range = ranges o there in
+    let first_is : first ≡ opening_row o = begins o there in
+    λ i. record {
+      meter = is.row.meter i;
+      register = is.row.register i;
+      ceiling = (is.row.row i).ceiling;
+      range = range_is i;
+      at = (first_is i).moment;
+      raw = (first_is i).raw;
+      sf = (first_is i).sf;
+    }
+
+pub standing_is : (facts : List Fact) (o made : Opening) (row : stored.Installation) → IsRowOf facts o row → made ≡ o → standing_from made row.row ≡ installation_of facts o
+standing_is facts o made row is opening = λ i. record {
+  opening = opening i;
+  last = record { at = (is.row.row i).last.moment; raw = (is.row.row i).last.raw; sf = (is.row.row i).last.sf };
+  total = (is.row.row i).last.total;
+  ended = (is.row.row i).is_ended;
+}
+
+pub standing_found : (facts : List Fact) (row : stored.Installation) (m : List ℕ) (x : Option ℕ) (y : Option EntryRow) (range : ℕ) (first : EntryRow) (made : Opening) (found : Installation) → m ≡ string_bytes row.meter → x ≡ Some range
+    → y ≡ Some first → made ≡ opening_from row range first → FindsRange m facts x → FindsFirst m facts y → found ≡ standing_from made row.row → IsStanding row facts found
+standing_found facts row m x y range first made found named ranged_is first_is made_is ranges begins is = λ o of.
+    let one = subst (λ (t : List ℕ). FindsRange t facts (Some range)) named (subst (λ (z : Option ℕ). FindsRange m facts z) ranged_is ranges) in
+    let two = subst (λ (t : List ℕ). FindsFirst t facts (Some first)) named (subst (λ (z : Option EntryRow). FindsFirst m facts z) first_is begins) in
+    is ∙ standing_is facts o made row of (made_is ∙ opening_is facts o row range first of one two)
+
+-- the installation of the opening whose row was found
+pub found_is : (facts : List Fact) (o : Option Opening) (x : Option stored.Installation) (row : stored.Installation) (found : Installation) → x ≡ Some row → FindsRow facts o x → IsStanding row facts found
+    → Some found ≡ option_map (installation_of facts) o
+found_is facts None x row found is finds stands = absurd (let e = sym finds ∙ is in cc)
+found_is facts (Some o) x row found is finds stands = ap Some (stands o (subst (FindsRow facts (Some o)) is finds))

@@ -1,0 +1,12 @@
+use Rattle.std.proofs.Common.{map}
+use Rattle.office_rules.specs.Facts.{replies_in}
+use Rattle.store_facts.specs.Rows.{kept}
+use Rattle.store_polls.specs.Trees.{replies}
+use Rattle.store_polls.specs.Rows.{reply_columns, IsSoundKept}
+use Rattle.store_queries.proofs.FindingLemmas.Looking.{looked_up}
+use Rattle.store_queries.proofs.finding.kept.row_of.Goals as goal
+
+pub returns : goal.returns
+returns g c =
+    looked_up g.S.Store c.args.conn.now c.touch.new.conn (record { mode = c.in_ok-touch.ensures.autocommit; opened = c.in_ok-touch.ensures.opened; kept = c.in_ok-touch.ensures.kept; survives = c.in_ok-touch.ensures.survives })
+    c.repeat_of.new.conn replies reply_columns IsSoundKept c.repeat_of.result _ c.repeat_of.ensures (λ facts. map kept (replies_in facts)) (λ zone facts content are. are.replies)

@@ -1,0 +1,19 @@
+use Rattle.std.proofs.Common.{length, ap, ◌∙◌}
+use Rattle.office_rules.specs.Facts.{registers_in, registers_of}
+use Rattle.store_facts.specs.Rows.{placed, registered}
+use Rattle.store_queries.proofs.FindingLemmas.Looking.{asked, not_asked}
+use Rattle.store_queries.proofs.FindingLemmas.Facts.{registers_counted}
+use Rattle.store_queries.proofs.finding.register_rows.register_count.Goals as goal
+
+pub returns-in_err-register_count : goal.returns-in_err-register_count
+returns-in_err-register_count g c =
+    not_asked g.S.Store c.args.conn.now c.touch.new.conn (record { mode = c.in_ok-touch.ensures.autocommit; opened = c.in_ok-touch.ensures.opened; kept = c.in_ok-touch.ensures.kept; survives = c.in_ok-touch.ensures.survives })
+    c.register_count.new.conn c.in_err-register_count.ensures.asks c.in_err-register_count.field-0.0 c.from_residual-in_err-register_count.result _ _ c.from_residual-in_err-register_count.ensures.1
+
+pub returns : goal.returns
+returns g c =
+    asked g.S.Store c.args.conn.now c.touch.new.conn (record { mode = c.in_ok-touch.ensures.autocommit; opened = c.in_ok-touch.ensures.opened; kept = c.in_ok-touch.ensures.kept; survives = c.in_ok-touch.ensures.survives })
+    c.register_count.new.conn c.in_ok-register_count.ensures.asks c.in_ok-register_count.field-0 _ _
+    (λ clean content has zone facts are.
+    c.in_ok-register_count.ensures.counts clean content has (placed registered (registers_in facts)) are.registers
+    ∙ (registers_counted facts c.in_ok-device.device.now ∙ ap (λ device. length (registers_of facts device)) c.in_ok-device.ensures.text))

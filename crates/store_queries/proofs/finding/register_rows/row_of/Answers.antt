@@ -1,0 +1,16 @@
+use Rattle.office_rules.specs.Facts.{registers_in}
+use Rattle.sqlite_keyed.proofs.ListLemmas.{all_weaker}
+use Rattle.store_facts.specs.Rows.{placed, registered}
+use Rattle.store_lists.specs.Trees.{registers}
+use Rattle.store_lists.specs.Rows.{register_columns, IsSoundRegistered}
+use Rattle.store_queries.specs.Finding.Sound.{IsReadableRegister}
+use Rattle.store_queries.proofs.FindingLemmas.Looking.{looked_up}
+use Rattle.store_queries.proofs.FindingLemmas.Found.{less_told}
+use Rattle.store_queries.proofs.finding.register_rows.row_of.Goals as goal
+
+pub returns : goal.returns
+returns g c =
+    less_told g.S.Store c.args.conn.now c.register_of.new.conn c.register_of.result _ _ _
+    (λ facts sound. all_weaker IsReadableRegister IsSoundRegistered (λ r is. is.row) (placed registered (registers_in facts)) sound)
+    (looked_up g.S.Store c.args.conn.now c.touch.new.conn (record { mode = c.in_ok-touch.ensures.autocommit; opened = c.in_ok-touch.ensures.opened; kept = c.in_ok-touch.ensures.kept; survives = c.in_ok-touch.ensures.survives })
+    c.register_of.new.conn registers register_columns IsSoundRegistered c.register_of.result _ c.register_of.ensures.finds (λ facts. placed registered (registers_in facts)) (λ zone facts content are. are.registers))

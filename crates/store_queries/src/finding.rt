@@ -1,0 +1,17 @@
+//! What the tables of the books answer of the facts that they hold.
+
+mod device_rows;
+mod kept;
+mod last_moment;
+mod memory;
+mod point_lists;
+mod point_rows;
+mod poll_rows;
+mod register_rows;
+
+pub use device_rows::devices;
+pub use kept::repeat;
+pub use last_moment::latest;
+pub use point_lists::list;
+pub use poll_rows::{pending, poll, poll_count};
+pub use register_rows::{register, register_count, registers};

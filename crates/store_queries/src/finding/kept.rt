@@ -1,0 +1,81 @@
+//! Replies that are kept.
+ghost use Rattle.std.specs.Prelude.{◌≡◌, false, IsUtf8};
+ghost use Rattle.office_books.specs.Repeats.{repeat_of};
+ghost use Rattle.store_polls.specs.Rows.{IsCallNumber};
+ghost use Rattle.store_queries.specs.Finding.Finding.{Finds, OfLawful};
+ghost use Rattle.store_queries.specs.Finding.Reading.{kind_from, repeat_from};
+ghost use Rattle.store_queries.specs.Finding.Showing.{FindsRepeat};
+ghost use Rattle.store_queries.specs.Finding.Sound.{HasReadableReplies};
+
+use office_books::Repeat;
+use office_events::{CommandKind, MAX_REQUEST, Name};
+use sqlite::{Alter, Connection};
+use store_facts::text;
+use store_polls::ReplyKind;
+use store_tables::{RowFault, touch};
+
+fn command(kind: ReplyKind) -> CommandKind
+    ensures { result ≡ kind_from kind }
+{
+    match kind {
+        ReplyKind::Device => CommandKind::Device,
+        ReplyKind::List => CommandKind::List,
+        ReplyKind::Register => CommandKind::Register,
+        ReplyKind::Install => CommandKind::Install,
+        ReplyKind::Exchange => CommandKind::Exchange,
+        ReplyKind::Reset => CommandKind::Reset,
+        ReplyKind::Rescale => CommandKind::Rescale,
+        ReplyKind::Manual => CommandKind::Manual,
+        ReplyKind::Close => CommandKind::Close,
+        ReplyKind::Void => CommandKind::Void,
+        ReplyKind::Start => CommandKind::Start,
+    }
+}
+
+fn told(repeat: store_polls::Repeat) -> Repeat
+    ensures { result ≡ repeat_from repeat }
+{
+    match repeat {
+        store_polls::Repeat::Same(kind) => Repeat::Same(command(kind)),
+        store_polls::Repeat::Other => Repeat::Other,
+    }
+}
+
+/// What a request is to the kept one, as the table has that.
+fn row_of<S: Alter>(
+    conn: &mut Connection<S>,
+    caller: &str,
+    number: u64,
+    request: &[u8],
+) -> Result<Option<store_polls::Repeat>, RowFault>
+    requires idle { conn.old.in_transaction ≡ false }
+    requires number { IsCallNumber number }
+    ensures { Finds S.Store conn.old conn.new result
+        (OfLawful (FindsRepeat caller.now number request.now)) HasReadableReplies }
+{
+    touch(conn)?;
+    store_polls::repeat_of(conn, caller, number, request)
+}
+
+/// What a request is to the one that is kept under its caller and number, if one is.
+pub fn repeat<S: Alter>(
+    conn: &mut Connection<S>,
+    caller: &Name,
+    number: u64,
+    request: &[u8],
+) -> Result<Option<Repeat>, RowFault>
+    requires { conn.old.in_transaction ≡ false }
+    ensures { Finds S.Store conn.old conn.new result
+        (λ facts kept. kept ≡ repeat_of facts caller.now number request.now)
+        (λ facts. IsUtf8 caller.now × HasReadableReplies facts) }
+{
+    if MAX_REQUEST < number {
+        touch(conn)?;
+        return Ok(None);
+    }
+    let caller = text(caller)?;
+    match row_of(conn, caller, number, request)? {
+        None => Ok(None),
+        Some(kept) => Ok(Some(told(kept))),
+    }
+}

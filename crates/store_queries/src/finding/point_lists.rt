@@ -1,0 +1,65 @@
+//! Point lists.
+ghost use Rattle.std.specs.Prelude.{◌≡◌, ◌≢◌, [], false, IfOk, IfErr, IsUtf8};
+ghost use Rattle.office_rules.specs.Facts.{list_of};
+ghost use Rattle.read_plan.specs.PlannedLists.{IsPlanned};
+ghost use Rattle.point_list.specs.Points.{IsPointList};
+ghost use Rattle.store_tables.specs.declared.faults.RowFault.TheVariants.{Damaged};
+ghost use Rattle.store_facts.specs.Rows.{points_of};
+ghost use Rattle.store_queries.specs.Finding.Finding.{Finds, OfLawful};
+ghost use Rattle.store_queries.specs.Finding.Points.{HasReadablePoints};
+
+use crate::finding::memory::want_of_memory;
+use crate::finding::point_rows::{points_in, rows_of};
+use office_events::Name;
+use point_list::{ListedPoint, PointList};
+use read_plan::{PlannedList, lists_are_planned_once};
+use sqlite::{Alter, Connection};
+use std::alloc::Global;
+use store_facts::text;
+use store_tables::RowFault;
+
+/// The list of these points, with the reads of its plan. Points that keep not what every list keeps are damage.
+fn with_plan(alloc: Global, points: Vec<ListedPoint>) -> Result<PlannedList, RowFault>
+    ensures points { IfOk result (λ list. list.points ≡ points.items) }
+    ensures planned { IfOk result IsPlanned }
+    ensures fault { IsPointList points.items → IfErr result (λ e. e ≢ Damaged) }
+{
+    let Ok(list) = PointList::new(points) else {
+        return Err(RowFault::Damaged);
+    };
+    match PlannedList::new(alloc, list) {
+        Ok(planned) => Ok(planned),
+        Err(_) => Err(want_of_memory()),
+    }
+}
+
+/// The points of a device's list.
+fn points<S: Alter>(conn: &mut Connection<S>, device: &str) -> Result<Vec<ListedPoint>, RowFault>
+    requires { conn.old.in_transaction ≡ false }
+    ensures { Finds S.Store conn.old conn.new result
+        (OfLawful (λ facts v. v.items ≡ points_of facts device.now))
+        (λ facts. HasReadablePoints facts device.now) }
+{
+    let rows = rows_of(conn, device)?;
+    points_in(&rows)
+}
+
+/// The point list of a device, with the reads of its plan.
+pub fn list<S: Alter>(
+    alloc: Global,
+    conn: &mut Connection<S>,
+    device: &Name,
+) -> Result<Option<PlannedList>, RowFault>
+    requires { conn.old.in_transaction ≡ false }
+    ensures { Finds S.Store conn.old conn.new result
+        (λ facts list. list ≡ list_of facts device.now)
+        (λ facts. IsUtf8 device.now × HasReadablePoints facts device.now) }
+{
+    lists_are_planned_once();
+    let device = text(device)?;
+    let points = points(conn, device)?;
+    if points.is_empty() {
+        return Ok(None);
+    }
+    Ok(Some(with_plan(alloc, points)?))
+}

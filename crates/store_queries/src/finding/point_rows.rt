@@ -1,0 +1,100 @@
+//! The points of a device's list.
+ghost use Rattle.std.specs.Prelude.{◌≡◌, false, string_bytes};
+ghost use Rattle.store_tables.specs.Asking.{ReadsRow};
+ghost use Rattle.store_tables.specs.Columns.{or_damaged};
+ghost use Rattle.point_list.specs.Fields.{type_of};
+ghost use Rattle.point_list.specs.Lists.{scale_spelled, name_spelled};
+ghost use Rattle.store_lists.specs.Rows.{point_shown};
+ghost use Rattle.store_queries.specs.Finding.Finding.{Finds, OfLawful, ReadsAll};
+ghost use Rattle.store_queries.specs.Finding.Points.{point_with, IsPointOf, IsReadablePoint};
+ghost use Rattle.store_queries.specs.Finding.Points.{HasReadablePoints};
+ghost use Rattle.store_queries.specs.Finding.Showing.{ShowsPoints};
+
+use crate::finding::memory::put;
+use point_list::{ListedPoint, PointName, PointScale, fixed_scale, point_type};
+use sqlite::{Alter, Connection, Row};
+use store_lists::{point_rows, read_point};
+use store_tables::{RowFault, touch};
+use sun_points::PointType;
+
+fn point_name(text: String) -> Result<PointName, RowFault>
+    ensures { result ≡ or_damaged (name_spelled (string_bytes text)) }
+{
+    match PointName::new(text.into_bytes()) {
+        Ok(name) => Ok(name),
+        Err(_) => Err(RowFault::Damaged),
+    }
+}
+
+fn kind(text: &str) -> Result<PointType, RowFault>
+    ensures { result ≡ or_damaged (type_of text.now) }
+{
+    match point_type(text.as_bytes()) {
+        Some(kind) => Ok(kind),
+        None => Err(RowFault::Damaged),
+    }
+}
+
+fn scale(text: String) -> Result<PointScale, RowFault>
+    ensures { result ≡ or_damaged (scale_spelled (string_bytes text)) }
+{
+    if text.is_empty() {
+        return Ok(PointScale::Unscaled);
+    }
+    match fixed_scale(text.as_bytes()) {
+        Some(scale) => Ok(PointScale::Fixed(scale)),
+        None => Ok(PointScale::Named(point_name(text)?)),
+    }
+}
+
+/// The point of a row.
+fn point_from(row: store_lists::Point) -> Result<ListedPoint, RowFault>
+    ensures { result ≡ point_with (string_bytes row.name) (string_bytes row.kind)
+        (string_bytes row.scale) row.row }
+{
+    let name = point_name(row.name)?;
+    let kind = kind(row.kind.as_str())?;
+    let scale = scale(row.scale)?;
+    Ok(ListedPoint {
+        name,
+        function: row.row.function,
+        area: row.row.area,
+        address: row.row.address,
+        kind,
+        scale,
+    })
+}
+
+/// Reads a point as the queries show it.
+fn point_in(row: &Row) -> Result<ListedPoint, RowFault>
+    ensures { ReadsRow row.now point_shown IsPointOf IsReadablePoint result }
+{
+    let found = read_point(row)?;
+    point_from(found)
+}
+
+/// Reads points as the queries show them.
+pub(crate) fn points_in(rows: &Vec<Row>) -> Result<Vec<ListedPoint>, RowFault>
+    ensures { ReadsAll rows.now.items point_shown IsPointOf IsReadablePoint
+        (λ v. v.items) result }
+{
+    let mut points = Vec::new(*rows.allocator());
+    for row in rows {
+        let point = point_in(row)?;
+        put(&mut points, point)?;
+    }
+    Ok(points)
+}
+
+/// The rows of a device's points, in the order of its list.
+pub(crate) fn rows_of<S: Alter>(
+    conn: &mut Connection<S>,
+    device: &str,
+) -> Result<Vec<Row>, RowFault>
+    requires { conn.old.in_transaction ≡ false }
+    ensures { Finds S.Store conn.old conn.new result
+        (OfLawful (ShowsPoints device.now)) (λ facts. HasReadablePoints facts device.now) }
+{
+    touch(conn)?;
+    Ok(point_rows(conn, device)?)
+}

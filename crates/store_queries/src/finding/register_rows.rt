@@ -1,0 +1,129 @@
+//! Registers.
+ghost use Rattle.std.specs.Prelude.{◌≡◌, false, length, string_bytes, IsUtf8};
+ghost use Rattle.office_rules.specs.Facts as facts_of;
+ghost use Rattle.store_tables.specs.Asking.{ReadsRow};
+ghost use Rattle.store_lists.specs.Rows.{register_shown};
+ghost use Rattle.store_queries.specs.Finding.Finding.{Finds, OfLawful, ReadsAll};
+ghost use Rattle.store_queries.specs.Finding.Reading.{register_with, source_from, IsRegisterOf};
+ghost use Rattle.store_queries.specs.Finding.Showing.{ShowsRegisters, FindsRegister};
+ghost use Rattle.store_queries.specs.Finding.Sound.{IsReadableRegister, HasReadableRegisters};
+
+use crate::finding::memory::put;
+use office_events::{Name, Register, ScaleSource};
+use sqlite::{Alter, Connection, Row};
+use store_facts::{name, text};
+use store_lists::{RegisterScale, read_register, register_of, register_rows};
+use store_tables::{RowFault, touch};
+
+fn source(scale: RegisterScale) -> ScaleSource
+    ensures { result ≡ source_from scale }
+{
+    match scale {
+        RegisterScale::Fixed(sf) => ScaleSource::Fixed(sf),
+        RegisterScale::At(address) => ScaleSource::Register(address),
+    }
+}
+
+/// The register of a row.
+fn register_from(row: &store_lists::Register) -> Result<Register, RowFault>
+    ensures { result ≡
+        register_with (string_bytes row.now.name) (string_bytes row.now.device) row.now.row }
+{
+    let name_of = name(row.name.as_str())?;
+    let device = name(row.device.as_str())?;
+    Ok(Register {
+        name: name_of,
+        device,
+        function: row.row.function,
+        address: row.row.address,
+        scale: source(row.row.scale),
+    })
+}
+
+/// Reads a register as the queries show it.
+fn register_in(row: &Row) -> Result<Register, RowFault>
+    ensures { ReadsRow row.now register_shown IsRegisterOf IsReadableRegister result }
+{
+    let found = read_register(row)?;
+    register_from(&found)
+}
+
+/// Reads registers as the queries show them.
+fn registers_in(rows: &Vec<Row>) -> Result<Vec<Register>, RowFault>
+    ensures { ReadsAll rows.now.items register_shown IsRegisterOf IsReadableRegister
+        (λ v. v.items) result }
+{
+    let mut registers = Vec::new(*rows.allocator());
+    for row in rows {
+        let register = register_in(row)?;
+        put(&mut registers, register)?;
+    }
+    Ok(registers)
+}
+
+/// The row of a register, if there is one.
+fn row_of<S: Alter>(
+    conn: &mut Connection<S>,
+    name: &str,
+) -> Result<Option<store_lists::Register>, RowFault>
+    requires { conn.old.in_transaction ≡ false }
+    ensures { Finds S.Store conn.old conn.new result
+        (OfLawful (FindsRegister name.now)) HasReadableRegisters }
+{
+    touch(conn)?;
+    register_of(conn, name)
+}
+
+/// The register of a name.
+pub fn register<S: Alter>(
+    conn: &mut Connection<S>,
+    name: &Name,
+) -> Result<Option<Register>, RowFault>
+    requires { conn.old.in_transaction ≡ false }
+    ensures { Finds S.Store conn.old conn.new result
+        (λ facts row. row ≡ facts_of.register_of facts name.now)
+        (λ facts. IsUtf8 name.now × HasReadableRegisters facts) }
+{
+    let name = text(name)?;
+    match row_of(conn, name)? {
+        None => Ok(None),
+        Some(row) => Ok(Some(register_from(&row)?)),
+    }
+}
+
+/// The rows of the registers of a device, in the order in which they were added.
+fn rows_of<S: Alter>(conn: &mut Connection<S>, device: &str) -> Result<Vec<Row>, RowFault>
+    requires { conn.old.in_transaction ≡ false }
+    ensures { Finds S.Store conn.old conn.new result
+        (ShowsRegisters device.now) HasReadableRegisters }
+{
+    touch(conn)?;
+    Ok(register_rows(conn, device)?)
+}
+
+/// The registers of a device, in the order in which they were added.
+pub fn registers<S: Alter>(
+    conn: &mut Connection<S>,
+    device: &Name,
+) -> Result<Vec<Register>, RowFault>
+    requires { conn.old.in_transaction ≡ false }
+    ensures { Finds S.Store conn.old conn.new result
+        (λ facts v. v.items ≡ facts_of.registers_of facts device.now)
+        (λ facts. IsUtf8 device.now × HasReadableRegisters facts) }
+{
+    let device = text(device)?;
+    let rows = rows_of(conn, device)?;
+    registers_in(&rows)
+}
+
+/// How many registers a device has.
+pub fn register_count<S: Alter>(conn: &mut Connection<S>, device: &Name) -> Result<usize, RowFault>
+    requires { conn.old.in_transaction ≡ false }
+    ensures { Finds S.Store conn.old conn.new result
+        (λ facts n. n ≡ length (facts_of.registers_of facts device.now))
+        (λ facts. IsUtf8 device.now) }
+{
+    let device = text(device)?;
+    touch(conn)?;
+    Ok(store_lists::register_count(conn, device)?)
+}

@@ -1,0 +1,13 @@
+//! What is looked up in the tables: devices, lists and polls, and meters, entries and quarter hours.
+#![tactic(auto)]
+
+mod finding;
+mod metering;
+
+pub use finding::{
+    devices, latest, list, pending, poll, poll_count, register, register_count, registers, repeat,
+};
+pub use metering::{
+    are_numbered, entry, installation, installation_count, intervals, journal_rows, meter,
+    register_intervals, tally,
+};

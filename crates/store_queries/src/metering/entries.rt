@@ -1,0 +1,81 @@
+//! Entries of meters, by their places.
+ghost use Rattle.std.specs.Prelude.{◌≡◌, false, IfOk, IfSome};
+ghost use Rattle.office_books.specs.Sound.{IsSound};
+ghost use Rattle.office_rules.specs.Meters.{entry_at};
+ghost use Rattle.store_queries.specs.Metering.Entries.{ShowsEntries, ShowsVoids, FindsJournal};
+ghost use Rattle.store_queries.specs.Metering.Looking.{Finds};
+
+use crate::metering::journal::journal_rows;
+use crate::metering::meters::meter;
+use crate::metering::places::placed;
+use meter_journal::{EntryRow, rows_stand, voids_change_two_rows};
+use office_events::{EntryPlace, Name};
+use office_laws::journals_fit;
+use sqlite::{Alter, Connection, Row};
+use std::alloc::Global;
+use store_entries::{entry_rows, void_rows};
+use store_facts::text;
+use store_tables::{RowFault, touch};
+
+/// The entries of a meter, in order of place.
+fn entries<S: Alter>(conn: &mut Connection<S>, meter: &str) -> Result<Vec<Row>, RowFault>
+    requires { conn.old.in_transaction ≡ false }
+    ensures { Finds S.Store conn.old conn.new result
+        (λ facts rows. ShowsEntries meter.now facts rows.items) }
+{
+    journals_fit();
+    rows_stand();
+    touch(conn)?;
+    let rows = entry_rows(conn, meter)?;
+    Ok(rows)
+}
+
+/// The voids of a meter's entries.
+fn voids<S: Alter>(conn: &mut Connection<S>, meter: &str) -> Result<Vec<Row>, RowFault>
+    requires { conn.old.in_transaction ≡ false }
+    ensures { Finds S.Store conn.old conn.new result
+        (λ facts rows. ShowsVoids meter.now facts rows.items) }
+{
+    touch(conn)?;
+    let rows = void_rows(conn, meter)?;
+    Ok(rows)
+}
+
+/// The rows of a meter after its opening, the oldest first.
+fn rows<S: Alter>(
+    alloc: Global,
+    conn: &mut Connection<S>,
+    meter: &str,
+) -> Result<Vec<EntryRow>, RowFault>
+    requires { conn.old.in_transaction ≡ false }
+    ensures { Finds S.Store conn.old conn.new result
+        (λ facts rows. FindsJournal meter.now facts rows.items) }
+{
+    journals_fit();
+    rows_stand();
+    voids_change_two_rows();
+    let entries = entries(conn, meter)?;
+    let voids = voids(conn, meter)?;
+    journal_rows(alloc, &entries, &voids)
+}
+
+/// The entry of a meter at a place from 2 on: where the meter stood before it, and the next that stands. It goes over all
+/// entries of the meter.
+pub fn entry<S: Alter>(
+    alloc: Global,
+    conn: &mut Connection<S>,
+    name: &Name,
+    place: u64,
+) -> Result<Option<EntryPlace>, RowFault>
+    requires { conn.old.in_transaction ≡ false }
+    ensures finds { Finds S.Store conn.old conn.new result
+        (λ facts found. found ≡ entry_at facts name.now place) }
+    ensures sound { IfOk result (λ found. IfSome found (λ p. IsSound p.before)) }
+{
+    let text = text(name)?;
+    let Some(whole) = meter(conn, name)? else {
+        return Ok(None);
+    };
+    let rows = rows(alloc, conn, text)?;
+    placed(&whole, &rows, place)
+}

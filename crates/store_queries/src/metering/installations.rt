@@ -1,0 +1,97 @@
+//! An installation from its rows.
+ghost use Rattle.std.specs.Prelude.{◌≡◌, false, IfOk, IsTrue};
+ghost use Rattle.office_books.specs.Sound.{IsSound};
+ghost use Rattle.store_queries.specs.Metering.Looking.{Finds};
+ghost use Rattle.store_queries.specs.Metering.Meters.{opening_from, standing_from, IsStanding};
+
+use crate::metering::rows::{first_entry, range};
+use energy_core::{Last, MAX_CEILING, MAX_RANGE, MAX_TOTAL, MIN_RANGE};
+use office_events::{Installation, Name, Opening};
+use sqlite::{Alter, Connection};
+use store_entries::EntryRow;
+use store_meters::InstallationRow;
+use store_tables::RowFault;
+
+/// The name that a text is.
+fn name(text: &str) -> Result<Name, RowFault>
+    ensures { IfOk result (λ name. name ≡ text.now) }
+{
+    match Name::new(text.as_bytes()) {
+        Some(name) => Ok(name),
+        None => Err(RowFault::Damaged),
+    }
+}
+
+/// The opening of a meter.
+fn opening(
+    row: &store_meters::Installation,
+    range: u64,
+    first: EntryRow,
+) -> Result<Opening, RowFault>
+    ensures { IfOk result (λ opening. opening ≡ opening_from row.now range first) }
+{
+    let meter = name(row.meter.as_str())?;
+    let register = name(row.register.as_str())?;
+    Ok(Opening {
+        meter,
+        register,
+        ceiling: row.row.ceiling,
+        range,
+        at: first.moment,
+        raw: first.raw,
+        sf: first.sf,
+    })
+}
+
+/// Whether the numbers of an installation are in their ranges.
+fn is_sound(row: &Installation) -> bool
+    ensures { IsTrue result → IsSound row.now }
+{
+    let ranged = MIN_RANGE <= row.opening.range && row.opening.range <= MAX_RANGE;
+    let limited = 1 <= row.opening.ceiling && row.opening.ceiling <= MAX_CEILING;
+    let scaled = -3 <= row.last.sf && row.last.sf <= 3;
+    let shown = u64::from(row.last.raw) < row.opening.range;
+    ranged && limited && scaled && shown && row.total <= MAX_TOTAL
+}
+
+/// An installation, if its numbers are in their ranges.
+fn installed(opening: Opening, row: InstallationRow) -> Result<Installation, RowFault>
+    ensures stands { IfOk result (λ found. found ≡ standing_from opening row) }
+    ensures sound { IfOk result IsSound }
+{
+    let found = Installation {
+        opening,
+        last: Last {
+            at: row.last.moment,
+            raw: row.last.raw,
+            sf: row.last.sf,
+        },
+        total: row.last.total,
+        ended: row.is_ended,
+    };
+    if is_sound(&found) {
+        Ok(found)
+    } else {
+        Err(RowFault::Damaged)
+    }
+}
+
+/// The installation of a row that was found.
+pub(crate) fn standing<S: Alter>(
+    conn: &mut Connection<S>,
+    row: &store_meters::Installation,
+) -> Result<Installation, RowFault>
+    requires { conn.old.in_transaction ≡ false }
+    ensures finds { Finds S.Store conn.old conn.new result (IsStanding row.now) }
+    ensures sound { IfOk result IsSound }
+{
+    let meter = row.meter.as_str();
+    let Some(counts) = range(conn, meter)? else {
+        return Err(RowFault::Damaged);
+    };
+    let Some(first) = first_entry(conn, meter)? else {
+        return Err(RowFault::Damaged);
+    };
+    let opening = opening(row, counts, first)?;
+    installed(opening, row.row)
+}

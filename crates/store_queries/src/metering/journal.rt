@@ -1,0 +1,108 @@
+//! The journal of a meter from the rows of its entries and voids.
+ghost use Rattle.std.specs.Prelude.{◌≡◌, ◌++◌, ◌∷◌, [], IfOk, OnOk};
+ghost use Rattle.std.specs.Option.{option_to_list};
+ghost use Rattle.store_queries.specs.Metering.Entries.{step_row, change_row, row_from};
+ghost use Rattle.store_queries.specs.Metering.Entries.{TellsVoided, AreJournal};
+
+use energy_core::Entry;
+use meter_journal::EntryRow;
+use sqlite::{Error, ErrorCode, Row};
+use std::alloc::Global;
+use store_entries::{EntryKind, read_entry, read_void};
+use store_tables::RowFault;
+
+/// The row of a step.
+fn step(kind: meter_journal::EntryKind, row: store_entries::EntryRow, stands: bool) -> EntryRow
+    ensures { result ≡ step_row kind row stands }
+{
+    EntryRow {
+        place: row.place,
+        kind,
+        entry: Entry::Step {
+            at: row.moment,
+            raw: row.raw,
+            rolls: row.rolls,
+        },
+        stands,
+    }
+}
+
+/// The row of a change.
+fn change(kind: meter_journal::EntryKind, row: store_entries::EntryRow, stands: bool) -> EntryRow
+    ensures { result ≡ change_row kind row stands }
+{
+    EntryRow {
+        place: row.place,
+        kind,
+        entry: Entry::Change {
+            at: row.moment,
+            before: row.raw,
+            after: row.after,
+            sf: row.sf,
+        },
+        stands,
+    }
+}
+
+/// The row of an entry. The opening has none.
+fn entry_row(row: store_entries::EntryRow, stands: bool) -> Option<EntryRow>
+    ensures { result ≡ row_from row stands }
+{
+    match row.kind {
+        EntryKind::Opening => None,
+        EntryKind::Reading => Some(step(meter_journal::EntryKind::Reading, row, stands)),
+        EntryKind::Manual => Some(step(meter_journal::EntryKind::Manual, row, stands)),
+        EntryKind::Closing => Some(step(meter_journal::EntryKind::Closing, row, stands)),
+        EntryKind::Reset => Some(change(meter_journal::EntryKind::Reset, row, stands)),
+        EntryKind::Rescale => Some(change(meter_journal::EntryKind::Rescale, row, stands)),
+    }
+}
+
+/// Whether one of these voids names a place.
+fn is_voided(voids: &[Row], place: u64) -> Result<bool, RowFault>
+    ensures { IfOk result (TellsVoided voids.now place) }
+{
+    for row in voids {
+        if place == read_void(row)? {
+            return Ok(true);
+        }
+    }
+    Ok(false)
+}
+
+/// One more row behind these.
+fn push(rows: &mut Vec<EntryRow>, row: EntryRow) -> Result<(), RowFault>
+    ensures { OnOk result (rows.new.items ≡ rows.old.items ++ row ∷ []) }
+{
+    match rows.push(row) {
+        Ok(()) => Ok(()),
+        Err(_) => Err(RowFault::Sql(Error::SqliteFailure(ErrorCode::OutOfMemory))),
+    }
+}
+
+/// A row behind these, if there is one.
+fn add(rows: &mut Vec<EntryRow>, row: Option<EntryRow>) -> Result<(), RowFault>
+    ensures { OnOk result (rows.new.items ≡ rows.old.items ++ option_to_list row) }
+{
+    match row {
+        Some(row) => push(rows, row),
+        None => Ok(()),
+    }
+}
+
+/// The rows after the opening, the oldest first.
+pub fn journal_rows(
+    alloc: Global,
+    entries: &[Row],
+    voids: &[Row],
+) -> Result<Vec<EntryRow>, RowFault>
+    ensures { IfOk result (λ rows. AreJournal entries.now voids.now rows.items) }
+{
+    let mut rows = Vec::new(alloc);
+    for row in entries {
+        let entry = read_entry(row)?;
+        let struck = is_voided(voids, entry.place)?;
+        add(&mut rows, entry_row(entry, !struck))?;
+    }
+    Ok(rows)
+}

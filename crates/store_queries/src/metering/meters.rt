@@ -1,0 +1,70 @@
+//! Installations, by meter and by register.
+ghost use Rattle.std.specs.Prelude.{◌≡◌, false, length, IfOk, IfSome};
+ghost use Rattle.office_books.specs.Sound.{IsSound};
+ghost use Rattle.office_rules.specs.Facts.{openings_in};
+ghost use Rattle.office_rules.specs.Meters.{meter_of, installation_at};
+ghost use Rattle.store_queries.specs.Metering.Looking.{Finds};
+ghost use Rattle.store_queries.specs.Metering.Meters.{CountsOpenings};
+
+use crate::metering::installations::standing;
+use crate::metering::rows::{row_at, row_of};
+use office_events::{Installation, Name};
+use sqlite::{Alter, Connection};
+use store_facts::text;
+use store_meters::last_installation;
+use store_tables::{RowFault, touch};
+
+/// The installation of a meter, as it stands.
+pub fn meter<S: Alter>(
+    conn: &mut Connection<S>,
+    name: &Name,
+) -> Result<Option<Installation>, RowFault>
+    requires { conn.old.in_transaction ≡ false }
+    ensures finds { Finds S.Store conn.old conn.new result
+        (λ facts found. found ≡ meter_of facts name.now) }
+    ensures sound { IfOk result (λ found. IfSome found IsSound) }
+{
+    let meter = text(name)?;
+    match row_of(conn, meter)? {
+        None => Ok(None),
+        Some(row) => Ok(Some(standing(conn, &row)?)),
+    }
+}
+
+/// The latest installation at a register, as it stands.
+pub fn installation<S: Alter>(
+    conn: &mut Connection<S>,
+    register: &Name,
+) -> Result<Option<Installation>, RowFault>
+    requires { conn.old.in_transaction ≡ false }
+    ensures finds { Finds S.Store conn.old conn.new result
+        (λ facts found. found ≡ installation_at facts register.now) }
+    ensures sound { IfOk result (λ found. IfSome found IsSound) }
+{
+    let register = text(register)?;
+    match row_at(conn, register)? {
+        None => Ok(None),
+        Some(row) => Ok(Some(standing(conn, &row)?)),
+    }
+}
+
+/// The greatest place of an installation, which counts them.
+fn last_place<S: Alter>(conn: &mut Connection<S>) -> Result<Option<u64>, RowFault>
+    requires { conn.old.in_transaction ≡ false }
+    ensures { Finds S.Store conn.old conn.new result CountsOpenings }
+{
+    touch(conn)?;
+    last_installation(conn)
+}
+
+/// How many meters were installed.
+pub fn installation_count<S: Alter>(conn: &mut Connection<S>) -> Result<usize, RowFault>
+    requires { conn.old.in_transaction ≡ false }
+    ensures { Finds S.Store conn.old conn.new result
+        (λ facts count. count ≡ length (openings_in facts)) }
+{
+    match last_place(conn)? {
+        None => Ok(0),
+        Some(place) => Ok(place as usize),
+    }
+}

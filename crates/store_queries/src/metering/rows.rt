@@ -1,0 +1,62 @@
+//! Rows of single tables, as the facts have them.
+ghost use Rattle.std.specs.Prelude.{◌≡◌, false};
+ghost use Rattle.office_rules.specs.Facts.{opening_of, installed_at};
+ghost use Rattle.store_queries.specs.Metering.Looking.{Finds};
+ghost use Rattle.store_queries.specs.Metering.Meters.{FindsRow, FindsRange, FindsFirst};
+
+use office_laws::voids_leave_no_trace;
+use sqlite::{Alter, Connection};
+use store_entries::{EntryRow, entry_at};
+use store_meters::{Installation, installation_at, installation_of, range_of};
+use store_tables::{RowFault, touch};
+
+/// The row of a meter.
+pub(crate) fn row_of<S: Alter>(
+    conn: &mut Connection<S>,
+    meter: &str,
+) -> Result<Option<Installation>, RowFault>
+    requires { conn.old.in_transaction ≡ false }
+    ensures { Finds S.Store conn.old conn.new result
+        (λ facts found. FindsRow facts (opening_of facts meter.now) found) }
+{
+    touch(conn)?;
+    installation_of(conn, meter)
+}
+
+/// The row of the latest installation at a register.
+pub(crate) fn row_at<S: Alter>(
+    conn: &mut Connection<S>,
+    register: &str,
+) -> Result<Option<Installation>, RowFault>
+    requires { conn.old.in_transaction ≡ false }
+    ensures { Finds S.Store conn.old conn.new result
+        (λ facts found. FindsRow facts (installed_at facts register.now) found) }
+{
+    touch(conn)?;
+    installation_at(conn, register)
+}
+
+/// How many counts the counter of a meter has.
+pub(crate) fn range<S: Alter>(
+    conn: &mut Connection<S>,
+    meter: &str,
+) -> Result<Option<u64>, RowFault>
+    requires { conn.old.in_transaction ≡ false }
+    ensures { Finds S.Store conn.old conn.new result (FindsRange meter.now) }
+{
+    touch(conn)?;
+    range_of(conn, meter)
+}
+
+/// The entry of a meter's opening.
+pub(crate) fn first_entry<S: Alter>(
+    conn: &mut Connection<S>,
+    meter: &str,
+) -> Result<Option<EntryRow>, RowFault>
+    requires { conn.old.in_transaction ≡ false }
+    ensures { Finds S.Store conn.old conn.new result (FindsFirst meter.now) }
+{
+    voids_leave_no_trace();
+    touch(conn)?;
+    entry_at(conn, meter, 1)
+}

@@ -1,0 +1,45 @@
+//! Interval rows, handed on as they come.
+ghost use Rattle.std.specs.Prelude.{◌≡◌, false};
+ghost use Rattle.office_rules.specs.Intervals.{rows_of_meter, rows_of_register};
+ghost use Rattle.store_queries.specs.Metering.Looking.{HandsOn};
+
+use interval_core::Share;
+use office_books::RowSink;
+use office_events::Name;
+use office_laws::meters_are_kept;
+use sqlite::{Alter, Connection};
+use store_facts::text;
+use store_intervals as tables;
+use store_tables::{RowFault, touch};
+
+/// Hands on the energy of a meter by quarter hours, in order of their starts.
+pub fn intervals<S: Alter, K: RowSink<Share>>(
+    conn: &mut Connection<S>,
+    meter: &Name,
+    sink: &mut K,
+) -> Result<(), RowFault>
+    requires { conn.old.in_transaction ≡ false }
+    ensures { HandsOn S.Store conn.old conn.new K.takes sink.old sink.new result
+        (λ facts. rows_of_meter facts meter.now) }
+{
+    meters_are_kept();
+    let meter = text(meter)?;
+    touch(conn)?;
+    tables::meter_intervals(conn, meter, sink)
+}
+
+/// Hands on the energy of a register by quarter hours: meter after meter, in the order in which they were installed.
+pub fn register_intervals<S: Alter, K: RowSink<Share>>(
+    conn: &mut Connection<S>,
+    register: &Name,
+    sink: &mut K,
+) -> Result<(), RowFault>
+    requires { conn.old.in_transaction ≡ false }
+    ensures { HandsOn S.Store conn.old conn.new K.takes sink.old sink.new result
+        (λ facts. rows_of_register facts register.now) }
+{
+    meters_are_kept();
+    let register = text(register)?;
+    touch(conn)?;
+    tables::register_intervals(conn, register, sink)
+}

@@ -1,8 +1,0 @@
-//! What a stop leaves of the office's files.
-#![tactic(auto)]
-
-mod connection_end;
-mod laws;
-
-pub use connection_end::end;
-pub use laws::{opened_files_are_found, stops_leave_facts};

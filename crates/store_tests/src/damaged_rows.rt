@@ -1,0 +1,83 @@
+//! Rows that are out of their ranges.
+use crate::device_rows::two_devices;
+use crate::one_meter::one_meter;
+use crate::poll_rows::{keep, three_polls};
+use sqlite::{Connection, Error, MemStore};
+use std::alloc::Global;
+use std::test::Fail;
+use store_entries::entry_at;
+use store_lists::{device_rows, point_rows, read_device, read_point, register_of};
+use store_meters::{installation_of, range_of};
+use store_polls::{outcome_of, poll_at, repeat_of};
+use store_tables::RowFault;
+
+/// Whether an answer tells damage.
+fn is_damage<T: Drop>(answer: Result<T, RowFault>) -> bool {
+    matches!(answer, Err(RowFault::Damaged))
+}
+
+/// The meter after this was done.
+fn meter_changed(alloc: Global, change: &str) -> Result<Connection<MemStore>, Error> {
+    let mut conn = one_meter(alloc)?;
+    conn.execute_batch(change)?;
+    Ok(conn)
+}
+
+const METERS: &str =
+    "UPDATE entries SET raw = -1 WHERE place = 2; UPDATE installations SET last_sf = 4; UPDATE ranges SET \"range\" = 65535";
+
+#[test]
+fn rows_of_meters(rt: HostRuntime) -> Result<(), Fail> {
+    let mut conn = meter_changed(rt.alloc(), METERS)?;
+    assert!(rt; is_damage(entry_at(&mut conn, "m1", 2)));
+    assert!(rt; is_damage(installation_of(&mut conn, "m1")));
+    assert!(rt; is_damage(range_of(&mut conn, "m1")));
+    assert!(rt; matches!(entry_at(&mut conn, "m1", 1), Ok(Some(_))));
+    assert!(rt; conn.is_autocommit());
+    Ok(())
+}
+
+/// Two devices after this was done.
+fn devices_changed(alloc: Global, change: &str) -> Result<Connection<MemStore>, Error> {
+    let mut conn = two_devices(alloc)?;
+    conn.execute_batch(change)?;
+    Ok(conn)
+}
+
+const DEVICES: &str =
+    "UPDATE registers SET scale = 4 WHERE name = 'roof'; UPDATE devices SET \"window\" = 17; UPDATE points SET function = 5";
+
+#[test]
+fn rows_of_devices(rt: HostRuntime) -> Result<(), Fail> {
+    let mut conn = devices_changed(rt.alloc(), DEVICES)?;
+    assert!(rt; is_damage(register_of(&mut conn, "roof")));
+    assert!(rt; matches!(register_of(&mut conn, "main"), Ok(Some(_))));
+    let devices = device_rows(&mut conn)?;
+    assert_eq!(rt; devices.len(), 2);
+    assert!(rt; is_damage(read_device(&devices[0])));
+    let points = point_rows(&mut conn, "pv")?;
+    assert_eq!(rt; points.len(), 1);
+    assert!(rt; is_damage(read_point(&points[0])));
+    Ok(())
+}
+
+/// Three polls and a kept request after this was done.
+fn polls_changed(alloc: Global, change: &str) -> Result<Connection<MemStore>, Error> {
+    let mut conn = three_polls(alloc)?;
+    keep(&mut conn)?;
+    conn.execute_batch(change)?;
+    Ok(conn)
+}
+
+const POLLS: &str =
+    "UPDATE polls SET count = 126 WHERE poll = 1; UPDATE outcomes SET code = 5; UPDATE replies SET kind = 'sold'";
+
+#[test]
+fn rows_of_polls(rt: HostRuntime) -> Result<(), Fail> {
+    let mut conn = polls_changed(rt.alloc(), POLLS)?;
+    assert!(rt; is_damage(poll_at(&mut conn, 1)));
+    assert!(rt; matches!(poll_at(&mut conn, 2), Ok(Some(_))));
+    assert!(rt; is_damage(outcome_of(&mut conn, 2)));
+    assert!(rt; is_damage(repeat_of(&mut conn, "home", 7, b"x")));
+    Ok(())
+}

@@ -1,0 +1,168 @@
+//! Devices, points and registers, written and read back.
+ghost use Rattle.std.specs.Prelude.{◌≡◌, IfOk};
+
+use crate::one_meter::one_meter;
+use mb_wire::ReadFunction;
+use sqlite::{Connection, Error, MemStore, Transaction};
+use std::alloc::{AllocError, Global};
+use std::test::Fail;
+use store_lists::{
+    Device, DeviceRow, Point, PointRow, RegisterRow, RegisterScale, device_rows, insert_device,
+    insert_register, last_device, last_register, point_rows, read_device, read_point,
+    read_register, register_count, register_of, register_rows, replace_points,
+};
+use store_tables::RowFault;
+
+const DEVICE: DeviceRow = DeviceRow {
+    place: 2,
+    unit: 3,
+    timeout: 60,
+    window: 16,
+};
+
+/// The device of the meter.
+const FIRST_DEVICE: DeviceRow = DeviceRow {
+    place: 1,
+    unit: 1,
+    timeout: 5,
+    window: 1,
+};
+
+const ENERGY: PointRow = PointRow {
+    place: 1,
+    function: ReadFunction::HoldingRegisters,
+    area: 0,
+    address: 40_094,
+};
+
+const SCALE: PointRow = PointRow {
+    place: 2,
+    address: 40_096,
+    ..ENERGY
+};
+
+const REGISTER: RegisterRow = RegisterRow {
+    place: 2,
+    function: ReadFunction::InputRegisters,
+    address: 65_534,
+    scale: RegisterScale::Fixed(-3),
+};
+
+fn point(
+    alloc: Global,
+    name: &str,
+    kind: &str,
+    scale: &str,
+    row: PointRow,
+) -> Result<Point, AllocError>
+    ensures { IfOk result (λ p. p.row ≡ row) }
+{
+    Ok(Point {
+        name: format!(in alloc; "{name}")?,
+        kind: format!(in alloc; "{kind}")?,
+        scale: format!(in alloc; "{scale}")?,
+        row,
+    })
+}
+
+fn put_list(tx: &mut Transaction<'_, MemStore>, alloc: Global) -> Result<(), Error> {
+    let scale = point(alloc, "m2.WH_SF", "sunssf", "", SCALE)?;
+    let energy = point(alloc, "m2.WH", "acc32", "m2.WH_SF", ENERGY)?;
+    replace_points(tx, "inv", &vec![in alloc; scale, energy]?)
+}
+
+fn put_other_list(tx: &mut Transaction<'_, MemStore>, alloc: Global) -> Result<(), Error> {
+    let energy = point(alloc, "wh", "acc32", "-3", ENERGY)?;
+    replace_points(tx, "pv", &vec![in alloc; energy]?)
+}
+
+fn add(tx: &mut Transaction<'_, MemStore>, alloc: Global) -> Result<(), Error> {
+    insert_device(tx, "pv", DEVICE)?;
+    insert_register(tx, "roof", "pv", REGISTER)?;
+    put_list(tx, alloc)?;
+    put_other_list(tx, alloc)
+}
+
+fn add_second(conn: &mut Connection<MemStore>, alloc: Global) -> Result<(), Error> {
+    if !conn.is_autocommit() {
+        return Err(Error::InvalidQuery);
+    }
+    let mut tx = conn.transaction();
+    add(&mut tx, alloc)?;
+    tx.commit()
+}
+
+/// The meter's device and a second one, with a list each.
+pub(crate) fn two_devices(alloc: Global) -> Result<Connection<MemStore>, Error> {
+    let mut conn = one_meter(alloc)?;
+    add_second(&mut conn, alloc)?;
+    Ok(conn)
+}
+
+fn is_device(read: &Result<Device, RowFault>, name: &str, row: DeviceRow) -> bool {
+    match read {
+        Ok(device) => device.name.as_str() == name && device.row == row,
+        Err(_) => false,
+    }
+}
+
+#[test]
+fn devices_stand_in_the_order_of_their_places(rt: HostRuntime) -> Result<(), Fail> {
+    let mut conn = two_devices(rt.alloc())?;
+    let devices = device_rows(&mut conn)?;
+    assert_eq!(rt; devices.len(), 2);
+    assert!(rt; is_device(&read_device(&devices[0]), "inv", FIRST_DEVICE));
+    assert!(rt; is_device(&read_device(&devices[1]), "pv", DEVICE));
+    assert_eq!(rt; last_device(&mut conn), Ok(Some(2)));
+    Ok(())
+}
+
+#[test]
+fn registers_are_those_of_their_device(rt: HostRuntime) -> Result<(), Fail> {
+    let mut conn = two_devices(rt.alloc())?;
+    let registers = register_rows(&mut conn, "inv")?;
+    assert_eq!(rt; registers.len(), 1);
+    let scale = RegisterScale::At(40_096);
+    assert!(rt; matches!(read_register(&registers[0]), Ok(main) if main.row.scale == scale));
+    assert_eq!(rt; register_count(&mut conn, "pv"), Ok(1));
+    assert_eq!(rt; last_register(&mut conn), Ok(Some(2)));
+    assert!(rt; matches!(register_of(&mut conn, "pv"), Ok(None)));
+    Ok(())
+}
+
+fn empty_list(conn: &mut Connection<MemStore>) -> Result<(), Error> {
+    if !conn.is_autocommit() {
+        return Err(Error::InvalidQuery);
+    }
+    let mut tx = conn.transaction();
+    replace_points(&mut tx, "inv", &[])?;
+    tx.commit()
+}
+
+/// How many points the list of a device has.
+fn point_count(conn: &mut Connection<MemStore>, device: &str) -> Result<usize, Error> {
+    Ok(point_rows(conn, device)?.len())
+}
+
+fn is_energy(read: &Result<Point, RowFault>) -> bool {
+    match read {
+        Ok(point) => {
+            point.row == ENERGY
+                && point.kind.as_str() == "acc32"
+                && point.scale.as_str() == "m2.WH_SF"
+        }
+        Err(_) => false,
+    }
+}
+
+#[test]
+fn points_stand_in_the_order_of_their_list(rt: HostRuntime) -> Result<(), Fail> {
+    let mut conn = two_devices(rt.alloc())?;
+    let points = point_rows(&mut conn, "inv")?;
+    assert_eq!(rt; points.len(), 2);
+    assert!(rt; is_energy(&read_point(&points[0])));
+    empty_list(&mut conn)?;
+    assert_eq!(rt; point_count(&mut conn, "inv"), Ok(0));
+    assert_eq!(rt; point_count(&mut conn, "pv"), Ok(1));
+    Ok(())
+}

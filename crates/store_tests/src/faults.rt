@@ -1,0 +1,47 @@
+//! What faults of the tables and of their file say to a person.
+use sqlite::Error;
+use std::alloc::Global;
+use std::fmt::Display;
+use std::process::Abort;
+use std::test::Fail;
+use store_files::OpenFault;
+use store_tables::RowFault;
+
+/// Each fault says its text, which has no full stop.
+fn tells<F: Display>(rt: &impl Abort, alloc: Global, texts: &[(F, &str)]) -> Result<(), Fail> {
+    for (fault, text) in texts {
+        assert_eq!(rt; format!(in alloc; "{fault}")?.as_str(), *text);
+        assert!(rt; !text.ends_with('.'));
+    }
+    Ok(())
+}
+
+const FILES: [(OpenFault, &str); 4] = [
+    (
+        OpenFault::NotOurs,
+        "the file holds other tables than those of books, or books of a version that is not known",
+    ),
+    (
+        OpenFault::Zone,
+        "the text is no POSIX time zone of at most 64 bytes, as UTC0 or CET-1CEST,M3.5.0,M10.5.0/3",
+    ),
+    (OpenFault::Store, "the database refused or failed"),
+    (OpenFault::Memory, "memory ran out"),
+];
+
+const ROWS: [(RowFault, &str); 2] = [
+    (
+        RowFault::Sql(Error::QueryReturnedNoRows),
+        "the database refused or failed: query returned no rows",
+    ),
+    (
+        RowFault::Damaged,
+        "the database is damaged: a row has a value that none may have",
+    ),
+];
+
+#[test]
+fn faults_say_their_texts(rt: HostRuntime) -> Result<(), Fail> {
+    tells(&rt, rt.alloc(), &FILES)?;
+    tells(&rt, rt.alloc(), &ROWS)
+}

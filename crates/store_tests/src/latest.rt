@@ -1,0 +1,75 @@
+//! The latest moment.
+use crate::lookups::books;
+use crate::new_books::{new_books, ready};
+use sqlite::{Connection, MemStore};
+use std::test::Fail;
+use store_queries::latest;
+use store_tables::RowFault;
+
+/// What is written, and the latest moment after it.
+struct Later {
+    text: &'static str,
+    latest: u64,
+}
+
+/// Each table in its turn has the latest.
+const LATER: [Later; 6] = [
+    Later {
+        text: "INSERT INTO installations VALUES (1, 'm1', 'main', 20000, 0, 2000, 5000, 0, 0); INSERT INTO entries VALUES ('m1', 1, 1, 2000, 5000, 0, 0, 0)",
+        latest: 2000,
+    },
+    Later {
+        text: "UPDATE outcomes SET moment = 2001",
+        latest: 2001,
+    },
+    Later {
+        text: "UPDATE polls SET started = 2002 WHERE poll = 1",
+        latest: 2002,
+    },
+    Later {
+        text: "UPDATE replies SET moment = 2003",
+        latest: 2003,
+    },
+    Later {
+        text: "INSERT INTO holds VALUES (1, 'm1', 1, 2004, 0, 0, 1)",
+        latest: 2004,
+    },
+    Later {
+        text: "INSERT INTO voids VALUES ('m1', 1, 2005)",
+        latest: 2005,
+    },
+];
+
+/// The latest moment after this was done.
+fn latest_after(conn: &mut Connection<MemStore>, text: &str) -> Result<u64, RowFault> {
+    conn.execute_batch(text)?;
+    ready(conn)?;
+    latest(conn)
+}
+
+#[test]
+fn the_latest_moment_is_of_any_table(rt: HostRuntime) -> Result<(), Fail> {
+    let mut conn = books(rt.alloc())?;
+    assert_eq!(rt; latest(&mut conn), Ok(1900));
+    for later in LATER.iter() {
+        let latest = latest_after(&mut conn, later.text);
+        assert_eq!(rt; latest, Ok(later.latest));
+    }
+    Ok(())
+}
+
+#[test]
+fn new_books_have_no_moment(rt: HostRuntime) -> Result<(), Fail> {
+    let mut conn = new_books(rt.alloc())?;
+    ready(&mut conn)?;
+    assert_eq!(rt; latest(&mut conn), Ok(0));
+    Ok(())
+}
+
+#[test]
+fn a_moment_past_the_last_is_damaged(rt: HostRuntime) -> Result<(), Fail> {
+    let mut conn = books(rt.alloc())?;
+    let past = latest_after(&mut conn, "UPDATE replies SET moment = 4102444801");
+    assert_eq!(rt; past, Err(RowFault::Damaged));
+    Ok(())
+}

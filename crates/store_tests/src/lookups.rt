@@ -1,0 +1,184 @@
+//! Each look-up of devices, registers, polls and requests, once.
+ghost use Rattle.std.specs.Prelude.{◌≡◌, false, IfOk};
+
+use crate::new_books::{holding, ready};
+use mb_wire::{ReadFunction, ReadSpan};
+use office_books::Repeat;
+use office_events::{
+    CommandKind, Device, EndedPoll, Name, Poll, PollRow, Register, ScaleSource, Timeout, Window,
+};
+use poll_core::Outcome;
+use sqlite::{Connection, Error, MemStore};
+use std::alloc::Global;
+use std::test::Fail;
+use store_queries::{
+    devices, pending, poll, poll_count, register, register_count, registers, repeat,
+};
+use store_tables::RowFault;
+
+/// Two devices with a register each, the points of one, out of order, a poll that was answered and one that waits, and a reply.
+const ROWS: &str = "INSERT INTO devices VALUES (1, 'inv', 3, 5, 1), (2, 'pv', 0, 60, 16);
+INSERT INTO registers VALUES (1, 'main', 'inv', 3, 40094, 1, 40096), (2, 'roof', 'pv', 4, 8, 0, -3);
+INSERT INTO points VALUES ('inv', 4, 'impsf', 3, 0, 40176, 'sunssf', ''), ('inv', 2, 'whsf', 3, 0, 40096, 'sunssf', ''), ('inv', 3, 'imp', 3, 0, 40168, 'acc32', 'impsf'), ('inv', 1, 'wh', 3, 0, 40094, 'acc32', 'whsf');
+INSERT INTO polls VALUES (1, 'inv', 3, 1898, 1, 3, 40094, 3), (2, 'pv', 0, 1900, 7, 4, 8, 125);
+INSERT INTO outcomes VALUES (1, 1900, 2, 11);
+INSERT INTO replies VALUES ('desk', 7, x'6162', 'exchange', 1800)";
+
+/// Books with these rows.
+pub(crate) fn books(alloc: Global) -> Result<Connection<MemStore>, Error>
+    ensures idle { IfOk result (λ conn. conn.in_transaction ≡ false) }
+{
+    holding(alloc, ROWS)
+}
+
+/// A name, as the look-ups take it.
+pub(crate) fn name(text: &[u8]) -> Result<Name, Error> {
+    Name::new(text).ok_or(Error::InvalidQuery)
+}
+
+fn device(text: &[u8], unit: u8, seconds: u64, polls: u64) -> Option<Device> {
+    Some(Device {
+        name: Name::new(text)?,
+        unit,
+        timeout: Timeout::new(seconds)?,
+        window: Window::new(polls)?,
+    })
+}
+
+#[test]
+fn devices_stand_in_their_order(rt: HostRuntime) -> Result<(), Fail> {
+    let mut conn = books(rt.alloc())?;
+    let all = devices(&mut conn)?;
+    assert_eq!(rt; all.len(), 2);
+    assert_eq!(rt; Some(all[0]), device(b"inv", 3, 5, 1));
+    assert_eq!(rt; Some(all[1]), device(b"pv", 0, 60, 16));
+    Ok(())
+}
+
+/// The registers of the two devices.
+fn main() -> Option<Register> {
+    Some(Register {
+        name: Name::new(b"main")?,
+        device: Name::new(b"inv")?,
+        function: ReadFunction::HoldingRegisters,
+        address: 40_094,
+        scale: ScaleSource::Register(40_096),
+    })
+}
+
+fn roof() -> Option<Register> {
+    Some(Register {
+        name: Name::new(b"roof")?,
+        device: Name::new(b"pv")?,
+        function: ReadFunction::InputRegisters,
+        address: 8,
+        scale: ScaleSource::Fixed(-3),
+    })
+}
+
+fn register_named(
+    conn: &mut Connection<MemStore>,
+    text: &[u8],
+) -> Result<Option<Register>, RowFault> {
+    ready(conn)?;
+    register(conn, &name(text)?)
+}
+
+#[test]
+fn a_register_is_found_by_its_name(rt: HostRuntime) -> Result<(), Fail> {
+    let mut conn = books(rt.alloc())?;
+    assert_eq!(rt; register_named(&mut conn, b"roof"), Ok(roof()));
+    assert_eq!(rt; register_named(&mut conn, b"pv"), Ok(None));
+    Ok(())
+}
+
+#[test]
+fn registers_are_those_of_their_device(rt: HostRuntime) -> Result<(), Fail> {
+    let mut conn = books(rt.alloc())?;
+    let all = registers(&mut conn, &name(b"inv")?)?;
+    assert_eq!(rt; all.len(), 1);
+    assert_eq!(rt; Some(all[0]), main());
+    Ok(())
+}
+
+#[test]
+fn registers_are_counted(rt: HostRuntime) -> Result<(), Fail> {
+    let mut conn = books(rt.alloc())?;
+    assert_eq!(rt; register_count(&mut conn, &name(b"pv")?), Ok(1));
+    Ok(())
+}
+
+/// The two polls.
+fn first() -> Option<PollRow> {
+    let poll = Poll {
+        number: 1,
+        device: Name::new(b"inv")?,
+        unit: 3,
+        at: 1898,
+        id: 1,
+        span: ReadSpan::new(3, 40_094, 3)?,
+    };
+    let ended = Some(EndedPoll {
+        poll: 1,
+        at: 1900,
+        outcome: Outcome::Exception(11),
+    });
+    Some(PollRow { poll, ended })
+}
+
+fn second() -> Option<Poll> {
+    Some(Poll {
+        number: 2,
+        device: Name::new(b"pv")?,
+        unit: 0,
+        at: 1900,
+        id: 7,
+        span: ReadSpan::new(4, 8, 125)?,
+    })
+}
+
+#[test]
+fn a_poll_has_its_end(rt: HostRuntime) -> Result<(), Fail> {
+    let mut conn = books(rt.alloc())?;
+    assert_eq!(rt; poll(&mut conn, 1), Ok(first()));
+    ready(&mut conn)?;
+    assert_eq!(rt; poll(&mut conn, u64::MAX), Ok(None));
+    Ok(())
+}
+
+#[test]
+fn polls_without_an_end_wait(rt: HostRuntime) -> Result<(), Fail> {
+    let mut conn = books(rt.alloc())?;
+    assert_eq!(rt; poll_count(&mut conn), Ok(2));
+    ready(&mut conn)?;
+    let waits = pending(&mut conn)?;
+    assert_eq!(rt; waits.len(), 1);
+    assert_eq!(rt; Some(waits[0]), second());
+    Ok(())
+}
+
+/// Requests by their numbers and bytes, and what they are to the kept one.
+static REQUESTS: [(u64, &[u8], Option<Repeat>); 3] = [
+    (7, b"ab", Some(Repeat::Same(CommandKind::Exchange))),
+    (7, b"a", Some(Repeat::Other)),
+    (8, b"ab", None),
+];
+
+fn repeat_at(
+    conn: &mut Connection<MemStore>,
+    number: u64,
+    request: &[u8],
+) -> Result<Option<Repeat>, RowFault> {
+    ready(conn)?;
+    repeat(conn, &name(b"desk")?, number, request)
+}
+
+#[test]
+fn a_request_is_compared_with_the_kept_one(rt: HostRuntime) -> Result<(), Fail> {
+    let mut conn = books(rt.alloc())?;
+    for (number, request, answer) in &REQUESTS {
+        let found = repeat_at(&mut conn, *number, request);
+        assert_eq!(rt; found, Ok(*answer), "{number}");
+    }
+    Ok(())
+}

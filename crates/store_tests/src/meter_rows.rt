@@ -1,0 +1,146 @@
+//! Rows of meters, written and read back.
+use crate::one_meter::{INSTALLED, OPENED, OPENING, READ, READING, one_meter};
+use sqlite::{Connection, Error, MemStore, Row, Transaction};
+use std::alloc::Global;
+use std::test::Fail;
+use store_entries::{
+    EntryRow, entry_at, entry_rows, insert_entry, insert_void, last_entry_rows, last_place,
+    read_entry, read_place, read_void, roll_entry, void_rows,
+};
+use store_meters::{
+    Installation, InstallationRow, end_installation, installation_at, installation_of,
+    installation_rows, last_installation, move_installation, range_of, read_installation,
+};
+use store_tables::RowFault;
+
+fn is_of_row(at: &Installation, row: InstallationRow) -> bool {
+    at.meter.as_str() == "m1" && at.register.as_str() == "main" && at.row == row
+}
+
+fn is_installed(found: &Result<Option<Installation>, RowFault>, row: InstallationRow) -> bool {
+    match found {
+        Ok(Some(at)) => is_of_row(at, row),
+        _ => false,
+    }
+}
+
+#[test]
+fn a_meter_is_found_by_its_name_and_at_its_register(rt: HostRuntime) -> Result<(), Fail> {
+    let mut conn = one_meter(rt.alloc())?;
+    assert!(rt; is_installed(&installation_of(&mut conn, "m1"), INSTALLED));
+    assert!(rt; is_installed(&installation_at(&mut conn, "main"), INSTALLED));
+    assert!(rt; matches!(installation_of(&mut conn, "m2"), Ok(None)));
+    assert!(rt; matches!(installation_at(&mut conn, "m1"), Ok(None)));
+    assert_eq!(rt; last_installation(&mut conn), Ok(Some(1)));
+    assert_eq!(rt; range_of(&mut conn, "m1"), Ok(Some(4_294_967_296)));
+    assert_eq!(rt; INSTALLED.last, OPENED);
+    Ok(())
+}
+
+/// The entries of the meter by their places.
+static ENTRIES: [(u64, Option<EntryRow>); 3] = [(1, Some(OPENING)), (2, Some(READING)), (3, None)];
+
+#[test]
+fn entries_are_found_by_their_places(rt: HostRuntime) -> Result<(), Fail> {
+    let mut conn = one_meter(rt.alloc())?;
+    for (place, entry) in &ENTRIES {
+        assert_eq!(rt; entry_at(&mut conn, "m1", *place), Ok(*entry), "{place}");
+    }
+    for (meter, last) in &[("m1", Some(2)), ("m2", None)] {
+        assert_eq!(rt; last_place(&mut conn, meter), Ok(*last), "{meter}");
+    }
+    let rows = entry_rows(&mut conn, "m1")?;
+    assert_eq!(rt; rows.len(), 2);
+    assert_eq!(rt; read_entry(&rows[0]), Ok(OPENING));
+    assert_eq!(rt; read_entry(&rows[1]), Ok(READING));
+    Ok(())
+}
+
+fn changes(tx: &mut Transaction<'_, MemStore>) -> Result<(), Error> {
+    move_installation(tx, "m1", READ)?;
+    end_installation(tx, "m1")?;
+    roll_entry(tx, "m1", 2, 1)?;
+    insert_void(tx, "m1", 2, 2000)?;
+    Ok(())
+}
+
+fn change(conn: &mut Connection<MemStore>) -> Result<(), Error> {
+    if !conn.is_autocommit() {
+        return Err(Error::InvalidQuery);
+    }
+    let mut tx = conn.transaction();
+    changes(&mut tx)?;
+    tx.commit()
+}
+
+/// The meter once it has moved to its reading and ended, its reading turned over, and was voided.
+fn ended(alloc: Global) -> Result<Connection<MemStore>, Error> {
+    let mut conn = one_meter(alloc)?;
+    change(&mut conn)?;
+    Ok(conn)
+}
+
+#[test]
+fn rows_are_changed(rt: HostRuntime) -> Result<(), Fail> {
+    let mut conn = ended(rt.alloc())?;
+    let row = InstallationRow {
+        is_ended: true,
+        last: READ,
+        ..INSTALLED
+    };
+    assert!(rt; is_installed(&installation_of(&mut conn, "m1"), row));
+    let rolled = EntryRow {
+        rolls: 1,
+        ..READING
+    };
+    assert_eq!(rt; entry_at(&mut conn, "m1", 2), Ok(Some(rolled)));
+    assert_eq!(rt; entry_at(&mut conn, "m1", 1), Ok(Some(OPENING)));
+    let voids = void_rows(&mut conn, "m1")?;
+    assert_eq!(rt; voids.len(), 1);
+    assert_eq!(rt; read_void(&voids[0]), Ok(2));
+    Ok(())
+}
+
+/// The rows of the meter and of its last place.
+type Seen = (Vec<Row>, Vec<Row>);
+
+fn end_and_see(tx: &mut Transaction<'_, MemStore>) -> Result<Seen, Error> {
+    let third = EntryRow {
+        place: 3,
+        moment: 2800,
+        ..READING
+    };
+    insert_entry(tx, "m1", third)?;
+    end_installation(tx, "m1")?;
+    Ok((installation_rows(tx, "m1")?, last_entry_rows(tx, "m1")?))
+}
+
+fn see_inside(conn: &mut Connection<MemStore>) -> Result<Seen, Error> {
+    if !conn.is_autocommit() {
+        return Err(Error::InvalidQuery);
+    }
+    let mut tx = conn.transaction();
+    let seen = end_and_see(&mut tx)?;
+    tx.rollback();
+    Ok(seen)
+}
+
+fn is_ended(row: &Row) -> bool {
+    let ended = InstallationRow {
+        is_ended: true,
+        ..INSTALLED
+    };
+    matches!(read_installation(row), Ok(at) if is_of_row(&at, ended))
+}
+
+#[test]
+fn a_transaction_sees_its_own_writes(rt: HostRuntime) -> Result<(), Fail> {
+    let mut conn = one_meter(rt.alloc())?;
+    let (installed, last) = see_inside(&mut conn)?;
+    assert_eq!(rt; installed.len(), 1);
+    assert!(rt; is_ended(&installed[0]));
+    assert_eq!(rt; last.len(), 1);
+    assert_eq!(rt; read_place(&last[0]), Ok(3));
+    assert_eq!(rt; last_place(&mut conn, "m1"), Ok(Some(2)));
+    Ok(())
+}

@@ -1,0 +1,81 @@
+//! Voids are booked, and what they leave is read back by queries.
+use crate::bookings::{book_all, booked, have, one_reading, stand};
+use crate::facts::{device, opening, reading, register, void};
+use office_events::Fact;
+use std::test::Fail;
+
+/// Rows after the reading at 1900 was voided, behind which one at 2800 stands.
+static BETWEEN: [&str; 7] = [
+    "voids WHERE meter = 'm1' AND place = 2 AND moment = 4000",
+    "entries WHERE meter = 'm1' AND place = 2 AND kind = 2 AND moment = 1900 AND raw = 5200 AND rolls = 0",
+    "entries WHERE meter = 'm1' AND place = 3 AND kind = 2 AND moment = 2800 AND raw = 5300 AND rolls = 0",
+    "installations WHERE meter = 'm1' AND ended = 0 AND last_moment = 2800 AND last_raw = 5300 AND total = 300000",
+    "intervals WHERE meter = 'm1' AND start = 900 AND mwh = 133333",
+    "intervals WHERE meter = 'm1' AND start = 1800 AND mwh = 150000",
+    "intervals WHERE meter = 'm1' AND start = 2700 AND mwh = 16667",
+];
+
+fn voided_between() -> [Option<Fact>; 2] {
+    [reading(b"m1", 2800, 5300, 0), void(b"m1", 2)]
+}
+
+#[test]
+fn a_reading_between_others(rt: HostRuntime) -> Result<(), Fail> {
+    let mut conn = one_reading(rt.alloc())?;
+    book_all(rt.alloc(), &mut conn, voided_between())?;
+    stand(&rt, rt.alloc(), &mut conn, &BETWEEN);
+    have(
+        &rt,
+        rt.alloc(),
+        &mut conn,
+        &[("intervals", 3), ("entries", 3)],
+    );
+    Ok(())
+}
+
+/// What is left after the only reading was voided: the meter stands at its opening.
+static OPENED: [(&str, i64); 3] = [
+    (
+        "installations WHERE meter = 'm1' AND last_moment = 1000 AND last_raw = 5000 AND total = 0",
+        1,
+    ),
+    ("intervals", 0),
+    ("entries", 2),
+];
+
+#[test]
+fn the_only_reading(rt: HostRuntime) -> Result<(), Fail> {
+    let mut conn = one_reading(rt.alloc())?;
+    book_all(rt.alloc(), &mut conn, [void(b"m1", 2)])?;
+    have(&rt, rt.alloc(), &mut conn, &OPENED);
+    let again = [reading(b"m1", 2800, 5300, 0)];
+    book_all(rt.alloc(), &mut conn, again)?;
+    have(&rt, rt.alloc(), &mut conn, &[(BETWEEN[3], 1)]);
+    Ok(())
+}
+
+/// Rows after the first reading behind a turn was voided: the next one turned over since the opening.
+static TURNED: [&str; 4] = [
+    "entries WHERE meter = 'm1' AND place = 2 AND raw = 10 AND rolls = 1",
+    "entries WHERE meter = 'm1' AND place = 3 AND raw = 20 AND rolls = 1",
+    "installations WHERE meter = 'm1' AND last_moment = 2700 AND last_raw = 20 AND total = 30000",
+    "intervals WHERE meter = 'm1' AND start = 1800 AND mwh = 15000",
+];
+
+fn voided_behind_a_turn() -> [Option<Fact>; 6] {
+    [
+        device(),
+        register(),
+        opening(b"m1", 900, 99_990),
+        reading(b"m1", 1800, 10, 1),
+        reading(b"m1", 2700, 20, 0),
+        void(b"m1", 2),
+    ]
+}
+
+#[test]
+fn the_next_reading_turns_over(rt: HostRuntime) -> Result<(), Fail> {
+    let mut conn = booked(rt.alloc(), voided_behind_a_turn())?;
+    stand(&rt, rt.alloc(), &mut conn, &TURNED);
+    Ok(())
+}

@@ -1,0 +1,35 @@
+-- What a task does over the books that a database is found to hold, and how it ends.
+use Rattle.std.specs.Prelude.{ℕ, List, Option}
+use Rattle.sqlite.specs.Store.{Ghosts}
+use Rattle.office_rules.specs.History.{History}
+use Rattle.office_running.specs.Runs.{BooksRun}
+use Rattle.stored_office.specs.BooksFound.{OverBooks, Reports, Serves, Polls, ledger_in}
+use Rattle.stored_office.specs.declared.tasks.tasks.Task.{Task}
+use Rattle.stored_office.specs.declared.tasks.tasks.Task.TheVariants as task
+use Rattle.stored_office.specs.declared.tasks.tasks.Done.{Done}
+use Rattle.stored_office.specs.declared.tasks.tasks.Done.TheVariants.{Reported, Served, Polled, Ran}
+
+-- A task ends as its kind does.
+abbrev pub IsOf : Task → Done → Type 0
+IsOf (task.Report register) (Reported end) = Unit {0}
+IsOf (task.Serve host port connections) (Served end) = Unit {0}
+IsOf (task.Round device host port) (Polled end) = Unit {0}
+IsOf (task.Run settings sites) (Ran end) = Unit {0}
+IsOf _ _ = ⊥
+
+module _ {S : Type 0} (g : Ghosts S) where
+  -- A run leaves books that stand as they did, or behind an opening, and then events and requests.
+  abbrev pub Runs : (past : History) → Type 0
+  Runs past = OverBooks g past (λ found left. BooksRun (ledger_in g left) past)
+
+  -- The task that was asked for was done, and so it ended.
+  unfoldable pub Does : (past : History) → (moments later had holds : Option (List ℕ)) → Task → Done
+      → Type 0
+  Does past moments later had holds (task.Report register) (Reported end) =
+      Reports g past register.now moments later had holds end
+  Does past moments later had holds (task.Serve host port connections) (Served end) =
+      Serves g past connections moments later had holds end
+  Does past moments later had holds (task.Round device host port) (Polled end) =
+      Polls g past device.now moments later had holds end
+  Does past moments later had holds (task.Run settings sites) (Ran end) = Runs past
+  Does past moments later had holds _ _ = ⊥

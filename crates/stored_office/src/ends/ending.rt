@@ -1,0 +1,64 @@
+//! How a command ended, its exit status, and what is said of it.
+ghost use Rattle.std.specs.Prelude.{◌≡◌, ◌⊎◌};
+ghost use Rattle.stored_office.specs.Ends.Endings.{IsTold, ending_number, ending_of};
+
+use crate::ends::failure::Failure;
+use command_io::Status;
+use std::io::Write;
+
+/// How a command ended.
+#[derive(Drop)]
+pub enum Ending<'a> {
+    Fine,
+    /// The input is wrong, or was refused, as the output says.
+    Refused,
+    /// The words are wrong, as the text says.
+    Wrong(String),
+    /// The words are no texts in UTF-8.
+    NoText,
+    /// The text for the option is no time zone.
+    NoZone(&'a str),
+    Failed(Failure<'a>),
+}
+
+impl<'a> Ending<'a> {
+    /// The exit status of the process.
+    pub fn number(&self) -> u8
+        ensures { result ≡ ending_number self.now }
+    {
+        match self {
+            Ending::Fine => 0,
+            Ending::Refused => 1,
+            Ending::Wrong(_) | Ending::NoText | Ending::NoZone(_) => 2,
+            Ending::Failed(_) => 3,
+        }
+    }
+}
+
+/// The ending of a command that reads standard input and prints.
+pub fn ending_of(status: Status) -> Ending<'static>
+    ensures { result ≡ ending_of status }
+{
+    match status {
+        Status::Fine => Ending::Fine,
+        Status::Refused => Ending::Refused,
+        Status::Failed => Ending::Failed(Failure::Streams),
+    }
+}
+
+/// Says on standard error how a command ended. Of one that is fine, or was refused, it says nothing: standard output
+/// does. Where this can't be written, nothing more can be said.
+pub fn say<W: Write>(ending: &Ending<'_>, errors: &mut W)
+    ensures { IsTold ending.now ⊎ (errors.new ≡ errors.old) }
+{
+    let _said = match ending {
+        Ending::Fine | Ending::Refused => Ok(()),
+        Ending::Wrong(text) => errors.write_all(text.as_bytes()),
+        Ending::NoText => errors.write_all(b"error: the words are not in UTF-8\n"),
+        Ending::NoZone(zone) => write!(
+            errors,
+            "error: invalid value '{zone}' for '--zone <TEXT>': no POSIX time zone, as UTC0 or CET-1CEST,M3.5.0,M10.5.0/3\n"
+        ),
+        Ending::Failed(failure) => write!(errors, "failed\nsunreg: {failure}\n"),
+    };
+}

@@ -1,0 +1,111 @@
+//! Why a command failed.
+use crate::files::FileFault;
+use office_store::OpenFault;
+use std::error::Error;
+use std::fmt;
+use std::fmt::{Display, Formatter};
+
+/// Why a command failed.
+#[derive(Clone, Copy, Debug, Drop)]
+pub enum Failure<'a> {
+    Memory,
+    /// Standard input, standard output, or memory while a command ran.
+    Streams,
+    /// A port can't be listened on.
+    Port { host: &'a str, port: u16 },
+    /// The loopback network can't be listened on.
+    Loopback,
+    /// No connection was accepted.
+    Listening,
+    /// There is no connection to the database in a file.
+    File { path: &'a str, fault: FileFault },
+    /// The tables of a new office were not made.
+    Unmade { path: &'a str, fault: OpenFault },
+    /// A file holds no office that could be opened.
+    Unopened { path: &'a str, fault: OpenFault },
+    /// A device was not connected.
+    Unconnected { host: &'a str, port: u16 },
+    /// The connection to a device failed in a round.
+    Broken { host: &'a str, port: u16 },
+    /// A round had all the takes that it may have.
+    Endless { host: &'a str, port: u16 },
+    /// A device's host has no address.
+    Host { host: &'a str },
+    /// The system can't tell which sockets are ready.
+    Sockets,
+    /// The office has stopped while devices were polled.
+    Stopped,
+}
+
+impl<'a> Display for Failure<'a> {
+    fn fmt<W: fmt::Write>(&self, f: &mut Formatter<W>) -> fmt::Result {
+        match self {
+            Failure::Memory => write!(f, "memory ran out"),
+            Failure::Streams => write!(
+                f,
+                "standard input can't be read, standard output can't be written, or memory ran out"
+            ),
+            Failure::Port { host, port } => write!(
+                f,
+                "port {port} of {host} can't be listened on: is it taken, or is the host another's?"
+            ),
+            Failure::Loopback => write!(f, "127.0.0.1 can't be listened on"),
+            Failure::Listening => write!(f, "no more connections can be accepted"),
+            Failure::File { path, fault } => write!(f, "{path}: {fault}"),
+            Failure::Unmade { path, fault } => {
+                write!(f, "{path}: ")?;
+                f.write_str(why_unmade(*fault))
+            }
+            Failure::Unopened { path, fault } => {
+                write!(f, "{path}: ")?;
+                f.write_str(why_unopened(*fault))
+            }
+            Failure::Unconnected { host, port } => write!(
+                f,
+                "port {port} of {host} isn't answered: does the device run, and is this its address?"
+            ),
+            Failure::Broken { host, port } => write!(
+                f,
+                "the connection to port {port} of {host} failed in the round; what was booked stays"
+            ),
+            Failure::Endless { host, port } => write!(
+                f,
+                "port {port} of {host} sent on and on without answering; what was booked stays"
+            ),
+            Failure::Host { host } => write!(
+                f,
+                "no address is found for {host}: is it right, and can names of hosts be looked up here?"
+            ),
+            Failure::Sockets => write!(f, "the system can't tell which sockets are ready"),
+            Failure::Stopped => write!(
+                f,
+                "the office has stopped, since its file or memory failed: look at the disk, and start again"
+            ),
+        }
+    }
+}
+
+impl<'a> Error for Failure<'a> {}
+
+// Why the tables of an office were not made, and what to do.
+fn why_unmade(fault: OpenFault) -> &'static str {
+    match fault {
+        OpenFault::NotOurs => "it has tables already: give another file, or leave out create",
+        OpenFault::Zone =>
+            "the zone is no POSIX time zone, such as UTC0 or CET-1CEST,M3.5.0,M10.5.0/3",
+        OpenFault::Store => "the tables can't be written: look at its rights and the disk's room",
+        OpenFault::Memory => "memory ran out",
+    }
+}
+
+// Why an office was not opened, and what to do.
+fn why_unopened(fault: OpenFault) -> &'static str {
+    match fault {
+        OpenFault::NotOurs =>
+            "it holds no office, or one of a later program: sunreg create makes one in a new file",
+        OpenFault::Zone =>
+            "the zone in its table meta is no POSIX time zone: give a copy that is whole",
+        OpenFault::Store => "the database in it failed: look at its rights and the disk's room",
+        OpenFault::Memory => "memory ran out",
+    }
+}

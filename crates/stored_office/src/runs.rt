@@ -1,0 +1,5 @@
+//! The headline over books in a database.
+
+mod runs;
+
+pub use runs::{run_anew, run_stored};

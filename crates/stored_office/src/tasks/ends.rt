@@ -1,0 +1,76 @@
+//! How a command ends whose task was carried out.
+ghost use Rattle.std.specs.Prelude.{◌≡◌};
+ghost use Rattle.command_io.specs.Statuses.{status_number};
+ghost use Rattle.office_program.specs.Texts.Rounds.{round_status};
+ghost use Rattle.stored_office.specs.Ends.Endings.{ending_number};
+ghost use Rattle.stored_office.specs.Tasks.Ends.{done_number, polling_number, run_number, serving_number};
+
+use crate::ends::{Ending, Failure, ending_of};
+use crate::tasks::tasks::Done;
+use office_program::{Polling, Serving};
+use office_rounds::RoundFault;
+use office_running::RunFault;
+
+// The ending of a round that was begun.
+fn ending_of_round<'a>(done: Result<(), RoundFault>, host: &'a str, port: u16) -> Ending<'a>
+    ensures { ending_number result ≡ status_number (round_status done) }
+{
+    match done {
+        Ok(()) => Ending::Fine,
+        Err(RoundFault::Refused(_)) => Ending::Refused,
+        Err(RoundFault::Link) => Ending::Failed(Failure::Broken { host, port }),
+        Err(RoundFault::Output) => Ending::Failed(Failure::Streams),
+        Err(RoundFault::TurnsUsed) => Ending::Failed(Failure::Endless { host, port }),
+    }
+}
+
+// The ending of serving at a port of a host.
+fn ending_of_serving<'a>(end: Serving, host: &'a str, port: u16) -> Ending<'a>
+    ensures { ending_number result ≡ serving_number end }
+{
+    match end {
+        Serving::Served => Ending::Fine,
+        Serving::Unopened(status) => ending_of(status),
+        Serving::NoPort => Ending::Failed(Failure::Port { host, port }),
+        Serving::Broken => Ending::Failed(Failure::Listening),
+    }
+}
+
+// The ending of a round of the device at a port of a host.
+fn ending_of_polling<'a>(end: Polling, host: &'a str, port: u16) -> Ending<'a>
+    ensures { ending_number result ≡ polling_number end }
+{
+    match end {
+        Polling::Polled(done) => ending_of_round(done, host, port),
+        Polling::Unopened(status) => ending_of(status),
+        Polling::Unconnected => Ending::Failed(Failure::Unconnected { host, port }),
+    }
+}
+
+// The ending of a run that answers at a port of a host.
+fn ending_of_run<'a>(end: Result<(), RunFault>, host: &'a str, port: u16) -> Ending<'a>
+    ensures { ending_number result ≡ run_number end }
+{
+    match end {
+        Ok(()) => Ending::Fine,
+        Err(RunFault::Unopened(status)) => ending_of(status),
+        Err(RunFault::Port) => Ending::Failed(Failure::Port { host, port }),
+        Err(RunFault::Sockets) => Ending::Failed(Failure::Sockets),
+        Err(RunFault::Output) => Ending::Failed(Failure::Streams),
+        Err(RunFault::Stopped) => Ending::Failed(Failure::Stopped),
+        Err(RunFault::Memory) => Ending::Failed(Failure::Memory),
+    }
+}
+
+/// The ending of a task, whose sockets were at a port of a host.
+pub fn ending_of_done<'a>(done: Result<Done, Failure<'a>>, host: &'a str, port: u16) -> Ending<'a>
+    ensures { ending_number result ≡ done_number done.entry }
+{
+    match done {
+        Ok(Done::Reported(status)) => ending_of(status),
+        Ok(Done::Served(end)) => ending_of_serving(end, host, port),
+        Ok(Done::Polled(end)) => ending_of_polling(end, host, port),
+        Ok(Done::Ran(end)) => ending_of_run(end, host, port),
+        Err(failure) => Ending::Failed(failure),
+    }
+}

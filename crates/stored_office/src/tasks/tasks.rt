@@ -1,0 +1,105 @@
+//! The tasks, one of which is carried out.
+ghost use Rattle.std.specs.Prelude.{◌≡◌, Err, IfOk, IfErr};
+ghost use Rattle.office_rules.specs.History.{History};
+ghost use Rattle.store_files.specs.declared.layouts.Layout.{Layout as TheLayout};
+ghost use Rattle.store_files.specs.Layouts.{IsNamedAs};
+ghost use Rattle.stored_office.specs.BooksFound.{HasPast};
+ghost use Rattle.stored_office.specs.Tasks.Tasks.{IsOf, Does};
+
+use crate::tasks::stored_run::run_stored;
+use crate::{poll_stored, report_stored, serve_stored};
+use command_io::Status;
+use office_program::{Polling, Serving};
+use office_running::{RunFault, Settings, Site};
+use office_store::OpenFault;
+use socket_link::Clock;
+use sqlite::{Alter, Connection};
+use std::alloc::Global;
+use std::io::Write;
+use std::net::Net;
+
+/// What is done over the books of an office.
+#[derive(Clone, Copy)]
+pub enum Task<'a> {
+    /// A register is reported, as `report_stored` does.
+    Report {
+        register: &'a str,
+    },
+    /// HTTP is answered on so many connections at a port of a host, as `serve_stored` does.
+    Serve {
+        host: &'a str,
+        port: u16,
+        connections: u32,
+    },
+    /// A device at a port of a host is polled, as `poll_stored` does.
+    Round {
+        device: &'a str,
+        host: &'a str,
+        port: u16,
+    },
+    /// Devices are polled on a schedule and HTTP is answered, as `run_stored` does.
+    Run {
+        settings: &'a Settings,
+        sites: &'a [Site],
+    },
+}
+
+/// How a task ended.
+#[derive(Clone, Copy)]
+pub enum Done {
+    Reported(Status),
+    Served(Serving),
+    Polled(Polling),
+    Ran(Result<(), RunFault>),
+}
+
+/// Finds the books of a database, and carries a task out over them. Where there are no books, nothing is printed.
+pub fn carry_out_stored<R: Net + std::rt::Clock, S: Alter + Drop, C: Clock, W: Write>(
+    rt: &R,
+    alloc: Global,
+    connection: Connection<S>,
+    task: Task<'_>,
+    clock: &mut C,
+    output: &mut W,
+) -> Result<Done, OpenFault>
+    ensures foreign { ((layout : TheLayout) → ¬ IsNamedAs connection.schema layout)
+        → result ≡ Err OpenFault.NotOurs }
+    ensures silent { IfErr result (λ fault. output.new ≡ output.old) }
+    ensures same { IfOk result (IsOf task.entry) }
+    ensures does { (past : History) → HasPast S.Store connection past
+        → IfOk result (Does S.Store past (C.moments clock.old) (C.moments clock.new)
+        (W.contents output.old) (W.contents output.new) task.entry) }
+{
+    match task {
+        Task::Report { register } => {
+            match report_stored(alloc, connection, register, clock, output) {
+                Ok(end) => Ok(Done::Reported(end)),
+                Err(fault) => Err(fault),
+            }
+        }
+        Task::Serve {
+            host,
+            port,
+            connections,
+        } => {
+            let place = (host, port);
+            match serve_stored(rt, alloc, connection, place, connections, clock, output) {
+                Ok(end) => Ok(Done::Served(end)),
+                Err(fault) => Err(fault),
+            }
+        }
+        Task::Round { device, host, port } => {
+            let place = (host, port);
+            match poll_stored(rt, alloc, connection, device, place, clock, output) {
+                Ok(end) => Ok(Done::Polled(end)),
+                Err(fault) => Err(fault),
+            }
+        }
+        Task::Run { settings, sites } => {
+            match run_stored(rt, alloc, connection, settings, sites, clock, output) {
+                Ok(end) => Ok(Done::Ran(end)),
+                Err(fault) => Err(fault),
+            }
+        }
+    }
+}

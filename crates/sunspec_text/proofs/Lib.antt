@@ -1,0 +1,2 @@
+pub mod ChainsLemmas
+pub mod ListsLemmas

@@ -1,0 +1,77 @@
+-- What is printed of a device's chain of models, and the exit status.
+use Rattle.std.specs.Prelude.{◌≡◌, ◌<◌, ◌≤◌, ℕ, List, [], ◌++◌, length, flat_map, codes, Ok, Err}
+use Rattle.std.specs.Fmt.{decimal}
+use Rattle.std.specs.declared.result.Result.{Result}
+use Rattle.sun_chain.specs.Image.{Words}
+use Rattle.sun_chain.specs.Chain.{IsChain}
+use Rattle.sun_chain.specs.Fault.{chain_fault_number}
+use Rattle.sun_chain.specs.Points.{Named, points_in, value_text}
+use Rattle.sun_chain.specs.Walk.{Fails}
+use Rattle.sun_chain.specs.declared.model.Model.{Model}
+use Rattle.sun_chain.specs.declared.fault.ChainFault.{ChainFault}
+use Rattle.sun_chain.specs.declared.fault.ChainFault.TheVariants.{NoMark, Unreadable, PastEnd, TooMany, Memory}
+use Rattle.sunspec_text.specs.Chains.ImageLines.{nothing_read, words_told}
+use Rattle.command_io.specs.Input.{most_bytes, too_long}
+use Rattle.command_io.specs.Lines.{speaking_lines}
+use Rattle.script_text.specs.AnswerText.{bad_line}
+use Rattle.command_io.specs.declared.status.Status.{Status}
+use Rattle.command_io.specs.declared.status.Status.TheVariants.{Fine, Refused, Failed}
+
+abbrev pub point_line : Named → List ℕ
+point_line point =
+    codes "point " ++ point.name ++ codes " " ++ value_text point.value point.scale ++ codes "\n"
+
+abbrev pub model_line : Model → List ℕ
+model_line model =
+    codes "model " ++ decimal model.address ++ codes " " ++ decimal model.id ++ codes " "
+    ++ decimal model.length ++ codes "\n"
+
+-- a model, and its points behind it
+abbrev pub model_lines : Words → Model → List ℕ
+model_lines word model = model_line model ++ flat_map point_line (points_in word model)
+
+abbrev pub chain_lines : Words → ℕ → List Model → ℕ → List ℕ
+chain_lines word base models end =
+    codes "base " ++ decimal base ++ codes "\n" ++ flat_map (model_lines word) models
+    ++ codes "end "
+    ++ decimal end ++ codes "\n"
+
+-- where a word is lacking
+abbrev pub place_text : ChainFault → List ℕ
+place_text NoMark = []
+place_text (Unreadable address) = codes " " ++ decimal address
+place_text PastEnd = []
+place_text TooMany = []
+place_text Memory = []
+
+abbrev pub fault_line : ChainFault → List ℕ
+fault_line fault =
+    codes "fault " ++ decimal (chain_fault_number fault) ++ place_text fault ++ codes "\n"
+
+-- what is wrong with the words, want of memory aside
+abbrev pub IsWrong : Words → ChainFault → Type 0
+IsWrong word Memory = ⊥
+IsWrong word NoMark = Fails word NoMark
+IsWrong word (Unreadable address) = Fails word (Unreadable address)
+IsWrong word PastEnd = Fails word PastEnd
+IsWrong word TooMany = Fails word TooMany
+
+-- a device's words print their chain, or else their fault
+abbrev pub WordsPrint : Words → (printed : List ℕ) → Status → Type 0
+WordsPrint word printed Fine =
+    (base : ℕ) × (models : List Model) × (end : ℕ) × IsChain word base models end
+    × (printed ≡ chain_lines word base models end)
+WordsPrint word printed Refused =
+    (fault : ChainFault) × IsWrong word fault × (printed ≡ fault_line fault)
+WordsPrint word printed Failed = ⊥
+
+-- lines print what their words print, or else the number of the first wrong line
+abbrev pub LinesPrint : Result Words ℕ → (printed : List ℕ) → Status → Type 0
+LinesPrint (Err number) printed status = (status ≡ Refused) × (printed ≡ bad_line number)
+LinesPrint (Ok word) printed status = WordsPrint word printed status
+
+-- an input prints what its lines print, where it isn't too long
+pub record ChainPrints (input printed : List ℕ) (status : Status) : Type 0 where
+  pub long : most_bytes < length input → (status ≡ Refused) × (printed ≡ too_long)
+  pub lines : length input ≤ most_bytes
+      → LinesPrint (words_told nothing_read (speaking_lines input)) printed status

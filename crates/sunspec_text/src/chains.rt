@@ -1,0 +1,6 @@
+//! The chain of models in a device's words, read from lines and printed.
+
+mod chain_printout;
+mod image_lines;
+
+pub use chain_printout::chain_text;

@@ -1,0 +1,141 @@
+//! The chain of models in a device's words.
+ghost use Rattle.std.specs.Prelude.{IfSome, OnOk, flat_map, map};
+ghost use Rattle.std.specs.Io.KnownBytes.{Appends};
+ghost use Rattle.sun_chain.specs.Chain.{base_of, end_of, models_of, words_of};
+ghost use Rattle.sun_chain.specs.Image.{word_in};
+ghost use Rattle.sun_chain.specs.Points.{seen};
+ghost use Rattle.sunspec_text.specs.Chains.ChainText.{ChainPrints, LinesPrint, WordsPrint, chain_lines};
+ghost use Rattle.sunspec_text.specs.Chains.ChainText.{fault_line, model_line, model_lines, point_line};
+ghost use Rattle.sunspec_text.specs.Chains.ImageLines.{nothing_read, words_told};
+ghost use Rattle.command_io.specs.Lines.{speaking_lines};
+ghost use Rattle.command_io.specs.Printing.{PrintsAs, PrintsFor};
+
+use crate::chains::image_lines::{LoadFault, load};
+use command_io::{Status, read_input};
+use script_text::write_bad_line;
+use std::alloc::Global;
+use std::io::{self, Read, Write};
+use sun_chain::{Chain, ChainFault, Image, Model, NamedPoint, walk};
+
+/// Reads lines `ADDRESS HEX`, the words of a device from an address on, and prints the chain of models in
+/// them: `base B`, for each model `model ADDRESS ID L` and its points `point NAME VALUE`, then `end ADDRESS`;
+/// or only `fault N`. A line that is none, or whose words end past address 65535, prints `bad line N` alone,
+/// an input of more than `MOST_BYTES` bytes `too long`.
+pub fn chain_text<R: Read, W: Write>(alloc: Global, input: &mut R, output: &mut W) -> Status
+    ensures { IfSome (R.remaining input.old)
+        (PrintsFor ChainPrints result (W.contents output.old) (W.contents output.new)) }
+{
+    match read_input(alloc, input, output) {
+        Ok(text) => print_lines(alloc, &text, output),
+        Err(status) => status,
+    }
+}
+
+// Prints what lines say.
+fn print_lines<W: Write>(alloc: Global, text: &[u8], output: &mut W) -> Status
+    ensures { PrintsAs (LinesPrint (words_told nothing_read (speaking_lines text.now))) result
+        (W.contents output.old) (W.contents output.new) }
+{
+    match load(alloc, text) {
+        Ok(image) => print_image(alloc, &image, output),
+        Err(LoadFault::BadLine(number)) => match write_bad_line(number, output) {
+            Ok(()) => Status::Refused,
+            Err(_) => Status::Failed,
+        },
+        Err(LoadFault::Memory) => Status::Failed,
+    }
+}
+
+// Prints the chain in an image, or its fault.
+fn print_image<W: Write>(alloc: Global, image: &Image, output: &mut W) -> Status
+    ensures { PrintsAs (WordsPrint (word_in image.now)) result
+        (W.contents output.old) (W.contents output.new) }
+{
+    match walk(alloc, image) {
+        Ok(chain) => match print_chain(&chain, output) {
+            Ok(()) => Status::Fine,
+            Err(_) => Status::Failed,
+        },
+        Err(ChainFault::Memory) => Status::Failed,
+        Err(fault) => match print_fault(fault, output) {
+            Ok(()) => Status::Refused,
+            Err(_) => Status::Failed,
+        },
+    }
+}
+
+fn print_fault<W: Write>(fault: ChainFault, output: &mut W) -> io::Result<()>
+    ensures { OnOk result (Appends (W.contents output.old) (W.contents output.new)
+        (fault_line fault)) }
+{
+    let number = fault.number();
+    match fault {
+        ChainFault::Unreadable(address) => write!(output, "fault {number} {address}\n"),
+        _ => write!(output, "fault {number}\n"),
+    }
+}
+
+fn print_chain<W: Write>(chain: &Chain<'_>, output: &mut W) -> io::Result<()>
+    ensures { OnOk result (Appends (W.contents output.old) (W.contents output.new)
+        (chain_lines (words_of chain.now) (base_of chain.now) (models_of chain.now)
+        (end_of chain.now))) }
+{
+    let base = chain.base();
+    write!(output, "base {base}\n")?;
+    print_models(chain, chain.models(), output)?;
+    let end = chain.end();
+    write!(output, "end {end}\n")
+}
+
+fn print_models<W: Write>(chain: &Chain<'_>, models: &[Model], output: &mut W) -> io::Result<()>
+    ensures { OnOk result (Appends (W.contents output.old) (W.contents output.new)
+        (flat_map (model_lines (words_of chain.now)) models.now)) }
+{
+    for model in models {
+        print_model(chain, model, output)?;
+    }
+    Ok(())
+}
+
+// A model, and its points behind it.
+fn print_model<W: Write>(chain: &Chain<'_>, model: &Model, output: &mut W) -> io::Result<()>
+    ensures { OnOk result (Appends (W.contents output.old) (W.contents output.new)
+        (model_lines (words_of chain.now) model.now)) }
+{
+    print_model_line(model, output)?;
+    let points = chain.points(model)?;
+    print_points(&points, output)
+}
+
+fn print_model_line<W: Write>(model: &Model, output: &mut W) -> io::Result<()>
+    ensures { OnOk result (Appends (W.contents output.old) (W.contents output.new)
+        (model_line model.now)) }
+{
+    let Model {
+        address,
+        id,
+        length,
+    } = *model;
+    write!(output, "model {address} {id} {length}\n")
+}
+
+fn print_points<W: Write>(points: &[NamedPoint<'_>], output: &mut W) -> io::Result<()>
+    ensures { OnOk result (Appends (W.contents output.old) (W.contents output.new)
+        (flat_map point_line (map seen points.now))) }
+{
+    for point in points {
+        print_point(point, output)?;
+    }
+    Ok(())
+}
+
+fn print_point<W: Write>(point: &NamedPoint<'_>, output: &mut W) -> io::Result<()>
+    ensures { OnOk result (Appends (W.contents output.old) (W.contents output.new)
+        (point_line (seen point.now))) }
+{
+    output.write_all(b"point ")?;
+    output.write_all(point.name().as_bytes())?;
+    output.write_all(b" ")?;
+    point.write_value(output)?;
+    output.write_all(b"\n")
+}

@@ -1,0 +1,114 @@
+//! The lines that tell a device's words: an address, and the words from there on in hex.
+ghost use Rattle.std.specs.Prelude.{◌≡◌, IfOk, IfErr, OnOk, Some, option_map};
+ghost use Rattle.sun_chain.specs.Image.{word_in};
+ghost use Rattle.sunspec_text.specs.Chains.ImageLines.{SpellsWords, address_of, put_of, words_after};
+ghost use Rattle.mb_wire.specs.Bytes.{words_of as words_spelled};
+ghost use Rattle.command_io.specs.Lines.{seen_line};
+ghost use Rattle.sunspec_text.specs.Chains.Seen.{ExplainsLine, ExplainsText, TellsImage, seen_put};
+
+use command_io::{InputLine, InputLines};
+use script_lines::{Words, hex_bytes, number};
+use std::alloc::{AllocError, Global};
+use sun_chain::{Image, ImageFault};
+
+/// Why lines do not tell an image.
+#[derive(Clone, Copy, Debug, PartialEq, Eq)]
+pub(crate) enum LoadFault {
+    /// The line of this number is wrong.
+    BadLine(u64),
+    Memory,
+}
+
+/// Words that are put at an address.
+#[derive(Drop)]
+pub(crate) struct Put {
+    address: u16,
+    words: Vec<u16>,
+}
+
+/// The image that the lines of a text tell.
+pub(crate) fn load(alloc: Global, text: &[u8]) -> Result<Image, LoadFault>
+    ensures image { IfOk result (TellsImage text.now) }
+    ensures fault { IfErr result (ExplainsText text.now) }
+{
+    let mut image = Image::new(alloc);
+    let mut lines = InputLines::of(text);
+    while let Some(line) = lines.next_line() {
+        put_line(alloc, &mut image, line)?;
+    }
+    Ok(image)
+}
+
+// Carries out a line.
+fn put_line(alloc: Global, image: &mut Image, line: InputLine<'_>) -> Result<(), LoadFault>
+    ensures put { OnOk result
+        (words_after (word_in image.old) line.entry.text.now ≡ Some (word_in image.new)) }
+    ensures bad { IfErr result
+        (λ fault. ExplainsLine fault (word_in image.old) (seen_line line.entry)) }
+{
+    let Ok(said) = read_put(alloc, line.text) else {
+        return Err(LoadFault::Memory);
+    };
+    let Some(put) = said else {
+        return Err(LoadFault::BadLine(line.number));
+    };
+    match image.put(put.address, &put.words) {
+        Ok(()) => Ok(()),
+        Err(ImageFault::PastEnd) => Err(LoadFault::BadLine(line.number)),
+        Err(ImageFault::Memory) => Err(LoadFault::Memory),
+    }
+}
+
+// What a line says.
+fn read_put(alloc: Global, line: &[u8]) -> Result<Option<Put>, AllocError>
+    ensures { IfOk result (λ said. option_map seen_put said ≡ put_of line.now) }
+{
+    let mut words = Words::of(line);
+    let Some(first) = words.next_word() else {
+        return Ok(None);
+    };
+    let second = words.next_word();
+    if words.next_word().is_some() {
+        return Ok(None);
+    }
+    let Some(address) = address(first) else {
+        return Ok(None);
+    };
+    let words = match second {
+        None => Some(Vec::new(alloc)),
+        Some(hex) => words_in_hex(alloc, hex)?,
+    };
+    Ok(words.map(|words| Put { address, words }))
+}
+
+// The address of a register.
+fn address(word: &[u8]) -> Option<u16>
+    ensures { result ≡ address_of word.now }
+{
+    match number(word) {
+        Some(value) if value <= 65535 => Some(value as u16),
+        _ => None,
+    }
+}
+
+fn words_in_hex(alloc: Global, hex: &[u8]) -> Result<Option<Vec<u16>>, AllocError>
+    ensures { IfOk result (SpellsWords hex.now) }
+{
+    match hex_bytes(alloc, hex)? {
+        Some(bytes) if bytes.len() % 2 == 0 => Ok(Some(words_in(alloc, &bytes)?)),
+        _ => Ok(None),
+    }
+}
+
+// The words in an even count of bytes, the high byte first.
+fn words_in(alloc: Global, bytes: &[u8]) -> Result<Vec<u16>, AllocError>
+    ensures { IfOk result (λ words. words.items ≡ words_spelled bytes.now) }
+{
+    let mut words = Vec::new(alloc);
+    let mut left = bytes;
+    while let [high, low, rest @ ..] = left {
+        words.push(u16::from(*high) * 256 + u16::from(*low))?;
+        left = rest;
+    }
+    Ok(words)
+}

@@ -1,0 +1,7 @@
+//! The plan of a point list, printed.
+
+mod list_printout;
+mod plan_printout;
+
+pub use list_printout::plan_text;
+pub use plan_printout::print_plan;

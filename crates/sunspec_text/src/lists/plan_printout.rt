@@ -1,0 +1,117 @@
+//! The plan of a point list.
+ghost use Rattle.std.specs.Prelude.{◌≡◌, ◌+◌, ◌<◌, ◌^◌, ℕ, List, OnOk, length, map};
+ghost use Rattle.std.specs.Io.KnownBytes.{Appends};
+ghost use Rattle.command_io.specs.Printing.{PrintsAs};
+ghost use Rattle.read_plan.specs.Items.{items_of};
+ghost use Rattle.sunspec_text.specs.Lists.PlanText.{LinesPrint, PointsPrint, PrintsPlan, point_line, read_head};
+ghost use Rattle.sunspec_text.specs.Lists.PlanText.{read_line, read_lines, registers_text, span_line};
+
+use command_io::Status;
+use point_list::{ListedPoint, PointList};
+use read_plan::{Place, Plan, PlannedRead, plan};
+use std::alloc::Global;
+use std::io::{self, Write};
+
+/// Prints the plan of a point list: `read K FUNCTION AREA ADDRESS COUNT`, K from 1, for each read, then
+/// `point NAME K OFFSET` for each point in the list's order.
+pub fn print_plan<W: Write>(alloc: Global, list: &PointList, output: &mut W) -> Status
+    ensures { PrintsAs (PrintsPlan list.now) result
+        (W.contents output.old) (W.contents output.new) }
+{
+    let Ok(plan) = plan(alloc, list) else {
+        return Status::Failed;
+    };
+    match print_lines(list, &plan, output) {
+        Ok(()) => Status::Fine,
+        Err(_) => Status::Failed,
+    }
+}
+
+// The reads of a plan of the list, and then the list's points.
+fn print_lines<W: Write>(list: &PointList, plan: &Plan, output: &mut W) -> io::Result<()>
+    requires items { plan.now.items ≡ items_of list.now }
+    requires starts { plan.now.starts ≡ map (λ point. point.address) list.now }
+    requires each { length plan.now.items ≡ length list.now }
+    ensures { OnOk result ((printed : List ℕ)
+        × Appends (W.contents output.old) (W.contents output.new) printed
+        × LinesPrint list.now plan.now.reads printed) }
+{
+    print_reads(plan.reads(), output)?;
+    print_points(list.points(), plan, output)?;
+    Ok(())
+}
+
+fn print_reads<W: Write>(reads: &[PlannedRead], output: &mut W) -> io::Result<()>
+    ensures { OnOk result (Appends (W.contents output.old) (W.contents output.new)
+        (read_lines 1 reads.now)) }
+{
+    for (index, read) in reads.iter().enumerate() {
+        print_read(index + 1, read, output)?;
+    }
+    Ok(())
+}
+
+fn print_read<W: Write>(number: usize, read: &PlannedRead, output: &mut W) -> io::Result<()>
+    ensures { OnOk result (Appends (W.contents output.old) (W.contents output.new)
+        (read_line number read.now)) }
+{
+    let function = read.span.function.code();
+    print_span(number, function, read, output)
+}
+
+fn print_span<W: Write>(
+    number: usize,
+    function: u8,
+    read: &PlannedRead,
+    output: &mut W,
+) -> io::Result<()>
+    ensures { OnOk result (Appends (W.contents output.old) (W.contents output.new)
+        (span_line number function read.now)) }
+{
+    print_head(number, function, output)?;
+    print_registers(read, output)
+}
+
+fn print_head<W: Write>(number: usize, function: u8, output: &mut W) -> io::Result<()>
+    ensures { OnOk result (Appends (W.contents output.old) (W.contents output.new)
+        (read_head number function)) }
+{
+    write!(output, "read {number} {function} ")
+}
+
+fn print_registers<W: Write>(read: &PlannedRead, output: &mut W) -> io::Result<()>
+    ensures { OnOk result (Appends (W.contents output.old) (W.contents output.new)
+        (registers_text read.now)) }
+{
+    let area = read.area;
+    let address = read.span.address;
+    let count = read.span.count;
+    write!(output, "{area} {address} {count}\n")
+}
+
+fn print_points<W: Write>(points: &[ListedPoint], plan: &Plan, output: &mut W) -> io::Result<()>
+    requires items { plan.now.items ≡ items_of points.now }
+    requires starts { plan.now.starts ≡ map (λ point. point.address) points.now }
+    requires few { length plan.now.reads < 2 ^ 64 }
+    requires each { length plan.now.items ≡ length points.now }
+    ensures { OnOk result ((printed : List ℕ)
+        × Appends (W.contents output.old) (W.contents output.new) printed
+        × PointsPrint points.now points.now plan.now.reads printed) }
+{
+    for (index, point) in points.iter().enumerate() {
+        print_point(point, plan.place(index), output)?;
+    }
+    Ok(())
+}
+
+fn print_point<W: Write>(point: &ListedPoint, place: Place, output: &mut W) -> io::Result<()>
+    requires { place.read + 1 < 2 ^ 64 }
+    ensures { OnOk result (Appends (W.contents output.old) (W.contents output.new)
+        (point_line (record { point = point.now; read = place.read; offset = place.offset }))) }
+{
+    output.write_all(b"point ")?;
+    output.write_all(point.name.as_bytes())?;
+    let read = place.read + 1;
+    let offset = place.offset;
+    write!(output, " {read} {offset}\n")
+}

@@ -1,6 +1,0 @@
-use Rattle.std.proofs.Common.{lit<}
-use Rattle.word_values.proofs.Cuts.{last_cut}
-use Rattle.word_values.proofs.devices.around_colon.Goals as goal
-
-pub returns : goal.returns
-returns c = last_cut 58 c.args.address.now c.rsplit_once.result (lit< tt) c.rsplit_once.ensures.cases

@@ -1,8 +1,0 @@
-use Rattle.std.proofs.Common.{◌≡◌, drop, map}
-use Rattle.word_values.specs.Devices.{are_distinct, names_in}
-use Rattle.word_values.proofs.devices.distinct.Given as goal
-
-abbrev pub invariant-loop-index : goal.invariant-loop-index
-invariant-loop-index l =
-    are_distinct (names_in (map (λ part. part.now) (drop l.index l.parts)))
-    ≡ are_distinct (names_in (map (λ part. part.now) l.parts))
