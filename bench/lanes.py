@@ -2,7 +2,6 @@
 import collections
 import os
 import pathlib
-import signal
 import time
 
 import kit
@@ -49,9 +48,9 @@ class Lanes:
         return crate, jobs
 
     def ended(self, crate, status):
-        """Notes that a proof ended, and returns its seconds; what was killed, most likely for memory, is left once more, with twice the memory."""
+        """Notes that a proof ended, and returns its seconds; what a signal ended, most likely for memory, is left once more, with twice the memory."""
         took = time.monotonic() - self.running.pop(crate).since
-        if status == -signal.SIGKILL and crate not in self.killed:
+        if status < 0 and crate not in self.killed:
             self.killed.add(crate)
             self.memory[crate] *= 2
             self.left.append(crate)

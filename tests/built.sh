@@ -37,7 +37,7 @@ proves() {
     size=$(LC_ALL=C stat -c %s "$checkout/out/sunreg" | sed ':a; s/\([0-9]\)\([0-9]\{3\}\)\($\|,\)/\1,\2\3/; ta')
     said="sunreg-build: out/sunreg has $size bytes and the SHA-256 $(sha256sum < "$checkout/out/sunreg" | cut -d ' ' -f 1)"
     same "$1: the program" "$(tail -n 2 "$room/out" | head -n 1)" "$said"
-    same "$1: the kit" "$(tail -n 1 "$room/out" | sed 's/, in [0-9]* minutes$//')" "sunreg-build: sunreg is proved by $(rt version)"
+    same "$1: the kit" "$(tail -n 1 "$room/out" | sed 's/, in [0-9]* [a-z]*$//')" "sunreg-build: sunreg is proved by $(rt version)"
     echo "$1: $took s"
 }
 
@@ -117,7 +117,7 @@ same 'no kit' "$status $(cat "$room/err")" '1 sunreg-build: the Rattle kit is no
 
 run "$room/link" low
 same 'a library alone: status' "$status $(cat "$room/err")" '0 '
-same 'a library alone: says last' "$(tail -n 1 "$room/out" | sed 's/, in [0-9]* minutes$//')" "sunreg-build: low is proved by $(rt version)"
+same 'a library alone: says last' "$(tail -n 1 "$room/out" | sed 's/, in [0-9]* [a-z]*$//')" "sunreg-build: low is proved by $(rt version)"
 cuts INT 130
 cuts TERM 143
 cuts HUP 129
@@ -135,7 +135,7 @@ library right "$(echo "$right" | sed 's/sum(a, 1)/sum(a + 1, 1)/')"
 echo '// another text' >> "$checkout/crates/left/src/lib.rt"
 run "$checkout/sunreg-build"
 same 'a failed proof: status' "$status" 1
-same 'a failed proof: says last' "$(tail -n 1 "$room/err")" "sunreg-build: right was not proved: $checkout/out/logs/right has all that the checker said"
+same 'a failed proof: says last' "$(tail -n 1 "$room/err")" "sunreg-build: right was not proved (status 1): $checkout/out/logs/right has all that the checker said"
 same 'a failed proof: what the checker said' "$(grep -c 'fn right::more: ' "$room/err")" 1
 same 'a failed proof: its log' "$(grep -c '^logic=not-proved' "$checkout/out/logs/right")" 1
 none_runs 'a failed proof'
