@@ -33,7 +33,7 @@ macro_rules! change {
     };
 }
 
-static CASES: [Case; 17] = [
+static CASES: [Case; 21] = [
     Case {
         total: 200_000,
         last: PREVIOUS,
@@ -69,6 +69,31 @@ static CASES: [Case; 17] = [
         last: last!(2_701_800, 5300, 0),
         entry: step!(5_000_000, 5300, 0),
         answer: booked!(last!(5_000_000, 5300, 0), 2_701_800, 0),
+    },
+    // 3,000 quarter hours, from the last second of one and from the first, and one more
+    Case {
+        total: 0,
+        last: last!(899, 5200, 0),
+        entry: step!(2_700_000, 5300, 0),
+        answer: booked!(last!(2_700_000, 5300, 0), 899, 100_000),
+    },
+    Case {
+        total: 0,
+        last: last!(899, 5200, 0),
+        entry: step!(2_700_001, 5300, 0),
+        answer: Err(TermFault::SpanTooLong),
+    },
+    Case {
+        total: 0,
+        last: last!(900, 5200, 0),
+        entry: step!(2_700_900, 5300, 0),
+        answer: booked!(last!(2_700_900, 5300, 0), 900, 100_000),
+    },
+    Case {
+        total: 0,
+        last: last!(900, 5200, 0),
+        entry: step!(2_700_901, 5300, 0),
+        answer: Err(TermFault::SpanTooLong),
     },
     // the most rollovers
     Case {
@@ -188,6 +213,40 @@ static BELOW_A_MILLION: [Case; 7] = [
     },
 ];
 
+/// On a counter of the least range: 255 full turns of 65,536 counts, and the greatest number that it shows.
+static BELOW_65536: [Case; 5] = [
+    Case {
+        total: 0,
+        last: PREVIOUS,
+        entry: step!(2000, 65_535, 0),
+        answer: booked!(last!(2000, 65_535, 0), 1900, 60_335_000),
+    },
+    Case {
+        total: 0,
+        last: PREVIOUS,
+        entry: step!(2000, 65_536, 0),
+        answer: Err(TermFault::NotBelowRange),
+    },
+    Case {
+        total: 0,
+        last: PREVIOUS,
+        entry: step!(2000, 5200, 255),
+        answer: booked!(last!(2000, 5200, 0), 1900, 16_711_680_000),
+    },
+    Case {
+        total: 0,
+        last: PREVIOUS,
+        entry: change!(2000, 5200, 65_535, 0),
+        answer: booked!(last!(2000, 65_535, 0), 1900, 0),
+    },
+    Case {
+        total: 0,
+        last: PREVIOUS,
+        entry: change!(2000, 5200, 65_536, 0),
+        answer: Err(TermFault::NotBelowRange),
+    },
+];
+
 fn entered<C: Counter>(
     rt: &impl Abort,
     counter: &C,
@@ -216,6 +275,10 @@ fn entries_are_booked_or_refused(rt: HostRuntime) {
 fn entries_tell_what_the_counter_can_show(rt: HostRuntime) {
     let counter = Ranged::new(1_000_000).expect(&rt, "a lawful range");
     for (i, case) in BELOW_A_MILLION.iter().enumerate() {
+        assert_eq!(rt; entered(&rt, &counter, case), case.answer, "case {i}");
+    }
+    let counter = Ranged::new(65_536).expect(&rt, "the least range");
+    for (i, case) in BELOW_65536.iter().enumerate() {
         assert_eq!(rt; entered(&rt, &counter, case), case.answer, "case {i}");
     }
 }

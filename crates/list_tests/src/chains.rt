@@ -1,151 +1,119 @@
-//! Lists of chains of models.
-
-use crate::given::written;
-use point_list::{FaultyRow, ListFault, RowFault, from_chain};
+//! Chains of models.
+use crate::given::{chain_of, put, same};
 use std::alloc::Global;
+use std::io::Write;
 use std::test::Fail;
-use sun_chain::{Image, walk};
+use sun_chain::{Chain, ChainFault, Image, Model, NamedPoint, walk};
 
-// Words from an address on.
-struct Line {
-    address: u16,
-    words: &'static [u16],
-}
-
-// Lines of an image, and the list of its chain.
-struct Listed {
-    lines: &'static [Line],
-    text: &'static [u8],
-}
-
-const INVERTER_AND_METER: [Line; 5] = [
-    Line {
-        address: 40000,
-        words: &[0x5375, 0x6E53, 1, 66],
-    },
-    Line {
-        address: 40070,
-        words: &[103, 50],
-    },
-    Line {
-        address: 40094,
-        words: &[0x000F, 0x4240, 0],
-    },
-    Line {
-        address: 40122,
-        words: &[203, 105],
-    },
-    Line {
-        address: 40229,
-        words: &[0xFFFF],
-    },
-];
-
-// An absent point, and one whose scale point was not read.
-const METER: [Line; 5] = [
-    Line {
-        address: 40000,
-        words: &[0x5375, 0x6E53, 203, 105],
-    },
-    Line {
-        address: 40004,
-        words: &[0x8000],
-    },
-    Line {
-        address: 40020,
-        words: &[5],
-    },
-    Line {
-        address: 40024,
-        words: &[0xFFFE],
-    },
-    Line {
-        address: 40109,
-        words: &[0xFFFF],
-    },
-];
-
-static CHAINS: [Listed; 2] = [
-    Listed {
-        lines: &INVERTER_AND_METER,
-        text: b"name,function,area,address,type,scale
-m2.WH,3,0,40094,acc32,m2.WH_SF
-m2.WH_SF,3,0,40096,sunssf,
-",
-    },
-    Listed {
-        lines: &METER,
-        text: b"name,function,area,address,type,scale
-m1.A,3,0,40004,int16,
-m1.W,3,0,40020,int16,m1.W_SF
-m1.W_SF,3,0,40024,sunssf,
-",
-    },
-];
-
-fn image_of(alloc: Global, lines: &[Line]) -> Result<Image, Fail> {
+// A model 1, in which only ID and length were read, before an inverter, of which only two points were read,
+// before a meter.
+fn inverter_before_meter(alloc: Global, first: u16, scale: u16) -> Result<Image, Fail> {
     let mut image = Image::new(alloc);
-    for line in lines {
-        image.put(line.address, line.words).ok().ok_or("not put")?;
-    }
+    let length = first.saturating_sub(40004);
+    put(&mut image, 40000, &[0x5375, 0x6E53, 1, length])?;
+    put(&mut image, first, &[103, 50])?;
+    put(
+        &mut image,
+        first.saturating_add(24),
+        &[0x000F, 0x4240, scale],
+    )?;
+    put(&mut image, first.saturating_add(52), &[203, 105])?;
+    put(&mut image, first.saturating_add(159), &[0xFFFF])?;
     Ok(image)
 }
 
-// The text of the list of an image's chain.
-fn text_of(alloc: Global, image: &Image) -> Result<Vec<u8>, Fail> {
-    let chain = walk(alloc, image).ok().ok_or("no chain")?;
-    let list = from_chain(alloc, &chain).ok().ok_or("no list")?;
-    written(alloc, &list)
+static INVERTER: Model = Model {
+    address: 40070,
+    id: 103,
+    length: 50,
+};
+
+// The inverter's address, and the models of its chain: address, ID and length.
+static CHAINS: [(u16, &str); 2] = [
+    (40070, "40002 1 66/40070 103 50/40122 203 105/"),
+    (40069, "40002 1 65/40069 103 50/40121 203 105/"),
+];
+
+fn models_of(alloc: Global, chain: &Chain<'_>) -> Result<Vec<u8>, Fail> {
+    let mut text = Vec::new(alloc);
+    for Model {
+        address,
+        id,
+        length,
+    } in chain.models() {
+        write!(text, "{address} {id} {length}/")?;
+    }
+    Ok(text)
 }
 
 #[test]
-fn lists_of_chains(rt: HostRuntime) -> Result<(), Fail> {
-    for chain in &CHAINS {
-        let image = image_of(rt.alloc(), chain.lines)?;
-        let text = text_of(rt.alloc(), &image)?;
-        assert_eq!(rt; text.as_slice(), chain.text);
+fn models_stand_in_a_row(rt: HostRuntime) -> Result<(), Fail> {
+    for (inverter, models) in &CHAINS {
+        let image = inverter_before_meter(rt.alloc(), *inverter, 0)?;
+        let chain = chain_of(rt.alloc(), &image)?;
+        assert!(rt; chain.base() == 40000);
+        assert!(rt; chain.end() == inverter.saturating_add(159));
+        same(&rt, models_of(rt.alloc(), &chain)?.as_slice(), models);
     }
     Ok(())
 }
 
-// An image of so many meters, all of whose words were read.
-fn meters(alloc: Global, count: u8) -> Result<Image, Fail> {
-    let mut image = Image::new(alloc);
-    image.put(0, &[0x5375, 0x6E53]).ok().ok_or("not put")?;
-    for model in 0..count {
-        let address = 2 + 107 * u16::from(model);
-        image.put(address, &[203, 105]).ok().ok_or("not put")?;
-        image.put(address + 2, &[0; 105]).ok().ok_or("not put")?;
+#[test]
+fn the_next_address(rt: HostRuntime) {
+    assert!(rt; INVERTER.next() == 40122);
+}
+
+fn print_value(point: &NamedPoint<'_>, output: &mut Vec<u8>) -> Result<(), Fail> {
+    output.write_all(point.name().as_bytes())?;
+    output.write_all(b" ")?;
+    point.write_value(output)?;
+    output.write_all(b"/")?;
+    Ok(())
+}
+
+fn lines_of(alloc: Global, scale: u16) -> Result<Vec<u8>, Fail> {
+    let image = inverter_before_meter(alloc, 40070, scale)?;
+    let chain = chain_of(alloc, &image)?;
+    let mut lines = Vec::new(alloc);
+    for point in &chain.points(&INVERTER)? {
+        print_value(point, &mut lines)?;
     }
-    let end = 2 + 107 * u16::from(count);
-    image.put(end, &[0xFFFF]).ok().ok_or("not put")?;
+    Ok(lines)
+}
+
+// The word of the inverter's scale point, and its two points.
+static LINES: [(u16, &str); 2] = [(0, "WH 1000000/WH_SF 0/"), (11, "WH faulty/WH_SF 11/")];
+
+#[test]
+fn a_scale_point_scales(rt: HostRuntime) -> Result<(), Fail> {
+    for (scale, want) in &LINES {
+        same(&rt, lines_of(rt.alloc(), *scale)?.as_slice(), want);
+    }
+    Ok(())
+}
+
+// A mark at 50000, 64 models of no register, and these words behind them.
+fn sixty_four_models(alloc: Global, behind: &[u16]) -> Result<Image, Fail> {
+    let mut image = Image::new(alloc);
+    put(&mut image, 50000, &[0x5375, 0x6E53])?;
+    for place in 0..64u16 {
+        put(&mut image, 50002 + 2 * place, &[9, 0])?;
+    }
+    put(&mut image, 50130, behind)?;
     Ok(image)
 }
 
 #[test]
-fn many_points(rt: HostRuntime) -> Result<(), Fail> {
-    let image = meters(rt.alloc(), 7)?;
-    let chain = walk(rt.alloc(), &image).ok().ok_or("no chain")?;
-    let list = from_chain(rt.alloc(), &chain).ok().ok_or("no list")?;
-    assert_eq!(rt; list.points().len(), 504);
-    let first = list.points().first().ok_or("no point")?;
-    assert_eq!(rt; first.name.as_bytes(), b"m1.A".as_slice());
-    let last = list.points().last().ok_or("no point")?;
-    assert_eq!(rt; last.name.as_bytes(), b"m7.Evt".as_slice());
+fn sixty_four_models_are_found(rt: HostRuntime) -> Result<(), Fail> {
+    let image = sixty_four_models(rt.alloc(), &[0xFFFF])?;
+    let chain = chain_of(rt.alloc(), &image)?;
+    assert!(rt; chain.models().len() == 64);
     Ok(())
 }
 
 #[test]
-fn too_many_points(rt: HostRuntime) -> Result<(), Fail> {
-    let image = meters(rt.alloc(), 8)?;
-    let chain = walk(rt.alloc(), &image).ok().ok_or("no chain")?;
-    let Err(ListFault::Faults(faults)) = from_chain(rt.alloc(), &chain) else {
-        return Err("no faults".into());
-    };
-    let told = FaultyRow {
-        row: 514,
-        fault: RowFault::TooMany,
-    };
-    assert_eq!(rt; faults.rows(), [told].as_slice());
+fn a_65th_model_is_refused(rt: HostRuntime) -> Result<(), Fail> {
+    let image = sixty_four_models(rt.alloc(), &[9, 0, 0xFFFF])?;
+    assert!(rt; walk(rt.alloc(), &image).err() == Some(ChainFault::TooMany));
     Ok(())
 }

@@ -1,10 +1,24 @@
-//! Texts and lists that the tests share.
+//! Images, texts and lists that the tests share.
 
 use point_list::{FaultyRow, ListFault, PointList, PointName, read_list, write_list};
 use std::alloc::Global;
 use std::io::Write;
 use std::process::Abort;
 use std::test::Fail;
+use sun_chain::{Chain, Image, walk};
+
+pub fn same(rt: &impl Abort, found: &[u8], want: &str) {
+    assert_eq!(rt; found, want.as_bytes(), "{want}");
+}
+
+pub fn put(image: &mut Image, address: u16, words: &[u16]) -> Result<(), Fail> {
+    image.put(address, words).ok().ok_or("not put")?;
+    Ok(())
+}
+
+pub fn chain_of(alloc: Global, image: &Image) -> Result<Chain<'_>, Fail> {
+    Ok(walk(alloc, image).ok().ok_or("no chain")?)
+}
 
 /// The rows of a list, and what is told of them.
 pub struct Case {

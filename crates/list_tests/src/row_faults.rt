@@ -200,6 +200,46 @@ static SCALE_POINTS: [Case; 8] = [
     },
 ];
 
+// Ends of ranges that are still lawful.
+static WITHOUT_FAULTS: [Case; 9] = [
+    Case {
+        rows: "a23456789.123456789_123456789.12,3,0,0,int16,\n",
+        told: "",
+    },
+    Case {
+        rows: "a,4,255,65535,int16,\n",
+        told: "",
+    },
+    Case {
+        rows: "a,3,0,65534,int32,\n",
+        told: "",
+    },
+    Case {
+        rows: "a,3,0,65411,string125,\n",
+        told: "",
+    },
+    Case {
+        rows: "a,3,0,65535,string1,\n",
+        told: "",
+    },
+    Case {
+        rows: "a,3,0,0000000000,int16,\n",
+        told: "",
+    },
+    Case {
+        rows: "a,3,0,0,int16,10\n",
+        told: "",
+    },
+    Case {
+        rows: "a,3,0,0,acc32,-10\n",
+        told: "",
+    },
+    Case {
+        rows: "s,3,0,0,sunssf,\nw,3,0,124,int16,s\n",
+        told: "",
+    },
+];
+
 #[test]
 fn other_headers(rt: HostRuntime) -> Result<(), Fail> {
     for text in &OTHER_HEADERS {
@@ -211,6 +251,7 @@ fn other_headers(rt: HostRuntime) -> Result<(), Fail> {
 
 #[test]
 fn faults_of_rows(rt: HostRuntime) -> Result<(), Fail> {
+    compare_faults(&rt, rt.alloc(), &WITHOUT_FAULTS)?;
     compare_faults(&rt, rt.alloc(), &ALONE)?;
     compare_faults(&rt, rt.alloc(), &TWO_ON_A_ROW)?;
     compare_faults(&rt, rt.alloc(), &ON_SEVERAL_ROWS)?;

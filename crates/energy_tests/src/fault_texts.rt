@@ -1,0 +1,88 @@
+//! Faults of readings, entries and days.
+use crate::texts::tells;
+use energy_core::{Cause, TermFault};
+use interval_core::{DayFault, ZoneFault};
+use std::test::Fail;
+
+const HELD: [(Cause, &str); 8] = [
+    (
+        Cause::NotAccumulated,
+        "the counter shows 0, as one does that does not count",
+    ),
+    (
+        Cause::ScaleChanged,
+        "the scale factor is not that of the last entry",
+    ),
+    (
+        Cause::NotLater,
+        "the reading is not later than the last entry",
+    ),
+    (
+        Cause::SpanTooLong,
+        "more than 3000 quarter hours passed since the last entry",
+    ),
+    (
+        Cause::GapTooLong,
+        "the counter could have made a full turn since the last entry",
+    ),
+    (
+        Cause::TooFast,
+        "the counter went further than the ceiling allows",
+    ),
+    (
+        Cause::TotalFull,
+        "the energy of the installation would pass 4 * 10^18 mWh",
+    ),
+    (
+        Cause::NotBelowRange,
+        "the counter shows a number that is not below its range",
+    ),
+];
+
+const ENTRIES: [(TermFault, &str); 6] = [
+    (
+        TermFault::NegativeStep,
+        "the counter would have gone back since the last entry",
+    ),
+    (
+        TermFault::NotLater,
+        "the entry is not later than the last one",
+    ),
+    (
+        TermFault::SpanTooLong,
+        "more than 3000 quarter hours passed since the last entry",
+    ),
+    (
+        TermFault::TotalFull,
+        "the energy of the installation would pass 4 * 10^18 mWh",
+    ),
+    (TermFault::BadScale, "the scale factor is not from -3 to 3"),
+    (
+        TermFault::NotBelowRange,
+        "a number of the entry is not below the counter's range",
+    ),
+];
+
+const DAYS: [(DayFault, &str); 2] = [
+    (
+        DayFault::Zone,
+        "the calendar has no such moment in this time zone",
+    ),
+    (DayFault::Memory, "memory ran out"),
+];
+
+const ZONES: [(ZoneFault, &str); 2] = [
+    (
+        ZoneFault::Text,
+        "the text is no POSIX time zone of at most 64 bytes, as UTC0 or CET-1CEST,M3.5.0,M10.5.0/3",
+    ),
+    (ZoneFault::Memory, "memory ran out"),
+];
+
+#[test]
+fn energy(rt: HostRuntime) -> Result<(), Fail> {
+    tells(&rt, rt.alloc(), &HELD)?;
+    tells(&rt, rt.alloc(), &ENTRIES)?;
+    tells(&rt, rt.alloc(), &DAYS)?;
+    tells(&rt, rt.alloc(), &ZONES)
+}
