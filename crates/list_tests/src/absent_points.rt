@@ -1,28 +1,41 @@
 //! An image in which each point has the absent value of its type.
 
-use crate::given::{chain_of, put};
+use crate::given::{Line, chain_of, image_of};
 use std::alloc::Global;
 use std::test::Fail;
-use sun_chain::{Common, Image, Model, NamedPoint, PointScale};
+use sun_chain::{Common, Model, NamedPoint, PointScale};
 use sun_points::{Point, Scale};
 
 // The registers of model 103 behind its ID and length.
-static ABSENT_INVERTER: [u16; 50] = [
+const ABSENT_INVERTER: [u16; 50] = [
     0xFFFF, 0xFFFF, 0xFFFF, 0xFFFF, 0x8000, 0xFFFF, 0xFFFF, 0xFFFF, 0xFFFF, 0xFFFF, 0xFFFF, 0x8000,
     0x8000, 0x8000, 0xFFFF, 0x8000, 0x8000, 0x8000, 0x8000, 0x8000, 0x8000, 0x8000, 0, 0, 0x8000,
     0xFFFF, 0x8000, 0xFFFF, 0x8000, 0x8000, 0x8000, 0x8000, 0x8000, 0x8000, 0x8000, 0x8000, 0xFFFF,
     0xFFFF, 0x8000, 0, 0x8000, 0, 0x8000, 0, 0x8000, 0, 0x8000, 0, 0x8000, 0,
 ];
 
-fn absent_image(alloc: Global) -> Result<Image, Fail> {
-    let mut image = Image::new(alloc);
-    put(&mut image, 40000, &[0x5375, 0x6E53, 1, 65])?;
-    put(&mut image, 40004, &[0; 64])?;
-    put(&mut image, 40068, &[0xFFFF, 103, 50])?;
-    put(&mut image, 40071, &ABSENT_INVERTER)?;
-    put(&mut image, 40121, &[0xFFFF])?;
-    Ok(image)
-}
+static LINES: [Line; 5] = [
+    Line {
+        address: 40000,
+        words: &[0x5375, 0x6E53, 1, 65],
+    },
+    Line {
+        address: 40004,
+        words: &[0; 64],
+    },
+    Line {
+        address: 40068,
+        words: &[0xFFFF, 103, 50],
+    },
+    Line {
+        address: 40071,
+        words: &ABSENT_INVERTER,
+    },
+    Line {
+        address: 40121,
+        words: &[0xFFFF],
+    },
+];
 
 fn is_absent(point: &NamedPoint<'_>) -> bool {
     point.value() == Point::Absent
@@ -39,7 +52,7 @@ fn is_scaled_by_0(point: &NamedPoint<'_>) -> bool {
 
 // How many points of a model are there, if all of them are absent.
 fn absent_count(alloc: Global, model: &Model) -> Result<Option<usize>, Fail> {
-    let image = absent_image(alloc)?;
+    let image = image_of(alloc, &LINES)?;
     let points = chain_of(alloc, &image)?.points(model)?;
     let absent = points
         .iter()
@@ -81,7 +94,7 @@ fn is_silent(common: &Common<'_>) -> bool {
 
 #[test]
 fn an_absent_device_says_nothing(rt: HostRuntime) -> Result<(), Fail> {
-    let image = absent_image(rt.alloc())?;
+    let image = image_of(rt.alloc(), &LINES)?;
     let chain = chain_of(rt.alloc(), &image)?;
     let common = chain.common().ok_or("no model 1")?;
     assert!(rt; is_silent(&common));

@@ -1,59 +1,90 @@
 //! Chains of models.
-use crate::given::{chain_of, put, same};
+use crate::given::{Line, chain_of, image_of, put, same};
 use std::alloc::Global;
 use std::io::Write;
 use std::test::Fail;
-use sun_chain::{Chain, ChainFault, Image, Model, NamedPoint, walk};
+use sun_chain::{ChainFault, Image, Model, NamedPoint, walk};
 
-// A model 1, in which only ID and length were read, before an inverter, of which only two points were read,
-// before a meter.
-fn inverter_before_meter(alloc: Global, first: u16, scale: u16) -> Result<Image, Fail> {
-    let mut image = Image::new(alloc);
-    let length = first.saturating_sub(40004);
-    put(&mut image, 40000, &[0x5375, 0x6E53, 1, length])?;
-    put(&mut image, first, &[103, 50])?;
-    put(
-        &mut image,
-        first.saturating_add(24),
-        &[0x000F, 0x4240, scale],
-    )?;
-    put(&mut image, first.saturating_add(52), &[203, 105])?;
-    put(&mut image, first.saturating_add(159), &[0xFFFF])?;
-    Ok(image)
+// A model 1 of this length, in which only ID and length were read, before an inverter, of which only two points were read,
+// a counter and its scale point, before a meter.
+macro_rules! inverter_before_meter {
+    ($length:expr, $scale:expr) => {
+        [
+            Line {
+                address: 40000,
+                words: &[0x5375, 0x6E53, 1, $length],
+            },
+            Line {
+                address: 40004 + $length,
+                words: &[103, 50],
+            },
+            Line {
+                address: 40028 + $length,
+                words: &[0x000F, 0x4240, $scale],
+            },
+            Line {
+                address: 40056 + $length,
+                words: &[203, 105],
+            },
+            Line {
+                address: 40163 + $length,
+                words: &[0xFFFF],
+            },
+        ]
+    };
 }
 
-static INVERTER: Model = Model {
-    address: 40070,
-    id: 103,
-    length: 50,
-};
+macro_rules! model {
+    ($address:expr, $id:expr, $length:expr) => {
+        Model {
+            address: $address,
+            id: $id,
+            length: $length,
+        }
+    };
+}
 
-// The inverter's address, and the models of its chain: address, ID and length.
-static CHAINS: [(u16, &str); 2] = [
-    (40070, "40002 1 66/40070 103 50/40122 203 105/"),
-    (40069, "40002 1 65/40069 103 50/40121 203 105/"),
+static INVERTER: Model = model!(40070, 103, 50);
+
+// Lines of an image; the end of its chain, and its models.
+struct Chained {
+    lines: [Line; 5],
+    end: u16,
+    models: [Model; 3],
+}
+
+static CHAINS: [Chained; 2] = [
+    Chained {
+        lines: inverter_before_meter!(66, 0),
+        end: 40229,
+        models: [
+            model!(40002, 1, 66),
+            model!(40070, 103, 50),
+            model!(40122, 203, 105),
+        ],
+    },
+    Chained {
+        lines: inverter_before_meter!(65, 0),
+        end: 40228,
+        models: [
+            model!(40002, 1, 65),
+            model!(40069, 103, 50),
+            model!(40121, 203, 105),
+        ],
+    },
 ];
 
-fn models_of(alloc: Global, chain: &Chain<'_>) -> Result<Vec<u8>, Fail> {
-    let mut text = Vec::new(alloc);
-    for Model {
-        address,
-        id,
-        length,
-    } in chain.models() {
-        write!(text, "{address} {id} {length}/")?;
-    }
-    Ok(text)
+fn is_chained(alloc: Global, want: &Chained) -> Result<bool, Fail> {
+    let image = image_of(alloc, &want.lines)?;
+    let chain = chain_of(alloc, &image)?;
+    let ends = (chain.base(), chain.end());
+    Ok(ends == (40000, want.end) && chain.models() == want.models.as_slice())
 }
 
 #[test]
 fn models_stand_in_a_row(rt: HostRuntime) -> Result<(), Fail> {
-    for (inverter, models) in &CHAINS {
-        let image = inverter_before_meter(rt.alloc(), *inverter, 0)?;
-        let chain = chain_of(rt.alloc(), &image)?;
-        assert!(rt; chain.base() == 40000);
-        assert!(rt; chain.end() == inverter.saturating_add(159));
-        same(&rt, models_of(rt.alloc(), &chain)?.as_slice(), models);
+    for want in &CHAINS {
+        assert!(rt; is_chained(rt.alloc(), want)?, "to {}", want.end);
     }
     Ok(())
 }
@@ -71,23 +102,26 @@ fn print_value(point: &NamedPoint<'_>, output: &mut Vec<u8>) -> Result<(), Fail>
     Ok(())
 }
 
-fn lines_of(alloc: Global, scale: u16) -> Result<Vec<u8>, Fail> {
-    let image = inverter_before_meter(alloc, 40070, scale)?;
-    let chain = chain_of(alloc, &image)?;
-    let mut lines = Vec::new(alloc);
-    for point in &chain.points(&INVERTER)? {
-        print_value(point, &mut lines)?;
+fn values_in(alloc: Global, lines: &[Line]) -> Result<Vec<u8>, Fail> {
+    let image = image_of(alloc, lines)?;
+    let points = chain_of(alloc, &image)?.points(&INVERTER)?;
+    let mut values = Vec::new(alloc);
+    for point in &points {
+        print_value(point, &mut values)?;
     }
-    Ok(lines)
+    Ok(values)
 }
 
-// The word of the inverter's scale point, and its two points.
-static LINES: [(u16, &str); 2] = [(0, "WH 1000000/WH_SF 0/"), (11, "WH faulty/WH_SF 11/")];
+// Images in which the inverter's scale point says 0 and 11, and its two points.
+static VALUES: [([Line; 5], &str); 2] = [
+    (inverter_before_meter!(66, 0), "WH 1000000/WH_SF 0/"),
+    (inverter_before_meter!(66, 11), "WH faulty/WH_SF 11/"),
+];
 
 #[test]
 fn a_scale_point_scales(rt: HostRuntime) -> Result<(), Fail> {
-    for (scale, want) in &LINES {
-        same(&rt, lines_of(rt.alloc(), *scale)?.as_slice(), want);
+    for (lines, want) in &VALUES {
+        same(&rt, values_in(rt.alloc(), lines)?.as_slice(), want);
     }
     Ok(())
 }

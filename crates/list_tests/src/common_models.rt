@@ -1,46 +1,73 @@
 //! What devices say of themselves.
-use crate::given::{chain_of, put, same};
+use crate::given::{Line, chain_of, image_of, put, same};
 use std::alloc::Global;
 use std::io::{self, Write};
 use std::test::Fail;
 use sun_chain::{Common, Image};
-use sun_points::Text;
 
-// A model 1 at 2 of this length, whose end follows.
+// A model 1 at 2, with two letters in each of four texts, and the device address 3.
+static LINES: [Line; 7] = [
+    Line {
+        address: 0,
+        words: &[0x5375, 0x6E53, 1],
+    },
+    Line {
+        address: 4,
+        words: &[0; 64],
+    },
+    Line {
+        address: 4,
+        words: &[0x4142],
+    },
+    Line {
+        address: 20,
+        words: &[0x4344],
+    },
+    Line {
+        address: 36,
+        words: &[0x4546],
+    },
+    Line {
+        address: 44,
+        words: &[0x4748],
+    },
+    Line {
+        address: 68,
+        words: &[3, 0],
+    },
+];
+
+// The device with a model 1 of this length, whose end follows.
 fn device(alloc: Global, length: u16) -> Result<Image, Fail> {
-    let mut image = Image::new(alloc);
-    put(&mut image, 0, &[0x5375, 0x6E53, 1, length])?;
-    put(&mut image, 4, &[0; 64])?;
-    put(&mut image, 4, &[0x4142])?;
-    put(&mut image, 20, &[0x4344])?;
-    put(&mut image, 36, &[0x4546])?;
-    put(&mut image, 44, &[0x4748])?;
-    put(&mut image, 68, &[3, 0])?;
+    let mut image = image_of(alloc, &LINES)?;
+    put(&mut image, 3, &[length])?;
     put(&mut image, length.saturating_add(4), &[0xFFFF])?;
     Ok(image)
 }
 
 // What a device says of itself: its texts, each behind how many registers it has, and its address.
 fn print_common(common: &Common<'_>, output: &mut Vec<u8>) -> io::Result<()> {
-    print_text(&common.manufacturer, output)?;
-    print_text(&common.model, output)?;
-    print_text(&common.options, output)?;
-    print_text(&common.version, output)?;
-    print_text(&common.serial, output)?;
+    let texts = [
+        common.manufacturer,
+        common.model,
+        common.options,
+        common.version,
+        common.serial,
+    ];
+    for text in texts {
+        write!(output, "{} ", text.words.len())?;
+        text.write(output)?;
+        output.write_all(b"/")?;
+    }
     write!(output, "{}", common.device_address.unwrap_or(0))
-}
-
-fn print_text(text: &Text<'_>, output: &mut Vec<u8>) -> io::Result<()> {
-    write!(output, "{} ", text.words.len())?;
-    text.write(output)?;
-    output.write_all(b"/")
 }
 
 fn said(alloc: Global, length: u16) -> Result<Vec<u8>, Fail> {
     let image = device(alloc, length)?;
     let chain = chain_of(alloc, &image)?;
+    let common = chain.common().ok_or("no model 1")?;
     let mut output = Vec::new(alloc);
-    print_common(&chain.common().ok_or("no model 1")?, &mut output)?;
+    print_common(&common, &mut output)?;
     Ok(output)
 }
 

@@ -1,11 +1,12 @@
 //! Images of full models, in which each point has a value of its own.
 
 use crate::given::{chain_of, put, same};
+use point_list::type_text;
 use std::alloc::Global;
 use std::io::Write;
 use std::test::Fail;
-use sun_chain::{Chain, Image, Model, NamedPoint, PointScale};
-use sun_points::{PointType, Scale};
+use sun_chain::{Image, Model, NamedPoint, PointScale};
+use sun_points::Scale;
 
 // What the points of a full model 1 at 40002 are: name, address, type and value. The text of a register
 // is the two digits of its offset.
@@ -228,24 +229,6 @@ fn full_image(alloc: Global) -> Result<Image, Fail> {
     Ok(image)
 }
 
-fn type_name(ty: PointType) -> &'static str {
-    match ty {
-        PointType::Int16 => "int16",
-        PointType::Uint16 => "uint16",
-        PointType::Enum16 => "enum16",
-        PointType::Int32 => "int32",
-        PointType::Uint32 => "uint32",
-        PointType::Bitfield32 => "bitfield32",
-        PointType::Acc32 => "acc32",
-        PointType::Sunssf => "sunssf",
-        PointType::Text(length) => match length.registers() {
-            8 => "string8",
-            16 => "string16",
-            _ => "string",
-        },
-    }
-}
-
 fn print_scale(scale: PointScale, output: &mut Vec<u8>) -> Result<(), Fail> {
     match scale {
         PointScale::Unscaled => {}
@@ -255,10 +238,10 @@ fn print_scale(scale: PointScale, output: &mut Vec<u8>) -> Result<(), Fail> {
     Ok(())
 }
 
-fn print_point(point: &NamedPoint<'_>, output: &mut Vec<u8>) -> Result<(), Fail> {
+fn print_point(alloc: Global, point: &NamedPoint<'_>, output: &mut Vec<u8>) -> Result<(), Fail> {
     let name = point.name();
     let address = point.address();
-    let ty = type_name(point.ty());
+    let ty = type_text(alloc, point.ty())?;
     write!(output, "{name} {address} {ty} ")?;
     point.value().write(Scale::default(), output)?;
     print_scale(point.scale(), output)?;
@@ -266,34 +249,26 @@ fn print_point(point: &NamedPoint<'_>, output: &mut Vec<u8>) -> Result<(), Fail>
     Ok(())
 }
 
-fn print_points(chain: &Chain<'_>, model: &Model, output: &mut Vec<u8>) -> Result<(), Fail> {
-    for point in &chain.points(model)? {
-        print_point(point, output)?;
-    }
-    Ok(())
-}
-
-// The points of the models of the full image.
+// The points of a model of the full image.
 fn points_of(alloc: Global, model: &Model) -> Result<Vec<u8>, Fail> {
     let image = full_image(alloc)?;
-    let chain = chain_of(alloc, &image)?;
+    let points = chain_of(alloc, &image)?.points(model)?;
     let mut lines = Vec::new(alloc);
-    print_points(&chain, model, &mut lines)?;
+    for point in &points {
+        print_point(alloc, point, &mut lines)?;
+    }
     Ok(lines)
 }
 
 #[test]
 fn full_models_have_each_point(rt: HostRuntime) -> Result<(), Fail> {
-    same(
-        &rt,
-        points_of(rt.alloc(), &DEVICE_MODEL)?.as_slice(),
-        DEVICE,
-    );
-    same(
-        &rt,
-        points_of(rt.alloc(), &INVERTER_MODEL)?.as_slice(),
-        INVERTER,
-    );
-    same(&rt, points_of(rt.alloc(), &METER_MODEL)?.as_slice(), METER);
+    let models = [
+        (&DEVICE_MODEL, DEVICE),
+        (&INVERTER_MODEL, INVERTER),
+        (&METER_MODEL, METER),
+    ];
+    for (model, want) in models {
+        same(&rt, points_of(rt.alloc(), model)?.as_slice(), want);
+    }
     Ok(())
 }

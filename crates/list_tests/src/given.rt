@@ -16,6 +16,20 @@ pub fn put(image: &mut Image, address: u16, words: &[u16]) -> Result<(), Fail> {
     Ok(())
 }
 
+/// Words from an address on.
+pub struct Line {
+    pub address: u16,
+    pub words: &'static [u16],
+}
+
+pub fn image_of(alloc: Global, lines: &[Line]) -> Result<Image, Fail> {
+    let mut image = Image::new(alloc);
+    for line in lines {
+        put(&mut image, line.address, line.words)?;
+    }
+    Ok(image)
+}
+
 pub fn chain_of(alloc: Global, image: &Image) -> Result<Chain<'_>, Fail> {
     Ok(walk(alloc, image).ok().ok_or("no chain")?)
 }

@@ -1,16 +1,10 @@
 //! Lists of chains of models.
 
-use crate::given::{chain_of, put, same, written};
+use crate::given::{Line, chain_of, image_of, put, same, written};
 use point_list::{FaultyRow, ListFault, PointList, RowFault, from_chain};
 use std::alloc::Global;
 use std::test::Fail;
 use sun_chain::Image;
-
-// Words from an address on.
-struct Line {
-    address: u16,
-    words: &'static [u16],
-}
 
 // Lines of an image, and the list of its chain.
 struct Listed {
@@ -82,14 +76,6 @@ m1.W_SF,3,0,40024,sunssf,
 ",
     },
 ];
-
-fn image_of(alloc: Global, lines: &[Line]) -> Result<Image, Fail> {
-    let mut image = Image::new(alloc);
-    for line in lines {
-        put(&mut image, line.address, line.words)?;
-    }
-    Ok(image)
-}
 
 fn list_in(alloc: Global, image: &Image) -> Result<PointList, Fail> {
     let chain = chain_of(alloc, image)?;
