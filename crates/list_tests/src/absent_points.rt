@@ -1,6 +1,6 @@
 //! An image in which each point has the absent value of its type.
 
-use crate::given::{Line, chain_of, image_of};
+use crate::given::{Line, chain_of, image_of, points_in};
 use std::alloc::Global;
 use std::test::Fail;
 use sun_chain::{Common, Model, NamedPoint, PointScale};
@@ -53,7 +53,7 @@ fn is_scaled_by_0(point: &NamedPoint<'_>) -> bool {
 // How many points of a model are there, if all of them are absent.
 fn absent_count(alloc: Global, model: &Model) -> Result<Option<usize>, Fail> {
     let image = image_of(alloc, &LINES)?;
-    let points = chain_of(alloc, &image)?.points(model)?;
+    let points = points_in(alloc, &image, model)?;
     let absent = points
         .iter()
         .all(|point| is_absent(point) && is_scaled_by_0(point));

@@ -1,5 +1,5 @@
 //! Chains of models.
-use crate::given::{Line, chain_of, image_of, put, same};
+use crate::given::{Line, chain_of, image_of, points_in, put, same};
 use std::alloc::Global;
 use std::io::Write;
 use std::test::Fail;
@@ -95,8 +95,7 @@ fn the_next_address(rt: HostRuntime) {
 }
 
 fn print_value(point: &NamedPoint<'_>, output: &mut Vec<u8>) -> Result<(), Fail> {
-    output.write_all(point.name().as_bytes())?;
-    output.write_all(b" ")?;
+    write!(output, "{} ", point.name())?;
     point.write_value(output)?;
     output.write_all(b"/")?;
     Ok(())
@@ -104,7 +103,7 @@ fn print_value(point: &NamedPoint<'_>, output: &mut Vec<u8>) -> Result<(), Fail>
 
 fn values_in(alloc: Global, lines: &[Line]) -> Result<Vec<u8>, Fail> {
     let image = image_of(alloc, lines)?;
-    let points = chain_of(alloc, &image)?.points(&INVERTER)?;
+    let points = points_in(alloc, &image, &INVERTER)?;
     let mut values = Vec::new(alloc);
     for point in &points {
         print_value(point, &mut values)?;

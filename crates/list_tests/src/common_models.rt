@@ -62,9 +62,8 @@ fn print_common(common: &Common<'_>, output: &mut Vec<u8>) -> io::Result<()> {
     write!(output, "{}", common.device_address.unwrap_or(0))
 }
 
-fn said(alloc: Global, length: u16) -> Result<Vec<u8>, Fail> {
-    let image = device(alloc, length)?;
-    let chain = chain_of(alloc, &image)?;
+fn said(alloc: Global, image: &Image) -> Result<Vec<u8>, Fail> {
+    let chain = chain_of(alloc, image)?;
     let common = chain.common().ok_or("no model 1")?;
     let mut output = Vec::new(alloc);
     print_common(&common, &mut output)?;
@@ -81,7 +80,8 @@ static SAYINGS: [(u16, &str); 3] = [
 #[test]
 fn a_device_says_what_it_is(rt: HostRuntime) -> Result<(), Fail> {
     for (length, want) in &SAYINGS {
-        same(&rt, said(rt.alloc(), *length)?.as_slice(), want);
+        let image = device(rt.alloc(), *length)?;
+        same(&rt, said(rt.alloc(), &image)?.as_slice(), want);
     }
     Ok(())
 }

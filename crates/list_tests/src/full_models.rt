@@ -1,6 +1,6 @@
 //! Images of full models, in which each point has a value of its own.
 
-use crate::given::{chain_of, put, same};
+use crate::given::{Line, image_of, points_in, put, same};
 use point_list::type_text;
 use std::alloc::Global;
 use std::io::Write;
@@ -191,11 +191,14 @@ static METER_MODEL: Model = Model {
     length: 105,
 };
 
-// Each register of a model has its offset as value.
-fn put_offsets(image: &mut Image, model: &Model) -> Result<(), Fail> {
+// Each register of a model has its offset as value, but for the scale points.
+fn put_model(image: &mut Image, model: &Model, scales: &[(u16, i16)]) -> Result<(), Fail> {
     put(image, model.address, &[model.id, model.length])?;
     for offset in 2..model.length.saturating_add(2) {
         put(image, model.address.saturating_add(offset), &[offset])?;
+    }
+    for (address, exponent) in scales {
+        put(image, *address, &[exponent.cast_unsigned()])?;
     }
     Ok(())
 }
@@ -210,49 +213,57 @@ fn put_digits(image: &mut Image) -> Result<(), Fail> {
     Ok(())
 }
 
-fn put_scales(image: &mut Image, scales: &[(u16, i16)]) -> Result<(), Fail> {
-    for (address, exponent) in scales {
-        put(image, *address, &[exponent.cast_unsigned()])?;
-    }
-    Ok(())
-}
+// The mark, and the end of the chain.
+static BOTH_ENDS: [Line; 2] = [
+    Line {
+        address: 40000,
+        words: &[0x5375, 0x6E53],
+    },
+    Line {
+        address: 40229,
+        words: &[0xFFFF],
+    },
+];
 
 fn full_image(alloc: Global) -> Result<Image, Fail> {
-    let mut image = Image::new(alloc);
-    put(&mut image, 40000, &[0x5375, 0x6E53])?;
+    let mut image = image_of(alloc, &BOTH_ENDS)?;
     put_digits(&mut image)?;
-    put_offsets(&mut image, &INVERTER_MODEL)?;
-    put_scales(&mut image, &INVERTER_SCALES)?;
-    put_offsets(&mut image, &METER_MODEL)?;
-    put_scales(&mut image, &METER_SCALES)?;
-    put(&mut image, 40229, &[0xFFFF])?;
+    let models = [
+        (INVERTER_MODEL, INVERTER_SCALES.as_slice()),
+        (METER_MODEL, METER_SCALES.as_slice()),
+    ];
+    for (model, scales) in models {
+        put_model(&mut image, &model, scales)?;
+    }
     Ok(image)
+}
+
+// A point's name, address and type.
+fn print_place(alloc: Global, point: &NamedPoint<'_>, output: &mut Vec<u8>) -> Result<(), Fail> {
+    let ty = type_text(alloc, point.ty())?;
+    write!(output, "{} {} {ty} ", point.name(), point.address())?;
+    Ok(())
 }
 
 fn print_scale(scale: PointScale, output: &mut Vec<u8>) -> Result<(), Fail> {
     match scale {
-        PointScale::Unscaled => {}
-        PointScale::Scaled(scale) => write!(output, " at {}", scale.exponent())?,
-        PointScale::Faulty => output.write_all(b" faulty")?,
+        PointScale::Unscaled => output.write_all(b"\n")?,
+        PointScale::Scaled(scale) => write!(output, " at {}\n", scale.exponent())?,
+        PointScale::Faulty => output.write_all(b" faulty\n")?,
     }
     Ok(())
 }
 
 fn print_point(alloc: Global, point: &NamedPoint<'_>, output: &mut Vec<u8>) -> Result<(), Fail> {
-    let name = point.name();
-    let address = point.address();
-    let ty = type_text(alloc, point.ty())?;
-    write!(output, "{name} {address} {ty} ")?;
+    print_place(alloc, point, output)?;
     point.value().write(Scale::default(), output)?;
-    print_scale(point.scale(), output)?;
-    output.write_all(b"\n")?;
-    Ok(())
+    print_scale(point.scale(), output)
 }
 
 // The points of a model of the full image.
 fn points_of(alloc: Global, model: &Model) -> Result<Vec<u8>, Fail> {
     let image = full_image(alloc)?;
-    let points = chain_of(alloc, &image)?.points(model)?;
+    let points = points_in(alloc, &image, model)?;
     let mut lines = Vec::new(alloc);
     for point in &points {
         print_point(alloc, point, &mut lines)?;

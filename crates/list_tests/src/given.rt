@@ -5,7 +5,7 @@ use std::alloc::Global;
 use std::io::Write;
 use std::process::Abort;
 use std::test::Fail;
-use sun_chain::{Chain, Image, walk};
+use sun_chain::{Chain, Image, Model, NamedPoint, walk};
 
 pub fn same(rt: &impl Abort, found: &[u8], want: &str) {
     assert_eq!(rt; found, want.as_bytes(), "{want}");
@@ -32,6 +32,16 @@ pub fn image_of(alloc: Global, lines: &[Line]) -> Result<Image, Fail> {
 
 pub fn chain_of(alloc: Global, image: &Image) -> Result<Chain<'_>, Fail> {
     Ok(walk(alloc, image).ok().ok_or("no chain")?)
+}
+
+/// The points of a model of an image's chain.
+pub fn points_in<'a>(
+    alloc: Global,
+    image: &'a Image,
+    model: &Model,
+) -> Result<Vec<NamedPoint<'a>>, Fail> {
+    let chain = chain_of(alloc, image)?;
+    Ok(chain.points(model)?)
 }
 
 /// The rows of a list, and what is told of them.

@@ -251,9 +251,15 @@ fn other_headers(rt: HostRuntime) -> Result<(), Fail> {
 
 #[test]
 fn faults_of_rows(rt: HostRuntime) -> Result<(), Fail> {
-    compare_faults(&rt, rt.alloc(), &WITHOUT_FAULTS)?;
-    compare_faults(&rt, rt.alloc(), &ALONE)?;
-    compare_faults(&rt, rt.alloc(), &TWO_ON_A_ROW)?;
-    compare_faults(&rt, rt.alloc(), &ON_SEVERAL_ROWS)?;
-    compare_faults(&rt, rt.alloc(), &SCALE_POINTS)
+    let tables = [
+        WITHOUT_FAULTS.as_slice(),
+        ALONE.as_slice(),
+        TWO_ON_A_ROW.as_slice(),
+        ON_SEVERAL_ROWS.as_slice(),
+        SCALE_POINTS.as_slice(),
+    ];
+    for cases in tables {
+        compare_faults(&rt, rt.alloc(), cases)?;
+    }
+    Ok(())
 }

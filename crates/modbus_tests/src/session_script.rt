@@ -70,16 +70,24 @@ fn bring(
     Ok(Vec::new(alloc))
 }
 
+// Tries to start the poll, and says how many bytes its frame has.
+fn try_start(
+    rt: &impl Abort,
+    session: &mut Session,
+    asked: &Asked,
+    out: &mut [u8; 260],
+) -> Result<Result<usize, StartFault>, Fail> {
+    assert!(rt; !session.settling());
+    assert!(rt; asked.moment <= LATEST);
+    let span = ReadSpan::new(3, asked.address, asked.count).ok_or("no span")?;
+    Ok(session.start(asked.moment, asked.poll, 1, span, out))
+}
+
 /// Starts the poll, and looks at its frame.
 pub fn start(rt: &impl Abort, session: &mut Session, asked: &Asked) -> Result<(), Fail> {
-    assert!(rt; !session.settling());
-    let moment = asked.moment;
-    assert!(rt; moment <= LATEST);
     let mut out = [0; 260];
-    let span = ReadSpan::new(3, asked.address, asked.count).ok_or("no span")?;
-    let size = session.start(moment, asked.poll, 1, span, &mut out)?;
-    assert_eq!(rt; size, 12);
-    assert_eq!(rt; &out[..12], asked.frame.as_slice());
+    let started = try_start(rt, session, asked, &mut out)?;
+    assert!(rt; started == Ok(12) && out[..12] == asked.frame[..]);
     Ok(())
 }
 
@@ -90,16 +98,21 @@ pub fn refuse(
     moment: u64,
     fault: StartFault,
 ) -> Result<(), Fail> {
-    assert!(rt; !session.settling());
-    assert!(rt; moment <= LATEST);
+    let asked = Asked {
+        moment,
+        poll: 99,
+        address: 0,
+        count: 1,
+        frame: [0; 12],
+    };
     let mut out = [0; 260];
-    let span = ReadSpan::new(3, 0, 1).ok_or("no span")?;
-    let refused = session.start(moment, 99, 1, span, &mut out).err();
-    assert_eq!(rt; refused, Some(fault));
+    let started = try_start(rt, session, &asked, &mut out)?;
+    assert!(rt; started == Err(fault));
     Ok(())
 }
 
-fn is_ready(rt: &impl Abort, session: &Session, id: u16, count: usize) {
+/// Looks at the next transaction identifier, and at how many polls may start.
+pub fn is_ready(rt: &impl Abort, session: &Session, id: u16, count: usize) {
     assert_eq!(rt; session.ready(), Ready { id, count });
 }
 

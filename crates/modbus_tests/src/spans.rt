@@ -13,20 +13,27 @@ const LAST: ReadSpan = ReadSpan {
     count: 1,
 };
 
-// A function code, an address and a count that are no span.
-static UNLAWFUL: [(u8, u16, u16); 5] = [
+// A function code, an address and a count that are a span, and others that are none.
+static LAWFUL: [(u8, u16, u16); 4] = [(3, 0, 125), (4, 0, 125), (3, 65411, 125), (4, 65535, 1)];
+
+static UNLAWFUL: [(u8, u16, u16); 8] = [
     (2, 0, 1),
     (5, 0, 1),
     (3, 0, 0),
     (3, 0, 126),
+    (4, 0, 126),
     (4, 65535, 2),
+    (3, 65412, 125),
+    (4, 0, 65535),
 ];
 
 #[test]
 fn spans_are_lawful(rt: HostRuntime) {
     assert!(rt; ReadSpan::new(3, 107, 3) == Some(THREE));
     assert!(rt; ReadSpan::new(4, 65535, 1) == Some(LAST));
-    assert!(rt; ReadSpan::new(3, 0, 125).is_some());
+    for (function, address, count) in LAWFUL {
+        assert!(rt; ReadSpan::new(function, address, count).is_some());
+    }
     for (function, address, count) in UNLAWFUL {
         assert!(rt; ReadSpan::new(function, address, count).is_none());
     }
