@@ -52,22 +52,22 @@ const SHARES: [Share; 3] = [
 #[test]
 fn books_after_a_void(rt: HostRuntime) {
     let tally = tally_behind(&HOUSE, &ROWS);
-    assert_eq!(rt;
-        tally.last,
-        Last {
-            at: 2800,
-            raw: 5300,
-            sf: 0
-        }
+    assert!(rt;
+        tally.last
+            == Last {
+                at: 2800,
+                raw: 5300,
+                sf: 0
+            }
     );
-    assert_eq!(rt; tally.total, 300_000);
+    assert!(rt; tally.total == 300_000);
 }
 
 #[test]
 fn rows_after_a_void(rt: HostRuntime) -> Result<(), Fail> {
     let shares = interval_rows(rt.alloc(), &HOUSE, &ROWS)?;
-    assert_eq!(rt; shares.as_slice(), SHARES.as_slice());
-    assert_eq!(rt; interval_rows(rt.alloc(), &HOUSE, &[])?.len(), 0);
+    assert!(rt; shares.as_slice() == SHARES.as_slice());
+    assert!(rt; interval_rows(rt.alloc(), &HOUSE, &[])?.is_empty());
     Ok(())
 }
 

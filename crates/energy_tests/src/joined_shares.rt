@@ -37,7 +37,7 @@ fn steps_share_an_interval(rt: HostRuntime) -> Result<(), Fail> {
     let so_far: u64 = rows.iter().map(|row| row.mwh).sum();
     assert!(rt; so_far <= 1_000_000);
     append_shares(&mut rows, &second)?;
-    assert_eq!(rt; rows.as_slice(), ROWS.as_slice());
+    assert!(rt; rows.as_slice() == ROWS.as_slice());
     Ok(())
 }
 
@@ -58,8 +58,8 @@ fn one_row_stays_open(rt: HostRuntime) {
     assert!(rt; join(&mut pending, THREE).is_none());
     pending = Some(THREE);
     assert!(rt; join(&mut pending, FOUR).is_none());
-    assert_eq!(rt; pending, Some(SEVEN));
+    assert!(rt; pending == Some(SEVEN));
     pending = Some(SEVEN);
-    assert_eq!(rt; join(&mut pending, NEXT), Some(SEVEN));
-    assert_eq!(rt; pending, Some(NEXT));
+    assert!(rt; join(&mut pending, NEXT) == Some(SEVEN));
+    assert!(rt; pending == Some(NEXT));
 }

@@ -18,25 +18,25 @@ fn places_count_on(rt: HostRuntime) {
         rolls: 0,
     };
     let first = row_behind(&[], EntryKind::Reading, entry);
-    assert_eq!(rt; first, reading(2, 1900, 5200, 0));
+    assert!(rt; first == reading(2, 1900, 5200, 0));
     let behind_a_void = row_behind(&[struck(first)], EntryKind::Reading, entry);
-    assert_eq!(rt; behind_a_void, reading(3, 1900, 5200, 0));
+    assert!(rt; behind_a_void == reading(3, 1900, 5200, 0));
 }
 
 #[test]
 fn a_void_over_a_rollover(rt: HostRuntime) {
     let mut rows = [reading(2, 1900, 4_294_967_290, 0), reading(3, 2800, 104, 1)];
     strike(&TURNING, &mut rows, 2);
-    assert_eq!(rt; rows[0], struck(reading(2, 1900, 4_294_967_290, 0)));
-    assert_eq!(rt; rows[1], reading(3, 2800, 104, 1));
+    assert!(rt; rows[0] == struck(reading(2, 1900, 4_294_967_290, 0)));
+    assert!(rt; rows[1] == reading(3, 2800, 104, 1));
 }
 
 #[test]
 fn a_void_moves_a_rollover(rt: HostRuntime) {
     let mut rows = [reading(2, 1900, 4, 1), reading(3, 2800, 104, 0)];
     strike(&TURNING, &mut rows, 2);
-    assert_eq!(rt; rows[0], struck(reading(2, 1900, 4, 1)));
-    assert_eq!(rt; rows[1], reading(3, 2800, 104, 1));
+    assert!(rt; rows[0] == struck(reading(2, 1900, 4, 1)));
+    assert!(rt; rows[1] == reading(3, 2800, 104, 1));
 }
 
 #[test]
@@ -60,8 +60,7 @@ fn rows_by_place(rt: HostRuntime) {
     ];
     for (place, next) in [(2, Some(rows[2])), (3, Some(rows[2])), (4, None)] {
         let found = find_row(&rows, place).expect(&rt, "a row");
-        assert_eq!(rt; found.row.place, place);
-        assert_eq!(rt; found.next, next);
+        assert!(rt; found.row.place == place && found.next == next, "{place}");
     }
     assert!(rt; find_row(&rows, 1).is_none());
     assert!(rt; find_row(&rows, 5).is_none());
@@ -82,9 +81,6 @@ fn the_counter_behind_rows(rt: HostRuntime) {
         raw: 520,
         sf: 1,
     };
-    assert_eq!(rt; last_behind(&HOUSE.opening, &rows), want);
-    assert_eq!(rt;
-        last_behind(&HOUSE.opening, &[struck(first)]),
-        HOUSE.opening
-    );
+    assert!(rt; last_behind(&HOUSE.opening, &rows) == want);
+    assert!(rt; last_behind(&HOUSE.opening, &[struck(first)]) == HOUSE.opening);
 }

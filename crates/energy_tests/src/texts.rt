@@ -11,7 +11,7 @@ pub(crate) fn tells<F: Display>(
     texts: &[(F, &str)],
 ) -> Result<(), Fail> {
     for (fault, text) in texts {
-        assert_eq!(rt; format!(in alloc; "{fault}")?.as_str(), *text);
+        assert!(rt; format!(in alloc; "{fault}")?.as_str() == *text, "{text}");
         assert!(rt; !text.ends_with('.'));
     }
     Ok(())

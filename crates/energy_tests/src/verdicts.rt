@@ -341,29 +341,29 @@ fn judged<C: Counter>(rt: &impl Abort, counter: &C, case: &Case) -> Verdict {
     )
 }
 
+fn judges<C: Counter>(rt: &impl Abort, counter: &C, cases: &[Case]) {
+    for (i, case) in cases.iter().enumerate() {
+        assert!(rt; judged(rt, counter, case) == case.verdict, "case {i}");
+    }
+}
+
+/// A counter that turns over there.
+pub(crate) fn ranged(rt: &impl Abort, range: u64) -> Ranged {
+    Ranged::new(range).expect(rt, "a lawful range")
+}
+
 #[test]
 fn readings_are_judged_on_a_counter_of_32_bits(rt: HostRuntime) {
-    for (i, case) in CASES.iter().enumerate() {
-        assert_eq!(rt; judged(&rt, &Acc32, case), case.verdict, "case {i}");
-    }
+    judges(&rt, &Acc32, &CASES);
 }
 
 #[test]
 fn readings_are_judged_below_a_million(rt: HostRuntime) {
-    let counter = Ranged::new(1_000_000).expect(&rt, "a lawful range");
-    for (i, case) in BELOW_A_MILLION.iter().enumerate() {
-        assert_eq!(rt; judged(&rt, &counter, case), case.verdict, "case {i}");
-    }
+    judges(&rt, &ranged(&rt, 1_000_000), &BELOW_A_MILLION);
 }
 
 #[test]
 fn readings_are_judged_at_both_ends_of_ranges(rt: HostRuntime) {
-    let counter = Ranged::new(65_536).expect(&rt, "the least range");
-    for (i, case) in LEAST_RANGE.iter().enumerate() {
-        assert_eq!(rt; judged(&rt, &counter, case), case.verdict, "case {i}");
-    }
-    let counter = Ranged::new(4_294_967_296).expect(&rt, "the greatest range");
-    for (i, case) in GREATEST_RANGE.iter().enumerate() {
-        assert_eq!(rt; judged(&rt, &counter, case), case.verdict, "case {i}");
-    }
+    judges(&rt, &ranged(&rt, 65_536), &LEAST_RANGE);
+    judges(&rt, &ranged(&rt, 4_294_967_296), &GREATEST_RANGE);
 }

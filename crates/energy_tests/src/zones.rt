@@ -67,8 +67,8 @@ fn the_first_and_the_last_moment_have_days(rt: HostRuntime) {
 #[test]
 fn other_texts_are_no_zones(rt: HostRuntime) {
     for text in NO_ZONES {
-        assert_eq!(rt; Zone::read(text).err(), Some(ZoneFault::Text), "{text}");
+        assert!(rt; Zone::read(text).err() == Some(ZoneFault::Text), "{text}");
     }
-    assert_eq!(rt; LONGEST.len(), 64);
+    assert!(rt; LONGEST.len() == 64);
     assert!(rt; Zone::read(LONGEST).is_ok());
 }

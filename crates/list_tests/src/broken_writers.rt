@@ -32,7 +32,7 @@ fn fails_at_each_byte(rt: HostRuntime) -> Result<(), Fail> {
 fn is_interrupted(rt: HostRuntime) -> Result<(), Fail> {
     let list = list_of(rt.alloc(), TEXT)?;
     let mut output = Narrow::new(rt.alloc(), TEXT.len(), true);
-    assert_eq!(rt; write_list(rt.alloc(), &list, &mut output), Ok(()));
-    assert_eq!(rt; output.taken.as_slice(), TEXT);
+    assert!(rt; write_list(rt.alloc(), &list, &mut output).is_ok());
+    assert!(rt; output.taken.as_slice() == TEXT);
     Ok(())
 }

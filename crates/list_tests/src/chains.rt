@@ -48,14 +48,14 @@ static INVERTER: Model = model!(40070, 103, 50);
 
 // Lines of an image; the end of its chain, and its models.
 struct Chained {
-    lines: [Line; 5],
+    lines: &'static [Line],
     end: u16,
     models: [Model; 3],
 }
 
 static CHAINS: [Chained; 2] = [
     Chained {
-        lines: inverter_before_meter!(66, 0),
+        lines: &inverter_before_meter!(66, 0),
         end: 40229,
         models: [
             model!(40002, 1, 66),
@@ -64,7 +64,7 @@ static CHAINS: [Chained; 2] = [
         ],
     },
     Chained {
-        lines: inverter_before_meter!(65, 0),
+        lines: &inverter_before_meter!(65, 0),
         end: 40228,
         models: [
             model!(40002, 1, 65),
@@ -75,7 +75,7 @@ static CHAINS: [Chained; 2] = [
 ];
 
 fn is_chained(alloc: Global, want: &Chained) -> Result<bool, Fail> {
-    let image = image_of(alloc, &want.lines)?;
+    let image = image_of(alloc, want.lines)?;
     let chain = chain_of(alloc, &image)?;
     let ends = (chain.base(), chain.end());
     Ok(ends == (40000, want.end) && chain.models() == want.models.as_slice())
@@ -95,7 +95,8 @@ fn the_next_address(rt: HostRuntime) {
 }
 
 fn print_value(point: &NamedPoint<'_>, output: &mut Vec<u8>) -> Result<(), Fail> {
-    write!(output, "{} ", point.name())?;
+    output.write_all(point.name().as_bytes())?;
+    output.write_all(b" ")?;
     point.write_value(output)?;
     output.write_all(b"/")?;
     Ok(())
@@ -112,9 +113,9 @@ fn values_in(alloc: Global, lines: &[Line]) -> Result<Vec<u8>, Fail> {
 }
 
 // Images in which the inverter's scale point says 0 and 11, and its two points.
-static VALUES: [([Line; 5], &str); 2] = [
-    (inverter_before_meter!(66, 0), "WH 1000000/WH_SF 0/"),
-    (inverter_before_meter!(66, 11), "WH faulty/WH_SF 11/"),
+static VALUES: [(&[Line], &str); 2] = [
+    (&inverter_before_meter!(66, 0), "WH 1000000/WH_SF 0/"),
+    (&inverter_before_meter!(66, 11), "WH faulty/WH_SF 11/"),
 ];
 
 #[test]

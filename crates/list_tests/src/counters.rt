@@ -14,13 +14,13 @@ static POWERS: [(u16, i16); 3] = [(0xFFFD, -3), (2, 2), (0x8000, 0)];
 #[test]
 fn the_high_word_comes_first(rt: HostRuntime) {
     for (high, low, count) in &COUNTS {
-        assert_eq!(rt; acc32(*high, *low), *count, "{high} {low}");
+        assert!(rt; acc32(*high, *low) == *count, "{high} {low}");
     }
 }
 
 #[test]
 fn powers_have_a_sign(rt: HostRuntime) {
     for (word, power) in &POWERS {
-        assert_eq!(rt; sunssf(*word), *power, "{word}");
+        assert!(rt; sunssf(*word) == *power, "{word}");
     }
 }

@@ -8,7 +8,7 @@ use std::test::Fail;
 use sun_chain::{Chain, Image, Model, NamedPoint, walk};
 
 pub fn same(rt: &impl Abort, found: &[u8], want: &str) {
-    assert_eq!(rt; found, want.as_bytes(), "{want}");
+    assert!(rt; found == want.as_bytes(), "{want}");
 }
 
 pub fn put(image: &mut Image, address: u16, words: &[u16]) -> Result<(), Fail> {
@@ -100,7 +100,7 @@ pub fn compare_faults(rt: &impl Abort, alloc: Global, cases: &[Case]) -> Result<
     for case in cases {
         let rows = case.rows;
         let found = faults_of(alloc, &text_of(alloc, rows)?)?;
-        assert_eq!(rt; found.as_slice(), case.told.as_bytes(), "{rows}");
+        assert!(rt; found.as_slice() == case.told.as_bytes(), "{rows}");
     }
     Ok(())
 }

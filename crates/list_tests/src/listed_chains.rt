@@ -90,9 +90,9 @@ fn text_of(alloc: Global, lines: &[Line]) -> Result<Vec<u8>, Fail> {
 
 #[test]
 fn lists_of_chains(rt: HostRuntime) -> Result<(), Fail> {
-    for chain in &CHAINS {
+    for (i, chain) in CHAINS.iter().enumerate() {
         let text = text_of(rt.alloc(), chain.lines)?;
-        assert_eq!(rt; text.as_slice(), chain.text);
+        assert!(rt; text.as_slice() == chain.text, "chain {i}");
     }
     Ok(())
 }

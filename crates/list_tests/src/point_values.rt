@@ -1,69 +1,87 @@
 //! The values of points.
 use crate::given::same;
+use point_list::point_type;
 use std::alloc::Global;
 use std::test::Fail;
-use sun_points::PointType::{Acc32, Bitfield32, Enum16, Int16, Int32, Sunssf, Uint16, Uint32};
 use sun_points::{Point, PointType, Scale, Text, TextLength, read_point};
 
 // Registers of a type, what they say, and how that is shown: a type that takes one register reads the first.
-const READINGS: [(PointType, u16, u16, Point<'static>, &str); 33] = [
-    (Int16, 0xFFFF, 0, Point::Signed(-1), "-1"),
-    (Int16, 0x8001, 0, Point::Signed(-32767), "-32767"),
-    (Int16, 0x7FFF, 0, Point::Signed(32767), "32767"),
-    (Int16, 0, 0, Point::Signed(0), "0"),
-    (Int16, 0x8000, 0, Point::Absent, "absent"),
-    (Uint16, 0x8000, 0, Point::Unsigned(32768), "32768"),
-    (Uint16, 0xFFFE, 0, Point::Unsigned(65534), "65534"),
-    (Uint16, 0, 0, Point::Unsigned(0), "0"),
-    (Uint16, 0xFFFF, 0, Point::Absent, "absent"),
-    (Enum16, 4, 0, Point::Unsigned(4), "4"),
-    (Enum16, 0xFFFE, 0, Point::Unsigned(65534), "65534"),
-    (Enum16, 0xFFFF, 0, Point::Absent, "absent"),
-    (Int32, 0xFFFF, 0xFFFE, Point::Signed(-2), "-2"),
-    (Int32, 0x8000, 1, Point::Signed(-2147483647), "-2147483647"),
+static READINGS: [(&[u8], u16, u16, Point<'static>, &str); 33] = [
+    (b"int16", 0xFFFF, 0, Point::Signed(-1), "-1"),
+    (b"int16", 0x8001, 0, Point::Signed(-32767), "-32767"),
+    (b"int16", 0x7FFF, 0, Point::Signed(32767), "32767"),
+    (b"int16", 0, 0, Point::Signed(0), "0"),
+    (b"int16", 0x8000, 0, Point::Absent, "absent"),
+    (b"uint16", 0x8000, 0, Point::Unsigned(32768), "32768"),
+    (b"uint16", 0xFFFE, 0, Point::Unsigned(65534), "65534"),
+    (b"uint16", 0, 0, Point::Unsigned(0), "0"),
+    (b"uint16", 0xFFFF, 0, Point::Absent, "absent"),
+    (b"enum16", 4, 0, Point::Unsigned(4), "4"),
+    (b"enum16", 0xFFFE, 0, Point::Unsigned(65534), "65534"),
+    (b"enum16", 0xFFFF, 0, Point::Absent, "absent"),
+    (b"int32", 0xFFFF, 0xFFFE, Point::Signed(-2), "-2"),
     (
-        Int32,
+        b"int32",
+        0x8000,
+        1,
+        Point::Signed(-2147483647),
+        "-2147483647",
+    ),
+    (
+        b"int32",
         0x7FFF,
         0xFFFF,
         Point::Signed(2147483647),
         "2147483647",
     ),
-    (Int32, 0, 0, Point::Signed(0), "0"),
-    (Int32, 0x8000, 0, Point::Absent, "absent"),
-    (Uint32, 1, 2, Point::Unsigned(65538), "65538"),
+    (b"int32", 0, 0, Point::Signed(0), "0"),
+    (b"int32", 0x8000, 0, Point::Absent, "absent"),
+    (b"uint32", 1, 2, Point::Unsigned(65538), "65538"),
     (
-        Uint32,
+        b"uint32",
         0xFFFF,
         0xFFFE,
         Point::Unsigned(4294967294),
         "4294967294",
     ),
-    (Uint32, 0, 0, Point::Unsigned(0), "0"),
-    (Uint32, 0xFFFF, 0xFFFF, Point::Absent, "absent"),
-    (Bitfield32, 0x7FFF, 1, Point::Bits(0x7fff0001), "0x7fff0001"),
-    (Bitfield32, 0, 0xAB, Point::Bits(0x000000ab), "0x000000ab"),
+    (b"uint32", 0, 0, Point::Unsigned(0), "0"),
+    (b"uint32", 0xFFFF, 0xFFFF, Point::Absent, "absent"),
     (
-        Bitfield32,
+        b"bitfield32",
+        0x7FFF,
+        1,
+        Point::Bits(0x7fff0001),
+        "0x7fff0001",
+    ),
+    (
+        b"bitfield32",
+        0,
+        0xAB,
+        Point::Bits(0x000000ab),
+        "0x000000ab",
+    ),
+    (
+        b"bitfield32",
         0x7FFF,
         0xFFFF,
         Point::Bits(0x7fffffff),
         "0x7fffffff",
     ),
-    (Bitfield32, 0, 0, Point::Bits(0x00000000), "0x00000000"),
-    (Bitfield32, 0x8000, 0, Point::Absent, "absent"),
+    (b"bitfield32", 0, 0, Point::Bits(0x00000000), "0x00000000"),
+    (b"bitfield32", 0x8000, 0, Point::Absent, "absent"),
     (
-        Acc32,
+        b"acc32",
         0xFFFF,
         0xFFFF,
         Point::Unsigned(4294967295),
         "4294967295",
     ),
-    (Acc32, 0, 1, Point::Unsigned(1), "1"),
-    (Acc32, 0, 0, Point::Absent, "absent"),
-    (Sunssf, 0xFFFD, 0, Point::Signed(-3), "-3"),
-    (Sunssf, 10, 0, Point::Signed(10), "10"),
-    (Sunssf, 0xFFF6, 0, Point::Signed(-10), "-10"),
-    (Sunssf, 0x8000, 0, Point::Absent, "absent"),
+    (b"acc32", 0, 1, Point::Unsigned(1), "1"),
+    (b"acc32", 0, 0, Point::Absent, "absent"),
+    (b"sunssf", 0xFFFD, 0, Point::Signed(-3), "-3"),
+    (b"sunssf", 10, 0, Point::Signed(10), "10"),
+    (b"sunssf", 0xFFF6, 0, Point::Signed(-10), "-10"),
+    (b"sunssf", 0x8000, 0, Point::Absent, "absent"),
 ];
 
 // Whether registers of a type say a value, which is shown so.
@@ -83,8 +101,9 @@ fn is_read(
 
 #[test]
 fn registers_are_read_by_type(rt: HostRuntime) -> Result<(), Fail> {
-    for (i, (ty, high, low, value, shown)) in READINGS.iter().enumerate() {
-        let is_so = is_read(rt.alloc(), *ty, &[*high, *low], *value, shown)?;
+    for (i, (name, high, low, value, shown)) in READINGS.iter().enumerate() {
+        let ty = point_type(name).ok_or("no such type")?;
+        let is_so = is_read(rt.alloc(), ty, &[*high, *low], *value, shown)?;
         assert!(rt; is_so, "reading {i}");
     }
     Ok(())

@@ -244,7 +244,7 @@ static WITHOUT_FAULTS: [Case; 9] = [
 fn other_headers(rt: HostRuntime) -> Result<(), Fail> {
     for text in &OTHER_HEADERS {
         let found = faults_of(rt.alloc(), text)?;
-        assert_eq!(rt; found.as_slice(), b"row 1 fault 2\n".as_slice());
+        assert!(rt; found.as_slice() == b"row 1 fault 2\n".as_slice());
     }
     Ok(())
 }

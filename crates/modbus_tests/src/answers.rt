@@ -1,5 +1,5 @@
 //! What a device answers.
-use crate::devices::{GAPS, first_other};
+use crate::devices::{GAPS, answers_all};
 use crate::examples::{EXAMPLES, Exchange};
 use mb_device::{Area, Bank, Kind};
 use std::alloc::Global;
@@ -37,7 +37,7 @@ static IN_GAPS: [Exchange; 6] = [
 fn gaps_are_no_addresses(rt: HostRuntime) -> Result<(), Fail> {
     let mut bank = Bank::new(rt.alloc(), &GAPS).ok().ok_or("no bank")?;
     assert!(rt; bank.set(Kind::Holding, 11, 7) && bank.set(Kind::Holding, 12, 8));
-    assert_eq!(rt; first_other(&mut bank, &IN_GAPS), None);
+    answers_all(&rt, &mut bank, &IN_GAPS);
     Ok(())
 }
 
@@ -101,7 +101,7 @@ static READ_BACK: [Exchange; 2] = [
 #[test]
 fn examples_of_the_standard_are_answered(rt: HostRuntime) -> Result<(), Fail> {
     let mut bank = bank_of_examples(rt.alloc())?;
-    assert_eq!(rt; first_other(&mut bank, &EXAMPLES), None);
-    assert_eq!(rt; first_other(&mut bank, &READ_BACK), None);
+    answers_all(&rt, &mut bank, &EXAMPLES);
+    answers_all(&rt, &mut bank, &READ_BACK);
     Ok(())
 }

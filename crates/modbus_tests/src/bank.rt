@@ -121,6 +121,6 @@ fn areas_have_their_faults(rt: HostRuntime) -> Result<(), Fail> {
         let fault = made.err().ok_or("no fault")?;
         assert!(rt; (fault, fault.number()) == (refused.fault, refused.number));
     }
-    assert_eq!(rt; BankFault::Memory.number(), 3);
+    assert!(rt; BankFault::Memory.number() == 3);
     Ok(())
 }

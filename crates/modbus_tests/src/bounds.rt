@@ -27,10 +27,10 @@ fn windows_hold_1_to_16_polls(rt: HostRuntime) -> Result<(), Fail> {
 }
 
 /// The first poll was started at 100: what comes in its last second, and at its deadline.
-static TIMEOUTS: [(u64, [Line; 2]); 4] = [
+static TIMEOUTS: [(u64, &[Line]); 4] = [
     (
         1,
-        [
+        &[
             Line {
                 event: Event::Tick { moment: 100 },
                 told: &[],
@@ -43,7 +43,7 @@ static TIMEOUTS: [(u64, [Line; 2]); 4] = [
     ),
     (
         1,
-        [
+        &[
             Line {
                 event: Event::Piece {
                     moment: 100,
@@ -59,7 +59,7 @@ static TIMEOUTS: [(u64, [Line; 2]); 4] = [
     ),
     (
         60,
-        [
+        &[
             Line {
                 event: Event::Tick { moment: 159 },
                 told: &[],
@@ -72,7 +72,7 @@ static TIMEOUTS: [(u64, [Line; 2]); 4] = [
     ),
     (
         60,
-        [
+        &[
             Line {
                 event: Event::Piece {
                     moment: 159,

@@ -26,7 +26,7 @@ static AFTERWARDS: [Line; 2] = [
 fn a_piece_of_an_earlier_moment_is_refused(rt: HostRuntime) -> Result<(), Fail> {
     let mut session = first_poll(&rt, 5, 2)?;
     assert!(rt; !session.settling());
-    assert_eq!(rt; session.next(99, &GOOD).err(), Some(ClockBack));
+    assert!(rt; session.next(99, &GOOD).err() == Some(ClockBack));
     play(&rt, rt.alloc(), &mut session, &AFTERWARDS)
 }
 
@@ -34,7 +34,7 @@ fn a_piece_of_an_earlier_moment_is_refused(rt: HostRuntime) -> Result<(), Fail> 
 fn a_tick_of_an_earlier_moment_is_refused(rt: HostRuntime) -> Result<(), Fail> {
     let mut session = first_poll(&rt, 5, 2)?;
     assert!(rt; !session.settling());
-    assert_eq!(rt; session.tick(99).err(), Some(ClockBack));
+    assert!(rt; session.tick(99).err() == Some(ClockBack));
     play(&rt, rt.alloc(), &mut session, &AFTERWARDS)
 }
 
@@ -42,6 +42,6 @@ fn a_tick_of_an_earlier_moment_is_refused(rt: HostRuntime) -> Result<(), Fail> {
 fn a_closing_of_an_earlier_moment_is_refused(rt: HostRuntime) -> Result<(), Fail> {
     let mut session = first_poll(&rt, 5, 2)?;
     assert!(rt; !session.settling());
-    assert_eq!(rt; session.close(99, Closing::Gone).err(), Some(ClockBack));
+    assert!(rt; session.close(99, Closing::Gone).err() == Some(ClockBack));
     play(&rt, rt.alloc(), &mut session, &AFTERWARDS)
 }

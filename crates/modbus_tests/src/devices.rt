@@ -2,6 +2,7 @@
 use crate::examples::Exchange;
 use mb_device::{Area, Bank, Kind};
 use std::alloc::Global;
+use std::process::Abort;
 
 /// Two holding areas side by side, one behind a gap, and a coil.
 pub(crate) static GAPS: [Area; 4] = [
@@ -50,12 +51,12 @@ pub(crate) fn answers(bank: &mut Bank, pdu: &[u8], answer: &[u8]) -> bool {
     out.get(..count) == Some(answer)
 }
 
-/// The first of these requests that the bank does not answer so.
-pub(crate) fn first_other(bank: &mut Bank, exchanges: &[Exchange]) -> Option<usize> {
+/// The bank answers each request so.
+pub(crate) fn answers_all(rt: &impl Abort, bank: &mut Bank, exchanges: &[Exchange]) {
     for (i, exchange) in exchanges.iter().enumerate() {
-        if !answers(bank, exchange.request, exchange.reply) {
-            return Some(i);
-        }
+        assert!(rt;
+            answers(bank, exchange.request, exchange.reply),
+            "request {i}"
+        );
     }
-    None
 }

@@ -153,7 +153,7 @@ pub fn play_at_windows(rt: &impl Abort, alloc: Global, lines: &[Line]) -> Result
 fn feed_bytes(rt: &impl Abort, alloc: Global, session: &mut Session) -> Result<(), Fail> {
     for (i, byte) in GOOD.iter().enumerate() {
         let told = feed(rt, alloc, session, 104, &[*byte])?;
-        assert_eq!(rt; told.len(), usize::from(i == 14), "byte {i}");
+        assert!(rt; told.len() == usize::from(i == 14), "byte {i}");
     }
     Ok(())
 }

@@ -93,7 +93,7 @@ fn a_request_is_written(rt: HostRuntime) {
     let count = encode_request(&ASKED, &mut pdu);
     let mut out = [0; 260];
     let size = write_frame(1, 17, &pdu[..count], &mut out);
-    assert_eq!(rt; out.get(..size), Some(REQUEST.as_slice()));
+    assert!(rt; out.get(..size) == Some(REQUEST.as_slice()));
 }
 
 // Whether the reader holds the frame of these.

@@ -42,22 +42,22 @@ static FAULTS: [(StartFault, u8); 4] = [
 
 #[test]
 fn outcomes_have_numbers(rt: HostRuntime) {
-    for it in &OUTCOMES {
-        assert_eq!(rt; it.outcome.number(), it.number);
-        assert_eq!(rt; it.outcome.code(), it.code);
+    for (i, it) in OUTCOMES.iter().enumerate() {
+        let is_so = it.outcome.number() == it.number && it.outcome.code() == it.code;
+        assert!(rt; is_so, "outcome {i}");
     }
 }
 
 #[test]
 fn refusals_have_numbers(rt: HostRuntime) {
     for (fault, number) in &FAULTS {
-        assert_eq!(rt; fault.number(), *number);
+        assert!(rt; fault.number() == *number, "{number}");
     }
 }
 
 #[test]
 fn malformations_and_losses_follow_their_causes(rt: HostRuntime) {
-    assert_eq!(rt; Malformation::from(ReplyFault::WrongEcho).number(), 4);
-    assert_eq!(rt; LostCause::from(Closing::Gone).number(), 1);
-    assert_eq!(rt; LostCause::from(Closing::Failed).number(), 3);
+    assert!(rt; Malformation::from(ReplyFault::WrongEcho).number() == 4);
+    assert!(rt; LostCause::from(Closing::Gone).number() == 1);
+    assert!(rt; LostCause::from(Closing::Failed).number() == 3);
 }

@@ -1,6 +1,8 @@
 //! The quantities that the standard allows, and one more or less (Modbus Application Protocol V1.1b3, sections 6.1 to
 //! 6.12).
-use mb_wire::{Request, decode_reply, decode_request, encode_reply, encode_request};
+use crate::replies::{bit_in, comes_back, word_in};
+use crate::requests::{self, is_written_as};
+use mb_wire::{Request, decode_reply, decode_request};
 
 // A PDU's function code, the number behind its address, its byte count, how many bytes the PDU has, and the number of
 // its fault: 0 where it is a request.
@@ -48,35 +50,35 @@ static REQUESTS: [(u8, u16, u8, usize, u8); 36] = [
     (16, 124, 248, 254, 3),
 ];
 
-// A request from address 0 on; all bytes behind its byte count are 1.
-fn request_of(function: u8, number: u16, count: u8) -> [u8; 254] {
+/// A request, with the same value in each byte behind its byte count.
+pub(crate) fn request_of(
+    function: u8,
+    address: u16,
+    number: u16,
+    count: u8,
+    behind: u8,
+) -> [u8; 254] {
+    let [address_high, address_low] = address.to_be_bytes();
     let [high, low] = number.to_be_bytes();
-    let mut pdu = [1; 254];
-    pdu[..6].copy_from_slice(&[function, 0, 0, high, low, count]);
+    let mut pdu = [behind; 254];
+    pdu[..6].copy_from_slice(&[function, address_high, address_low, high, low, count]);
     pdu
 }
 
 // The number of a PDU's fault; 0 where it is a request that is written the same again.
-fn request_fault(pdu: &[u8]) -> Option<u8> {
-    let mut out = [0; 253];
-    match decode_request(pdu) {
-        Ok(request) => {
-            let count = encode_request(&request, &mut out);
-            if out.get(..count) == Some(pdu) {
-                Some(0)
-            } else {
-                None
-            }
-        }
-        Err(fault) => Some(fault.number()),
+fn told(pdu: &[u8]) -> Option<u8> {
+    if is_written_as(pdu, pdu) {
+        Some(0)
+    } else {
+        requests::fault_in(pdu)
     }
 }
 
 #[test]
 fn requests_have_lawful_quantities(rt: HostRuntime) {
     for (function, number, count, length, fault) in REQUESTS {
-        let pdu = request_of(function, number, count);
-        let found = request_fault(&pdu[..length.min(254)]);
+        let pdu = request_of(function, 0, number, count, 1);
+        let found = told(&pdu[..length.min(254)]);
         assert!(rt; found == Some(fault), "function {function}, {number}");
     }
 }
@@ -106,36 +108,28 @@ static REPLIES: [(u8, u16, u8, usize, u8); 20] = [
     (4, 125, 252, 254, 3),
 ];
 
-// A reply whose bytes behind its byte count are all 1.
-fn reply_of(function: u8, count: u8) -> [u8; 254] {
-    let mut pdu = [1; 254];
+// A reply, with the same value in each byte behind its byte count.
+fn reply_of(function: u8, count: u8, behind: u8) -> [u8; 254] {
+    let mut pdu = [behind; 254];
     pdu[..2].copy_from_slice(&[function, count]);
     pdu
 }
 
 // The number of a PDU's fault; 0 where it is a reply to the request that is written the same again.
-fn reply_fault(asked: &[u8], pdu: &[u8]) -> Option<u8> {
-    let request = decode_request(asked).ok()?;
-    let mut out = [0; 253];
-    match decode_reply(&request, pdu) {
-        Ok(reply) => {
-            let count = encode_reply(&request, &reply, &mut out);
-            if out.get(..count) == Some(pdu) {
-                Some(0)
-            } else {
-                None
-            }
-        }
-        Err(fault) => Some(fault.number()),
+fn told_of_reply(asked: &[u8], pdu: &[u8]) -> Option<u8> {
+    if comes_back(asked, pdu) == Some(true) {
+        return Some(0);
     }
+    let request = decode_request(asked).ok()?;
+    Some(decode_reply(&request, pdu).err()?.number())
 }
 
 #[test]
 fn replies_bring_what_was_asked_for(rt: HostRuntime) {
     for (function, quantity, count, length, fault) in REPLIES {
-        let asked = request_of(function, quantity, 0);
-        let pdu = reply_of(function, count);
-        let found = reply_fault(&asked[..5], &pdu[..length.min(254)]);
+        let asked = request_of(function, 0, quantity, 0, 1);
+        let pdu = reply_of(function, count, 1);
+        let found = told_of_reply(&asked[..5], &pdu[..length.min(254)]);
         assert!(rt; found == Some(fault), "function {function}, {quantity}");
     }
 }
@@ -149,35 +143,25 @@ static LAST_BITS: [(usize, Option<bool>); 3] = [
 
 static LAST_WORDS: [(usize, Option<u16>); 2] = [(124, Some(0x8080)), (125, None)];
 
-// A reply of 252 bytes, each 0x80 but for the first two.
-fn longest_reply(function: u8) -> [u8; 252] {
-    let mut pdu = [0x80; 252];
-    pdu[..2].copy_from_slice(&[function, 250]);
-    pdu
-}
-
-fn bit_in(request: &Request<'_>, i: usize) -> Option<bool> {
-    decode_reply(request, &longest_reply(2)).ok()?.bit(i)
-}
-
-fn word_in(request: &Request<'_>, i: usize) -> Option<u16> {
-    decode_reply(request, &longest_reply(4)).ok()?.word(i)
-}
-
 #[test]
 fn the_longest_replies_are_read_to_their_ends(rt: HostRuntime) {
     let inputs = Request::ReadDiscrete {
         address: 0,
         quantity: 2000,
     };
+    let reply = reply_of(2, 250, 0x80);
     for (i, on) in LAST_BITS {
-        assert!(rt; bit_in(&inputs, i) == on, "input {i}");
+        assert!(rt; bit_in(&inputs, &reply[..252], i) == on, "input {i}");
     }
     let registers = Request::ReadInput {
         address: 0,
         quantity: 125,
     };
+    let reply = reply_of(4, 250, 0x80);
     for (i, word) in LAST_WORDS {
-        assert!(rt; word_in(&registers, i) == word, "register {i}");
+        assert!(rt;
+            word_in(&registers, &reply[..252], i) == word,
+            "register {i}"
+        );
     }
 }

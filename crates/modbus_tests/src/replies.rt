@@ -17,8 +17,8 @@ static COIL: Request<'static> = Request::WriteCoil {
     on: true,
 };
 
-// Whether a PDU is read as a reply to the request in another, and is written so again.
-fn comes_back(asked: &[u8], answered: &[u8]) -> Option<bool> {
+/// Whether a PDU is read as a reply to the request in another, and is written so again.
+pub(crate) fn comes_back(asked: &[u8], answered: &[u8]) -> Option<bool> {
     let mut out = [0; 253];
     let request = decode_request(asked).ok()?;
     let reply = decode_reply(&request, answered).ok()?;
@@ -67,12 +67,13 @@ fn faults_have_their_numbers(rt: HostRuntime) {
     }
 }
 
-// A register and a coil of a reply.
-fn word_in(request: &Request<'_>, pdu: &[u8], i: usize) -> Option<u16> {
+/// A register of a reply.
+pub(crate) fn word_in(request: &Request<'_>, pdu: &[u8], i: usize) -> Option<u16> {
     decode_reply(request, pdu).ok()?.word(i)
 }
 
-fn bit_in(request: &Request<'_>, pdu: &[u8], i: usize) -> Option<bool> {
+/// A coil or a discrete input of a reply.
+pub(crate) fn bit_in(request: &Request<'_>, pdu: &[u8], i: usize) -> Option<bool> {
     decode_reply(request, pdu).ok()?.bit(i)
 }
 
@@ -81,10 +82,11 @@ static WORDS: [(usize, Option<u16>); 4] = [(0, Some(555)), (1, Some(0)), (2, Som
 #[test]
 fn registers_are_read(rt: HostRuntime) {
     for (i, word) in WORDS {
-        assert_eq!(rt; word_in(&HOLDING, &[3, 6, 2, 43, 0, 0, 0, 100], i), word);
+        let found = word_in(&HOLDING, &[3, 6, 2, 43, 0, 0, 0, 100], i);
+        assert!(rt; found == word, "register {i}");
     }
-    assert_eq!(rt; word_in(&INPUT, &[4, 2, 0, 10], 0), Some(10));
-    assert_eq!(rt; word_in(&INPUT, &[4, 2, 0, 10], 1), None);
+    assert!(rt; word_in(&INPUT, &[4, 2, 0, 10], 0) == Some(10));
+    assert!(rt; word_in(&INPUT, &[4, 2, 0, 10], 1).is_none());
 }
 
 #[test]

@@ -18,8 +18,8 @@ static FAULTS: [(&[u8], u8); 12] = [
     (&[5, 0, 1, 0, 1], 5),
 ];
 
-// Whether a PDU is read as a request that is written as these bytes.
-fn is_written_as(pdu: &[u8], bytes: &[u8]) -> bool {
+/// Whether a PDU is read as a request that is written as these bytes.
+pub(crate) fn is_written_as(pdu: &[u8], bytes: &[u8]) -> bool {
     let mut out = [0; 253];
     match decode_request(pdu) {
         Ok(request) => {
@@ -58,15 +58,15 @@ fn a_request_has_its_function_and_address(rt: HostRuntime) {
     assert!(rt; head_of(&[1, 0, 19, 0, 19]) == Some((1, 19)));
 }
 
-// The number of a PDU's fault.
-fn fault_in(pdu: &[u8]) -> Option<u8> {
+/// The number of a PDU's fault.
+pub(crate) fn fault_in(pdu: &[u8]) -> Option<u8> {
     let fault = decode_request(pdu).err()?;
     Some(fault.number())
 }
 
 #[test]
 fn faults_have_their_numbers(rt: HostRuntime) {
-    for (pdu, number) in FAULTS {
-        assert_eq!(rt; fault_in(pdu), Some(number));
+    for (i, (pdu, number)) in FAULTS.iter().enumerate() {
+        assert!(rt; fault_in(pdu) == Some(*number), "PDU {i}");
     }
 }

@@ -230,6 +230,6 @@ static NUMBERS: [(ServeFault, u8); 4] = [
 #[test]
 fn serve_faults_have_their_numbers(rt: HostRuntime) {
     for (fault, number) in NUMBERS {
-        assert_eq!(rt; fault.number(), number);
+        assert!(rt; fault.number() == number, "{number}");
     }
 }

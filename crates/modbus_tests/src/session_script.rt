@@ -1,6 +1,6 @@
 //! Events of a session as tables, each with what it tells.
 use mb_wire::ReadSpan;
-use poll_core::{Closing, Outcome, Ready, Session, StartFault};
+use poll_core::{Closing, Outcome, Session, StartFault};
 use std::alloc::Global;
 use std::process::Abort;
 use std::test::Fail;
@@ -48,7 +48,7 @@ pub fn play(
 ) -> Result<(), Fail> {
     for (i, line) in lines.iter().enumerate() {
         let told = bring(rt, alloc, session, &line.event)?;
-        assert_eq!(rt; told.as_slice(), line.told, "line {i}");
+        assert!(rt; told.as_slice() == line.told, "line {i}");
     }
     Ok(())
 }
@@ -113,7 +113,8 @@ pub fn refuse(
 
 /// Looks at the next transaction identifier, and at how many polls may start.
 pub fn is_ready(rt: &impl Abort, session: &Session, id: u16, count: usize) {
-    assert_eq!(rt; session.ready(), Ready { id, count });
+    let ready = session.ready();
+    assert!(rt; ready.id == id && ready.count == count);
 }
 
 /// Brings a piece, and lists what it settles.

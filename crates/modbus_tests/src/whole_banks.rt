@@ -1,7 +1,8 @@
 //! The greatest requests, up to the last addresses of a device that has all of them (Modbus Application Protocol V1.1b3,
 //! sections 4.3 and 6.1 to 6.12).
-use crate::devices::{answers, first_other};
+use crate::devices::{answers, answers_all};
 use crate::examples::Exchange;
+use crate::quantities::request_of;
 use mb_device::{Area, Bank, Kind};
 use std::alloc::Global;
 use std::test::Fail;
@@ -34,7 +35,7 @@ fn whole_bank(alloc: Global) -> Result<Bank, &'static str> {
 }
 
 // A request: its function code, its address, the number behind that, its byte count, and how many bytes it has; how
-// many bytes answer it, and the first two of them.
+// many bytes answer it, and the first two of them. It has 0xFF in each byte behind its byte count.
 struct Case {
     function: u8,
     address: u16,
@@ -85,24 +86,8 @@ static CASES: [Case; 21] = [
     case!(3, 65535, 2, 0, 5, 2, [0x83, 2]),
 ];
 
-// The request, with 0xFF in each byte behind its byte count.
-fn pdu_of(case: &Case) -> [u8; 253] {
-    let [address_high, address_low] = case.address.to_be_bytes();
-    let [high, low] = case.number.to_be_bytes();
-    let mut pdu = [0xFF; 253];
-    pdu[..6].copy_from_slice(&[
-        case.function,
-        address_high,
-        address_low,
-        high,
-        low,
-        case.count,
-    ]);
-    pdu
-}
-
 fn is_answered(bank: &mut Bank, case: &Case) -> bool {
-    let pdu = pdu_of(case);
+    let pdu = request_of(case.function, case.address, case.number, case.count, 0xFF);
     let mut out = [1; 253];
     let count = bank.answer(&pdu[..case.length.clamp(1, 253)], &mut out);
     count == case.answered && out[..2] == case.front[..]
@@ -160,6 +145,6 @@ fn a_whole_bank_of_registers_answers(rt: HostRuntime) -> Result<(), Fail> {
     let mut zeros = [0; 252];
     zeros[..2].copy_from_slice(&[3, 0xFA]);
     assert!(rt; answers(&mut bank, &[3, 0, 0, 0, 0x7D], &zeros));
-    assert_eq!(rt; first_other(&mut bank, &AMONG_ZEROS), None);
+    answers_all(&rt, &mut bank, &AMONG_ZEROS);
     Ok(())
 }

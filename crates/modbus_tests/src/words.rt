@@ -21,7 +21,7 @@ fn words_are_lent(rt: HostRuntime) -> Result<(), Fail> {
 fn a_call_that_told_is_under_way(rt: HostRuntime) -> Result<(), Fail> {
     let mut session = first_poll(&rt, 5, 2)?;
     assert!(rt; !session.settling());
-    assert_eq!(rt; session.next(104, &GOOD)?.taken, 15);
+    assert!(rt; session.next(104, &GOOD)?.taken == 15);
     assert!(rt; session.settling());
     is_ready(&rt, &session, 1, 2);
     Ok(())
