@@ -108,9 +108,9 @@ static REPLIES: [(u8, u16, u8, usize, u8); 20] = [
     (4, 125, 252, 254, 3),
 ];
 
-// A reply, with the same value in each byte behind its byte count.
-fn reply_of(function: u8, count: u8, behind: u8) -> [u8; 254] {
-    let mut pdu = [behind; 254];
+// A reply whose bytes behind its byte count are all 1.
+fn reply_of(function: u8, count: u8) -> [u8; 254] {
+    let mut pdu = [1; 254];
     pdu[..2].copy_from_slice(&[function, count]);
     pdu
 }
@@ -128,7 +128,7 @@ fn told_of_reply(asked: &[u8], pdu: &[u8]) -> Option<u8> {
 fn replies_bring_what_was_asked_for(rt: HostRuntime) {
     for (function, quantity, count, length, fault) in REPLIES {
         let asked = request_of(function, 0, quantity, 0, 1);
-        let pdu = reply_of(function, count, 1);
+        let pdu = reply_of(function, count);
         let found = told_of_reply(&asked[..5], &pdu[..length.min(254)]);
         assert!(rt; found == Some(fault), "function {function}, {quantity}");
     }
@@ -143,25 +143,28 @@ static LAST_BITS: [(usize, Option<bool>); 3] = [
 
 static LAST_WORDS: [(usize, Option<u16>); 2] = [(124, Some(0x8080)), (125, None)];
 
+// A reply of 252 bytes, each 0x80 but for the first two.
+fn longest_reply(function: u8) -> [u8; 252] {
+    let mut pdu = [0x80; 252];
+    pdu[..2].copy_from_slice(&[function, 250]);
+    pdu
+}
+
 #[test]
 fn the_longest_replies_are_read_to_their_ends(rt: HostRuntime) {
     let inputs = Request::ReadDiscrete {
         address: 0,
         quantity: 2000,
     };
-    let reply = reply_of(2, 250, 0x80);
     for (i, on) in LAST_BITS {
-        assert!(rt; bit_in(&inputs, &reply[..252], i) == on, "input {i}");
+        assert!(rt; bit_in(&inputs, &longest_reply(2), i) == on, "input {i}");
     }
     let registers = Request::ReadInput {
         address: 0,
         quantity: 125,
     };
-    let reply = reply_of(4, 250, 0x80);
     for (i, word) in LAST_WORDS {
-        assert!(rt;
-            word_in(&registers, &reply[..252], i) == word,
-            "register {i}"
-        );
+        let found = word_in(&registers, &longest_reply(4), i);
+        assert!(rt; found == word, "register {i}");
     }
 }
