@@ -1,6 +1,7 @@
 //! Which entries are booked, and as what.
 use crate::terms::{PREVIOUS, TOTAL_LIMIT, booked, last};
-use energy_core::{Acc32, Counter, Entry, Last, Ranged, Step, TermFault, Terms, enter};
+use crate::verdicts::ranged;
+use energy_core::{Acc32, Counter, Entry, Last, Step, TermFault, Terms, enter};
 use std::process::Abort;
 
 struct Case {
@@ -33,7 +34,7 @@ macro_rules! change {
     };
 }
 
-static CASES: [Case; 17] = [
+static CASES: [Case; 21] = [
     Case {
         total: 200_000,
         last: PREVIOUS,
@@ -69,6 +70,31 @@ static CASES: [Case; 17] = [
         last: last!(2_701_800, 5300, 0),
         entry: step!(5_000_000, 5300, 0),
         answer: booked!(last!(5_000_000, 5300, 0), 2_701_800, 0),
+    },
+    // 3,000 quarter hours, from the last second of one and from the first, and one more
+    Case {
+        total: 0,
+        last: last!(899, 5200, 0),
+        entry: step!(2_700_000, 5300, 0),
+        answer: booked!(last!(2_700_000, 5300, 0), 899, 100_000),
+    },
+    Case {
+        total: 0,
+        last: last!(899, 5200, 0),
+        entry: step!(2_700_001, 5300, 0),
+        answer: Err(TermFault::SpanTooLong),
+    },
+    Case {
+        total: 0,
+        last: last!(900, 5200, 0),
+        entry: step!(2_700_900, 5300, 0),
+        answer: booked!(last!(2_700_900, 5300, 0), 900, 100_000),
+    },
+    Case {
+        total: 0,
+        last: last!(900, 5200, 0),
+        entry: step!(2_700_901, 5300, 0),
+        answer: Err(TermFault::SpanTooLong),
     },
     // the most rollovers
     Case {
@@ -188,6 +214,40 @@ static BELOW_A_MILLION: [Case; 7] = [
     },
 ];
 
+/// On a counter of the least range: 255 full turns of 65,536 counts, and the greatest number that it shows.
+static BELOW_65536: [Case; 5] = [
+    Case {
+        total: 0,
+        last: PREVIOUS,
+        entry: step!(2000, 65_535, 0),
+        answer: booked!(last!(2000, 65_535, 0), 1900, 60_335_000),
+    },
+    Case {
+        total: 0,
+        last: PREVIOUS,
+        entry: step!(2000, 65_536, 0),
+        answer: Err(TermFault::NotBelowRange),
+    },
+    Case {
+        total: 0,
+        last: PREVIOUS,
+        entry: step!(2000, 5200, 255),
+        answer: booked!(last!(2000, 5200, 0), 1900, 16_711_680_000),
+    },
+    Case {
+        total: 0,
+        last: PREVIOUS,
+        entry: change!(2000, 5200, 65_535, 0),
+        answer: booked!(last!(2000, 65_535, 0), 1900, 0),
+    },
+    Case {
+        total: 0,
+        last: PREVIOUS,
+        entry: change!(2000, 5200, 65_536, 0),
+        answer: Err(TermFault::NotBelowRange),
+    },
+];
+
 fn entered<C: Counter>(
     rt: &impl Abort,
     counter: &C,
@@ -205,17 +265,19 @@ fn entered<C: Counter>(
     )
 }
 
-#[test]
-fn entries_are_booked_or_refused(rt: HostRuntime) {
-    for (i, case) in CASES.iter().enumerate() {
-        assert_eq!(rt; entered(&rt, &Acc32, case), case.answer, "case {i}");
+fn enters<C: Counter>(rt: &impl Abort, counter: &C, cases: &[Case]) {
+    for (i, case) in cases.iter().enumerate() {
+        assert!(rt; entered(rt, counter, case) == case.answer, "case {i}");
     }
 }
 
 #[test]
+fn entries_are_booked_or_refused(rt: HostRuntime) {
+    enters(&rt, &Acc32, &CASES);
+}
+
+#[test]
 fn entries_tell_what_the_counter_can_show(rt: HostRuntime) {
-    let counter = Ranged::new(1_000_000).expect(&rt, "a lawful range");
-    for (i, case) in BELOW_A_MILLION.iter().enumerate() {
-        assert_eq!(rt; entered(&rt, &counter, case), case.answer, "case {i}");
-    }
+    enters(&rt, &ranged(&rt, 1_000_000), &BELOW_A_MILLION);
+    enters(&rt, &ranged(&rt, 65_536), &BELOW_65536);
 }

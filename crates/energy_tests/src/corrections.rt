@@ -22,23 +22,23 @@ const AT_TEN_WATT_HOURS: Answer = booked!(last!(2000, 520, 1), 1900, 0);
 #[test]
 fn readings_by_hand_are_entries(rt: HostRuntime) {
     let answer = manual(&Acc32, &TERMS, &PREVIOUS, 2000, 5300, 0);
-    assert_eq!(rt; answer, BY_HAND);
+    assert!(rt; answer == BY_HAND);
     let answer = manual(&Acc32, &TERMS, &PREVIOUS, 2000, 5100, 1);
-    assert_eq!(rt; answer, OVER_A_TURN);
+    assert!(rt; answer == OVER_A_TURN);
 }
 
 #[test]
 fn readings_at_closing_are_entries(rt: HostRuntime) {
     let answer = close(&Acc32, &TERMS, &PREVIOUS, 2000, 5200, 0);
-    assert_eq!(rt; answer, AT_CLOSING);
+    assert!(rt; answer == AT_CLOSING);
     let answer = close(&Acc32, &TERMS, &PREVIOUS, 2000, 5199, 0);
-    assert_eq!(rt; answer, Err(TermFault::NegativeStep));
+    assert!(rt; answer == Err(TermFault::NegativeStep));
 }
 
 #[test]
 fn resets_and_rescales_are_entries(rt: HostRuntime) {
     let answer = reset(&Acc32, &TERMS, &PREVIOUS, 2000, 5250, 0);
-    assert_eq!(rt; answer, SET_TO_0);
+    assert!(rt; answer == SET_TO_0);
     let answer = rescale(&Acc32, &TERMS, &PREVIOUS, 2000, 5200, 520, 1);
-    assert_eq!(rt; answer, AT_TEN_WATT_HOURS);
+    assert!(rt; answer == AT_TEN_WATT_HOURS);
 }

@@ -1,5 +1,7 @@
 //! Counters that turn over.
+use crate::verdicts::ranged;
 use energy_core::{Acc32, Counter, Ranged};
+use std::process::Abort;
 
 /// What a counter shows at a true count.
 struct Shown {
@@ -29,33 +31,36 @@ static OF_16_BITS: [Shown; 3] = [
     shown!(131_080, 8),
 ];
 
-static LAWFUL: [u64; 3] = [65_536, 1_000_000, 4_294_967_296];
+static BELOW_A_MILLION: [Shown; 3] = [
+    shown!(999_999, 999_999),
+    shown!(1_000_000, 0),
+    shown!(2_000_007, 7),
+];
 
 static UNLAWFUL: [u64; 4] = [0, 65_535, 4_294_967_297, u64::MAX];
 
+fn shows<C: Counter>(rt: &impl Abort, counter: &C, range: u64, cases: &[Shown]) {
+    assert!(rt; counter.range() == range);
+    for Shown { count, shown } in cases {
+        assert!(rt; counter.shown(*count) == *shown, "at {count}");
+    }
+}
+
 #[test]
 fn counters_show_the_count_without_its_turns(rt: HostRuntime) {
-    assert_eq!(rt; Acc32.range(), 4_294_967_296);
-    for Shown { count, shown } in &OF_32_BITS {
-        assert_eq!(rt; Acc32.shown(*count), *shown, "at {count}");
-    }
+    shows(&rt, &Acc32, 4_294_967_296, &OF_32_BITS);
+    shows(&rt, &ranged(&rt, 4_294_967_296), 4_294_967_296, &OF_32_BITS);
 }
 
 #[test]
 fn a_counter_may_have_a_range_of_its_own(rt: HostRuntime) {
-    let counter = Ranged::new(65_536).expect(&rt, "the least range");
-    for Shown { count, shown } in &OF_16_BITS {
-        assert_eq!(rt; counter.shown(*count), *shown, "at {count}");
-    }
+    shows(&rt, &ranged(&rt, 65_536), 65_536, &OF_16_BITS);
+    shows(&rt, &ranged(&rt, 1_000_000), 1_000_000, &BELOW_A_MILLION);
 }
 
 #[test]
 fn ranges_have_bounds(rt: HostRuntime) {
-    for range in LAWFUL {
-        let counter = Ranged::new(range).expect(&rt, "a lawful range");
-        assert_eq!(rt; counter.range(), range);
-    }
     for range in UNLAWFUL {
-        assert_eq!(rt; Ranged::new(range), None, "at {range}");
+        assert!(rt; Ranged::new(range).is_none(), "at {range}");
     }
 }

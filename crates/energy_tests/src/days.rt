@@ -1,10 +1,8 @@
 //! The civil days of interval rows, by the clocks of a zone.
-use crate::shares::{shares_of, step};
+use crate::shares::{share, shares_of, step};
 use energy_core::Step;
-use interval_core::{DayFault, DayFold, DayTotal, Share, Zone};
-use row_text::write_day;
+use interval_core::{DayFault, DayFold, DayTotal, Share, Zone, by_day};
 use std::alloc::Global;
-use std::io;
 use std::process::Abort;
 use std::test::Fail;
 
@@ -12,10 +10,31 @@ pub const CENTRAL_EUROPE: &str = "CET-1CEST,M3.5.0,M10.5.0/3";
 
 const EASTERN: &str = "EST5EDT,M3.2.0,M11.1.0";
 
+/// A day, how many intervals of it have a row, and their energy in mWh.
+struct Told {
+    year: i16,
+    month: i8,
+    day: i8,
+    count: u32,
+    mwh: u128,
+}
+
+macro_rules! told {
+    ($year:expr, $month:expr, $day:expr, $count:expr, $mwh:expr) => {
+        Told {
+            year: $year,
+            month: $month,
+            day: $day,
+            count: $count,
+            mwh: $mwh,
+        }
+    };
+}
+
 struct Case {
     zone: &'static str,
     step: Step,
-    lines: &'static str,
+    days: &'static [Told],
 }
 
 static CASES: [Case; 7] = [
@@ -23,43 +42,46 @@ static CASES: [Case; 7] = [
     Case {
         zone: CENTRAL_EUROPE,
         step: step!(1_711_839_600, 1_711_922_400, 920_000),
-        lines: "2024-03-31  92                   920000\n",
+        days: &[told!(2024, 3, 31, 92, 920_000)],
     },
     Case {
         zone: CENTRAL_EUROPE,
         step: step!(1_729_980_000, 1_730_070_000, 1_000_000),
-        lines: "2024-10-27 100                  1000000\n",
+        days: &[told!(2024, 10, 27, 100, 1_000_000)],
     },
     // clocks that go back over midnight
     Case {
         zone: "AAA0BBB,M3.2.0/0:30,M11.1.0/0:30",
         step: step!(1_730_587_500, 1_730_592_900, 60_000),
-        lines: "2024-11-02   3                    30000\n2024-11-03   3                    30000\n",
+        days: &[told!(2024, 11, 2, 3, 30_000), told!(2024, 11, 3, 3, 30_000)],
     },
     Case {
         zone: EASTERN,
         step: step!(1_710_046_800, 1_710_129_600, 92),
-        lines: "2024-03-10  92                       92\n",
+        days: &[told!(2024, 3, 10, 92, 92)],
     },
     Case {
         zone: EASTERN,
         step: step!(1_730_606_400, 1_730_696_400, 100),
-        lines: "2024-11-03 100                      100\n",
+        days: &[told!(2024, 11, 3, 100, 100)],
     },
     Case {
         zone: "<+0545>-5:45",
         step: step!(1_704_046_500, 1_704_132_900, 96),
-        lines: "2024-01-01  96                       96\n",
+        days: &[told!(2024, 1, 1, 96, 96)],
     },
     Case {
         zone: "UTC0",
         step: step!(0, 172_800, 4_000_000_000_000_000_000),
-        lines: "1970-01-01  96      2000000000000000000\n1970-01-02  96      2000000000000000000\n",
+        days: &[
+            told!(1970, 1, 1, 96, 2_000_000_000_000_000_000),
+            told!(1970, 1, 2, 96, 2_000_000_000_000_000_000),
+        ],
     },
 ];
 
 /// A fold that was given rows one by one.
-pub fn folded(
+fn folded(
     rt: &impl Abort,
     alloc: Global,
     rows: &[Share],
@@ -75,28 +97,82 @@ pub fn folded(
     Ok(fold)
 }
 
-/// The lines of days.
-pub fn lines_of(alloc: Global, totals: &[DayTotal]) -> io::Result<Vec<u8>> {
-    let mut text = Vec::new(alloc);
-    for total in totals {
-        write_day(total, &mut text)?;
-    }
-    Ok(text)
+fn is_told(total: &DayTotal, told: &Told) -> bool {
+    let day = total.day;
+    day.year() == told.year
+        && day.month() == told.month
+        && day.day() == told.day
+        && total.count == told.count
+        && total.mwh == told.mwh
 }
 
-/// The lines of the days of a step, by the fold.
-fn days_of(rt: &impl Abort, alloc: Global, case: &Case) -> Result<Vec<u8>, Fail> {
+/// Whether these are the days.
+fn are_told(totals: &[DayTotal], days: &[Told]) -> bool {
+    totals.len() == days.len()
+        && totals
+            .iter()
+            .zip(days)
+            .all(|(total, told)| is_told(total, told))
+}
+
+/// Whether rows fold to these days, lent and as their own list.
+fn folds_to(
+    rt: &impl Abort,
+    alloc: Global,
+    rows: &[Share],
+    zone: &Zone,
+    days: &[Told],
+) -> Result<bool, DayFault> {
+    let fold = folded(rt, alloc, rows, zone)?;
+    let are_lent = are_told(fold.rows(), days);
+    Ok(are_lent && are_told(fold.into_rows().as_slice(), days))
+}
+
+fn is_spread_so(rt: &impl Abort, alloc: Global, case: &Case) -> Result<bool, Fail> {
     let zone = Zone::read(case.zone)?;
     let rows = shares_of(rt, alloc, &case.step)?;
-    let fold = folded(rt, alloc, &rows, &zone)?;
-    Ok(lines_of(alloc, fold.rows())?)
+    Ok(folds_to(rt, alloc, &rows, &zone, case.days)?)
 }
 
 #[test]
 fn days_follow_the_clocks_of_a_zone(rt: HostRuntime) -> Result<(), Fail> {
     for (i, case) in CASES.iter().enumerate() {
-        let lines = days_of(&rt, rt.alloc(), case)?;
-        assert_eq!(rt; lines.as_slice(), case.lines.as_bytes(), "case {i}");
+        assert!(rt; is_spread_so(&rt, rt.alloc(), case)?, "case {i}");
     }
+    Ok(())
+}
+
+/// The interval from 2700 has two rows.
+static ROWS: [Share; 5] = [
+    share!(900, 177_777),
+    share!(1800, 111_111),
+    share!(2700, 11_112),
+    share!(2700, 40_000),
+    share!(3600, 5_000),
+];
+
+static FOUR_INTERVALS: [Told; 1] = [told!(1970, 1, 1, 4, 345_000)];
+
+#[test]
+fn an_interval_with_two_rows_counts_once(rt: HostRuntime) -> Result<(), Fail> {
+    let zone = Zone::read("UTC0")?;
+    assert!(rt; folds_to(&rt, rt.alloc(), &ROWS, &zone, &FOUR_INTERVALS)?);
+    Ok(())
+}
+
+static ONE_ROW: [Share; 1] = [share!(1_711_839_600, 7)];
+
+static ONE_INTERVAL: [Told; 1] = [told!(2024, 3, 31, 1, 7)];
+
+#[test]
+fn by_day_adds_up_rows(rt: HostRuntime) -> Result<(), Fail> {
+    let zone = Zone::read(CENTRAL_EUROPE)?;
+    assert!(rt; are_told(by_day(rt.alloc(), &[], &zone)?.as_slice(), &[]));
+    assert!(rt;
+        are_told(
+            by_day(rt.alloc(), &ONE_ROW, &zone)?.as_slice(),
+            &ONE_INTERVAL
+        )
+    );
     Ok(())
 }

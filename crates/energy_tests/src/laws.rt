@@ -3,7 +3,9 @@ use energy_core::{
     accepted_is_entered, accepted_is_plausible, accounts_are_sound, accounts_begin, accounts_go_on,
     entered_is_booked, readings_keep_accounts, steps_add_up, truth_is_booked,
 };
-use interval_core::{accounts_add_up, accounts_are_one, shares_add_up, zones_are_one};
+use interval_core::{
+    accounts_add_up, accounts_are_one, accounts_ignore_order, shares_add_up, zones_are_one,
+};
 
 #[test]
 fn laws_of_energy_are_called() {
@@ -23,5 +25,6 @@ fn laws_of_intervals_are_called() {
     shares_add_up();
     accounts_add_up();
     accounts_are_one();
+    accounts_ignore_order();
     zones_are_one();
 }

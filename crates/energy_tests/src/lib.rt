@@ -1,8 +1,10 @@
-//! Tests of `energy_core` and `interval_core`: which readings count, and in which intervals and days.
+//! Tests of which readings count, in which intervals and days, and of the journal of one meter.
 #![tactic(auto)]
 
 #[cfg(test)]
 mod admission;
+#[cfg(test)]
+mod books;
 #[cfg(test)]
 mod corrections;
 #[cfg(test)]
@@ -10,15 +12,23 @@ mod counters;
 #[cfg(test)]
 mod days;
 #[cfg(test)]
+mod fault_texts;
+#[cfg(test)]
+mod joined_shares;
+#[cfg(test)]
+mod journal_rows;
+#[cfg(test)]
 mod laws;
 #[cfg(test)]
 mod numbers;
 #[cfg(test)]
-mod rows;
+mod samples;
 #[cfg(test)]
 mod shares;
 #[cfg(test)]
 mod terms;
+#[cfg(test)]
+mod texts;
 #[cfg(test)]
 mod verdicts;
 #[cfg(test)]

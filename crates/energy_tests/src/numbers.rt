@@ -25,21 +25,21 @@ static FAULTS: [(TermFault, u8); 6] = [
 #[test]
 fn causes_have_numbers(rt: HostRuntime) {
     for (cause, number) in &CAUSES {
-        assert_eq!(rt; cause.number(), *number);
+        assert!(rt; cause.number() == *number, "{number}");
     }
 }
 
 #[test]
 fn faults_of_entries_have_numbers(rt: HostRuntime) {
     for (fault, number) in &FAULTS {
-        assert_eq!(rt; fault.number(), *number);
+        assert!(rt; fault.number() == *number, "{number}");
     }
 }
 
 #[test]
 fn faults_of_zones_and_days_have_numbers(rt: HostRuntime) {
-    assert_eq!(rt; ZoneFault::Text.number(), 1);
-    assert_eq!(rt; ZoneFault::Memory.number(), 2);
-    assert_eq!(rt; DayFault::Zone.number(), 1);
-    assert_eq!(rt; DayFault::Memory.number(), 2);
+    assert!(rt; ZoneFault::Text.number() == 1);
+    assert!(rt; ZoneFault::Memory.number() == 2);
+    assert!(rt; DayFault::Zone.number() == 1);
+    assert!(rt; DayFault::Memory.number() == 2);
 }

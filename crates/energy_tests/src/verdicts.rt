@@ -30,6 +30,12 @@ macro_rules! accepted {
     };
 }
 
+macro_rules! held {
+    ($cause:ident) => {
+        Verdict::Held(Cause::$cause)
+    };
+}
+
 const HIGH: Last = last!(1000, 4_294_967_200, 0);
 
 static CASES: [Case; 22] = [
@@ -60,7 +66,7 @@ static CASES: [Case; 22] = [
         total: 0,
         last: PREVIOUS,
         reading: reading!(1901, 5202, 0),
-        verdict: Verdict::Held(Cause::TooFast),
+        verdict: held!(TooFast),
     },
     // a rollover, at the ceiling and below
     Case {
@@ -82,7 +88,7 @@ static CASES: [Case; 22] = [
         total: 0,
         last: HIGH,
         reading: reading!(1900, 104, 0),
-        verdict: Verdict::Held(Cause::TooFast),
+        verdict: held!(TooFast),
     },
     // a fall that is no rollover
     Case {
@@ -90,7 +96,7 @@ static CASES: [Case; 22] = [
         total: 0,
         last: PREVIOUS,
         reading: reading!(2800, 5199, 0),
-        verdict: Verdict::Held(Cause::TooFast),
+        verdict: held!(TooFast),
     },
     // the longest gap in which no full turn is possible
     Case {
@@ -105,7 +111,7 @@ static CASES: [Case; 22] = [
         total: 0,
         last: last!(0, 500, -3),
         reading: reading!(15462, 501, -3),
-        verdict: Verdict::Held(Cause::GapTooLong),
+        verdict: held!(GapTooLong),
     },
     // after a rescale and after a reset
     Case {
@@ -120,14 +126,14 @@ static CASES: [Case; 22] = [
         total: 200_000,
         last: last!(2000, 520, 1),
         reading: reading!(2800, 521, 0),
-        verdict: Verdict::Held(Cause::ScaleChanged),
+        verdict: held!(ScaleChanged),
     },
     Case {
         ceiling: 100_000,
         total: 250_000,
         last: last!(2000, 0, 0),
         reading: reading!(2800, 0, 0),
-        verdict: Verdict::Held(Cause::NotAccumulated),
+        verdict: held!(NotAccumulated),
     },
     Case {
         ceiling: 100_000,
@@ -149,7 +155,7 @@ static CASES: [Case; 22] = [
         total: 3_999_999_999_999_999_000,
         last: last!(0, 1, 0),
         reading: reading!(900, 3, 0),
-        verdict: Verdict::Held(Cause::TotalFull),
+        verdict: held!(TotalFull),
     },
     // 3,000 intervals
     Case {
@@ -164,7 +170,7 @@ static CASES: [Case; 22] = [
         total: 0,
         last: last!(0, 1, 0),
         reading: reading!(2_700_001, 2, 0),
-        verdict: Verdict::Held(Cause::SpanTooLong),
+        verdict: held!(SpanTooLong),
     },
     // the least cause in the order of the table
     Case {
@@ -172,21 +178,21 @@ static CASES: [Case; 22] = [
         total: 0,
         last: PREVIOUS,
         reading: reading!(1900, 5300, 0),
-        verdict: Verdict::Held(Cause::NotLater),
+        verdict: held!(NotLater),
     },
     Case {
         ceiling: 1000,
         total: 0,
         last: PREVIOUS,
         reading: reading!(1900, 5300, 1),
-        verdict: Verdict::Held(Cause::ScaleChanged),
+        verdict: held!(ScaleChanged),
     },
     Case {
         ceiling: 1000,
         total: 0,
         last: PREVIOUS,
         reading: reading!(1900, 0, 1),
-        verdict: Verdict::Held(Cause::NotAccumulated),
+        verdict: held!(NotAccumulated),
     },
     // the greatest ceiling
     Case {
@@ -220,21 +226,21 @@ static BELOW_A_MILLION: [Case; 7] = [
         total: 0,
         last: NEAR_A_MILLION,
         reading: reading!(900, 1_000_000, 0),
-        verdict: Verdict::Held(Cause::NotBelowRange),
+        verdict: held!(NotBelowRange),
     },
     Case {
         ceiling: 1000,
         total: 0,
         last: NEAR_A_MILLION,
         reading: reading!(900, 1_000_000, 1),
-        verdict: Verdict::Held(Cause::ScaleChanged),
+        verdict: held!(ScaleChanged),
     },
     Case {
         ceiling: 1000,
         total: 0,
         last: NEAR_A_MILLION,
         reading: reading!(0, 1_000_000, 0),
-        verdict: Verdict::Held(Cause::NotBelowRange),
+        verdict: held!(NotBelowRange),
     },
     Case {
         ceiling: 100_000,
@@ -248,9 +254,78 @@ static BELOW_A_MILLION: [Case; 7] = [
         total: 0,
         last: last!(0, 5, 0),
         reading: reading!(36_000, 6, 0),
-        verdict: Verdict::Held(Cause::GapTooLong),
+        verdict: held!(GapTooLong),
     },
 ];
+
+/// No energy so far: the ceiling, the scale factor, when the counter showed what, when it shows what, and the verdict.
+macro_rules! case {
+    ($ceiling:expr, $sf:expr, $from:expr, $before:expr, $at:expr, $raw:expr, $verdict:expr) => {
+        Case {
+            ceiling: $ceiling,
+            total: 0,
+            last: last!($from, $before, $sf),
+            reading: reading!($at, $raw, $sf),
+            verdict: $verdict,
+        }
+    };
+}
+
+static LEAST_RANGE: [Case; 5] = [
+    case!(100_000, 0, 0, 65_535, 900, 65_535, accepted!(0, 0)),
+    case!(100_000, 0, 0, 65_535, 900, 1, accepted!(1, 2000)),
+    case!(100_000, 0, 0, 5, 900, 65_536, held!(NotBelowRange)),
+    // 100 kW make a full turn, 65,536 Wh, in 2,359.26 seconds
+    case!(100_000, 0, 0, 5, 2359, 6, accepted!(0, 1000)),
+    case!(100_000, 0, 0, 5, 2360, 6, held!(GapTooLong)),
+];
+
+static GREATEST_RANGE: [Case; 22] = [
+    case!(1, 0, 0, 4_294_967_295, 4, 4_294_967_295, accepted!(0, 0)),
+    case!(1, 0, 0, 4_294_967_294, 4, 4_294_967_295, accepted!(0, 1000)),
+    case!(1000, 0, 0, 4_294_967_295, 900, 1, accepted!(1, 2000)),
+    // the greatest load makes a full turn, 4,294,967,296 Wh, in 15,461.88 seconds, and 4,294,722,222.2 Wh in 15,461
+    case!(1_000_000_000, 0, 0, 5, 15_461, 6, accepted!(0, 1000)),
+    case!(1_000_000_000, 0, 0, 5, 15_462, 6, held!(GapTooLong)),
+    case!(1_000_000_000, 0, 0, 1, 15_461, 4_294_722_224, FARTHEST),
+    case!(
+        1_000_000_000,
+        0,
+        0,
+        1,
+        15_461,
+        4_294_722_225,
+        held!(TooFast)
+    ),
+    // in 18 seconds 1 W makes 5 mWh, and the greatest load 5,000 kWh; the counter may be one count further
+    case!(1, -3, 0, 1, 18, 7, accepted!(0, 6)),
+    case!(1, -3, 0, 1, 18, 8, held!(TooFast)),
+    case!(
+        1_000_000_000,
+        3,
+        0,
+        1,
+        18,
+        5002,
+        accepted!(0, 5_001_000_000)
+    ),
+    case!(1_000_000_000, 3, 0, 1, 18, 5003, held!(TooFast)),
+    // one count at each scale
+    case!(1_000_000, -3, 0, 1, 900, 2, accepted!(0, 1)),
+    case!(1_000_000, -2, 0, 1, 900, 2, accepted!(0, 10)),
+    case!(1_000_000, -1, 0, 1, 900, 2, accepted!(0, 100)),
+    case!(1_000_000, 0, 0, 1, 900, 2, accepted!(0, 1000)),
+    case!(1_000_000, 1, 0, 1, 900, 2, accepted!(0, 10_000)),
+    case!(1_000_000, 2, 0, 1, 900, 2, accepted!(0, 100_000)),
+    case!(1_000_000, 3, 0, 1, 900, 2, accepted!(0, 1_000_000)),
+    // 3,000 quarter hours, from the last second of one and from the first, and one more
+    case!(1000, 0, 899, 1, 2_700_000, 2, accepted!(0, 1000)),
+    case!(1000, 0, 899, 1, 2_700_001, 2, held!(SpanTooLong)),
+    case!(1000, 0, 900, 1, 2_700_900, 2, accepted!(0, 1000)),
+    case!(1000, 0, 900, 1, 2_700_901, 2, held!(SpanTooLong)),
+];
+
+const FARTHEST: Verdict = accepted!(0, 4_294_722_223_000);
 
 fn judged<C: Counter>(rt: &impl Abort, counter: &C, case: &Case) -> Verdict {
     let Case { ceiling, total, .. } = *case;
@@ -266,17 +341,29 @@ fn judged<C: Counter>(rt: &impl Abort, counter: &C, case: &Case) -> Verdict {
     )
 }
 
+fn judges<C: Counter>(rt: &impl Abort, counter: &C, cases: &[Case]) {
+    for (i, case) in cases.iter().enumerate() {
+        assert!(rt; judged(rt, counter, case) == case.verdict, "case {i}");
+    }
+}
+
+/// A counter that turns over there.
+pub(crate) fn ranged(rt: &impl Abort, range: u64) -> Ranged {
+    Ranged::new(range).expect(rt, "a lawful range")
+}
+
 #[test]
 fn readings_are_judged_on_a_counter_of_32_bits(rt: HostRuntime) {
-    for (i, case) in CASES.iter().enumerate() {
-        assert_eq!(rt; judged(&rt, &Acc32, case), case.verdict, "case {i}");
-    }
+    judges(&rt, &Acc32, &CASES);
 }
 
 #[test]
 fn readings_are_judged_below_a_million(rt: HostRuntime) {
-    let counter = Ranged::new(1_000_000).expect(&rt, "a lawful range");
-    for (i, case) in BELOW_A_MILLION.iter().enumerate() {
-        assert_eq!(rt; judged(&rt, &counter, case), case.verdict, "case {i}");
-    }
+    judges(&rt, &ranged(&rt, 1_000_000), &BELOW_A_MILLION);
+}
+
+#[test]
+fn readings_are_judged_at_both_ends_of_ranges(rt: HostRuntime) {
+    judges(&rt, &ranged(&rt, 65_536), &LEAST_RANGE);
+    judges(&rt, &ranged(&rt, 4_294_967_296), &GREATEST_RANGE);
 }

@@ -1,33 +1,38 @@
 //! The texts of zones, and the civil days of moments.
 use crate::days::CENTRAL_EUROPE;
 use interval_core::{Zone, ZoneFault, day_of};
-use std::test::Fail;
+use std::process::Abort;
 
+/// A zone, a moment, and its civil day there.
 struct Case {
     zone: &'static str,
     moment: u64,
-    day: &'static str,
+    year: i16,
+    month: i8,
+    day: i8,
 }
 
 macro_rules! day {
-    ($zone:expr, $moment:expr, $day:expr) => {
+    ($zone:expr, $moment:expr, $year:expr, $month:expr, $day:expr) => {
         Case {
             zone: $zone,
             moment: $moment,
+            year: $year,
+            month: $month,
             day: $day,
         }
     };
 }
 
 static CASES: [Case; 8] = [
-    day!("UTC0", 0, "1970-01-01"),
-    day!("AAA24:59:59", 0, "1969-12-30"),
-    day!("AAA-24:59:59", 0, "1970-01-02"),
-    day!("UTC0", 4_102_444_800, "2100-01-01"),
-    day!("AAA24:59:59", 4_102_444_800, "2099-12-30"),
-    day!("AAA-24:59:59", 4_102_444_800, "2100-01-02"),
-    day!(CENTRAL_EUROPE, 1_711_839_599, "2024-03-30"),
-    day!(CENTRAL_EUROPE, 1_711_839_600, "2024-03-31"),
+    day!("UTC0", 0, 1970, 1, 1),
+    day!("AAA24:59:59", 0, 1969, 12, 30),
+    day!("AAA-24:59:59", 0, 1970, 1, 2),
+    day!("UTC0", 4_102_444_800, 2100, 1, 1),
+    day!("AAA24:59:59", 4_102_444_800, 2099, 12, 30),
+    day!("AAA-24:59:59", 4_102_444_800, 2100, 1, 2),
+    day!(CENTRAL_EUROPE, 1_711_839_599, 2024, 3, 30),
+    day!(CENTRAL_EUROPE, 1_711_839_600, 2024, 3, 31),
 ];
 
 /// The last has 65 bytes.
@@ -45,22 +50,25 @@ static NO_ZONES: [&str; 9] = [
 
 static LONGEST: &str = "<ABCDEFGHIJKLMNO>0<ABCDEFGHIJKLMNP>,M3.5.0/2:00:00,M10.5.0/03:00";
 
+fn is_on_its_day(rt: &impl Abort, case: &Case) -> Option<bool> {
+    assert!(rt; case.moment <= 4_102_444_800);
+    let zone = Zone::read(case.zone).ok()?;
+    let day = day_of(&zone, case.moment).ok()?;
+    Some(day.year() == case.year && day.month() == case.month && day.day() == case.day)
+}
+
 #[test]
-fn the_first_and_the_last_moment_have_days(rt: HostRuntime) -> Result<(), Fail> {
-    for Case { zone, moment, day } in &CASES {
-        assert!(rt; *moment <= 4_102_444_800);
-        let got = day_of(&Zone::read(zone)?, *moment)?;
-        let got = format!(in rt.alloc(); "{got}")?;
-        assert_eq!(rt; got.as_str(), *day, "at {moment} in {zone}");
+fn the_first_and_the_last_moment_have_days(rt: HostRuntime) {
+    for (i, case) in CASES.iter().enumerate() {
+        assert!(rt; is_on_its_day(&rt, case) == Some(true), "case {i}");
     }
-    Ok(())
 }
 
 #[test]
 fn other_texts_are_no_zones(rt: HostRuntime) {
     for text in NO_ZONES {
-        assert_eq!(rt; Zone::read(text).err(), Some(ZoneFault::Text), "{text}");
+        assert!(rt; Zone::read(text).err() == Some(ZoneFault::Text), "{text}");
     }
-    assert_eq!(rt; LONGEST.len(), 64);
+    assert!(rt; LONGEST.len() == 64);
     assert!(rt; Zone::read(LONGEST).is_ok());
 }

@@ -1,151 +1,153 @@
-//! Lists of chains of models.
-
-use crate::given::written;
-use point_list::{FaultyRow, ListFault, RowFault, from_chain};
+//! Chains of models.
+use crate::given::{Line, chain_of, image_of, points_in, put, same};
 use std::alloc::Global;
+use std::io::Write;
 use std::test::Fail;
-use sun_chain::{Image, walk};
+use sun_chain::{ChainFault, Image, Model, NamedPoint, walk};
 
-// Words from an address on.
-struct Line {
-    address: u16,
-    words: &'static [u16],
+// A model 1 of this length, in which only ID and length were read, before an inverter, of which only two points were read,
+// a counter and its scale point, before a meter.
+macro_rules! inverter_before_meter {
+    ($length:expr, $scale:expr) => {
+        [
+            Line {
+                address: 40000,
+                words: &[0x5375, 0x6E53, 1, $length],
+            },
+            Line {
+                address: 40004 + $length,
+                words: &[103, 50],
+            },
+            Line {
+                address: 40028 + $length,
+                words: &[0x000F, 0x4240, $scale],
+            },
+            Line {
+                address: 40056 + $length,
+                words: &[203, 105],
+            },
+            Line {
+                address: 40163 + $length,
+                words: &[0xFFFF],
+            },
+        ]
+    };
 }
 
-// Lines of an image, and the list of its chain.
-struct Listed {
+macro_rules! model {
+    ($address:expr, $id:expr, $length:expr) => {
+        Model {
+            address: $address,
+            id: $id,
+            length: $length,
+        }
+    };
+}
+
+static INVERTER: Model = model!(40070, 103, 50);
+
+// Lines of an image; the end of its chain, and its models.
+struct Chained {
     lines: &'static [Line],
-    text: &'static [u8],
+    end: u16,
+    models: [Model; 3],
 }
 
-const INVERTER_AND_METER: [Line; 5] = [
-    Line {
-        address: 40000,
-        words: &[0x5375, 0x6E53, 1, 66],
+static CHAINS: [Chained; 2] = [
+    Chained {
+        lines: &inverter_before_meter!(66, 0),
+        end: 40229,
+        models: [
+            model!(40002, 1, 66),
+            model!(40070, 103, 50),
+            model!(40122, 203, 105),
+        ],
     },
-    Line {
-        address: 40070,
-        words: &[103, 50],
-    },
-    Line {
-        address: 40094,
-        words: &[0x000F, 0x4240, 0],
-    },
-    Line {
-        address: 40122,
-        words: &[203, 105],
-    },
-    Line {
-        address: 40229,
-        words: &[0xFFFF],
+    Chained {
+        lines: &inverter_before_meter!(65, 0),
+        end: 40228,
+        models: [
+            model!(40002, 1, 65),
+            model!(40069, 103, 50),
+            model!(40121, 203, 105),
+        ],
     },
 ];
 
-// An absent point, and one whose scale point was not read.
-const METER: [Line; 5] = [
-    Line {
-        address: 40000,
-        words: &[0x5375, 0x6E53, 203, 105],
-    },
-    Line {
-        address: 40004,
-        words: &[0x8000],
-    },
-    Line {
-        address: 40020,
-        words: &[5],
-    },
-    Line {
-        address: 40024,
-        words: &[0xFFFE],
-    },
-    Line {
-        address: 40109,
-        words: &[0xFFFF],
-    },
-];
-
-static CHAINS: [Listed; 2] = [
-    Listed {
-        lines: &INVERTER_AND_METER,
-        text: b"name,function,area,address,type,scale
-m2.WH,3,0,40094,acc32,m2.WH_SF
-m2.WH_SF,3,0,40096,sunssf,
-",
-    },
-    Listed {
-        lines: &METER,
-        text: b"name,function,area,address,type,scale
-m1.A,3,0,40004,int16,
-m1.W,3,0,40020,int16,m1.W_SF
-m1.W_SF,3,0,40024,sunssf,
-",
-    },
-];
-
-fn image_of(alloc: Global, lines: &[Line]) -> Result<Image, Fail> {
-    let mut image = Image::new(alloc);
-    for line in lines {
-        image.put(line.address, line.words).ok().ok_or("not put")?;
-    }
-    Ok(image)
-}
-
-// The text of the list of an image's chain.
-fn text_of(alloc: Global, image: &Image) -> Result<Vec<u8>, Fail> {
-    let chain = walk(alloc, image).ok().ok_or("no chain")?;
-    let list = from_chain(alloc, &chain).ok().ok_or("no list")?;
-    written(alloc, &list)
+fn is_chained(alloc: Global, want: &Chained) -> Result<bool, Fail> {
+    let image = image_of(alloc, want.lines)?;
+    let chain = chain_of(alloc, &image)?;
+    let ends = (chain.base(), chain.end());
+    Ok(ends == (40000, want.end) && chain.models() == want.models.as_slice())
 }
 
 #[test]
-fn lists_of_chains(rt: HostRuntime) -> Result<(), Fail> {
-    for chain in &CHAINS {
-        let image = image_of(rt.alloc(), chain.lines)?;
-        let text = text_of(rt.alloc(), &image)?;
-        assert_eq!(rt; text.as_slice(), chain.text);
+fn models_stand_in_a_row(rt: HostRuntime) -> Result<(), Fail> {
+    for want in &CHAINS {
+        assert!(rt; is_chained(rt.alloc(), want)?, "to {}", want.end);
     }
     Ok(())
 }
 
-// An image of so many meters, all of whose words were read.
-fn meters(alloc: Global, count: u8) -> Result<Image, Fail> {
-    let mut image = Image::new(alloc);
-    image.put(0, &[0x5375, 0x6E53]).ok().ok_or("not put")?;
-    for model in 0..count {
-        let address = 2 + 107 * u16::from(model);
-        image.put(address, &[203, 105]).ok().ok_or("not put")?;
-        image.put(address + 2, &[0; 105]).ok().ok_or("not put")?;
+#[test]
+fn the_next_address(rt: HostRuntime) {
+    assert!(rt; INVERTER.next() == 40122);
+}
+
+fn print_value(point: &NamedPoint<'_>, output: &mut Vec<u8>) -> Result<(), Fail> {
+    output.write_all(point.name().as_bytes())?;
+    output.write_all(b" ")?;
+    point.write_value(output)?;
+    output.write_all(b"/")?;
+    Ok(())
+}
+
+fn values_in(alloc: Global, lines: &[Line]) -> Result<Vec<u8>, Fail> {
+    let image = image_of(alloc, lines)?;
+    let points = points_in(alloc, &image, &INVERTER)?;
+    let mut values = Vec::new(alloc);
+    for point in &points {
+        print_value(point, &mut values)?;
     }
-    let end = 2 + 107 * u16::from(count);
-    image.put(end, &[0xFFFF]).ok().ok_or("not put")?;
+    Ok(values)
+}
+
+// Images in which the inverter's scale point says 0 and 11, and its two points.
+static VALUES: [(&[Line], &str); 2] = [
+    (&inverter_before_meter!(66, 0), "WH 1000000/WH_SF 0/"),
+    (&inverter_before_meter!(66, 11), "WH faulty/WH_SF 11/"),
+];
+
+#[test]
+fn a_scale_point_scales(rt: HostRuntime) -> Result<(), Fail> {
+    for (lines, want) in &VALUES {
+        same(&rt, values_in(rt.alloc(), lines)?.as_slice(), want);
+    }
+    Ok(())
+}
+
+// A mark at 50000, 64 models of no register, and these words behind them.
+fn sixty_four_models(alloc: Global, behind: &[u16]) -> Result<Image, Fail> {
+    let mut image = Image::new(alloc);
+    put(&mut image, 50000, &[0x5375, 0x6E53])?;
+    for place in 0..64u16 {
+        put(&mut image, 50002 + 2 * place, &[9, 0])?;
+    }
+    put(&mut image, 50130, behind)?;
     Ok(image)
 }
 
 #[test]
-fn many_points(rt: HostRuntime) -> Result<(), Fail> {
-    let image = meters(rt.alloc(), 7)?;
-    let chain = walk(rt.alloc(), &image).ok().ok_or("no chain")?;
-    let list = from_chain(rt.alloc(), &chain).ok().ok_or("no list")?;
-    assert_eq!(rt; list.points().len(), 504);
-    let first = list.points().first().ok_or("no point")?;
-    assert_eq!(rt; first.name.as_bytes(), b"m1.A".as_slice());
-    let last = list.points().last().ok_or("no point")?;
-    assert_eq!(rt; last.name.as_bytes(), b"m7.Evt".as_slice());
+fn sixty_four_models_are_found(rt: HostRuntime) -> Result<(), Fail> {
+    let image = sixty_four_models(rt.alloc(), &[0xFFFF])?;
+    let chain = chain_of(rt.alloc(), &image)?;
+    assert!(rt; chain.models().len() == 64);
     Ok(())
 }
 
 #[test]
-fn too_many_points(rt: HostRuntime) -> Result<(), Fail> {
-    let image = meters(rt.alloc(), 8)?;
-    let chain = walk(rt.alloc(), &image).ok().ok_or("no chain")?;
-    let Err(ListFault::Faults(faults)) = from_chain(rt.alloc(), &chain) else {
-        return Err("no faults".into());
-    };
-    let told = FaultyRow {
-        row: 514,
-        fault: RowFault::TooMany,
-    };
-    assert_eq!(rt; faults.rows(), [told].as_slice());
+fn a_65th_model_is_refused(rt: HostRuntime) -> Result<(), Fail> {
+    let image = sixty_four_models(rt.alloc(), &[9, 0, 0xFFFF])?;
+    assert!(rt; walk(rt.alloc(), &image).err() == Some(ChainFault::TooMany));
     Ok(())
 }

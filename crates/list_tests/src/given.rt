@@ -1,10 +1,48 @@
-//! Texts and lists that the tests share.
+//! Images, texts and lists that the tests share.
 
 use point_list::{FaultyRow, ListFault, PointList, PointName, read_list, write_list};
 use std::alloc::Global;
 use std::io::Write;
 use std::process::Abort;
 use std::test::Fail;
+use sun_chain::{Chain, Image, Model, NamedPoint, walk};
+
+pub fn same(rt: &impl Abort, found: &[u8], want: &str) {
+    assert!(rt; found == want.as_bytes(), "{want}");
+}
+
+pub fn put(image: &mut Image, address: u16, words: &[u16]) -> Result<(), Fail> {
+    image.put(address, words).ok().ok_or("not put")?;
+    Ok(())
+}
+
+/// Words from an address on.
+pub struct Line {
+    pub address: u16,
+    pub words: &'static [u16],
+}
+
+pub fn image_of(alloc: Global, lines: &[Line]) -> Result<Image, Fail> {
+    let mut image = Image::new(alloc);
+    for line in lines {
+        put(&mut image, line.address, line.words)?;
+    }
+    Ok(image)
+}
+
+pub fn chain_of(alloc: Global, image: &Image) -> Result<Chain<'_>, Fail> {
+    Ok(walk(alloc, image).ok().ok_or("no chain")?)
+}
+
+/// The points of a model of an image's chain.
+pub fn points_in<'a>(
+    alloc: Global,
+    image: &'a Image,
+    model: &Model,
+) -> Result<Vec<NamedPoint<'a>>, Fail> {
+    let chain = chain_of(alloc, image)?;
+    Ok(chain.points(model)?)
+}
 
 /// The rows of a list, and what is told of them.
 pub struct Case {
@@ -62,7 +100,7 @@ pub fn compare_faults(rt: &impl Abort, alloc: Global, cases: &[Case]) -> Result<
     for case in cases {
         let rows = case.rows;
         let found = faults_of(alloc, &text_of(alloc, rows)?)?;
-        assert_eq!(rt; found.as_slice(), case.told.as_bytes(), "{rows}");
+        assert!(rt; found.as_slice() == case.told.as_bytes(), "{rows}");
     }
     Ok(())
 }

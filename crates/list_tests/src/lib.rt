@@ -1,14 +1,32 @@
-//! Tests of point lists, and of the plans of their reads.
+//! Tests of SunSpec points and of chains of models, of point lists, and of the plans of their reads.
 #![tactic(auto)]
 
 #[cfg(test)]
+mod absent_points;
+#[cfg(test)]
 mod broken_writers;
+#[cfg(test)]
+mod chain_lacks;
 #[cfg(test)]
 mod chains;
 #[cfg(test)]
+mod common_models;
+#[cfg(test)]
+mod counters;
+#[cfg(test)]
+mod failing_writers;
+#[cfg(test)]
 mod fault_numbers;
 #[cfg(test)]
+mod fault_texts;
+#[cfg(test)]
+mod full_models;
+#[cfg(test)]
 mod given;
+#[cfg(test)]
+mod images;
+#[cfg(test)]
+mod listed_chains;
 #[cfg(test)]
 mod lists_of_points;
 #[cfg(test)]
@@ -16,10 +34,26 @@ mod many_rows;
 #[cfg(test)]
 mod names;
 #[cfg(test)]
+mod narrow;
+#[cfg(test)]
 mod plans;
+#[cfg(test)]
+mod point_types;
+#[cfg(test)]
+mod point_values;
+#[cfg(test)]
+mod register_texts;
 #[cfg(test)]
 mod row_faults;
 #[cfg(test)]
+mod scale_names;
+#[cfg(test)]
+mod scaled_values;
+#[cfg(test)]
+mod scales;
+#[cfg(test)]
 mod spelled_lists;
+#[cfg(test)]
+mod texts;
 #[cfg(test)]
 mod written_lists;

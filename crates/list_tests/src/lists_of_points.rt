@@ -71,26 +71,28 @@ fn scale_point(alloc: Global, address: u16) -> Result<ListedPoint, Fail> {
     listed(alloc, "s", address, PointType::Sunssf, PointScale::Unscaled)
 }
 
-fn points_of(alloc: Global, group: &Group) -> Result<Vec<ListedPoint>, Fail> {
+fn first_point(alloc: Global, group: &Group) -> Result<ListedPoint, Fail> {
     let kind = if group.takes_scale {
         PointType::Int16
     } else {
         PointType::Enum16
     };
-    let named = PointScale::Named(name(alloc, group.scale)?);
-    let mut points = Vec::new(alloc);
-    points.push(listed(alloc, "w", 0, kind, named)?)?;
-    points.push(scale_point(alloc, group.address)?)?;
-    Ok(points)
+    let scale = PointScale::Named(name(alloc, group.scale)?);
+    listed(alloc, "w", 0, kind, scale)
+}
+
+fn points_of(alloc: Global, group: &Group) -> Result<Vec<ListedPoint>, Fail> {
+    let first = first_point(alloc, group)?;
+    let scale = scale_point(alloc, group.address)?;
+    Ok(Vec::from_array(alloc, [first, scale])?)
 }
 
 #[test]
 fn groups(rt: HostRuntime) -> Result<(), Fail> {
     for group in &GROUPS {
         let list = PointList::new(points_of(rt.alloc(), group)?);
-        assert_eq!(rt;
-            list.is_ok(),
-            group.is_list,
+        assert!(rt;
+            list.is_ok() == group.is_list,
             "{} {}",
             group.scale,
             group.address
@@ -102,20 +104,37 @@ fn groups(rt: HostRuntime) -> Result<(), Fail> {
 // A counter at an address, of a fixed scale.
 fn counter(alloc: Global, address: u16) -> Result<Vec<ListedPoint>, Fail> {
     let scale = PointScale::Fixed(Scale::new(0).ok_or("no scale")?);
-    let mut points = Vec::new(alloc);
-    points.push(listed(alloc, "a", address, PointType::Acc32, scale)?)?;
+    let point = listed(alloc, "a", address, PointType::Acc32, scale)?;
+    Ok(Vec::from_array(alloc, [point])?)
+}
+
+#[test]
+fn counters_end_at_the_last_register(rt: HostRuntime) -> Result<(), Fail> {
+    for (address, is_list) in [(65534, true), (65535, false)] {
+        let list = PointList::new(counter(rt.alloc(), address)?);
+        assert!(rt; list.is_ok() == is_list, "{address}");
+    }
+    Ok(())
+}
+
+fn list_of_a_counter(alloc: Global) -> Result<PointList, Fail> {
+    let list = PointList::new(counter(alloc, 65534)?);
+    Ok(list.ok().ok_or("no list")?)
+}
+
+// The points of a list, and one more of the same name.
+fn with_a_double_name(alloc: Global) -> Result<Vec<ListedPoint>, Fail> {
+    let double = listed(alloc, "a", 0, PointType::Acc32, PointScale::Unscaled)?;
+    let mut points = list_of_a_counter(alloc)?.into_points();
+    points.push(double)?;
     Ok(points)
 }
 
 #[test]
-fn double_names_and_ends(rt: HostRuntime) -> Result<(), Fail> {
-    let list = PointList::new(counter(rt.alloc(), 65534)?);
-    let mut points = list.ok().ok_or("no list")?.into_points();
-    points.push(listed(rt.alloc(), "a", 0, PointType::Acc32, PointScale::Unscaled)?)?;
-    let back = PointList::new(points).err().ok_or("a double name")?;
-    assert_eq!(rt; back.len(), 2);
-    let past_the_end = PointList::new(counter(rt.alloc(), 65535)?);
-    assert!(rt; past_the_end.is_err());
+fn points_with_double_names_are_handed_back(rt: HostRuntime) -> Result<(), Fail> {
+    let list = PointList::new(with_a_double_name(rt.alloc())?);
+    let back = list.err().ok_or("a double name")?;
+    assert!(rt; back.len() == 2);
     Ok(())
 }
 
@@ -126,7 +145,7 @@ fn finds_a_scale(rt: HostRuntime) -> Result<(), Fail> {
     let points = points_of(rt.alloc(), group)?;
     assert!(rt; find_scale(&points, b"w").is_none());
     let scale = find_scale(&points, b"s").ok_or("no scale")?;
-    assert_eq!(rt; scale.address, 124);
-    assert_eq!(rt; scale.function, ReadFunction::HoldingRegisters);
+    assert!(rt; scale.address == 124);
+    assert!(rt; scale.function == ReadFunction::HoldingRegisters);
     Ok(())
 }

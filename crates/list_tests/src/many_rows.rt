@@ -24,7 +24,7 @@ fn many_rows(alloc: Global) -> Result<Vec<u8>, Fail> {
 #[test]
 fn as_many_as_may_be(rt: HostRuntime) -> Result<(), Fail> {
     let list = list_of(rt.alloc(), &many_rows(rt.alloc())?)?;
-    assert_eq!(rt; list.points().len(), 512);
+    assert!(rt; list.points().len() == 512);
     Ok(())
 }
 
@@ -34,7 +34,7 @@ fn too_many(rt: HostRuntime) -> Result<(), Fail> {
         let mut text = many_rows(rt.alloc())?;
         text.extend_from_slice(more.as_bytes())?;
         let found = faults_of(rt.alloc(), &text)?;
-        assert_eq!(rt; found.as_slice(), told.as_bytes(), "{more}");
+        assert!(rt; found.as_slice() == told.as_bytes(), "{more}");
     }
     Ok(())
 }

@@ -1,6 +1,6 @@
 //! Plans of lists that a meter's office writes.
 
-use crate::given::{list_of, text_of};
+use crate::given::{list_of, same, text_of};
 use read_plan::{Plan, plan, rule_is_least};
 use std::alloc::Global;
 use std::io::Write;
@@ -96,12 +96,9 @@ fn places_of(alloc: Global, plan: &Plan) -> Result<Vec<u8>, Fail> {
 fn worked_plans(rt: HostRuntime) -> Result<(), Fail> {
     rule_is_least();
     for want in &PLANS {
-        let rows = want.rows;
-        let plan = planned(rt.alloc(), rows)?;
-        let reads = reads_of(rt.alloc(), &plan)?;
-        let places = places_of(rt.alloc(), &plan)?;
-        assert_eq!(rt; reads.as_slice(), want.reads.as_bytes(), "{rows}");
-        assert_eq!(rt; places.as_slice(), want.places.as_bytes(), "{rows}");
+        let plan = planned(rt.alloc(), want.rows)?;
+        same(&rt, reads_of(rt.alloc(), &plan)?.as_slice(), want.reads);
+        same(&rt, places_of(rt.alloc(), &plan)?.as_slice(), want.places);
     }
     Ok(())
 }

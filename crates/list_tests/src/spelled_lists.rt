@@ -62,7 +62,7 @@ fn ends_of_ranges(rt: HostRuntime) -> Result<(), Fail> {
     let longest = TextLength::new(125).ok_or("no length")?;
     assert!(rt; is_at(a, ReadFunction::InputRegisters, 255, 65535));
     assert!(rt; has_fixed_scale(a, -10));
-    assert_eq!(rt; b.kind, PointType::Text(longest));
+    assert!(rt; b.kind == PointType::Text(longest));
     assert!(rt; has_fixed_scale(c, 0));
     assert!(rt; has_fixed_scale(d, 10));
     Ok(())

@@ -1,0 +1,94 @@
+//! Tests of books that are made anew, and of the laws.
+use crate::samples::HOUSE;
+use energy_core::{Entry, Last};
+use interval_core::Share;
+use meter_journal::{
+    EntryKind, EntryRow, entries_go_on, interval_rows, interval_rows_add_up,
+    interval_rows_are_accounts, journals_are_kept, journals_balance, places_were_kept,
+    rows_lie_within, rows_stand, shares_move_energy, standing_entries_fit, tally_behind,
+    truth_is_kept, voids_change_two_rows, voids_go_no_further, voids_leave_no_trace,
+};
+use std::test::Fail;
+
+/// 5200 at 1900, which was voided, and 5300 at 2800.
+const ROWS: [EntryRow; 2] = [
+    EntryRow {
+        place: 2,
+        kind: EntryKind::Reading,
+        entry: Entry::Step {
+            at: 1900,
+            raw: 5200,
+            rolls: 0,
+        },
+        stands: false,
+    },
+    EntryRow {
+        place: 3,
+        kind: EntryKind::Reading,
+        entry: Entry::Step {
+            at: 2800,
+            raw: 5300,
+            rolls: 0,
+        },
+        stands: true,
+    },
+];
+
+const SHARES: [Share; 3] = [
+    Share {
+        start: 900,
+        mwh: 133_333,
+    },
+    Share {
+        start: 1800,
+        mwh: 150_000,
+    },
+    Share {
+        start: 2700,
+        mwh: 16_667,
+    },
+];
+
+#[test]
+fn books_after_a_void(rt: HostRuntime) {
+    let tally = tally_behind(&HOUSE, &ROWS);
+    assert!(rt;
+        tally.last
+            == Last {
+                at: 2800,
+                raw: 5300,
+                sf: 0
+            }
+    );
+    assert!(rt; tally.total == 300_000);
+}
+
+#[test]
+fn rows_after_a_void(rt: HostRuntime) -> Result<(), Fail> {
+    let shares = interval_rows(rt.alloc(), &HOUSE, &ROWS)?;
+    assert!(rt; shares.as_slice() == SHARES.as_slice());
+    assert!(rt; interval_rows(rt.alloc(), &HOUSE, &[])?.is_empty());
+    Ok(())
+}
+
+#[test]
+fn laws_hold() {
+    journals_balance();
+    journals_are_kept();
+    interval_rows_are_accounts();
+    interval_rows_add_up();
+    truth_is_kept();
+    rows_stand();
+    standing_entries_fit();
+    voids_leave_no_trace();
+}
+
+#[test]
+fn laws_of_one_more_line_hold() {
+    rows_lie_within();
+    entries_go_on();
+    voids_go_no_further();
+    places_were_kept();
+    voids_change_two_rows();
+    shares_move_energy();
+}

@@ -1,0 +1,86 @@
+//! Tests of rows in a list.
+use crate::samples::{HOUSE, of_kind, reading, struck};
+use energy_core::{Entry, Last};
+use meter_journal::{EntryKind, EntryRow, find_row, is_voidable, last_behind, row_behind, strike};
+
+/// The counter of 32 bits all but at its end.
+const TURNING: Last = Last {
+    at: 1000,
+    raw: 4_294_967_200,
+    sf: 0,
+};
+
+#[test]
+fn places_count_on(rt: HostRuntime) {
+    let entry = Entry::Step {
+        at: 1900,
+        raw: 5200,
+        rolls: 0,
+    };
+    let first = row_behind(&[], EntryKind::Reading, entry);
+    assert!(rt; first == reading(2, 1900, 5200, 0));
+    let behind_a_void = row_behind(&[struck(first)], EntryKind::Reading, entry);
+    assert!(rt; behind_a_void == reading(3, 1900, 5200, 0));
+}
+
+#[test]
+fn a_void_over_a_rollover(rt: HostRuntime) {
+    let mut rows = [reading(2, 1900, 4_294_967_290, 0), reading(3, 2800, 104, 1)];
+    strike(&TURNING, &mut rows, 2);
+    assert!(rt; rows[0] == struck(reading(2, 1900, 4_294_967_290, 0)));
+    assert!(rt; rows[1] == reading(3, 2800, 104, 1));
+}
+
+#[test]
+fn a_void_moves_a_rollover(rt: HostRuntime) {
+    let mut rows = [reading(2, 1900, 4, 1), reading(3, 2800, 104, 0)];
+    strike(&TURNING, &mut rows, 2);
+    assert!(rt; rows[0] == struck(reading(2, 1900, 4, 1)));
+    assert!(rt; rows[1] == reading(3, 2800, 104, 1));
+}
+
+#[test]
+fn only_readings_are_voided(rt: HostRuntime) {
+    let row = reading(2, 1900, 5200, 0);
+    let next = reading(3, 2800, 5300, 0);
+    assert!(rt; is_voidable(&row, &None));
+    assert!(rt; is_voidable(&row, &Some(next)));
+    assert!(rt; !is_voidable(&struck(row), &None));
+    assert!(rt; !is_voidable(&of_kind(EntryKind::Manual, row), &None));
+    assert!(rt; !is_voidable(&row, &Some(of_kind(EntryKind::Manual, next))));
+    assert!(rt; !is_voidable(&row, &Some(of_kind(EntryKind::Closing, next))));
+}
+
+#[test]
+fn rows_by_place(rt: HostRuntime) {
+    let rows = [
+        reading(2, 1900, 5200, 0),
+        struck(reading(3, 2000, 5210, 0)),
+        reading(4, 2800, 5300, 0),
+    ];
+    for (place, next) in [(2, Some(rows[2])), (3, Some(rows[2])), (4, None)] {
+        let found = find_row(&rows, place).expect(&rt, "a row");
+        assert!(rt; found.row.place == place && found.next == next, "{place}");
+    }
+    assert!(rt; find_row(&rows, 1).is_none());
+    assert!(rt; find_row(&rows, 5).is_none());
+}
+
+#[test]
+fn the_counter_behind_rows(rt: HostRuntime) {
+    let first = reading(2, 1900, 5200, 0);
+    let change = Entry::Change {
+        at: 2000,
+        before: 5200,
+        after: 520,
+        sf: 1,
+    };
+    let rows = [first, row_behind(&[first], EntryKind::Rescale, change)];
+    let want = Last {
+        at: 2000,
+        raw: 520,
+        sf: 1,
+    };
+    assert!(rt; last_behind(&HOUSE.opening, &rows) == want);
+    assert!(rt; last_behind(&HOUSE.opening, &[struck(first)]) == HOUSE.opening);
+}

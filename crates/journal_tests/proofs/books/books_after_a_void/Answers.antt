@@ -1,5 +1,0 @@
-use Rattle.journal_tests.proofs.House.{house_account}
-use Rattle.journal_tests.proofs.books.books_after_a_void.Goals as goal
-
-pub tally_behind-tally-requires-clause-account : goal.tally_behind-tally-requires-clause-account
-tally_behind-tally-requires-clause-account g c = house_account

@@ -1,0 +1,87 @@
+//! What devices say of themselves.
+use crate::given::{Line, chain_of, image_of, put, same};
+use std::alloc::Global;
+use std::io::{self, Write};
+use std::test::Fail;
+use sun_chain::{Common, Image};
+
+// A model 1 at 2, with two letters in each of four texts, and the device address 3.
+static LINES: [Line; 7] = [
+    Line {
+        address: 0,
+        words: &[0x5375, 0x6E53, 1],
+    },
+    Line {
+        address: 4,
+        words: &[0; 64],
+    },
+    Line {
+        address: 4,
+        words: &[0x4142],
+    },
+    Line {
+        address: 20,
+        words: &[0x4344],
+    },
+    Line {
+        address: 36,
+        words: &[0x4546],
+    },
+    Line {
+        address: 44,
+        words: &[0x4748],
+    },
+    Line {
+        address: 68,
+        words: &[3, 0],
+    },
+];
+
+// The device with a model 1 of this length, whose end follows.
+fn device(alloc: Global, length: u16) -> Result<Image, Fail> {
+    let mut image = image_of(alloc, &LINES)?;
+    put(&mut image, 3, &[length])?;
+    put(&mut image, length.saturating_add(4), &[0xFFFF])?;
+    Ok(image)
+}
+
+// What a device says of itself: its texts, each behind how many registers it has, and its address.
+fn print_common(common: &Common<'_>, output: &mut Vec<u8>) -> io::Result<()> {
+    let texts = [
+        common.manufacturer,
+        common.model,
+        common.options,
+        common.version,
+        common.serial,
+    ];
+    for text in texts {
+        write!(output, "{} ", text.words.len())?;
+        text.write(output)?;
+        output.write_all(b"/")?;
+    }
+    write!(output, "{}", common.device_address.unwrap_or(0))
+}
+
+fn said(alloc: Global, image: &Image) -> Result<Vec<u8>, Fail> {
+    let chain = chain_of(alloc, image)?;
+    let common = chain.common().ok_or("no model 1")?;
+    let mut output = Vec::new(alloc);
+    print_common(&common, &mut output)?;
+    Ok(output)
+}
+
+// The length of model 1, and what the device says: one register more is for padding.
+static SAYINGS: [(u16, &str); 3] = [
+    (66, "16 AB/16 CD/8 EF/8 GH/0 /3"),
+    (65, "16 AB/16 CD/8 EF/8 GH/0 /3"),
+    (64, "16 AB/16 CD/8 EF/8 GH/0 /0"),
+];
+
+#[test]
+fn a_device_says_what_it_is(rt: HostRuntime) -> Result<(), Fail> {
+    for (length, want) in &SAYINGS {
+        let image = device(rt.alloc(), *length)?;
+        same(&rt, said(rt.alloc(), &image)?.as_slice(), want);
+    }
+    Ok(())
+}

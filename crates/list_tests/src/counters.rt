@@ -1,0 +1,26 @@
+//! Counters and their scales.
+use sun_points::{acc32, sunssf};
+
+// The registers of a counter, the high word first, and their count.
+static COUNTS: [(u16, u16, u32); 3] = [
+    (0x0001, 0x0000, 65_536),
+    (0xFFFF, 0xFFFF, 4_294_967_295),
+    (0, 0, 0),
+];
+
+// The register of a scale, and its power of ten.
+static POWERS: [(u16, i16); 3] = [(0xFFFD, -3), (2, 2), (0x8000, 0)];
+
+#[test]
+fn the_high_word_comes_first(rt: HostRuntime) {
+    for (high, low, count) in &COUNTS {
+        assert!(rt; acc32(*high, *low) == *count, "{high} {low}");
+    }
+}
+
+#[test]
+fn powers_have_a_sign(rt: HostRuntime) {
+    for (word, power) in &POWERS {
+        assert!(rt; sunssf(*word) == *power, "{word}");
+    }
+}

@@ -1,0 +1,117 @@
+//! Faults of images, chains and point lists.
+use crate::texts::tells;
+use point_list::{FaultyRow, FaultyRows, ListFault, RowFault, WriteListFault};
+use std::alloc::Global;
+use std::test::Fail;
+use sun_chain::{ChainFault, ImageFault};
+
+const IMAGES: [(ImageFault, &str); 2] = [
+    (
+        ImageFault::PastEnd,
+        "the words would end past address 65535",
+    ),
+    (ImageFault::Memory, "memory ran out"),
+];
+
+const CHAINS: [(ChainFault, &str); 5] = [
+    (
+        ChainFault::NoMark,
+        "the mark SunS stands at none of the addresses 40000, 50000 and 0",
+    ),
+    (
+        ChainFault::Unreadable(40069),
+        "the chain needs address 40069, which was not read",
+    ),
+    (ChainFault::PastEnd, "the chain goes on past address 65535"),
+    (ChainFault::TooMany, "the chain has more than 64 models"),
+    (ChainFault::Memory, "memory ran out"),
+];
+
+const ROWS: [(RowFault, &str); 12] = [
+    (RowFault::Csv, "the row does not have six fields"),
+    (
+        RowFault::Header,
+        "the header is not name,function,area,address,type,scale",
+    ),
+    (
+        RowFault::Name,
+        "the name is not 1 to 32 letters, digits, _ and ., a letter first",
+    ),
+    (RowFault::DoubleName, "an earlier row has the same name"),
+    (RowFault::Function, "the function is not 3 or 4"),
+    (RowFault::Area, "the area is not 0 to 255"),
+    (
+        RowFault::Address,
+        "the address is not 0 to 65535, or the point reaches past 65535",
+    ),
+    (
+        RowFault::Type,
+        "the type is not int16, uint16, enum16, int32, uint32, bitfield32, acc32, sunssf or string1 to string125",
+    ),
+    (
+        RowFault::Scale,
+        "the scale is not empty, -10 to 10 or a name, or the type takes none",
+    ),
+    (
+        RowFault::NoSuchScale,
+        "no point of the type sunssf has the scale's name",
+    ),
+    (
+        RowFault::GroupTooWide,
+        "the point and its scale point differ in function or area, or span more than 125 registers",
+    ),
+    (RowFault::TooMany, "the list has more than 512 points"),
+];
+
+const WRITES: [(WriteListFault, &str); 2] = [
+    (WriteListFault::Write, "the list could not be written"),
+    (WriteListFault::Memory, "memory ran out"),
+];
+
+#[test]
+fn lists(rt: HostRuntime) -> Result<(), Fail> {
+    tells(&rt, rt.alloc(), &IMAGES)?;
+    tells(&rt, rt.alloc(), &CHAINS)?;
+    tells(&rt, rt.alloc(), &ROWS)?;
+    tells(&rt, rt.alloc(), &WRITES)
+}
+
+const FAULTY: [FaultyRow; 2] = [
+    FaultyRow {
+        row: 2,
+        fault: RowFault::Function,
+    },
+    FaultyRow {
+        row: 7,
+        fault: RowFault::Area,
+    },
+];
+
+// The first so many of them.
+fn faulty(alloc: Global, count: usize) -> Result<FaultyRows, Fail> {
+    let mut rows = Vec::new(alloc);
+    for row in FAULTY.iter().take(count) {
+        rows.push(*row)?;
+    }
+    Ok(FaultyRows::new(rows))
+}
+
+#[test]
+fn lists_tell_their_first_row(rt: HostRuntime) -> Result<(), Fail> {
+    let lists = [
+        (
+            ListFault::Faults(faulty(rt.alloc(), 0)?),
+            "no row is faulty",
+        ),
+        (
+            ListFault::Faults(faulty(rt.alloc(), 1)?),
+            "row 2: the function is not 3 or 4",
+        ),
+        (
+            ListFault::Faults(faulty(rt.alloc(), 2)?),
+            "row 2: the function is not 3 or 4 (faulty rows: 2)",
+        ),
+        (ListFault::Memory, "memory ran out"),
+    ];
+    tells(&rt, rt.alloc(), &lists)
+}

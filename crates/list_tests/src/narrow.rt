@@ -1,0 +1,52 @@
+//! A writer that takes a few bytes at a time, is interrupted, and then fails or takes nothing.
+ghost use Rattle.std.specs.Prelude.{◌≤◌, IfOk, length};
+
+use std::alloc::Global;
+use std::io::{self, ErrorKind};
+
+/// Takes up to three bytes at a time, while there is room, and is interrupted before each time. With no room left it
+/// fails, or takes nothing.
+#[derive(Drop)]
+pub struct Narrow {
+    pub taken: Vec<u8>,
+    room: usize,
+    pub fails: bool,
+    interrupted: bool,
+}
+
+impl Narrow {
+    pub fn new(alloc: Global, room: usize, fails: bool) -> Narrow {
+        Narrow {
+            taken: Vec::new(alloc),
+            room,
+            fails,
+            interrupted: false,
+        }
+    }
+
+    fn take(&mut self, bytes: &[u8]) -> io::Result<usize>
+        ensures { IfOk result (λ n. n ≤ length bytes.now) }
+    {
+        let count = bytes.len().min(self.room).min(3);
+        self.taken.extend_from_slice(&bytes[..count])?;
+        self.room -= count;
+        Ok(count)
+    }
+}
+
+impl io::Write for Narrow {
+    fn write(&mut self, bytes: &[u8]) -> io::Result<usize> {
+        self.interrupted = !self.interrupted;
+        if self.interrupted {
+            return Err(io::Error::from(ErrorKind::Interrupted));
+        }
+        if self.fails && self.room == 0 {
+            return Err(io::Error::from(ErrorKind::StorageFull));
+        }
+        self.take(bytes)
+    }
+
+    fn flush(&mut self) -> io::Result<()> {
+        Ok(())
+    }
+}

@@ -1,0 +1,145 @@
+//! The values of points.
+use crate::given::same;
+use point_list::point_type;
+use std::alloc::Global;
+use std::test::Fail;
+use sun_points::{Point, PointType, Scale, Text, TextLength, read_point};
+
+// Registers of a type, what they say, and how that is shown: a type that takes one register reads the first.
+static READINGS: [(&[u8], u16, u16, Point<'static>, &str); 33] = [
+    (b"int16", 0xFFFF, 0, Point::Signed(-1), "-1"),
+    (b"int16", 0x8001, 0, Point::Signed(-32767), "-32767"),
+    (b"int16", 0x7FFF, 0, Point::Signed(32767), "32767"),
+    (b"int16", 0, 0, Point::Signed(0), "0"),
+    (b"int16", 0x8000, 0, Point::Absent, "absent"),
+    (b"uint16", 0x8000, 0, Point::Unsigned(32768), "32768"),
+    (b"uint16", 0xFFFE, 0, Point::Unsigned(65534), "65534"),
+    (b"uint16", 0, 0, Point::Unsigned(0), "0"),
+    (b"uint16", 0xFFFF, 0, Point::Absent, "absent"),
+    (b"enum16", 4, 0, Point::Unsigned(4), "4"),
+    (b"enum16", 0xFFFE, 0, Point::Unsigned(65534), "65534"),
+    (b"enum16", 0xFFFF, 0, Point::Absent, "absent"),
+    (b"int32", 0xFFFF, 0xFFFE, Point::Signed(-2), "-2"),
+    (
+        b"int32",
+        0x8000,
+        1,
+        Point::Signed(-2147483647),
+        "-2147483647",
+    ),
+    (
+        b"int32",
+        0x7FFF,
+        0xFFFF,
+        Point::Signed(2147483647),
+        "2147483647",
+    ),
+    (b"int32", 0, 0, Point::Signed(0), "0"),
+    (b"int32", 0x8000, 0, Point::Absent, "absent"),
+    (b"uint32", 1, 2, Point::Unsigned(65538), "65538"),
+    (
+        b"uint32",
+        0xFFFF,
+        0xFFFE,
+        Point::Unsigned(4294967294),
+        "4294967294",
+    ),
+    (b"uint32", 0, 0, Point::Unsigned(0), "0"),
+    (b"uint32", 0xFFFF, 0xFFFF, Point::Absent, "absent"),
+    (
+        b"bitfield32",
+        0x7FFF,
+        1,
+        Point::Bits(0x7fff0001),
+        "0x7fff0001",
+    ),
+    (
+        b"bitfield32",
+        0,
+        0xAB,
+        Point::Bits(0x000000ab),
+        "0x000000ab",
+    ),
+    (
+        b"bitfield32",
+        0x7FFF,
+        0xFFFF,
+        Point::Bits(0x7fffffff),
+        "0x7fffffff",
+    ),
+    (b"bitfield32", 0, 0, Point::Bits(0x00000000), "0x00000000"),
+    (b"bitfield32", 0x8000, 0, Point::Absent, "absent"),
+    (
+        b"acc32",
+        0xFFFF,
+        0xFFFF,
+        Point::Unsigned(4294967295),
+        "4294967295",
+    ),
+    (b"acc32", 0, 1, Point::Unsigned(1), "1"),
+    (b"acc32", 0, 0, Point::Absent, "absent"),
+    (b"sunssf", 0xFFFD, 0, Point::Signed(-3), "-3"),
+    (b"sunssf", 10, 0, Point::Signed(10), "10"),
+    (b"sunssf", 0xFFF6, 0, Point::Signed(-10), "-10"),
+    (b"sunssf", 0x8000, 0, Point::Absent, "absent"),
+];
+
+// Whether registers of a type say a value, which is shown so.
+fn is_read(
+    alloc: Global,
+    ty: PointType,
+    words: &[u16],
+    value: Point<'_>,
+    shown: &str,
+) -> Result<bool, Fail> {
+    let count = usize::from(ty.registers());
+    let point = read_point(ty, words.get(..count).ok_or("too few words")?);
+    let mut text = Vec::new(alloc);
+    point.write(Scale::default(), &mut text)?;
+    Ok(point == value && text.as_slice() == shown.as_bytes())
+}
+
+#[test]
+fn registers_are_read_by_type(rt: HostRuntime) -> Result<(), Fail> {
+    for (i, (name, high, low, value, shown)) in READINGS.iter().enumerate() {
+        let ty = point_type(name).ok_or("no such type")?;
+        let is_so = is_read(rt.alloc(), ty, &[*high, *low], *value, shown)?;
+        assert!(rt; is_so, "reading {i}");
+    }
+    Ok(())
+}
+
+// Texts of eight registers: one of zeros, and one of which only the first is not 0.
+#[test]
+fn a_text_of_zeros_is_absent(rt: HostRuntime) -> Result<(), Fail> {
+    let ty = PointType::Text(TextLength::EIGHT);
+    let zeros = [0; 8];
+    assert!(rt; is_read(rt.alloc(), ty, &zeros, Point::Absent, "absent")?);
+    let words = [0x4F4B, 0, 0, 0, 0, 0, 0, 0];
+    let text = Point::Text(Text { words: &words });
+    assert!(rt; is_read(rt.alloc(), ty, &words, text, "OK")?);
+    Ok(())
+}
+
+// Values at a tenth.
+static TENTHS: [(Point<'static>, &str); 4] = [
+    (Point::Absent, "absent"),
+    (Point::Signed(-15), "-1.5"),
+    (Point::Unsigned(4294967295), "429496729.5"),
+    (Point::Bits(0xAB), "0x000000ab"),
+];
+
+fn at_a_tenth(alloc: Global, point: &Point<'_>) -> Result<Vec<u8>, Fail> {
+    let tenth = Scale::new(0xFFFF).ok_or("no scale")?;
+    let mut output = Vec::new(alloc);
+    point.write(tenth, &mut output)?;
+    Ok(output)
+}
+
+#[test]
+fn numbers_are_scaled(rt: HostRuntime) -> Result<(), Fail> {
+    for (point, want) in &TENTHS {
+        same(&rt, at_a_tenth(rt.alloc(), point)?.as_slice(), want);
+    }
+    Ok(())
+}

@@ -1,0 +1,126 @@
+//! A device's values.
+use crate::devices::GAPS;
+use mb_device::{Area, Bank, BankFault, Kind};
+use std::test::Fail;
+
+// A value that is set where there is an address or none, and the value that is then got.
+struct Write {
+    kind: Kind,
+    address: u16,
+    value: u16,
+    kept: Option<u16>,
+}
+
+static WRITES: [Write; 6] = [
+    Write {
+        kind: Kind::Holding,
+        address: 11,
+        value: 7,
+        kept: Some(7),
+    },
+    Write {
+        kind: Kind::Holding,
+        address: 12,
+        value: 8,
+        kept: Some(8),
+    },
+    Write {
+        kind: Kind::Holding,
+        address: 13,
+        value: 0,
+        kept: Some(0),
+    },
+    Write {
+        kind: Kind::Coil,
+        address: 10,
+        value: 5,
+        kept: Some(1),
+    },
+    Write {
+        kind: Kind::Holding,
+        address: 14,
+        value: 1,
+        kept: None,
+    },
+    Write {
+        kind: Kind::Input,
+        address: 10,
+        value: 1,
+        kept: None,
+    },
+];
+
+#[test]
+fn values_are_kept_where_there_are_addresses(rt: HostRuntime) -> Result<(), Fail> {
+    let mut bank = Bank::new(rt.alloc(), &GAPS).ok().ok_or("no bank")?;
+    for write in &WRITES {
+        let is_there = bank.set(write.kind, write.address, write.value);
+        assert!(rt; is_there == write.kept.is_some());
+    }
+    for write in &WRITES {
+        assert!(rt; bank.get(write.kind, write.address) == write.kept);
+    }
+    Ok(())
+}
+
+// Areas that make no bank beside ten coils from 0, the fault and its number.
+struct Refused {
+    area: Area,
+    fault: BankFault,
+    number: u8,
+}
+
+static REFUSED: [Refused; 4] = [
+    Refused {
+        area: Area {
+            kind: Kind::Coil,
+            start: 9,
+            count: 1,
+        },
+        fault: BankFault::AreasOverlap,
+        number: 1,
+    },
+    Refused {
+        area: Area {
+            kind: Kind::Coil,
+            start: 9,
+            count: 65536,
+        },
+        fault: BankFault::AreasOverlap,
+        number: 1,
+    },
+    Refused {
+        area: Area {
+            kind: Kind::Input,
+            start: 9,
+            count: 0,
+        },
+        fault: BankFault::OutOfRange,
+        number: 2,
+    },
+    Refused {
+        area: Area {
+            kind: Kind::Input,
+            start: 1,
+            count: 65536,
+        },
+        fault: BankFault::OutOfRange,
+        number: 2,
+    },
+];
+
+#[test]
+fn areas_have_their_faults(rt: HostRuntime) -> Result<(), Fail> {
+    let coils = Area {
+        kind: Kind::Coil,
+        start: 0,
+        count: 10,
+    };
+    for refused in &REFUSED {
+        let made = Bank::new(rt.alloc(), &[coils, refused.area]);
+        let fault = made.err().ok_or("no fault")?;
+        assert!(rt; (fault, fault.number()) == (refused.fault, refused.number));
+    }
+    assert!(rt; BankFault::Memory.number() == 3);
+    Ok(())
+}

@@ -1,0 +1,98 @@
+//! The least and the greatest windows and timeouts: 1 and 16 polls that wait, 1 and 60 seconds.
+use crate::first_poll::first_poll;
+use crate::session_script::{Asked, Event, GOOD, Line, play, refuse, start};
+use poll_core::{Outcome, Session, StartFault};
+use std::process::Abort;
+use std::test::Fail;
+
+// Starts so many polls, and looks at whether one more is refused.
+fn fill(rt: &impl Abort, session: &mut Session, window: u8) -> Result<(), Fail> {
+    for number in 0..window {
+        let asked = Asked {
+            moment: 1000,
+            poll: u64::from(number),
+            address: 0,
+            count: 1,
+            frame: [0, number, 0, 0, 0, 6, 1, 3, 0, 0, 0, 1],
+        };
+        start(rt, session, &asked)?;
+    }
+    refuse(rt, session, 1000, StartFault::WindowFull)
+}
+
+#[test]
+fn windows_hold_1_to_16_polls(rt: HostRuntime) -> Result<(), Fail> {
+    fill(&rt, &mut Session::new(5, 1), 1)?;
+    fill(&rt, &mut Session::new(5, 16), 16)
+}
+
+/// The first poll was started at 100: what comes in its last second, and at its deadline.
+static TIMEOUTS: [(u64, &[Line]); 4] = [
+    (
+        1,
+        &[
+            Line {
+                event: Event::Tick { moment: 100 },
+                told: &[],
+            },
+            Line {
+                event: Event::Tick { moment: 101 },
+                told: &[(1, Outcome::Silent)],
+            },
+        ],
+    ),
+    (
+        1,
+        &[
+            Line {
+                event: Event::Piece {
+                    moment: 100,
+                    bytes: &GOOD,
+                },
+                told: &[(1, Outcome::Answered)],
+            },
+            Line {
+                event: Event::Tick { moment: 101 },
+                told: &[],
+            },
+        ],
+    ),
+    (
+        60,
+        &[
+            Line {
+                event: Event::Tick { moment: 159 },
+                told: &[],
+            },
+            Line {
+                event: Event::Tick { moment: 160 },
+                told: &[(1, Outcome::Silent)],
+            },
+        ],
+    ),
+    (
+        60,
+        &[
+            Line {
+                event: Event::Piece {
+                    moment: 159,
+                    bytes: &GOOD,
+                },
+                told: &[(1, Outcome::Answered)],
+            },
+            Line {
+                event: Event::Tick { moment: 160 },
+                told: &[],
+            },
+        ],
+    ),
+];
+
+#[test]
+fn polls_wait_for_1_to_60_seconds(rt: HostRuntime) -> Result<(), Fail> {
+    for (timeout, lines) in &TIMEOUTS {
+        let mut session = first_poll(&rt, *timeout, 1)?;
+        play(&rt, rt.alloc(), &mut session, lines)?;
+    }
+    Ok(())
+}

@@ -1,0 +1,62 @@
+//! Devices that the tests share, and what they answer.
+use crate::examples::Exchange;
+use mb_device::{Area, Bank, Kind};
+use std::alloc::Global;
+use std::process::Abort;
+
+/// Two holding areas side by side, one behind a gap, and a coil.
+pub(crate) static GAPS: [Area; 4] = [
+    Area {
+        kind: Kind::Holding,
+        start: 10,
+        count: 2,
+    },
+    Area {
+        kind: Kind::Holding,
+        start: 12,
+        count: 2,
+    },
+    Area {
+        kind: Kind::Holding,
+        start: 20,
+        count: 1,
+    },
+    Area {
+        kind: Kind::Coil,
+        start: 10,
+        count: 1,
+    },
+];
+
+static REGISTERS: [Area; 1] = [Area {
+    kind: Kind::Holding,
+    start: 0,
+    count: 125,
+}];
+
+/// A device whose holding register 0 is 9.
+pub(crate) fn bank_with_nine(alloc: Global) -> Result<Bank, &'static str> {
+    let mut bank = Bank::new(alloc, &REGISTERS).ok().ok_or("no bank")?;
+    bank.set(Kind::Holding, 0, 9);
+    Ok(bank)
+}
+
+/// Whether the bank answers a PDU with these bytes.
+pub(crate) fn answers(bank: &mut Bank, pdu: &[u8], answer: &[u8]) -> bool {
+    if pdu.is_empty() || pdu.len() > 253 {
+        return false;
+    }
+    let mut out = [1; 253];
+    let count = bank.answer(pdu, &mut out);
+    out.get(..count) == Some(answer)
+}
+
+/// The bank answers each request so.
+pub(crate) fn answers_all(rt: &impl Abort, bank: &mut Bank, exchanges: &[Exchange]) {
+    for (i, exchange) in exchanges.iter().enumerate() {
+        assert!(rt;
+            answers(bank, exchange.request, exchange.reply),
+            "request {i}"
+        );
+    }
+}

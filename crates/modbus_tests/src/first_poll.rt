@@ -1,0 +1,184 @@
+//! What comes to a session whose poll 1 was started at 100.
+use crate::session_script::{Asked, Event, GOOD, Line, feed, play, start};
+use poll_core::{LostCause, Malformation, Outcome, Session};
+use std::alloc::Global;
+use std::process::Abort;
+use std::test::Fail;
+
+/// The poll asks for 3 registers from 40094.
+static FIRST: Asked = Asked {
+    moment: 100,
+    poll: 1,
+    address: 40094,
+    count: 3,
+    frame: [0, 0, 0, 0, 0, 6, 1, 3, 0x9c, 0x9e, 0, 3],
+};
+
+/// A session of that timeout and window with the first poll.
+pub fn first_poll(rt: &impl Abort, timeout: u64, window: usize) -> Result<Session, Fail> {
+    assert!(rt; 1 <= timeout && timeout <= 60);
+    assert!(rt; 1 <= window && window <= 16);
+    let mut session = Session::new(timeout, window);
+    start(rt, &mut session, &FIRST)?;
+    Ok(session)
+}
+
+/// Within a timeout of 5 seconds.
+static REPLIES: [[Line; 2]; 4] = [
+    [
+        Line {
+            event: Event::Piece {
+                moment: 104,
+                bytes: &GOOD,
+            },
+            told: &[(1, Outcome::Answered)],
+        },
+        // a second reply is a stray
+        Line {
+            event: Event::Piece {
+                moment: 104,
+                bytes: &GOOD,
+            },
+            told: &[],
+        },
+    ],
+    // at the deadline
+    [
+        Line {
+            event: Event::Piece {
+                moment: 105,
+                bytes: &GOOD,
+            },
+            told: &[(1, Outcome::Silent)],
+        },
+        Line {
+            event: Event::Tick { moment: 106 },
+            told: &[],
+        },
+    ],
+    // twice in one piece
+    [
+        Line {
+            event: Event::Piece {
+                moment: 104,
+                bytes: &[
+                    0, 0, 0, 0, 0, 9, 1, 3, 6, 0, 0, 20, 80, 0, 0, 0, 0, 0, 0, 0, 9, 1, 3, 6, 0, 0,
+                    20, 80, 0, 0,
+                ],
+            },
+            told: &[(1, Outcome::Answered)],
+        },
+        Line {
+            event: Event::Piece {
+                moment: 104,
+                bytes: &GOOD,
+            },
+            told: &[],
+        },
+    ],
+    // with transaction identifier 9, so that the poll waits on
+    [
+        Line {
+            event: Event::Piece {
+                moment: 104,
+                bytes: &[0, 9, 0, 0, 0, 9, 1, 3, 6, 0, 0, 20, 80, 0, 0],
+            },
+            told: &[],
+        },
+        Line {
+            event: Event::Piece {
+                moment: 104,
+                bytes: &GOOD,
+            },
+            told: &[(1, Outcome::Answered)],
+        },
+    ],
+];
+
+static OTHER_FRAMES: [[Line; 1]; 6] = [
+    [Line {
+        event: Event::Piece {
+            moment: 104,
+            bytes: &[0, 0, 0, 0, 0, 3, 1, 0x83, 6],
+        },
+        told: &[(1, Outcome::Exception(6))],
+    }],
+    [Line {
+        event: Event::Piece {
+            moment: 104,
+            bytes: &[0, 0, 0, 0, 0, 3, 2, 0x83, 6],
+        },
+        told: &[(1, Outcome::Malformed(Malformation::WrongUnit))],
+    }],
+    [Line {
+        event: Event::Piece {
+            moment: 104,
+            bytes: &[0, 0, 0, 0, 0, 3, 1, 0x84, 2],
+        },
+        told: &[(1, Outcome::Malformed(Malformation::WrongFunction))],
+    }],
+    [Line {
+        event: Event::Piece {
+            moment: 104,
+            bytes: &[0, 0, 0, 0, 0, 4, 1, 0x83, 2, 0],
+        },
+        told: &[(1, Outcome::Malformed(Malformation::WrongLength))],
+    }],
+    [Line {
+        event: Event::Piece {
+            moment: 104,
+            bytes: &[0, 0, 0, 0, 0, 7, 1, 3, 4, 0, 0, 0, 0],
+        },
+        told: &[(1, Outcome::Malformed(Malformation::WrongByteCount))],
+    }],
+    [Line {
+        event: Event::Piece {
+            moment: 104,
+            bytes: &[0, 0, 0, 0, 0, 1],
+        },
+        told: &[(1, Outcome::Lost(LostCause::Garbled))],
+    }],
+];
+
+/// Plays the lines on sessions of a timeout of 5 seconds and of each window, after their first poll.
+pub fn play_at_windows(rt: &impl Abort, alloc: Global, lines: &[Line]) -> Result<(), Fail> {
+    for window in [1, 2, 16] {
+        let mut session = first_poll(rt, 5, window)?;
+        play(rt, alloc, &mut session, lines)?;
+    }
+    Ok(())
+}
+
+/// Brings the reply byte by byte: the last one settles the poll.
+fn feed_bytes(rt: &impl Abort, alloc: Global, session: &mut Session) -> Result<(), Fail> {
+    for (i, byte) in GOOD.iter().enumerate() {
+        let told = feed(rt, alloc, session, 104, &[*byte])?;
+        assert!(rt; told.len() == usize::from(i == 14), "byte {i}");
+    }
+    Ok(())
+}
+
+#[test]
+fn a_reply_in_time_answers(rt: HostRuntime) -> Result<(), Fail> {
+    for lines in &REPLIES {
+        play_at_windows(&rt, rt.alloc(), lines)?;
+    }
+    Ok(())
+}
+
+#[test]
+fn other_frames_are_no_answers(rt: HostRuntime) -> Result<(), Fail> {
+    for lines in &OTHER_FRAMES {
+        play_at_windows(&rt, rt.alloc(), lines)?;
+    }
+    Ok(())
+}
+
+#[test]
+fn a_reply_may_come_byte_by_byte(rt: HostRuntime) -> Result<(), Fail> {
+    for window in [1, 2, 16] {
+        let mut session = first_poll(&rt, 5, window)?;
+        feed_bytes(&rt, rt.alloc(), &mut session)?;
+    }
+    Ok(())
+}

@@ -1,0 +1,79 @@
+//! The lengths that a header may say: those of a unit and a PDU of 1 to 253 bytes (Messaging on TCP/IP Implementation
+//! Guide V1.0b, section 3.1.3).
+use crate::devices::bank_with_nine;
+use mb_device::{ServeFault, Server};
+use mb_wire::{Fed, FrameReader, Framing, MemoryLink, write_frame};
+use std::alloc::Global;
+use std::test::Fail;
+
+// A length, how many bytes are taken of a frame, and what that is.
+static LENGTHS: [(u16, usize, Framing); 7] = [
+    (0, 6, Framing::Garbled),
+    (1, 6, Framing::Garbled),
+    (2, 8, Framing::Whole),
+    (254, 260, Framing::Whole),
+    (255, 6, Framing::Garbled),
+    (256, 6, Framing::Garbled),
+    (65535, 6, Framing::Garbled),
+];
+
+// A frame of a function that no device has, and bytes behind it.
+fn frame_of(length: u16) -> [u8; 261] {
+    let [high, low] = length.to_be_bytes();
+    let mut frame = [0x2B; 261];
+    frame[..7].copy_from_slice(&[0, 9, 0, 0, high, low, 7]);
+    frame
+}
+
+#[test]
+fn frames_have_lawful_lengths(rt: HostRuntime) {
+    for (length, taken, what) in LENGTHS {
+        let fed = FrameReader::new().feed(&frame_of(length));
+        assert!(rt; fed == Fed { taken, what }, "length {length}");
+    }
+}
+
+// What a server answers to a frame alone, and gives.
+static SERVED: [(u16, Result<u64, ServeFault>, &[u8]); 4] = [
+    (1, Err(ServeFault::Garbled), &[]),
+    (2, Ok(1), &[0, 9, 0, 0, 0, 3, 7, 0xAB, 1]),
+    (254, Ok(1), &[0, 9, 0, 0, 0, 3, 7, 0xAB, 1]),
+    (255, Err(ServeFault::Garbled), &[]),
+];
+
+fn is_served(
+    alloc: Global,
+    length: u16,
+    answer: Result<u64, ServeFault>,
+    given: &[u8],
+) -> Result<bool, &'static str> {
+    let mut bank = bank_with_nine(alloc)?;
+    let frame = frame_of(length);
+    let input = &frame[..usize::from(length).min(255) + 6];
+    let mut output = [0; 16];
+    let mut link = MemoryLink::new(input, &mut output, 300, None);
+    let served = Server::new().serve(&mut link, &mut bank, 2);
+    Ok(served == answer && link.given() == given)
+}
+
+#[test]
+fn frames_of_lawful_lengths_are_served(rt: HostRuntime) -> Result<(), Fail> {
+    for (length, answer, given) in SERVED {
+        let served = is_served(rt.alloc(), length, answer, given)?;
+        assert!(rt; served, "length {length}");
+    }
+    Ok(())
+}
+
+// How many bytes a PDU has, how many its frame has, and the length that stands in it.
+static WRITTEN: [(usize, usize, [u8; 2]); 2] = [(1, 8, [0, 2]), (253, 260, [0, 254])];
+
+#[test]
+fn frames_are_written_with_their_lengths(rt: HostRuntime) {
+    let pdu = [3; 253];
+    for (count, size, length) in WRITTEN {
+        let mut out = [0; 260];
+        let written = write_frame(5, 1, &pdu[..count.clamp(1, 253)], &mut out);
+        assert!(rt; written == size && out[4..6] == length[..], "{count}");
+    }
+}

@@ -1,0 +1,235 @@
+//! A server over a link.
+use crate::devices::bank_with_nine;
+use mb_device::{Bank, Kind, ServeFault, Server, Turned};
+use mb_wire::{Link, MemoryLink};
+use std::alloc::Global;
+use std::test::Fail;
+
+// A read of holding register 0 by unit 1, and its answer where the register is 9.
+const READ: &[u8] = &[0, 7, 0, 0, 0, 6, 1, 3, 0, 0, 0, 1];
+
+const NINE: &[u8] = &[0, 7, 0, 0, 0, 5, 1, 3, 2, 0, 9];
+
+const TWO_READS: &[u8] = &[
+    0, 7, 0, 0, 0, 6, 1, 3, 0, 0, 0, 1, 0, 7, 0, 0, 0, 6, 1, 3, 0, 0, 0, 1,
+];
+
+const TWO_NINES: &[u8] = &[
+    0, 7, 0, 0, 0, 5, 1, 3, 2, 0, 9, 0, 7, 0, 0, 0, 5, 1, 3, 2, 0, 9,
+];
+
+// A frame of another protocol, a write of 5 to holding register 0, and a read of it, each with a
+// transaction identifier and a unit of its own.
+const MIXED: &[u8] = &[
+    0, 1, 0, 9, 0, 3, 1, 3, 0, 0, 2, 0, 0, 0, 6, 2, 6, 0, 0, 0, 5, 1, 3, 0, 0, 0, 6, 3, 3, 0, 0, 0,
+    1,
+];
+
+const MIXED_ANSWERS: &[u8] = &[
+    0, 2, 0, 0, 0, 6, 2, 6, 0, 0, 0, 5, 1, 3, 0, 0, 0, 5, 3, 3, 2, 0, 5,
+];
+
+// The read, and a frame of a bad length.
+const GARBLED: &[u8] = &[
+    0, 7, 0, 0, 0, 6, 1, 3, 0, 0, 0, 1, 0, 8, 0, 0, 0, 1, 1, 3, 0, 0, 0, 1,
+];
+
+// A stream that is served in so many turns, over a link that hands out so many bytes at a time and
+// fails at one call or none; and what that comes to.
+struct Case {
+    input: &'static [u8],
+    piece: usize,
+    fails: Option<u64>,
+    turns: u32,
+    served: Result<u64, ServeFault>,
+    given: &'static [u8],
+    takes: u64,
+    failures: u64,
+}
+
+static CASES: [Case; 11] = [
+    // Turns are enough, or not.
+    Case {
+        input: READ,
+        piece: 12,
+        fails: None,
+        turns: 2,
+        served: Ok(1),
+        given: NINE,
+        takes: 2,
+        failures: 0,
+    },
+    Case {
+        input: READ,
+        piece: 12,
+        fails: None,
+        turns: 1,
+        served: Err(ServeFault::TurnsUsed),
+        given: NINE,
+        takes: 1,
+        failures: 0,
+    },
+    // Pieces of one byte.
+    Case {
+        input: MIXED,
+        piece: 1,
+        fails: None,
+        turns: 34,
+        served: Ok(2),
+        given: MIXED_ANSWERS,
+        takes: 34,
+        failures: 0,
+    },
+    // Each call of the link fails in turn, and none.
+    Case {
+        input: TWO_READS,
+        piece: 12,
+        fails: Some(1),
+        turns: 9,
+        served: Err(ServeFault::Read),
+        given: &[],
+        takes: 1,
+        failures: 1,
+    },
+    Case {
+        input: TWO_READS,
+        piece: 12,
+        fails: Some(2),
+        turns: 9,
+        served: Err(ServeFault::Write),
+        given: &[],
+        takes: 1,
+        failures: 1,
+    },
+    Case {
+        input: TWO_READS,
+        piece: 12,
+        fails: Some(3),
+        turns: 9,
+        served: Err(ServeFault::Read),
+        given: NINE,
+        takes: 2,
+        failures: 1,
+    },
+    Case {
+        input: TWO_READS,
+        piece: 12,
+        fails: Some(4),
+        turns: 9,
+        served: Err(ServeFault::Write),
+        given: NINE,
+        takes: 2,
+        failures: 1,
+    },
+    Case {
+        input: TWO_READS,
+        piece: 12,
+        fails: Some(5),
+        turns: 9,
+        served: Err(ServeFault::Read),
+        given: TWO_NINES,
+        takes: 3,
+        failures: 1,
+    },
+    Case {
+        input: TWO_READS,
+        piece: 12,
+        fails: Some(6),
+        turns: 9,
+        served: Ok(2),
+        given: TWO_NINES,
+        takes: 3,
+        failures: 0,
+    },
+    // A garbled stream is told after its answers.
+    Case {
+        input: GARBLED,
+        piece: 1,
+        fails: None,
+        turns: 40,
+        served: Err(ServeFault::Garbled),
+        given: NINE,
+        takes: 18,
+        failures: 0,
+    },
+    Case {
+        input: GARBLED,
+        piece: 24,
+        fails: None,
+        turns: 40,
+        served: Err(ServeFault::Garbled),
+        given: NINE,
+        takes: 1,
+        failures: 0,
+    },
+];
+
+// Whether a server answers Garbled, and takes and gives nothing more.
+fn is_over(server: &mut Server, link: &mut MemoryLink<'_>, bank: &mut Bank) -> bool {
+    let before = (link.given().len(), link.takes());
+    let served = server.serve(link, bank, 9);
+    served == Err(ServeFault::Garbled) && (link.given().len(), link.takes()) == before
+}
+
+// Whether serving comes to what is said, and a fault is for good.
+fn is_served(alloc: Global, case: &Case) -> Result<bool, &'static str> {
+    let mut bank = bank_with_nine(alloc)?;
+    let mut output = [0; 40];
+    let mut link = MemoryLink::new(case.input, &mut output, case.piece.max(1), case.fails);
+    let mut server = Server::new();
+    let served = server.serve(&mut link, &mut bank, case.turns);
+    let is_told = served == case.served && link.given() == case.given;
+    let counts = (link.takes(), link.failures());
+    let is_over = is_over(&mut server, &mut link, &mut bank);
+    Ok(is_told && counts == (case.takes, case.failures) && is_over == served.is_err())
+}
+
+#[test]
+fn streams_are_served(rt: HostRuntime) -> Result<(), Fail> {
+    for (i, case) in CASES.iter().enumerate() {
+        assert!(rt; is_served(rt.alloc(), case)?, "case {i}");
+    }
+    Ok(())
+}
+
+#[test]
+fn one_turn_answers_each_frame_of_its_piece(rt: HostRuntime) -> Result<(), Fail> {
+    let mut bank = bank_with_nine(rt.alloc())?;
+    let mut output = [0; 40];
+    let mut link = MemoryLink::new(MIXED, &mut output, 260, None);
+    let mut server = Server::new();
+    for (answered, ended) in [(2, false), (0, true)] {
+        let turned = server.turn(&mut link, &mut bank);
+        assert!(rt; turned == Ok(Turned { answered, ended }));
+    }
+    assert!(rt; link.given() == MIXED_ANSWERS);
+    Ok(())
+}
+
+#[test]
+fn a_full_output_breaks_an_answer_off(rt: HostRuntime) -> Result<(), Fail> {
+    let mut bank = bank_with_nine(rt.alloc())?;
+    let mut output = [0; 5];
+    let mut link = MemoryLink::new(MIXED, &mut output, 260, None);
+    let mut server = Server::new();
+    for fault in [ServeFault::Write, ServeFault::Garbled] {
+        assert!(rt; server.turn(&mut link, &mut bank) == Err(fault));
+        assert!(rt; link.given() == [0, 2, 0, 0, 0].as_slice());
+    }
+    assert!(rt; bank.get(Kind::Holding, 0) == Some(5));
+    Ok(())
+}
+
+static NUMBERS: [(ServeFault, u8); 4] = [
+    (ServeFault::Read, 1),
+    (ServeFault::Write, 2),
+    (ServeFault::Garbled, 3),
+    (ServeFault::TurnsUsed, 4),
+];
+
+#[test]
+fn serve_faults_have_their_numbers(rt: HostRuntime) {
+    for (fault, number) in NUMBERS {
+        assert!(rt; fault.number() == number, "{number}");
+    }
+}

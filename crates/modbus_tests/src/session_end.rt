@@ -1,0 +1,73 @@
+//! Four bytes of a reply to the first poll come, and then the session ends.
+use crate::first_poll::play_at_windows;
+use crate::session_script::{Event, Line};
+use poll_core::{Closing, LostCause, Outcome, StartFault};
+use std::test::Fail;
+
+const FOUR_BYTES: Line = Line {
+    event: Event::Piece {
+        moment: 104,
+        bytes: &[0, 0, 0, 0],
+    },
+    told: &[],
+};
+
+const NO_START: Line = Line {
+    event: Event::Refused {
+        moment: 105,
+        fault: StartFault::Closed,
+    },
+    told: &[],
+};
+
+const NO_ROOM: Line = Line {
+    event: Event::Ready { id: 1, count: 0 },
+    told: &[],
+};
+
+static ENDS: [[Line; 4]; 3] = [
+    [
+        FOUR_BYTES,
+        Line {
+            event: Event::Close {
+                moment: 104,
+                closing: Closing::Gone,
+            },
+            told: &[(1, Outcome::Lost(LostCause::Gone))],
+        },
+        NO_START,
+        NO_ROOM,
+    ],
+    [
+        FOUR_BYTES,
+        Line {
+            event: Event::Close {
+                moment: 104,
+                closing: Closing::Failed,
+            },
+            told: &[(1, Outcome::Lost(LostCause::Failed))],
+        },
+        NO_START,
+        NO_ROOM,
+    ],
+    [
+        FOUR_BYTES,
+        Line {
+            event: Event::Close {
+                moment: 105,
+                closing: Closing::Gone,
+            },
+            told: &[(1, Outcome::Silent)],
+        },
+        NO_START,
+        NO_ROOM,
+    ],
+];
+
+#[test]
+fn the_end_of_a_session_loses_polls(rt: HostRuntime) -> Result<(), Fail> {
+    for lines in &ENDS {
+        play_at_windows(&rt, rt.alloc(), lines)?;
+    }
+    Ok(())
+}

@@ -1,0 +1,177 @@
+//! Events of a session as tables, each with what it tells.
+use mb_wire::ReadSpan;
+use poll_core::{Closing, Outcome, Session, StartFault};
+use std::alloc::Global;
+use std::process::Abort;
+use std::test::Fail;
+
+/// The latest moment that a session knows.
+const LATEST: u64 = 4_102_444_800;
+
+/// A reply of unit 1 to the poll with transaction identifier 0: the registers 0, 5200, 0.
+pub const GOOD: [u8; 15] = [0, 0, 0, 0, 0, 9, 1, 3, 6, 0, 0, 20, 80, 0, 0];
+
+/// A poll by its number, and how it ended.
+pub type Told = (u64, Outcome);
+
+/// An event, and what it tells.
+pub struct Line {
+    pub event: Event,
+    pub told: &'static [Told],
+}
+
+pub enum Event {
+    Start(Asked),
+    Refused { moment: u64, fault: StartFault },
+    Ready { id: u16, count: usize },
+    Piece { moment: u64, bytes: &'static [u8] },
+    Tick { moment: u64 },
+    Close { moment: u64, closing: Closing },
+}
+
+/// A poll of holding registers of unit 1, and the frame that asks for them.
+#[derive(Clone, Copy)]
+pub struct Asked {
+    pub moment: u64,
+    pub poll: u64,
+    pub address: u16,
+    pub count: u16,
+    pub frame: [u8; 12],
+}
+
+/// Brings the events in order, and looks at what each tells.
+pub fn play(
+    rt: &impl Abort,
+    alloc: Global,
+    session: &mut Session,
+    lines: &[Line],
+) -> Result<(), Fail> {
+    for (i, line) in lines.iter().enumerate() {
+        let told = bring(rt, alloc, session, &line.event)?;
+        assert!(rt; told.as_slice() == line.told, "line {i}");
+    }
+    Ok(())
+}
+
+fn bring(
+    rt: &impl Abort,
+    alloc: Global,
+    session: &mut Session,
+    event: &Event,
+) -> Result<Vec<Told>, Fail> {
+    match event {
+        Event::Start(asked) => start(rt, session, asked)?,
+        Event::Refused { moment, fault } => refuse(rt, session, *moment, *fault)?,
+        Event::Ready { id, count } => is_ready(rt, session, *id, *count),
+        Event::Piece { moment, bytes } => return feed(rt, alloc, session, *moment, bytes),
+        Event::Tick { moment } => return tick(rt, alloc, session, *moment),
+        Event::Close { moment, closing } => return close(rt, alloc, session, *moment, *closing),
+    }
+    Ok(Vec::new(alloc))
+}
+
+// Tries to start the poll, and says how many bytes its frame has.
+fn try_start(
+    rt: &impl Abort,
+    session: &mut Session,
+    asked: &Asked,
+    out: &mut [u8; 260],
+) -> Result<Result<usize, StartFault>, Fail> {
+    assert!(rt; !session.settling());
+    assert!(rt; asked.moment <= LATEST);
+    let span = ReadSpan::new(3, asked.address, asked.count).ok_or("no span")?;
+    Ok(session.start(asked.moment, asked.poll, 1, span, out))
+}
+
+/// Starts the poll, and looks at its frame.
+pub fn start(rt: &impl Abort, session: &mut Session, asked: &Asked) -> Result<(), Fail> {
+    let mut out = [0; 260];
+    let started = try_start(rt, session, asked, &mut out)?;
+    assert!(rt; started == Ok(12) && out[..12] == asked.frame[..]);
+    Ok(())
+}
+
+/// Tries to start a poll, and looks at why that is refused.
+pub fn refuse(
+    rt: &impl Abort,
+    session: &mut Session,
+    moment: u64,
+    fault: StartFault,
+) -> Result<(), Fail> {
+    let asked = Asked {
+        moment,
+        poll: 99,
+        address: 0,
+        count: 1,
+        frame: [0; 12],
+    };
+    let mut out = [0; 260];
+    let started = try_start(rt, session, &asked, &mut out)?;
+    assert!(rt; started == Err(fault));
+    Ok(())
+}
+
+/// Looks at the next transaction identifier, and at how many polls may start.
+pub fn is_ready(rt: &impl Abort, session: &Session, id: u16, count: usize) {
+    let ready = session.ready();
+    assert!(rt; ready.id == id && ready.count == count);
+}
+
+/// Brings a piece, and lists what it settles.
+pub fn feed(
+    rt: &impl Abort,
+    alloc: Global,
+    session: &mut Session,
+    moment: u64,
+    piece: &[u8],
+) -> Result<Vec<Told>, Fail> {
+    assert!(rt; !session.settling());
+    assert!(rt; moment <= LATEST);
+    let mut told = Vec::new(alloc);
+    let mut at = 0;
+    'turns: loop {
+        let turn = session.next(moment, &piece[at..])?;
+        at += turn.taken;
+        match turn.settled {
+            None => return Ok(told),
+            Some(settled) => told.push((settled.poll, settled.outcome))?,
+        }
+    }
+}
+
+/// Brings a moment with no bytes, and lists what it settles.
+fn tick(
+    rt: &impl Abort,
+    alloc: Global,
+    session: &mut Session,
+    moment: u64,
+) -> Result<Vec<Told>, Fail> {
+    assert!(rt; !session.settling());
+    assert!(rt; moment <= LATEST);
+    let mut told = Vec::new(alloc);
+    'turns: loop {
+        match session.tick(moment)? {
+            None => return Ok(told),
+            Some(settled) => told.push((settled.poll, settled.outcome))?,
+        }
+    }
+}
+
+/// Ends the session, and lists what that settles.
+fn close(
+    rt: &impl Abort,
+    alloc: Global,
+    session: &mut Session,
+    moment: u64,
+    closing: Closing,
+) -> Result<Vec<Told>, Fail> {
+    assert!(rt; !session.settling());
+    assert!(rt; moment <= LATEST);
+    let mut told = Vec::new(alloc);
+    'turns: loop {
+        match session.close(moment, closing)? {
+            None => return Ok(told),
+            Some(settled) => told.push((settled.poll, settled.outcome))?,
+        }
+    }
+}

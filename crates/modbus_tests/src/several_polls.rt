@@ -1,0 +1,211 @@
+//! Several polls, one after another and side by side.
+use crate::session_script::{Asked, Event, GOOD, Line, play};
+use poll_core::{Closing, LostCause, Outcome, Session, StartFault};
+use std::test::Fail;
+
+static ONE_AFTER_ANOTHER: [Line; 7] = [
+    Line {
+        event: Event::Start(Asked {
+            moment: 1898,
+            poll: 1,
+            address: 40094,
+            count: 3,
+            frame: [0, 0, 0, 0, 0, 6, 1, 3, 0x9c, 0x9e, 0, 3],
+        }),
+        told: &[],
+    },
+    Line {
+        event: Event::Tick { moment: 1903 },
+        told: &[(1, Outcome::Silent)],
+    },
+    // the frame is a stray
+    Line {
+        event: Event::Piece {
+            moment: 1903,
+            bytes: &GOOD,
+        },
+        told: &[],
+    },
+    Line {
+        event: Event::Start(Asked {
+            moment: 1904,
+            poll: 2,
+            address: 40094,
+            count: 3,
+            frame: [0, 1, 0, 0, 0, 6, 1, 3, 0x9c, 0x9e, 0, 3],
+        }),
+        told: &[],
+    },
+    Line {
+        event: Event::Refused {
+            moment: 1903,
+            fault: StartFault::WindowFull,
+        },
+        told: &[],
+    },
+    Line {
+        event: Event::Close {
+            moment: 1905,
+            closing: Closing::Gone,
+        },
+        told: &[(2, Outcome::Lost(LostCause::Gone))],
+    },
+    Line {
+        event: Event::Refused {
+            moment: 1905,
+            fault: StartFault::Closed,
+        },
+        told: &[],
+    },
+];
+
+/// Two polls in a window of two.
+static TWO_STARTS: [Line; 6] = [
+    Line {
+        event: Event::Ready { id: 0, count: 2 },
+        told: &[],
+    },
+    Line {
+        event: Event::Start(Asked {
+            moment: 1000,
+            poll: 1,
+            address: 0,
+            count: 1,
+            frame: [0, 0, 0, 0, 0, 6, 1, 3, 0, 0, 0, 1],
+        }),
+        told: &[],
+    },
+    Line {
+        event: Event::Ready { id: 1, count: 1 },
+        told: &[],
+    },
+    Line {
+        event: Event::Start(Asked {
+            moment: 1000,
+            poll: 2,
+            address: 1,
+            count: 1,
+            frame: [0, 1, 0, 0, 0, 6, 1, 3, 0, 1, 0, 1],
+        }),
+        told: &[],
+    },
+    Line {
+        event: Event::Ready { id: 2, count: 0 },
+        told: &[],
+    },
+    Line {
+        event: Event::Refused {
+            moment: 1000,
+            fault: StartFault::WindowFull,
+        },
+        told: &[],
+    },
+];
+
+static SECOND_FIRST: [Line; 1] = [Line {
+    event: Event::Piece {
+        moment: 1001,
+        bytes: &[
+            0, 1, 0, 0, 0, 5, 1, 3, 2, 0, 7, 0, 0, 0, 0, 0, 5, 1, 3, 2, 0, 9,
+        ],
+    },
+    told: &[(2, Outcome::Answered), (1, Outcome::Answered)],
+}];
+
+static BOTH_SILENT: [Line; 1] = [Line {
+    event: Event::Tick { moment: 1005 },
+    told: &[(1, Outcome::Silent), (2, Outcome::Silent)],
+}];
+
+static THREE_ENDS: [Line; 7] = [
+    Line {
+        event: Event::Start(Asked {
+            moment: 1000,
+            poll: 1,
+            address: 0,
+            count: 1,
+            frame: [0, 0, 0, 0, 0, 6, 1, 3, 0, 0, 0, 1],
+        }),
+        told: &[],
+    },
+    Line {
+        event: Event::Start(Asked {
+            moment: 1002,
+            poll: 2,
+            address: 0,
+            count: 1,
+            frame: [0, 1, 0, 0, 0, 6, 1, 3, 0, 0, 0, 1],
+        }),
+        told: &[],
+    },
+    Line {
+        event: Event::Start(Asked {
+            moment: 1002,
+            poll: 3,
+            address: 0,
+            count: 1,
+            frame: [0, 2, 0, 0, 0, 6, 1, 3, 0, 0, 0, 1],
+        }),
+        told: &[],
+    },
+    // the second poll's reply, and a bad length
+    Line {
+        event: Event::Piece {
+            moment: 1005,
+            bytes: &[0, 1, 0, 0, 0, 5, 1, 3, 2, 0, 7, 0, 0, 0, 0, 0, 0],
+        },
+        told: &[
+            (1, Outcome::Silent),
+            (2, Outcome::Answered),
+            (3, Outcome::Lost(LostCause::Garbled)),
+        ],
+    },
+    Line {
+        event: Event::Refused {
+            moment: 1005,
+            fault: StartFault::Closed,
+        },
+        told: &[],
+    },
+    // later pieces are dropped
+    Line {
+        event: Event::Piece {
+            moment: 1006,
+            bytes: &GOOD,
+        },
+        told: &[],
+    },
+    Line {
+        event: Event::Close {
+            moment: 1006,
+            closing: Closing::Gone,
+        },
+        told: &[],
+    },
+];
+
+#[test]
+fn one_poll_after_another(rt: HostRuntime) -> Result<(), Fail> {
+    let mut session = Session::new(5, 1);
+    play(&rt, rt.alloc(), &mut session, &ONE_AFTER_ANOTHER)
+}
+
+#[test]
+fn two_polls_settle_in_the_order_of_their_frames(rt: HostRuntime) -> Result<(), Fail> {
+    let mut session = Session::new(5, 2);
+    play(&rt, rt.alloc(), &mut session, &TWO_STARTS)?;
+    play(&rt, rt.alloc(), &mut session, &SECOND_FIRST)
+}
+
+#[test]
+fn two_polls_are_silent_in_the_order_of_their_starts(rt: HostRuntime) -> Result<(), Fail> {
+    let mut session = Session::new(5, 2);
+    play(&rt, rt.alloc(), &mut session, &TWO_STARTS)?;
+    play(&rt, rt.alloc(), &mut session, &BOTH_SILENT)
+}
+
+#[test]
+fn silence_comes_before_frames_and_these_before_loss(rt: HostRuntime) -> Result<(), Fail> {
+    let mut session = Session::new(5, 3);
+    play(&rt, rt.alloc(), &mut session, &THREE_ENDS)
+}

@@ -1,0 +1,271 @@
+//! A server that plays tricks, over a link.
+use crate::devices::bank_with_nine;
+use mb_device::{Bank, Kind, Server, Trick, Turned};
+use mb_wire::{Link, MemoryLink};
+use std::alloc::Global;
+use std::test::Fail;
+
+// A write of 5 to holding register 0 by unit 2, and a read of it by unit 1.
+const WRITE_READ: &[u8] = &[
+    0, 2, 0, 0, 0, 6, 2, 6, 0, 0, 0, 5, 0, 7, 0, 0, 0, 6, 1, 3, 0, 0, 0, 1,
+];
+
+// The same the other way round.
+const READ_WRITE: &[u8] = &[
+    0, 7, 0, 0, 0, 6, 1, 3, 0, 0, 0, 1, 0, 2, 0, 0, 0, 6, 2, 6, 0, 0, 0, 5,
+];
+
+// A frame of another protocol, and a read by unit 255 with transaction identifier 65535.
+const HIGHEST: &[u8] = &[
+    0, 1, 0, 9, 0, 3, 1, 3, 0, 255, 255, 0, 0, 0, 6, 255, 3, 0, 0, 0, 1,
+];
+
+// A read of 125 registers.
+const LONGEST: &[u8] = &[0, 7, 0, 0, 0, 6, 1, 3, 0, 0, 0, 125];
+
+// Tricks, and a stream that comes in pieces of so many bytes; and what a server answers, gives and
+// takes, and what holding register 0 is then.
+#[derive(Drop)]
+struct Case {
+    tricks: &'static [(u64, Trick)],
+    input: &'static [u8],
+    piece: usize,
+    served: u64,
+    given: &'static [u8],
+    takes: u64,
+    register: u16,
+}
+
+// Whether serving comes to what is said.
+fn is_served(alloc: Global, case: &Case) -> Result<bool, &'static str> {
+    let mut bank = bank_with_nine(alloc)?;
+    let mut output = [0; 48];
+    let mut link = MemoryLink::new(case.input, &mut output, case.piece.max(1), None);
+    let mut server = Server::tricked(case.tricks);
+    let served = server.serve(&mut link, &mut bank, 48);
+    let is_told = served == Ok(case.served) && link.given() == case.given;
+    let register = bank.get(Kind::Holding, 0);
+    Ok(is_told && link.takes() == case.takes && register == Some(case.register))
+}
+
+// Tricks, and what is given for the write and the read in one piece.
+static ON_BOTH: [(&[(u64, Trick)], &[u8]); 16] = [
+    (
+        &[],
+        &[
+            0, 2, 0, 0, 0, 6, 2, 6, 0, 0, 0, 5, 0, 7, 0, 0, 0, 5, 1, 3, 2, 0, 5,
+        ],
+    ),
+    // The write is carried out, though its answer is dropped.
+    (&[(1, Trick::Drop)], &[0, 7, 0, 0, 0, 5, 1, 3, 2, 0, 5]),
+    (&[(2, Trick::Drop)], &[0, 2, 0, 0, 0, 6, 2, 6, 0, 0, 0, 5]),
+    (
+        &[(2, Trick::Twice), (1, Trick::Drop)],
+        &[
+            0, 7, 0, 0, 0, 5, 1, 3, 2, 0, 5, 0, 7, 0, 0, 0, 5, 1, 3, 2, 0, 5,
+        ],
+    ),
+    // An answer that is buffered comes behind the next frame, however that is dealt with.
+    (
+        &[(1, Trick::Later)],
+        &[
+            0, 7, 0, 0, 0, 5, 1, 3, 2, 0, 5, 0, 2, 0, 0, 0, 6, 2, 6, 0, 0, 0, 5,
+        ],
+    ),
+    (
+        &[(1, Trick::Later), (2, Trick::Drop)],
+        &[0, 2, 0, 0, 0, 6, 2, 6, 0, 0, 0, 5],
+    ),
+    (
+        &[(1, Trick::Later), (2, Trick::Twice)],
+        &[
+            0, 7, 0, 0, 0, 5, 1, 3, 2, 0, 5, 0, 7, 0, 0, 0, 5, 1, 3, 2, 0, 5, 0, 2, 0, 0, 0, 6, 2,
+            6, 0, 0, 0, 5,
+        ],
+    ),
+    // A second one sends the first, and is buffered itself.
+    (
+        &[(1, Trick::Later), (2, Trick::Later)],
+        &[0, 2, 0, 0, 0, 6, 2, 6, 0, 0, 0, 5],
+    ),
+    (&[(2, Trick::Later)], &[0, 2, 0, 0, 0, 6, 2, 6, 0, 0, 0, 5]),
+    (
+        &[(1, Trick::Id)],
+        &[
+            0, 3, 0, 0, 0, 6, 2, 6, 0, 0, 0, 5, 0, 7, 0, 0, 0, 5, 1, 3, 2, 0, 5,
+        ],
+    ),
+    (
+        &[(1, Trick::Unit)],
+        &[
+            0, 2, 0, 0, 0, 6, 3, 6, 0, 0, 0, 5, 0, 7, 0, 0, 0, 5, 1, 3, 2, 0, 5,
+        ],
+    ),
+    (
+        &[(1, Trick::Garble)],
+        &[
+            0, 2, 0, 0, 0, 0, 2, 6, 0, 0, 0, 5, 0, 7, 0, 0, 0, 5, 1, 3, 2, 0, 5,
+        ],
+    ),
+    // The first trick with a number counts.
+    (
+        &[(1, Trick::Drop), (1, Trick::Twice)],
+        &[0, 7, 0, 0, 0, 5, 1, 3, 2, 0, 5],
+    ),
+    // No frame has these numbers.
+    (
+        &[
+            (0, Trick::Drop),
+            (3, Trick::Drop),
+            (18446744073709551615, Trick::Drop),
+        ],
+        &[
+            0, 2, 0, 0, 0, 6, 2, 6, 0, 0, 0, 5, 0, 7, 0, 0, 0, 5, 1, 3, 2, 0, 5,
+        ],
+    ),
+    // The last frame is cut off: an answer that is buffered is not sent.
+    (
+        &[(2, Trick::Cut(4))],
+        &[0, 2, 0, 0, 0, 6, 2, 6, 0, 0, 0, 5, 0, 7, 0, 0],
+    ),
+    (&[(1, Trick::Later), (2, Trick::Cut(4))], &[0, 7, 0, 0]),
+];
+
+#[test]
+fn each_trick_shows(rt: HostRuntime) -> Result<(), Fail> {
+    for (i, (tricks, given)) in ON_BOTH.iter().enumerate() {
+        let case = Case {
+            tricks,
+            input: WRITE_READ,
+            piece: 24,
+            served: 2,
+            given,
+            takes: if i < 14 { 2 } else { 1 },
+            register: 5,
+        };
+        assert!(rt; is_served(rt.alloc(), &case)?, "case {i}");
+    }
+    Ok(())
+}
+
+// The first frame is cut off: the next is neither carried out nor, in pieces of its own, taken.
+static CUTS: [Case; 7] = [
+    Case {
+        tricks: &[(1, Trick::Cut(0))],
+        input: WRITE_READ,
+        piece: 24,
+        served: 1,
+        given: &[],
+        takes: 1,
+        register: 5,
+    },
+    Case {
+        tricks: &[(1, Trick::Cut(4)), (2, Trick::Twice)],
+        input: WRITE_READ,
+        piece: 12,
+        served: 1,
+        given: &[0, 2, 0, 0],
+        takes: 1,
+        register: 5,
+    },
+    Case {
+        tricks: &[(1, Trick::Cut(12))],
+        input: WRITE_READ,
+        piece: 1,
+        served: 1,
+        given: &[0, 2, 0, 0, 0, 6, 2, 6, 0, 0, 0, 5],
+        takes: 12,
+        register: 5,
+    },
+    // An answer that is shorter is sent whole.
+    Case {
+        tricks: &[(1, Trick::Cut(13))],
+        input: WRITE_READ,
+        piece: 24,
+        served: 1,
+        given: &[0, 2, 0, 0, 0, 6, 2, 6, 0, 0, 0, 5],
+        takes: 1,
+        register: 5,
+    },
+    Case {
+        tricks: &[(1, Trick::Cut(259))],
+        input: READ_WRITE,
+        piece: 24,
+        served: 1,
+        given: &[0, 7, 0, 0, 0, 5, 1, 3, 2, 0, 9],
+        takes: 1,
+        register: 9,
+    },
+    // The frame of another protocol has no number; id and unit wrap.
+    Case {
+        tricks: &[(1, Trick::Id)],
+        input: HIGHEST,
+        piece: 260,
+        served: 1,
+        given: &[0, 0, 0, 0, 0, 5, 255, 3, 2, 0, 9],
+        takes: 2,
+        register: 9,
+    },
+    Case {
+        tricks: &[(1, Trick::Unit)],
+        input: HIGHEST,
+        piece: 260,
+        served: 1,
+        given: &[255, 255, 0, 0, 0, 5, 0, 3, 2, 0, 9],
+        takes: 2,
+        register: 9,
+    },
+];
+
+#[test]
+fn one_frame_is_answered_by_its_trick(rt: HostRuntime) -> Result<(), Fail> {
+    for (i, case) in CUTS.iter().enumerate() {
+        assert!(rt; is_served(rt.alloc(), case)?, "case {i}");
+    }
+    Ok(())
+}
+
+// How many bytes are given for the longest read, whose answer has 259 and is cut off.
+fn longest_given(alloc: Global, count: u16) -> Result<usize, &'static str> {
+    let mut bank = bank_with_nine(alloc)?;
+    let mut output = [0; 300];
+    let mut link = MemoryLink::new(LONGEST, &mut output, 260, None);
+    let tricks = [(1, Trick::Cut(count))];
+    let served = Server::tricked(&tricks).serve(&mut link, &mut bank, 2);
+    served.ok().ok_or("not served")?;
+    Ok(link.given().len())
+}
+
+#[test]
+fn the_longest_answer_is_cut_off(rt: HostRuntime) -> Result<(), Fail> {
+    for (count, given) in [(258, 258), (259, 259), (260, 259)] {
+        assert!(rt; longest_given(rt.alloc(), count)? == given, "{count}");
+    }
+    Ok(())
+}
+
+// Whether a server answers that the input ended, and takes and gives nothing more.
+fn is_over(server: &mut Server<'_>, link: &mut MemoryLink<'_>, bank: &mut Bank) -> bool {
+    let before = (link.given().len(), link.takes());
+    let nothing = Turned {
+        answered: 0,
+        ended: true,
+    };
+    let is_told = server.turn(link, bank) == Ok(nothing) && server.serve(link, bank, 0) == Ok(0);
+    is_told && (link.given().len(), link.takes()) == before
+}
+
+#[test]
+fn after_a_cut_nothing_is_taken(rt: HostRuntime) -> Result<(), Fail> {
+    let mut bank = bank_with_nine(rt.alloc())?;
+    let mut output = [0; 48];
+    let mut link = MemoryLink::new(READ_WRITE, &mut output, 12, None);
+    let mut server = Server::tricked(&[(1, Trick::Cut(4))]);
+    let cut = Turned {
+        answered: 1,
+        ended: true,
+    };
+    assert!(rt; server.turn(&mut link, &mut bank) == Ok(cut));
+    assert!(rt; is_over(&mut server, &mut link, &mut bank));
+    Ok(())
+}
