@@ -1,8 +1,8 @@
 -- What a contract sees of a `FrameReader`, and what a `feed` tells.
 use Rattle.std.specs.Prelude.{◌≡◌, ℕ, ◌+◌, List, [], ◌∷◌, ◌++◌, length, Some, None}
 use Rattle.std.specs.declared.option.Option.{Option}
-use Rattle.mb_wire.specs.Bytes.{word}
-use Rattle.mb_wire.specs.Frames.{IsFrame, IsOwn, IsOpen, IsBad, tid_of, unit_of, pdu_of}
+use Rattle.mb_wire.specs.Bytes.{AreBytes, word}
+use Rattle.mb_wire.specs.Frames.{IsFrame, IsOwn, IsOpen, IsBad, Reads, tid_of, unit_of, pdu_of}
 use Rattle.mb_wire.specs.declared.frames.Frame.{Frame}
 use Rattle.mb_wire.specs.declared.frames.Framing.{Framing}
 use Rattle.mb_wire.specs.declared.frames.Framing.TheVariants.{Need, Whole, Foreign, Garbled}
@@ -52,6 +52,13 @@ ended Whole bytes = bytes ∷ []
 ended Foreign bytes = bytes ∷ []
 ended Garbled bytes = []
 
+-- Whatever bytes came before, they and those taken now read as the frames so far, the one that ended, and
+-- what is buffered.
+abbrev pub ReadsOn : (old new : Buffered) → (taken : List ℕ) → Framing → Type 0
+ReadsOn old new taken what =
+    (bytes : List ℕ) (before : List (List ℕ)) → Reads bytes before old.rest →
+    Reads (bytes ++ taken) (before ++ ended what (old.rest ++ taken)) new.rest
+
 -- the fields of a frame
 pub record Fields : Type 0 where
   pub tid : ℕ
@@ -68,3 +75,13 @@ spelled frame = record { tid = frame.tid; unit = frame.unit; pdu = frame.pdu.now
 -- the one spelling of a frame
 abbrev pub spelling : ℕ → ℕ → List ℕ → List ℕ
 spelling tid unit pdu = word tid ++ word 0 ++ word (1 + length pdu) ++ unit ∷ pdu
+
+-- that spelling is a frame of this protocol, with these fields
+abbrev pub SpellsFrame : ℕ → ℕ → List ℕ → Type 0
+SpellsFrame tid unit pdu =
+    IsFrame (spelling tid unit pdu) × IsOwn (spelling tid unit pdu)
+    × (fields_of (spelling tid unit pdu) ≡ record { tid = tid; unit = unit; pdu = pdu })
+
+-- bytes that are a frame of this protocol
+abbrev pub IsOwnFrame : List ℕ → Type 0
+IsOwnFrame bytes = AreBytes bytes × IsFrame bytes × IsOwn bytes

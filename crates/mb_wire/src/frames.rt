@@ -3,10 +3,10 @@ ghost use Rattle.std.specs.Prelude.{◌≡◌, ℕ, ◌+◌, ◌≤◌, ◌<◌,
 ghost use Rattle.std.specs.Prelude.{take, ◌⊎◌};
 ghost use Rattle.std.specs.Option.{option_map};
 ghost use Rattle.mb_wire.specs.Frames.{IsOpen, IsBad, IsGoodSpan, span_of, tid_of, unit_of, pdu_of};
-ghost use Rattle.mb_wire.specs.Frames.{IsFrame, IsOwn, Reads, frames, rest};
-ghost use Rattle.mb_wire.specs.Reader.{Buffered, Tells, IsEnd, buffered_after, ended, fields_of, spelled};
-ghost use Rattle.mb_wire.specs.Reader.{spelling};
-ghost use Rattle.mb_wire.specs.Bytes.{AreBytes, word};
+ghost use Rattle.mb_wire.specs.Frames.{Reads, frames, rest};
+ghost use Rattle.mb_wire.specs.Reader.{Buffered, IsEnd, IsOwnFrame, ReadsOn, SpellsFrame, Tells};
+ghost use Rattle.mb_wire.specs.Reader.{buffered_after, fields_of, spelled, spelling};
+ghost use Rattle.mb_wire.specs.Bytes.{word};
 
 use crate::limits::{MAX_ADU, MAX_LENGTH, MAX_PDU, MBAP_HEADER, MIN_LENGTH};
 use byteorder::{BigEndian, ByteOrder};
@@ -199,12 +199,7 @@ impl FrameReader {
         ensures tells { Tells result.what (self.old.rest ++ take result.taken piece.now) }
         ensures after { self.new ≡
             buffered_after result.what (self.old.rest ++ take result.taken piece.now) }
-        // Whatever bytes came before, they and those taken now read as the frames so far, the one that
-        // ended, and what is buffered.
-        ensures reads { (bytes : List ℕ) (before : List (List ℕ)) →
-            Reads bytes before self.old.rest → Reads (bytes ++ take result.taken piece.now)
-            (before ++ ended result.what (self.old.rest ++ take result.taken piece.now))
-            self.new.rest }
+        ensures reads { ReadsOn self.old self.new (take result.taken piece.now) result.what }
         ensures stuck { IsBad self.old.rest → (result.what ≡ Framing.Garbled) × (result.taken ≡ 0) }
     {
         self.advance(piece)
@@ -301,12 +296,9 @@ pub fn one_reading()
 /// What is written is a frame with these fields, and a frame is the one spelling of its fields.
 pub fn one_spelling()
     ensures frame { (tid unit : ℕ) (pdu : List ℕ) → tid < 65536 →
-        1 ≤ length pdu → length pdu ≤ MAX_PDU →
-        IsFrame (spelling tid unit pdu) × IsOwn (spelling tid unit pdu)
-        × (fields_of (spelling tid unit pdu) ≡ record { tid = tid; unit = unit; pdu = pdu }) }
-    ensures spelled { (bytes : List ℕ) → AreBytes bytes → IsFrame bytes → IsOwn bytes →
+        1 ≤ length pdu → length pdu ≤ MAX_PDU → SpellsFrame tid unit pdu }
+    ensures spelled { (bytes : List ℕ) → IsOwnFrame bytes →
         bytes ≡ spelling (tid_of bytes) (unit_of bytes) (pdu_of bytes) }
-    ensures same { (one other : List ℕ) → AreBytes one → IsFrame one → IsOwn one →
-        AreBytes other → IsFrame other → IsOwn other →
+    ensures same { (one other : List ℕ) → IsOwnFrame one → IsOwnFrame other →
         fields_of one ≡ fields_of other → one ≡ other }
 {}
