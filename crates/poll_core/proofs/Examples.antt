@@ -1,9 +1,13 @@
 -- The definitions at a few sessions, computed.
-use Rattle.std.proofs.Common.{◌≡◌, ℕ, List, [], ◌∷◌, ◌++◌, refl}
+use Rattle.std.proofs.Common.{◌≡◌, ℕ, zero, suc, ◌+◌, ◌*◌, List, [], ◌∷◌, ◌++◌, Some, None, refl}
 use Rattle.mb_wire.specs.Frames.{frames, frames_in, rest, rest_in, is_garbled}
 use Rattle.mb_wire.specs.Spans.{Span}
 use Rattle.mb_wire.specs.declared.span.ReadFunction.TheVariants.{HoldingRegisters}
 use Rattle.poll_core.specs.Settling.{Event, Start, Piece, Tick, Close, Answered, Exception, Silent, Malformed, Lost, stream, next_id, frames_at, ending_at, settled_by, pending, outcomes_at}
+use Rattle.poll_core.specs.Standing.{is_over, is_closed}
+use Rattle.poll_core.specs.Starting.{start_fault}
+use Rattle.poll_core.specs.declared.answers.StartFault.TheVariants.{WindowFull}
+use Rattle.poll_core.specs.declared.limits.TheConstants.{LAST_MOMENT, MAX_TIMEOUT, MAX_WINDOW}
 use Rattle.poll_core.specs.declared.outcome.Closing.TheVariants.{Gone}
 use Rattle.poll_core.specs.declared.outcome.Malformation.TheVariants.{WrongUnit}
 use Rattle.poll_core.specs.declared.outcome.LostCause.TheVariants as cause
@@ -75,3 +79,31 @@ crossed = refl
 both_silent : outcomes_at 5 two (Tick 1005) ≡ (1, Silent) ∷ (2, Silent) ∷ []
 unfolding outcomes_at pending frames_at ending_at stream next_id settled_by frames frames_in rest rest_in is_garbled
 both_silent = refl
+
+-- ---- limits, as numbers
+
+-- from 1970 on 130 years, of which 32 are leap years
+the_last_moment : LAST_MOMENT ≡ (130 * 365 + 32) * 86400
+the_last_moment = refl
+
+-- the longest timeout is 60 seconds: a poll of 100 waits on at 159, and is silent at 160
+waits_59_seconds : outcomes_at MAX_TIMEOUT one (Tick 159) ≡ []
+unfolding outcomes_at pending frames_at ending_at stream next_id settled_by frames frames_in rest rest_in is_garbled
+waits_59_seconds = refl
+
+waits_60_seconds : outcomes_at MAX_TIMEOUT one (Tick 160) ≡ (1, Silent) ∷ []
+unfolding outcomes_at pending frames_at ending_at stream next_id settled_by frames frames_in rest rest_in is_garbled
+waits_60_seconds = refl
+
+-- the widest window is 16 polls: one more is started while 15 wait, and none while 16 do
+abbrev starts : ℕ → List Event
+starts zero = []
+starts (suc count) = Start 100 count 1 (registers 0 1) ∷ starts count
+
+the_sixteenth : start_fault 5 MAX_WINDOW (starts 15) 100 ≡ None
+unfolding pending stream next_id settled_by is_over is_closed frames frames_in rest rest_in is_garbled
+the_sixteenth = refl
+
+the_seventeenth : start_fault 5 MAX_WINDOW (starts 16) 100 ≡ Some WindowFull
+unfolding pending stream next_id settled_by is_over is_closed frames frames_in rest rest_in is_garbled
+the_seventeenth = refl

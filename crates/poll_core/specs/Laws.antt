@@ -1,11 +1,12 @@
 -- What holds of every list of events.
-use Rattle.std.specs.Prelude.{◌≡◌, ℕ, ◌≤◌, List, [], ◌∷◌, ◌++◌, map, Some, None}
+use Rattle.std.specs.Prelude.{◌≡◌, ℕ, ◌≤◌, List, [], ◌∷◌, ◌++◌, filter, is_none, map, true, Some, None}
 use Rattle.std.specs.declared.option.Option.{Option}
-use Rattle.std.specs.Option.{option_map, option_or}
+use Rattle.std.specs.Option.{option_map, option_or, option_to_list}
 use Rattle.std.specs.List.{filter_map}
+use Rattle.std.specs.List.Sorted.{IsPermutation}
 use Rattle.poll_core.specs.Polls.{Poll}
 use Rattle.poll_core.specs.Settling.{Event, Start, Piece, Tick, Close, Settlement, settled_by, outcome, started, outcomes_at, pending, results}
-use Rattle.poll_core.specs.Standing.{last_moment}
+use Rattle.poll_core.specs.Standing.{is_over, last_moment}
 use Rattle.poll_core.specs.Starting.{start_fault}
 
 -- of each poll that was started its outcome, if it has one
@@ -77,3 +78,46 @@ abbrev pub AcceptsAll : ℕ → ℕ → List Event → List Event → Type 0
 AcceptsAll timeout window before [] = Unit {0}
 AcceptsAll timeout window before (event ∷ later) =
     Accepts timeout window before event × AcceptsAll timeout window (before ++ event ∷ []) later
+
+-- Each poll that was started is settled once or is pending.
+abbrev pub SettledOrPending : ℕ → List Event → Type 0
+SettledOrPending timeout events =
+    IsPermutation (numbers_started events)
+    (numbers_settled timeout events ++ numbers_pending timeout events)
+
+-- What one event more does to the outcomes,
+abbrev pub AddsOutcomes : ℕ → List Event → Event → Type 0
+AddsOutcomes timeout events event =
+    outcomes_by_event timeout (events ++ event ∷ [])
+    ≡ outcomes_by_event timeout events ++ outcomes_at timeout events event
+
+-- to the polls that were pending,
+abbrev pub SettlesPending : ℕ → List Event → Event → Type 0
+SettlesPending timeout events event =
+    IsPermutation (settled_among events event (pending timeout events))
+    (outcomes_at timeout events event)
+
+-- to those that are pending then,
+abbrev pub LeavesPending : ℕ → List Event → Event → Type 0
+LeavesPending timeout events event =
+    pending timeout (events ++ event ∷ [])
+    ≡ filter (λ poll. is_none (settled_by events event poll)) (pending timeout events)
+    ++ option_to_list (started timeout events event)
+
+-- and to what is known of each poll.
+abbrev pub AddsResults : ℕ → List Event → Event → Type 0
+AddsResults timeout events event =
+    results timeout [] (events ++ event ∷ [])
+    ≡ map (with_event events event) (results timeout [] events)
+    ++ new_result (started timeout events event)
+
+-- a session that accepted all these events is over
+abbrev pub IsOverAfter : (timeout window : ℕ) → List Event → Type 0
+IsOverAfter timeout window events =
+    AcceptsAll timeout window [] events × (is_over events ≡ true)
+
+-- What a piece settles, a longer one that begins with it settles too.
+abbrev pub SettlesNoLess : ℕ → List Event → (moment : ℕ) → (piece more : List ℕ) → Type 0
+SettlesNoLess timeout events moment piece more =
+    outcomes_at timeout events (Piece moment (piece ++ more)) ≡ []
+    → outcomes_at timeout events (Piece moment piece) ≡ []

@@ -10,6 +10,10 @@ pub record Poll : Type 0 where
   pub span : Span
   pub deadline : ℕ
 
+abbrev pub poll_of : (number id unit : ℕ) → Span → (deadline : ℕ) → Poll
+poll_of number id unit span deadline =
+    record { number = number; id = id; unit = unit; span = span; deadline = deadline }
+
 -- its deadline has come
 abbrev pub due : ℕ → Poll → Bool
 due moment poll = nat_le poll.deadline moment

@@ -1,6 +1,7 @@
 -- Where a session stands after a list of events.
-use Rattle.std.specs.Prelude.{◌≡◌, ℕ, ◌⊎◌, Bool, true, ◌||◌, List, [], ◌∷◌, ◌++◌, is_some, Some, None}
+use Rattle.std.specs.Prelude.{◌≡◌, ℕ, ◌⊎◌, Bool, true, ◌||◌, List, [], ◌∷◌, ◌++◌, is_some, Some, None, OnOk}
 use Rattle.std.specs.declared.option.Option.{Option}
+use Rattle.std.specs.declared.result.Result.{Result}
 use Rattle.std.specs.List.{filter, list_any}
 use Rattle.mb_wire.specs.Frames.{is_garbled, rest}
 use Rattle.mb_wire.specs.Reader.{Buffered}
@@ -92,3 +93,22 @@ After session events event told None =
     Stands session (events ++ event ∷ []) × (told ≡ outcomes_at session.timeout events event)
 After session events event told (Some settled) =
     (session.settling ≡ call_of event) × Within session events event (told ++ settled ∷ [])
+
+-- Wherever the session stood before a call, it stands after it: a start,
+abbrev pub StartsOn : {X E : Type 0} → Result X E → (old new : State) → Event → Type 0
+StartsOn result old new start =
+    (events : List Event) → Stands old events → OnOk result (After new events start [] None)
+
+-- an event,
+abbrev pub StepsOn : (old new : State) → Event → Option (ℕ × Settlement) → Type 0
+StepsOn old new event settled =
+    (events : List Event) (told : List (ℕ × Settlement)) →
+    Before old events event told → After new events event told settled
+
+-- and bytes more of a piece.
+abbrev pub TakesOn : (old new : State) → (moment : ℕ) → (taken : List ℕ)
+    → Option (ℕ × Settlement) → Type 0
+TakesOn old new moment taken settled =
+    (events : List Event) (bytes : List ℕ) (told : List (ℕ × Settlement)) →
+    Before old events (Piece moment bytes) told →
+    After new events (Piece moment (bytes ++ taken)) told settled

@@ -1,15 +1,15 @@
 //! The fields of a session, and its steps. They stand apart from `Session`, whose clauses see only its model and whose
 //! calls lend the frame that they tell: the clauses of a step speak of the fields, and a step lends nothing.
-ghost use Rattle.std.specs.Prelude.{◌≡◌, ℕ, ◌+◌, ◌≤◌, ◌<◌, List, [], ◌++◌, length, take, Some};
-ghost use Rattle.std.specs.Prelude.{None, is_some, true, false, if◌then◌else◌, OnOk, OnErr, IfOk};
+ghost use Rattle.std.specs.Prelude.{◌≡◌, ◌+◌, ◌≤◌, ◌<◌, List, length, take, is_some, true, false};
+ghost use Rattle.std.specs.Prelude.{if◌then◌else◌, OnOk, OnErr, IfOk};
 ghost use Rattle.std.specs.Result.{result_err};
 ghost use Rattle.mb_wire.specs.Requests.{request_bytes};
 ghost use Rattle.mb_wire.specs.Reader.{spelling};
 ghost use Rattle.mb_wire.specs.Spans.{request_of, span_view};
 ghost use Rattle.poll_core.specs.Starting.{start_fault, AsksFor, HasRoom};
 ghost use Rattle.poll_core.specs.Steps.{CanTell};
-ghost use Rattle.poll_core.specs.Settling.{Settlement, Event, Start, Piece, Tick, Close};
-ghost use Rattle.poll_core.specs.Standing.{Stands, Before, After};
+ghost use Rattle.poll_core.specs.Settling.{Event, Start, Tick, Close};
+ghost use Rattle.poll_core.specs.Standing.{Stands, TakesOn, StartsOn, StepsOn};
 ghost use Rattle.poll_core.specs.Inside.{state_of, IsSound, told_of, call_if, garbled_end};
 
 use crate::answers::StartFault;
@@ -91,9 +91,8 @@ impl Inner {
         ensures sound { IsSound self.new }
         ensures refused { (events : List Event) → Stands (state_of self.old) events →
             result_err result ≡ start_fault self.old.timeout self.old.window events moment }
-        ensures started { (events : List Event) → Stands (state_of self.old) events →
-            OnOk result
-            (After (state_of self.new) events (Start moment poll unit (span_view span)) [] None) }
+        ensures started { StartsOn result (state_of self.old) (state_of self.new)
+            (Start moment poll unit (span_view span)) }
         ensures settling { self.new.settling ≡ self.old.settling }
         ensures last { OnOk result (self.new.last ≡ moment) }
         ensures terms { (self.new.timeout ≡ self.old.timeout)
@@ -145,9 +144,7 @@ impl Inner {
         ensures settling { self.new.settling ≡ call_if result Call.Tick }
         ensures less { is_some result ≡ true
             → length self.new.polls.items < length self.old.polls.items }
-        ensures told { (events : List Event) (told : List (ℕ × Settlement))
-            → Before (state_of self.old) events (Tick moment) told →
-            After (state_of self.new) events (Tick moment) told
+        ensures told { StepsOn (state_of self.old) (state_of self.new) (Tick moment)
             (told_of result self.new.reader.frame) }
         ensures buffered { CanTell result self.new.reader.frame }
     {
@@ -166,9 +163,7 @@ impl Inner {
         ensures settling { self.new.settling ≡ call_if result (Call.Close closing) }
         ensures less { is_some result ≡ true
             → length self.new.polls.items < length self.old.polls.items }
-        ensures told { (events : List Event) (told : List (ℕ × Settlement))
-            → Before (state_of self.old) events (Close moment closing) told →
-            After (state_of self.new) events (Close moment closing) told
+        ensures told { StepsOn (state_of self.old) (state_of self.new) (Close moment closing)
             (told_of result self.new.reader.frame) }
         ensures buffered { CanTell result self.new.reader.frame }
     {
@@ -190,10 +185,8 @@ impl Inner {
         ensures less { is_some result.settled ≡ true
             → length self.new.polls.items < length self.old.polls.items }
         ensures all { is_some result.settled ≡ false → result.taken ≡ length piece.now }
-        ensures told { (events : List Event) (bytes : List ℕ) (told : List (ℕ × Settlement)) →
-            Before (state_of self.old) events (Piece moment bytes) told →
-            After (state_of self.new) events (Piece moment (bytes ++ take result.taken piece.now))
-            told (told_of result.settled self.new.reader.frame) }
+        ensures told { TakesOn (state_of self.old) (state_of self.new) moment
+            (take result.taken piece.now) (told_of result.settled self.new.reader.frame) }
         ensures buffered { CanTell result.settled self.new.reader.frame }
     {
         one_reading();

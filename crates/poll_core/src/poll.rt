@@ -19,29 +19,17 @@ impl Model for PendingPoll {
 
     ghost Value = { polls.Poll };
 
-    ghost view = { λ p. record {
-      number = p.number;
-      id = p.id;
-      unit = p.unit;
-      span = span_view p.span;
-      deadline = p.deadline;
-    } };
+    ghost view = { λ p. polls.poll_of p.number p.id p.unit (span_view p.span) p.deadline };
 }
 
 impl PendingPoll {
     ghost use Rattle.std.specs.Prelude.{◌≡◌};
     ghost use Rattle.mb_wire.specs.Spans.{span_view};
     ghost use Rattle.mb_wire.specs.Spans.{request_of};
-    ghost use Rattle.poll_core.specs.Polls.{due, has_id};
+    ghost use Rattle.poll_core.specs.Polls.{due, has_id, poll_of};
 
     pub fn new(number: u64, id: u16, unit: u8, span: ReadSpan, deadline: u64) -> Self
-        ensures { result ≡ record {
-          number = number;
-          id = id;
-          unit = unit;
-          span = span_view span;
-          deadline = deadline;
-        } }
+        ensures { result ≡ poll_of number id unit (span_view span) deadline }
     {
         PendingPoll {
             number,
