@@ -3,6 +3,7 @@ use Rattle.std.specs.Prelude.{◌≡◌, ℕ, ◌+◌, ◌<◌, ◌==◌, ◌&&�
 use Rattle.std.specs.List.{list_any}
 use Rattle.std.specs.declared.option.Option.{Option}
 use Rattle.std.specs.declared.result.Result.{Result}
+use Rattle.mb_wire.specs.declared.limits.TheConstants.{ADDRESSES}
 use Rattle.mb_device.specs.Maps.{Maps, value_at, value_in, values_at}
 use Rattle.mb_device.specs.declared.kinds.Area.{Area}
 use Rattle.mb_device.specs.declared.kinds.BankFault.{BankFault}
@@ -34,7 +35,7 @@ any_overlap (area ∷ areas) = list_any (λ other. overlap area other) areas || 
 
 -- an area is empty, or reaches past the last address
 abbrev pub is_out_of_range : Area → Bool
-is_out_of_range area = area.count == 0 || nat_lt 65536 (area.start + area.count)
+is_out_of_range area = area.count == 0 || nat_lt ADDRESSES (area.start + area.count)
 
 -- what stands at an address in the beginning
 abbrev pub first_value : List Area → Kind → ℕ → Option ℕ
@@ -44,11 +45,11 @@ first_value areas kind address =
 -- a table, and the maps, as they are in the beginning
 abbrev pub BeginsAs : List Area → Kind → List (Option ℕ) → Type 0
 BeginsAs areas kind table =
-    (address : ℕ) → address < 65536 → value_in table address ≡ first_value areas kind address
+    (address : ℕ) → address < ADDRESSES → value_in table address ≡ first_value areas kind address
 
 abbrev pub AllBeginAs : List Area → Maps → Type 0
 AllBeginAs areas maps =
-    (kind : Kind) (address : ℕ) → address < 65536
+    (kind : Kind) (address : ℕ) → address < ADDRESSES
     → value_at maps kind address ≡ first_value areas kind address
 
 abbrev pub bank_fault_number : BankFault → ℕ

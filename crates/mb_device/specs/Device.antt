@@ -45,6 +45,31 @@ kept_value value = unwrap_or value 0
 abbrev pub is_kept_on : Option ℕ → Bool
 is_kept_on value = not (kept_value value == 0)
 
+-- an answer where all of so many addresses are there, else exception 2
+abbrev pub if_there : List (Option ℕ) → (address count : ℕ) → Answer → Answer
+if_there table address count answer =
+    if are_there table address count then answer else Exception 2
+
+-- what a read of coils or discrete inputs is answered, and one of registers
+abbrev pub bits_at : List (Option ℕ) → (address quantity : ℕ) → Answer
+bits_at table address quantity =
+    if_there table address quantity (Bits (map is_kept_on (values_at table address quantity)))
+
+abbrev pub words_at : List (Option ℕ) → (address quantity : ℕ) → Answer
+words_at table address quantity =
+    if_there table address quantity (Words (map kept_value (values_at table address quantity)))
+
+-- what a write leaves of a table, if all its addresses are there: one of coils, and one of registers
+abbrev pub coils_written : List (Option ℕ) → (address : ℕ) → List Bool → List (Option ℕ)
+coils_written table address coils =
+    if are_there table address (length coils)
+    then all_written table address (map coil_number coils)
+    else table
+
+abbrev pub words_written : List (Option ℕ) → (address : ℕ) → List ℕ → List (Option ℕ)
+words_written table address words =
+    if are_there table address (length words) then all_written table address words else table
+
 -- what a query is answered where all its addresses are there
 abbrev pub answered : Maps → Query → Answer
 answered maps (ReadCoils address quantity) =

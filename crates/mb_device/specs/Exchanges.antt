@@ -1,11 +1,12 @@
 -- What a server takes and gives over many turns.
-use Rattle.std.specs.Prelude.{◌≡◌, ℕ, false, List, [], ◌∷◌, ◌++◌}
+use Rattle.std.specs.Prelude.{◌≡◌, ℕ, false, List, [], ◌∷◌, ◌++◌, Ok}
 use Rattle.std.specs.List.{flat_map}
 use Rattle.std.specs.Io.KnownBytes.{Appends, Consumes}
 use Rattle.mb_wire.specs.Frames.{IsOpen, rest}
 use Rattle.mb_device.specs.Maps.{Maps}
 use Rattle.mb_device.specs.Tricks.{Course, carried_out, is_cut}
-use Rattle.mb_device.specs.Server.{Around, Holds, Standing, course_behind, maps_after_all, own_frames, sent_to, standing_on}
+use Rattle.mb_device.specs.Server.{Around, Holds, Serves, Standing, Turns, course_behind, maps_after_all, own_frames, sent_to, standing_on}
+use Rattle.mb_device.specs.declared.server.Turned.{Turned}
 
 -- bytes that were taken, and bytes that were given
 pub record Exchange : Type 0 where
@@ -53,3 +54,33 @@ InOrder buffered course (first ∷ later) old new standing =
     (mid : Maps) × (left : List ℕ) × (next : Course)
     × Exchanges buffered course first old mid (Holds left next)
     × InOrder left next later mid new standing
+
+-- A turn that answers Ok is an exchange over the link,
+abbrev pub TurnExchanges : Type 0
+TurnExchanges =
+    (buffered : List ℕ) (course : Course) (turned : Turned) (old new : Around)
+    (standing : Standing) → Turns buffered course (Ok turned) old new standing →
+    ExchangesOver buffered course old new standing
+
+-- and so is a serving.
+abbrev pub ServingExchanges : Type 0
+ServingExchanges =
+    (buffered : List ℕ) (course : Course) (count : ℕ) (old new : Around)
+    (standing : Standing) → Serves buffered course (Ok count) old new standing →
+    ExchangesOver buffered course old new standing
+
+-- Two exchanges one after the other are one exchange,
+abbrev pub TwoAreOne : Type 0
+TwoAreOne =
+    (buffered left : List ℕ) (course mid_course : Course) (first next : Exchange)
+    (old mid new : Maps) (standing : Standing) →
+    Exchanges buffered course first old mid (Holds left mid_course) →
+    Exchanges left mid_course next mid new standing →
+    Exchanges buffered course (joined first next) old new standing
+
+-- and so are as many as you like.
+abbrev pub AllAreOne : Type 0
+AllAreOne =
+    (buffered : List ℕ) (course : Course) (exchanges : List Exchange) (old new : Maps)
+    (standing : Standing) → InOrder buffered course exchanges old new standing →
+    Exchanges buffered course (in_all exchanges) old new standing

@@ -3,6 +3,7 @@
 use Rattle.std.specs.Prelude.{◌≡◌, ℕ, ◌+◌, ◌==◌, ◌&&◌, nat_le, Bool, if◌then◌else◌, List, [], ◌∷◌, length, take, drop, is_some, slice_index_or, slice_set, Some, None}
 use Rattle.std.specs.List.{list_all}
 use Rattle.std.specs.declared.option.Option.{Option}
+use Rattle.mb_wire.specs.declared.limits.TheConstants.{ADDRESSES}
 use Rattle.mb_device.specs.declared.kinds.Kind.{Kind}
 use Rattle.mb_device.specs.declared.kinds.Kind.TheVariants.{Coil, Discrete, Holding, Input}
 
@@ -28,7 +29,7 @@ value_at maps kind address = value_in (table_of maps kind) address
 
 -- so many addresses as there are stand in each table, whether a value is there or not
 abbrev pub HasAllAddresses : Maps → Type 0
-HasAllAddresses maps = (kind : Kind) → length (table_of maps kind) ≡ 65536
+HasAllAddresses maps = (kind : Kind) → length (table_of maps kind) ≡ ADDRESSES
 
 -- what is kept for a value: a coil or a discrete input is on or off
 abbrev pub kept : Kind → ℕ → ℕ

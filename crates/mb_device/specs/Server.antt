@@ -220,6 +220,13 @@ pub record Serves (buffered : List ℕ) (course : Course) (result : Result ℕ S
       (course_behind course old.maps (own_frames (buffered ++ taken)))
   pub tells : ServeTells result (stretch course old.maps (buffered ++ taken)) new.remaining
 
+-- serving by a server that stands so, if it holds bytes on a connection
+abbrev pub ServesFrom : (held : Standing) → Result ℕ ServeFault → (old new : Around)
+    → (standing : Standing) → Type 0
+ServesFrom held result old new standing =
+    (buffered : List ℕ) (course : Course) → held ≡ Holds buffered course →
+    Serves buffered course result old new standing
+
 -- a part of the bytes was given, and not all of them
 pub record GivesPart (old new : Option (List ℕ)) (bytes : List ℕ) : Type 0 where
   pub part : List ℕ

@@ -1,19 +1,18 @@
 //! What a device answers to a request, and what becomes of a table.
-ghost use Rattle.std.specs.Prelude.{◌≡◌, ◌≤◌, ◌+◌, ◌/◌, ◌∷◌, [], map, length, take};
-ghost use Rattle.std.specs.Prelude.{if◌then◌else◌, is_some, true};
+ghost use Rattle.std.specs.Prelude.{◌≡◌, ◌≤◌, ◌+◌, ◌*◌, ◌/◌, ◌∷◌, [], length, take, is_some, true};
 ghost use Rattle.std.specs.List.{list_all};
 ghost use Rattle.mb_wire.specs.Bytes.{words_of};
 ghost use Rattle.mb_wire.specs.Coils.{bytes_for, coils_of};
 ghost use Rattle.mb_wire.specs.Requests.{IsLawful, IsWithin, query_of};
-ghost use Rattle.mb_wire.specs.Replies.{Bits, Words, Echo, Exception, WantsCoils, WantsHead};
-ghost use Rattle.mb_wire.specs.Replies.{WantsRegisters, answer_bytes};
-ghost use Rattle.mb_device.specs.Device.{code_of_fault, coil_number, exception_bytes, is_kept_on};
-ghost use Rattle.mb_device.specs.Device.{kept_value};
-ghost use Rattle.mb_device.specs.Maps.{all_written, are_there, values_at};
+ghost use Rattle.mb_wire.specs.Replies.{Echo, WantsCoils, WantsHead, WantsRegisters, answer_bytes};
+ghost use Rattle.mb_device.specs.Device.{bits_at, code_of_fault, coils_written, exception_bytes};
+ghost use Rattle.mb_device.specs.Device.{if_there, words_at, words_written};
+ghost use Rattle.mb_device.specs.Maps.{are_there};
 
-use crate::packed_values::{pack_coils, pack_words, write_coils, write_words};
+use crate::packed_values::{MAX_BYTES, pack_coils, pack_words, write_coils, write_words};
 use mb_wire::{
-    MAX_PDU, MAX_READ_COILS, MAX_READ_REGISTERS, Reply, Request, RequestFault, encode_reply,
+    MAX_PDU, MAX_READ_COILS, MAX_READ_REGISTERS, MAX_WRITE_REGISTERS, Reply, Request, RequestFault,
+    encode_reply,
 };
 
 // The exception code of a fault.
@@ -69,7 +68,7 @@ fn has_coils(table: &[Option<u16>], address: u16, quantity: u16, bytes: &[u8]) -
 
 // All addresses are there from which on registers are written.
 fn has_words(table: &[Option<u16>], address: u16, bytes: &[u8]) -> bool
-    requires { length bytes.now ≤ 246 }
+    requires { length bytes.now ≤ 2 * MAX_WRITE_REGISTERS }
     ensures value { result ≡ are_there table.now address (length (words_of bytes.now)) }
     ensures fits { result ≡ true → address + length bytes.now / 2 ≤ length table.now }
 {
@@ -89,13 +88,12 @@ pub(crate) fn answer_bits(
     requires wanted { WantsCoils (query_of request.now) quantity }
     ensures some { 1 ≤ result }
     ensures few { result ≤ MAX_PDU }
-    ensures written { take result out.new ≡ answer_bytes (query_of request.now)
-        (if are_there table.now address quantity
-        then Bits (map is_kept_on (values_at table.now address quantity)) else Exception 2) }
+    ensures written { take result out.new ≡
+        answer_bytes (query_of request.now) (bits_at table.now address quantity) }
 {
     if has_all(table, address, quantity) {
         let first = usize::from(address);
-        let mut bytes = [0; 250];
+        let mut bytes = [0; MAX_BYTES];
         let count = pack_coils(&table[first..first + usize::from(quantity)], &mut bytes);
         let reply = Reply::Bits {
             quantity,
@@ -120,13 +118,12 @@ pub(crate) fn answer_words(
     requires wanted { WantsRegisters (query_of request.now) quantity }
     ensures some { 1 ≤ result }
     ensures few { result ≤ MAX_PDU }
-    ensures written { take result out.new ≡ answer_bytes (query_of request.now)
-        (if are_there table.now address quantity
-        then Words (map kept_value (values_at table.now address quantity)) else Exception 2) }
+    ensures written { take result out.new ≡
+        answer_bytes (query_of request.now) (words_at table.now address quantity) }
 {
     if has_all(table, address, quantity) {
         let first = usize::from(address);
-        let mut bytes = [0; 250];
+        let mut bytes = [0; MAX_BYTES];
         let count = pack_words(&table[first..first + usize::from(quantity)], &mut bytes);
         encode_reply(request, &Reply::Words(&bytes[..count]), out)
     } else {
@@ -146,10 +143,9 @@ pub(crate) fn answer_coil(
     requires wanted { WantsHead (query_of request.now) }
     ensures some { 1 ≤ result }
     ensures few { result ≤ MAX_PDU }
-    ensures written { take result out.new ≡ answer_bytes (query_of request.now)
-        (if are_there table.old address 1 then Echo else Exception 2) }
-    ensures after { table.new ≡ (if are_there table.old address 1
-        then all_written table.old address (coil_number on ∷ []) else table.old) }
+    ensures written { take result out.new ≡
+        answer_bytes (query_of request.now) (if_there table.old address 1 Echo) }
+    ensures after { table.new ≡ coils_written table.old address (on ∷ []) }
 {
     if has_all(table, address, 1) {
         table[usize::from(address)] = Some(u16::from(on));
@@ -174,12 +170,8 @@ pub(crate) fn answer_coils(
     ensures some { 1 ≤ result }
     ensures few { result ≤ MAX_PDU }
     ensures written { take result out.new ≡ answer_bytes (query_of request.now)
-        (if are_there table.old address (length (coils_of quantity bytes.now))
-        then Echo else Exception 2) }
-    ensures after { table.new ≡
-        (if are_there table.old address (length (coils_of quantity bytes.now))
-        then all_written table.old address (map coil_number (coils_of quantity bytes.now))
-        else table.old) }
+        (if_there table.old address (length (coils_of quantity bytes.now)) Echo) }
+    ensures after { table.new ≡ coils_written table.old address (coils_of quantity bytes.now) }
 {
     if has_coils(table, address, quantity, bytes) {
         write_coils(table, usize::from(address), quantity, bytes);
@@ -198,14 +190,13 @@ pub(crate) fn answer_registers(
     out: &mut [u8; MAX_PDU],
 ) -> usize
     requires lawful { IsLawful request.now }
-    requires count { length bytes.now ≤ 246 }
+    requires count { length bytes.now ≤ 2 * MAX_WRITE_REGISTERS }
     requires wanted { WantsHead (query_of request.now) }
     ensures some { 1 ≤ result }
     ensures few { result ≤ MAX_PDU }
     ensures written { take result out.new ≡ answer_bytes (query_of request.now)
-        (if are_there table.old address (length (words_of bytes.now)) then Echo else Exception 2) }
-    ensures after { table.new ≡ (if are_there table.old address (length (words_of bytes.now))
-        then all_written table.old address (words_of bytes.now) else table.old) }
+        (if_there table.old address (length (words_of bytes.now)) Echo) }
+    ensures after { table.new ≡ words_written table.old address (words_of bytes.now) }
 {
     if has_words(table, address, bytes) {
         write_words(table, usize::from(address), bytes);

@@ -14,7 +14,7 @@ use crate::answer::{
     answer_bits, answer_coil, answer_coils, answer_registers, answer_words, code_of, refuse,
 };
 use crate::kinds::{Area, BankFault, Kind};
-use mb_wire::{MAX_PDU, Request, decode_request};
+use mb_wire::{ADDRESSES, MAX_PDU, Request, decode_request};
 use std::alloc::{AllocError, Global};
 use std::marker::Model;
 
@@ -85,10 +85,10 @@ fn begin(areas: &[Area], kind: Kind, address: u64) -> Option<u16>
 // The table of one kind.
 fn begin_table(alloc: Global, areas: &[Area], kind: Kind) -> Result<Vec<Option<u16>>, AllocError>
     ensures values { IfOk result (λ table. BeginsAs areas.now kind table.items) }
-    ensures end { IfOk result (λ table. length table.items ≡ 65536) }
+    ensures end { IfOk result (λ table. length table.items ≡ ADDRESSES) }
 {
-    let mut table = Vec::with_capacity(alloc, 65536)?;
-    for address in 0..65536u64 {
+    let mut table = Vec::with_capacity(alloc, ADDRESSES as usize)?;
+    for address in 0..u64::from(ADDRESSES) {
         table.push(begin(areas, kind, address))?;
     }
     Ok(table)

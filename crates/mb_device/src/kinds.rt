@@ -3,6 +3,8 @@ ghost use Rattle.std.specs.Prelude.{◌≡◌, ◌+◌};
 ghost use Rattle.mb_device.specs.Areas.{bank_fault_number, contains, is_out_of_range, kind_number};
 ghost use Rattle.mb_device.specs.Areas.{overlap};
 
+use mb_wire::ADDRESSES;
+
 /// The four kinds of values of a device (Modbus Application Protocol V1.1b3, section 4.3).
 #[derive(Clone, Copy, Debug, PartialEq, Eq)]
 pub enum Kind {
@@ -87,6 +89,6 @@ impl Area {
     pub(crate) fn is_out_of_range(&self) -> bool
         ensures { result ≡ is_out_of_range self.now }
     {
-        self.count == 0 || 65536 < self.end()
+        self.count == 0 || u64::from(ADDRESSES) < self.end()
     }
 }

@@ -7,7 +7,10 @@ ghost use Rattle.mb_wire.specs.Coils.{bytes_for, coils_of, number_of, packed};
 ghost use Rattle.mb_device.specs.Maps.{all_written};
 ghost use Rattle.mb_device.specs.Device.{coil_number, is_kept_on, kept_value};
 
-use mb_wire::{MAX_READ_REGISTERS, Reply};
+use mb_wire::{MAX_READ_COILS, MAX_READ_REGISTERS, Reply};
+
+// The most bytes that a read is answered with: 2,000 coils take as many as 125 registers.
+pub(crate) const MAX_BYTES: usize = 250;
 
 // The bits of up to eight values, the lowest first.
 fn pack_byte(values: &[Option<u16>]) -> u8
@@ -22,8 +25,8 @@ fn pack_byte(values: &[Option<u16>]) -> u8
 }
 
 // Writes values as coils, and says how many bytes they take.
-pub(crate) fn pack_coils(values: &[Option<u16>], out: &mut [u8; 250]) -> usize
-    requires { length values.now ≤ 2000 }
+pub(crate) fn pack_coils(values: &[Option<u16>], out: &mut [u8; MAX_BYTES]) -> usize
+    requires { length values.now ≤ MAX_READ_COILS }
     ensures count { result ≡ bytes_for (length values.now) }
     ensures written { take result out.new ≡ packed (map is_kept_on values.now) }
 {
@@ -36,8 +39,8 @@ pub(crate) fn pack_coils(values: &[Option<u16>], out: &mut [u8; 250]) -> usize
 }
 
 // Writes the value at place `i` behind those before it.
-fn put_word(out: &mut [u8; 250], i: usize, value: u16)
-    requires { i < 125 }
+fn put_word(out: &mut [u8; MAX_BYTES], i: usize, value: u16)
+    requires { i < MAX_READ_REGISTERS }
     ensures { take (2 * i + 2) out.new ≡ take (2 * i) out.old ++ word value }
 {
     let place = 2 * i;
@@ -45,7 +48,7 @@ fn put_word(out: &mut [u8; 250], i: usize, value: u16)
 }
 
 // Writes values as registers, and says how many bytes they take.
-pub(crate) fn pack_words(values: &[Option<u16>], out: &mut [u8; 250]) -> usize
+pub(crate) fn pack_words(values: &[Option<u16>], out: &mut [u8; MAX_BYTES]) -> usize
     requires { length values.now ≤ MAX_READ_REGISTERS }
     ensures count { result ≡ 2 * length values.now }
     ensures written { take result out.new ≡ word_bytes (map kept_value values.now) }

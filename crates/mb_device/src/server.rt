@@ -7,7 +7,7 @@ ghost use Rattle.mb_wire.specs.Links.{risen};
 ghost use Rattle.mb_device.specs.Device.{answer_to, maps_after};
 ghost use Rattle.mb_device.specs.Tricks.{Course, answer_of, begun, course_next, is_cut, sent_next};
 ghost use Rattle.mb_device.specs.Server.{Answered, Faulted, Gives, BufferedTells, Holds, HoldsFrame};
-ghost use Rattle.mb_device.specs.Server.{Over, PieceTells, Serves, TellsTake, Turns, around};
+ghost use Rattle.mb_device.specs.Server.{Over, PieceTells, ServesFrom, TellsTake, Turns, around};
 ghost use Rattle.mb_device.specs.Server.{came_to_end, course_behind, has_faulted, buffered_frames};
 ghost use Rattle.mb_device.specs.Server.{is_link_fault, is_over, is_read_fault, is_serving};
 ghost use Rattle.mb_device.specs.Server.{own_frames, serve_fault_number, served_to_end};
@@ -307,8 +307,7 @@ impl<'t> Server<'t> {
         bank: &mut Bank,
         max_turns: u32,
     ) -> Result<u64, ServeFault>
-        ensures serving { (buffered : List ℕ) (course : Course) → self.old ≡ Holds buffered course
-            → Serves buffered course result
+        ensures serving { ServesFrom self.old result
             (around (L.remaining link.old) (L.given link.old) bank.old)
             (around (L.remaining link.new) (L.given link.new) bank.new) self.new }
         ensures over { self.old ≡ Over → (result ≡ Ok 0) × (self.new ≡ Over)
