@@ -1,5 +1,6 @@
 //! A link that has only so much time.
 use crate::clock::Clock;
+use crate::counts::Counts;
 use mb_wire::{LastTake, Link, LinkFailed, Took};
 
 /// A link whose calls fail once a clock has passed a moment. That they ask the clock is tested, not proved.
@@ -8,10 +9,7 @@ pub struct HurriedLink<'l, L: Link, C: Clock> {
     link: &'l mut L,
     clock: &'l mut C,
     until: u64,
-    failures: u64,
-    takes: u64,
-    ends: u64,
-    last: Option<LastTake>,
+    counts: Counts,
 }
 
 impl<'l, L: Link, C: Clock> HurriedLink<'l, L, C> {
@@ -28,10 +26,7 @@ impl<'l, L: Link, C: Clock> HurriedLink<'l, L, C> {
             link,
             clock,
             until,
-            failures: 0,
-            takes: 0,
-            ends: 0,
-            last: None,
+            counts: Counts::new(),
         }
     }
 
@@ -39,10 +34,7 @@ impl<'l, L: Link, C: Clock> HurriedLink<'l, L, C> {
     fn is_late(&mut self) -> bool
         ensures late { IfSome (C.moments self.old.clock.now) (TellsLate self.old.until result) }
         ensures link { self.new.link.now ≡ self.old.link.now }
-        ensures failures { self.new.failures ≡ self.old.failures }
-        ensures takes { self.new.takes ≡ self.old.takes }
-        ensures ends { self.new.ends ≡ self.old.ends }
-        ensures last { self.new.last ≡ self.old.last }
+        ensures counts { self.new.counts ≡ self.old.counts }
     {
         self.clock.now() > self.until
     }
@@ -53,13 +45,13 @@ impl<L: Link, C: Clock> Link for HurriedLink<'_, L, C> {
 
     ghost given = { λ link. L.given link.link.now };
 
-    ghost failed = { λ link. link.failures };
+    ghost failed = { λ link. link.counts.failures };
 
-    ghost taken = { λ link. link.takes };
+    ghost taken = { λ link. link.counts.takes };
 
-    ghost ended = { λ link. link.ends };
+    ghost ended = { λ link. link.counts.ends };
 
-    ghost last = { λ link. link.last };
+    ghost last = { λ link. link.counts.last };
 
     fn take(&mut self, piece: &mut [u8]) -> Result<Took, LinkFailed> {
         let answer = if self.is_late() {
@@ -67,16 +59,7 @@ impl<L: Link, C: Clock> Link for HurriedLink<'_, L, C> {
         } else {
             self.link.take(piece)
         };
-        self.takes = self.takes.saturating_add(1);
-        match answer {
-            Ok(Took::End) => self.ends = self.ends.saturating_add(1),
-            Err(_) => self.failures = self.failures.saturating_add(1),
-            Ok(Took::Bytes(_)) | Ok(Took::Idle) => {}
-        }
-        self.last = Some(LastTake {
-            room: piece.len(),
-            answer,
-        });
+        self.counts.take(piece.len(), answer);
         answer
     }
 
@@ -86,22 +69,19 @@ impl<L: Link, C: Clock> Link for HurriedLink<'_, L, C> {
         } else {
             self.link.give(bytes)
         };
-        match answer {
-            Ok(count) if count > 0 || bytes.is_empty() => {}
-            _ => self.failures = self.failures.saturating_add(1),
-        }
+        self.counts.give(bytes, answer);
         answer
     }
 
     fn failures(&self) -> u64 {
-        self.failures
+        self.counts.failures
     }
 
     fn takes(&self) -> u64 {
-        self.takes
+        self.counts.takes
     }
 
     fn last_take(&self) -> Option<LastTake> {
-        self.last
+        self.counts.last
     }
 }

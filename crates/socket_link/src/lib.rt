@@ -2,6 +2,7 @@
 #![tactic(auto)]
 
 mod clock;
+mod counts;
 mod hurried_link;
 mod socket;
 

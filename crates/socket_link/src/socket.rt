@@ -1,6 +1,7 @@
 //! A link over a socket.
 ghost use Rattle.std.specs.Prelude.{◌≡◌};
 
+use crate::counts::Counts;
 use mb_wire::{LastTake, Link, LinkFailed, Took};
 use std::io::{self, ErrorKind, Read, Write};
 use std::net::{OpenStream, Shutdown};
@@ -11,10 +12,7 @@ use std::time::Duration;
 #[derive(Drop)]
 pub struct SocketLink<S: Drop> {
     stream: S,
-    failures: u64,
-    takes: u64,
-    ends: u64,
-    last: Option<LastTake>,
+    counts: Counts,
 }
 
 impl<S: Read + Write + OpenStream + Drop> SocketLink<S> {
@@ -36,10 +34,7 @@ impl<S: Read + Write + OpenStream + Drop> SocketLink<S> {
         stream.set_write_timeout(Some(wait))?;
         Ok(SocketLink {
             stream,
-            failures: 0,
-            takes: 0,
-            ends: 0,
-            last: None,
+            counts: Counts::new(),
         })
     }
 
@@ -66,9 +61,7 @@ impl<S: Read + Write + Drop> SocketLink<S> {
     // What a read brought. A read of nothing with room for something is the end.
     fn read(&mut self, piece: &mut [u8]) -> Result<Took, LinkFailed>
         ensures bound { TakesAtMost result piece.new }
-        ensures failures { self.new.failures ≡ self.old.failures }
-        ensures takes { self.new.takes ≡ self.old.takes }
-        ensures ends { self.new.ends ≡ self.old.ends }
+        ensures counts { self.new.counts ≡ self.old.counts }
     {
         match self.stream.read(piece) {
             Ok(0) => Ok(Took::End),
@@ -82,52 +75,38 @@ impl<S: Read + Write + Drop> SocketLink<S> {
 }
 
 impl<S: Read + Write + Drop> Link for SocketLink<S> {
-    ghost failed = { λ link. link.failures };
+    ghost failed = { λ link. link.counts.failures };
 
-    ghost taken = { λ link. link.takes };
+    ghost taken = { λ link. link.counts.takes };
 
-    ghost ended = { λ link. link.ends };
+    ghost ended = { λ link. link.counts.ends };
 
-    ghost last = { λ link. link.last };
+    ghost last = { λ link. link.counts.last };
 
     fn take(&mut self, piece: &mut [u8]) -> Result<Took, LinkFailed> {
         let answer = self.read(piece);
-        self.takes = self.takes.saturating_add(1);
-        match answer {
-            Ok(Took::End) => self.ends = self.ends.saturating_add(1),
-            Err(_) => self.failures = self.failures.saturating_add(1),
-            Ok(Took::Bytes(_)) | Ok(Took::Idle) => {}
-        }
-        self.last = Some(LastTake {
-            room: piece.len(),
-            answer,
-        });
+        self.counts.take(piece.len(), answer);
         answer
     }
 
     fn give(&mut self, bytes: &[u8]) -> Result<usize, LinkFailed> {
-        match self.stream.write(bytes) {
-            Ok(0) if !bytes.is_empty() => {
-                self.failures = self.failures.saturating_add(1);
-                Ok(0)
-            }
+        let answer = match self.stream.write(bytes) {
             Ok(count) => Ok(count),
-            Err(_) => {
-                self.failures = self.failures.saturating_add(1);
-                Err(LinkFailed)
-            }
-        }
+            Err(_) => Err(LinkFailed),
+        };
+        self.counts.give(bytes, answer);
+        answer
     }
 
     fn failures(&self) -> u64 {
-        self.failures
+        self.counts.failures
     }
 
     fn takes(&self) -> u64 {
-        self.takes
+        self.counts.takes
     }
 
     fn last_take(&self) -> Option<LastTake> {
-        self.last
+        self.counts.last
     }
 }
