@@ -23,7 +23,7 @@ pub fn answer_one<L: Link>(
     ensures serves { ServesSome tricks.now result
         (around (L.remaining link.old) (L.given link.old) bank.old)
         (around (L.remaining link.new) (L.given link.new) bank.new) }
-    ensures turns { L.taken link.new ≤ L.taken link.old + 100000 }
+    ensures turns { L.taken link.new ≤ L.taken link.old + MOST_TURNS }
 {
     let mut server = Server::tricked(tricks);
     server.serve(link, bank, MOST_TURNS)
