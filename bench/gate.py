@@ -126,14 +126,13 @@ def tree_of(told):
     return found[1] if found else ""
 
 
-def place_of(told, names):
+def place_of(told):
     """Returns the crate and the part that a process worked for, how, and a name of the run; nothing where it was no part of the gate."""
     words, folder = told["cmd"], told["cwd"]
     # (some kits give these folders the number of rt's process)
     ran = re.search(r"/rt-run-(?:(\d+)-)?[^/]*/bin/(\w+)", words)
     if ran:
-        tested = ran[2].removesuffix("_tests")
-        return (tested, "tests", "ran", ran[1]) if tested in names else (ran[2], "proof", "ran", ran[1])
+        return ran[2].removesuffix("_tests"), "tests" if ran[2].endswith("_tests") else "proof", "ran", ran[1]
     named, edit, inside = (re.search(it, text) for it, text in ((r" --crate-name (\w+)", words), (r"/rt-edit-(?:(\d+)-)?", folder), (r"/crates/(\w+)$", folder)))
     if named and edit:
         return named[1], "edits", "tried", edit[1] or tree_of(told)
@@ -158,7 +157,7 @@ def parts_of(log, names):
     """Returns what the last run of each crate's part took, in seconds, and the most memory of one of its processes, in bytes."""
     found, seconds, memory = {}, collections.Counter(), collections.Counter()
     for told in log:
-        name, part, how, run = place_of(told, names) or ("", "", "", "")
+        name, part, how, run = place_of(told) or ("", "", "", "")
         if name in names:
             found.setdefault((name, part, how), {}).setdefault(run, []).append(told)
     for (name, part, how), runs in found.items():
