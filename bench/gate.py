@@ -1,10 +1,11 @@
 #!/usr/bin/env python3
-"""gate.sh [--page] [--log FILE | NAME..]: what the parts of the gate take, crate by crate: a Markdown table of processor seconds and memory.
+"""gate.sh [--page] [--log FILE [--in FOLDER] | NAME..]: what the parts of the gate take, crate by crate: a Markdown table of processor seconds and memory.
 
 It runs `rt ci` over a clone of the committed tree, in a temporary folder and with a kit that has nothing kept, and watches its processes. With names it tries
 the edits and the tests of those crates alone, over the proofs of what they stand on. RT_JOBS=1 has it work on one part at a time, as on a machine with other
 work. What the gate says goes to standard error; the status is the gate's.
---log FILE: runs nothing, and reads what bench/watch.py noted while `rt ci` or `rt ci NAME..` ran, here or in another copy. The last run of each part counts.
+--log FILE: runs nothing, and reads what bench/watch.py noted while `rt ci` ran (with a kit that has it, also `rt ci NAME..`), here or in another copy. The
+last run of each part counts; with --in, the last in the copy that is FOLDER, where other work went on meanwhile.
 --page: prints the whole of bench/GATE.md: `bench/gate.sh --page --log FILE > bench/GATE.md`.
 A proof counts a program's builds, and the tests' time their proof, build and run. A process's last second is not seen.
 """
@@ -82,6 +83,8 @@ def gate(root, named):
         subprocess.run(["git", "clone", "-q", root, tree], check=True)
         # (tests are run as nobody)
         os.chmod(room, 0o755)
+        # (rt's own folders too, so that another gate on the machine is told from this one)
+        tempfile.tempdir = room
         rt = kit.load_rt(kit.of_links(room))
         if named:
             keep_only(rt, named, tree)
@@ -104,9 +107,7 @@ def gate(root, named):
         sys.stdout.flush()
         os.dup2(out, 1)
         os.chdir(root)
-        # (another gate on the machine is none of ours)
-        mine = (tree, f"/rt-edit-{os.getpid()}-", f"/rt-run-{os.getpid()}-")
-        return status, [it for it in told if any(word in it["cmd"] + it["cwd"] for word in mine)]
+        return status, [it for it in told if f"{room}/" in f"{it['cmd']} {it['cwd']}/"]
 
 
 def read(log):
@@ -119,42 +120,48 @@ def is_proof(words):
     return "--empty-contracts" in words or "--crate-checked" in words
 
 
-def place_of(told, names):
+def tree_of(told):
+    """Returns the copy of the repository in which a process worked; nothing where it names none."""
+    found = re.match(r"(.*)/crates/\w+$", told["cwd"]) or re.search(r"(/\S+)/crates/\w+", told["cmd"])
+    return found[1] if found else ""
+
+
+def place_of(told):
     """Returns the crate and the part that a process worked for, how, and a name of the run; nothing where it was no part of the gate."""
     words, folder = told["cmd"], told["cwd"]
-    ran = re.search(r"/rt-run-(\d+)-[^/]*/bin/(\w+)", words)
+    # (some kits give these folders the number of rt's process)
+    ran = re.search(r"/rt-run-(?:(\d+)-)?[^/]*/bin/(\w+)", words)
     if ran:
-        tested = ran[2].removesuffix("_tests")
-        return (tested, "tests", "ran", ran[1]) if tested in names else (ran[2], "proof", "ran", ran[1])
-    named, edit, inside = (re.search(it, text) for it, text in ((r" --crate-name (\w+)", words), (r"/rt-edit-(\d+)-", folder), (r"/crates/(\w+)$", folder)))
+        return ran[2].removesuffix("_tests"), "tests" if ran[2].endswith("_tests") else "proof", "ran", ran[1]
+    named, edit, inside = (re.search(it, text) for it, text in ((r" --crate-name (\w+)", words), (r"/rt-edit-(?:(\d+)-)?", folder), (r"/crates/(\w+)$", folder)))
     if named and edit:
-        return named[1], "edits", "tried", edit[1]
+        return named[1], "edits", "tried", edit[1] or tree_of(told)
     if not inside or " fmt " in words or named and not is_proof(words):
         return None
-    is_of_tests = inside[1].endswith("_tests") or re.search(r" --test\b|\bout/\w+_tests\b", words)
-    return inside[1], "tests" if is_of_tests else "proof", "made", folder
+    of_tests = re.search(r" --test\b|\bout/\w+_tests\b", words)
+    return inside[1], "tests" if of_tests or inside[1].endswith("_tests") else "proof", "made of tests" if of_tests else "made", folder
 
 
-def last_of(told):
-    """Returns the last that followed on one another, with a proof among them."""
+def last_of(told, how):
+    """Returns the last that followed on one another, of those that were made with a proof among them."""
     runs, until = [[]], 0
     for it in sorted(told, key=lambda it: it["t0"]):
         if runs[-1] and it["t0"] > until + APART:
             runs.append([])
         runs[-1].append(it)
         until = max(until, it["t1"])
-    return next((it for it in reversed(runs) if any(is_proof(told["cmd"]) for told in it)), [])
+    return next((it for it in reversed(runs) if not how.startswith("made") or any(is_proof(told["cmd"]) for told in it)), [])
 
 
 def parts_of(log, names):
     """Returns what the last run of each crate's part took, in seconds, and the most memory of one of its processes, in bytes."""
     found, seconds, memory = {}, collections.Counter(), collections.Counter()
     for told in log:
-        name, part, how, run = place_of(told, names) or ("", "", "", "")
+        name, part, how, run = place_of(told) or ("", "", "", "")
         if name in names:
             found.setdefault((name, part, how), {}).setdefault(run, []).append(told)
     for (name, part, how), runs in found.items():
-        runs = filter(None, map(last_of, runs.values()) if how == "made" else runs.values())
+        runs = filter(None, (last_of(it, how) for it in runs.values()))
         for it in max(runs, key=lambda run: max(it["t0"] for it in run), default=()):
             seconds[name, part] += it["cpu"]
             memory[name, part] = max(memory[name, part], it["rss"])
@@ -198,6 +205,8 @@ def machine(log):
 def main(asked):
     root = subprocess.run(["git", "rev-parse", "--show-toplevel"], check=True, capture_output=True, text=True).stdout.strip()
     status, log = (0, read(asked.log)) if asked.log else gate(root, asked.names)
+    if asked.folder:
+        log = [it for it in log if tree_of(it) in ("", os.path.realpath(asked.folder))]
     names = [it.name for it in kit.load_rt().rtlib.crates_below(root)]
     seconds, memory = parts_of(log, names)
     rows = "\n".join(table(root, names, seconds, memory))
@@ -211,5 +220,6 @@ if __name__ == "__main__":
     words = argparse.ArgumentParser(prog="gate.sh", usage=__doc__.split(":")[0], description=__doc__, formatter_class=argparse.RawDescriptionHelpFormatter)
     words.add_argument("--page", action="store_true")
     words.add_argument("--log", metavar="FILE")
+    words.add_argument("--in", metavar="FOLDER", dest="folder")
     words.add_argument("names", nargs="*", metavar="NAME")
     sys.exit(main(words.parse_args()))

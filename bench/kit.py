@@ -41,6 +41,23 @@ def load_rt(kit=None):
     return made
 
 
+def remember(crate):
+    """Keeps each crate's sum and the libraries below it, which rt makes anew along every path; for where no library changes."""
+    for name in ("stamp", "below"):
+        setattr(crate, name, once_a_folder(getattr(crate, name)))
+
+
+def once_a_folder(make):
+    made = {}
+
+    def kept(it):
+        if it.folder not in made:
+            made[it.folder] = make(it)
+        return made[it.folder]
+
+    return kept
+
+
 def costs(page=PAGE):
     """Returns the costs of each crate's proof that the page has, by the crate's name."""
     with open(page, encoding="utf-8") as it:

@@ -46,25 +46,8 @@ Edit = collections.namedtuple("Edit", "name changes functions stands_alone fault
 Said = collections.namedtuple("Said", "is_read is_proved lines functions")
 
 
-def remember(crate):
-    """Keeps each crate's sum and the libraries below it, which rt makes anew along every path; no library changes here."""
-    for name in ("stamp", "below"):
-        setattr(crate, name, once_a_folder(getattr(crate, name)))
-
-
-def once_a_folder(make):
-    made = {}
-
-    def kept(it):
-        if it.folder not in made:
-            made[it.folder] = make(it)
-        return made[it.folder]
-
-    return kept
-
-
 rt = kit.load_rt()
-remember(rt.rtlib.Crate)
+kit.remember(rt.rtlib.Crate)
 
 
 def functions_of(crate, file):
