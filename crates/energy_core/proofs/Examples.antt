@@ -1,5 +1,7 @@
 -- Worked examples, computed from the definitions.
-use Rattle.std.proofs.Common.{◌≡◌, ℕ, ℤ, pos, negsuc, refl, [], ◌∷◌, Ok, Err}
+use native.Mathlib.Omega.{arith}
+use Rattle.std.proofs.Common.{◌≡◌, ℕ, ℤ, pos, negsuc, refl, [], ◌∷◌, Ok, Err, lit≤, true, false}
+use Rattle.energy_core.specs.declared.limits.TheConstants.{MAX_CEILING, MAX_SHOWN, MAX_UNIT}
 use Rattle.energy_core.specs.declared.entries.Last.{Last}
 use Rattle.energy_core.specs.declared.entries.Step.{Step as StepRecord}
 use Rattle.energy_core.specs.declared.entries.Entry.TheVariants as entry
@@ -9,9 +11,10 @@ use Rattle.energy_core.specs.declared.verdicts.Reading.{Reading}
 use Rattle.energy_core.specs.declared.verdicts.Terms.{Terms}
 use Rattle.energy_core.specs.declared.verdicts.Verdict.TheVariants.{Accepted, Held}
 use Rattle.energy_core.specs.Value.{unit_of}
-use Rattle.energy_core.specs.Account.{whole_energy, steps_of}
+use Rattle.energy_core.specs.Account.{intervals_touched, whole_energy, steps_of}
+use Rattle.energy_core.specs.Ranged.{IsRange}
 use Rattle.energy_core.specs.Verdict.{verdict_of}
-use Rattle.energy_core.specs.Admission.{entered}
+use Rattle.energy_core.specs.Admission.{entered, has_bad_scale}
 
 abbrev terms : (ceiling total : ℕ) → Terms
 terms ceiling total = record { ceiling = ceiling; total = total }
@@ -58,6 +61,14 @@ total_just_full = refl
 total_past_full : verdict_of 4294967296 (terms 1000000 3999999999999999000) (last 0 1 (pos 0)) (reading 900 3 (pos 0)) ≡ Held cause.TotalFull
 unfolding unit_of
 total_past_full = refl
+
+total_full_to_the_last : verdict_of 4294967296 (terms 1000000 3999999999999999999) (last 0 1 (negsuc 2)) (reading 900 2 (negsuc 2)) ≡ Accepted 0 1
+unfolding unit_of
+total_full_to_the_last = refl
+
+total_past_full_by_one : verdict_of 4294967296 (terms 1000000 4000000000000000000) (last 0 1 (negsuc 2)) (reading 900 2 (negsuc 2)) ≡ Held cause.TotalFull
+unfolding unit_of
+total_past_full_by_one = refl
 
 longest_span : verdict_of 4294967296 (terms 1000 0) (last 0 1 (pos 0)) (reading 2700000 2 (pos 0)) ≡ Accepted 0 1000
 unfolding unit_of
@@ -134,3 +145,57 @@ steps_of_a_reset : steps_of 4294967296 (last 1000 5000 (pos 0))
     ≡ step 2000 3700 30000 ∷ step 1900 2000 50000 ∷ step 1000 1900 200000 ∷ []
 unfolding unit_of
 steps_of_a_reset = refl
+
+-- Both ends of what ranges and scales may be, the last good value and the first bad one.
+
+least_range : IsRange 65536
+least_range = (lit≤ tt, lit≤ tt)
+
+below_the_least_range : IsRange 65535 → ⊥
+below_the_least_range is = omega (arith, is.0)
+
+greatest_range : IsRange 4294967296
+greatest_range = (lit≤ tt, lit≤ tt)
+
+past_the_greatest_range : IsRange 4294967297 → ⊥
+past_the_greatest_range is = omega (arith, is.1)
+
+least_scale : has_bad_scale (entry.Change 2000 5200 520 (negsuc 2)) ≡ false
+least_scale = refl
+
+below_the_least_scale : has_bad_scale (entry.Change 2000 5200 520 (negsuc 3)) ≡ true
+below_the_least_scale = refl
+
+greatest_scale : has_bad_scale (entry.Change 2000 5200 520 (pos 3)) ≡ false
+greatest_scale = refl
+
+past_the_greatest_scale : has_bad_scale (entry.Change 2000 5200 520 (pos 4)) ≡ true
+past_the_greatest_scale = refl
+
+a_count_at_the_least_scale : unit_of (negsuc 2) ≡ 1
+unfolding unit_of
+a_count_at_the_least_scale = refl
+
+a_count_at_the_greatest_scale : unit_of (pos 3) ≡ MAX_UNIT
+unfolding unit_of
+a_count_at_the_greatest_scale = refl
+
+greatest_shown : MAX_SHOWN ≡ 4294967295
+greatest_shown = refl
+
+greatest_ceiling : MAX_CEILING ≡ 1000000000
+greatest_ceiling = refl
+
+-- Intervals of a quarter of an hour.
+
+within_one_interval : intervals_touched 0 900 ≡ 1
+within_one_interval = refl
+
+one_second_in_the_next : intervals_touched 0 901 ≡ 2
+one_second_in_the_next = refl
+
+three_thousand : intervals_touched 0 2700000 ≡ 3000
+three_thousand = refl
+
+one_more_than_three_thousand : intervals_touched 0 2700001 ≡ 3001
+one_more_than_three_thousand = refl

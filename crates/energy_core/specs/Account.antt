@@ -1,16 +1,16 @@
 -- The entries of an installation, the steps between them, and the energy that they stand for.
 -- A list of entries has the latest first; below it lies the opening. `range` is how many counts the counter has.
-use Rattle.std.specs.Prelude.{◌≡◌, ℕ, ℤ, pos, negsuc, ◌+◌, ◌-◌, ◌*◌, ◌/◌, ◌≤◌, ◌<◌, ◌≤ℤ◌, List, [], ◌∷◌}
-use Rattle.energy_core.specs.declared.limits.TheConstants.{MAX_INTERVALS, MAX_TOTAL}
+use Rattle.std.specs.Prelude.{◌≡◌, ℕ, ℤ, ◌+◌, ◌-◌, ◌*◌, ◌/◌, ◌≤◌, ◌<◌, ◌≤ℤ◌, List, [], ◌∷◌}
+use Rattle.energy_core.specs.declared.limits.TheConstants.{INTERVAL_SECONDS, MAX_INTERVALS, MAX_SCALE, MAX_TOTAL, MIN_SCALE}
 use Rattle.energy_core.specs.declared.entries.Last.{Last}
 use Rattle.energy_core.specs.declared.entries.Step.{Step}
 use Rattle.energy_core.specs.declared.entries.Entry.{Entry}
 use Rattle.energy_core.specs.declared.entries.Entry.TheVariants as entry
 use Rattle.energy_core.specs.Value.{unit_of, value_of}
 
--- How many intervals of 900 seconds are touched between two moments, the second being the later.
+-- How many intervals are touched between two moments, the second being the later.
 abbrev pub intervals_touched : (from till : ℕ) → ℕ
-intervals_touched from till = (till - 1) / 900 - from / 900 + 1
+intervals_touched from till = (till - 1) / INTERVAL_SECONDS - from / INTERVAL_SECONDS + 1
 
 -- when an entry was made
 abbrev pub moment_of : Entry → ℕ
@@ -73,7 +73,7 @@ NeverFalls range opening (e ∷ es) =
 
 -- the scale is one that a register may have
 abbrev pub IsScale : ℤ → Type 0
-IsScale sf = (negsuc 2 ≤ℤ sf) × (sf ≤ℤ pos 3)
+IsScale sf = (MIN_SCALE ≤ℤ sf) × (sf ≤ℤ MAX_SCALE)
 
 -- where an entry sets the scale, it is such a one
 abbrev pub HasScale : Entry → Type 0

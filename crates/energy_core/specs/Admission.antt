@@ -1,7 +1,7 @@
 -- The table by which an entry by hand is booked or refused.
-use Rattle.std.specs.Prelude.{◌≡◌, ◌≤◌, ℕ, pos, negsuc, ◌+◌, nat_lt, nat_le, int_lt, Bool, ◌||◌, false, List, [], ◌∷◌, Option, Some, None, Result, Ok, Err}
+use Rattle.std.specs.Prelude.{◌≡◌, ◌≤◌, ℕ, ◌+◌, nat_lt, nat_le, int_lt, Bool, ◌||◌, false, List, [], ◌∷◌, Option, Some, None, Result, Ok, Err, IfOk}
 use Rattle.std.specs.List.{find}
-use Rattle.energy_core.specs.declared.limits.TheConstants.{MAX_INTERVALS, MAX_TOTAL}
+use Rattle.energy_core.specs.declared.limits.TheConstants.{MAX_INTERVALS, MAX_SCALE, MAX_TOTAL, MIN_SCALE}
 use Rattle.energy_core.specs.declared.entries.Last.{Last}
 use Rattle.energy_core.specs.declared.entries.Step.{Step}
 use Rattle.energy_core.specs.declared.entries.Entry.{Entry}
@@ -22,7 +22,7 @@ fault_number fault.NotBelowRange = 6
 -- an entry sets a scale that no register may have
 abbrev pub has_bad_scale : Entry → Bool
 has_bad_scale (entry.Step at raw rolls) = false
-has_bad_scale (entry.Change at before new sf) = int_lt sf (negsuc 2) || int_lt (pos 3) sf
+has_bad_scale (entry.Change at before new sf) = int_lt sf MIN_SCALE || int_lt MAX_SCALE sf
 
 -- an entry tells a number that the counter can't show
 abbrev pub is_beyond : (range : ℕ) → Entry → Bool
@@ -61,6 +61,11 @@ entered range total last e = answered range last e (find (refuses range total la
 -- the account goes on from such a total: after these entries the counter stands so, with the step more
 abbrev pub GoesOn : (range : ℕ) → Last → List Entry → (total : ℕ) → Last × Step → Type 0
 GoesOn range opening es total r = IsAccount range opening es r.0 (total + r.1.mwh)
+
+-- Every account that stands so goes on by the entry, where it is booked.
+abbrev pub AccountsGoOnBy : (range total : ℕ) → Last → Entry → Result (Last × Step) TermFault → Type 0
+AccountsGoOnBy range total last e answer = (opening : Last) (es : List Entry)
+    → IsAccount range opening es last total → IfOk answer (GoesOn range opening (e ∷ es) total)
 
 -- An entry that may follow was booked: the counter stands then where the entry says, the step goes up to it, and the
 -- whole energy is within its limit.

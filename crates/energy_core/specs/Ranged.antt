@@ -1,6 +1,11 @@
-use Rattle.std.specs.Prelude.{ℕ}
+use Rattle.std.specs.Prelude.{ℕ, ◌≤◌}
+use Rattle.energy_core.specs.declared.limits.TheConstants.{MAX_RANGE, MIN_RANGE}
 use Rattle.energy_core.specs.declared.counters.Ranged.{Ranged}
 
 -- how many counts the counter has
 abbrev pub range_of : Ranged → ℕ
 range_of counter = counter.range
+
+-- so many counts may a counter have
+abbrev pub IsRange : ℕ → Type 0
+IsRange range = (MIN_RANGE ≤ range) × (range ≤ MAX_RANGE)

@@ -1,15 +1,13 @@
 //! Whether an entry by hand is booked, and why one is refused.
-ghost use Rattle.std.specs.Prelude.{◌≡◌, ◌≤◌, ◌<◌, ◌+◌, pos, negsuc, ◌≤ℤ◌, List, ◌∷◌};
+ghost use Rattle.std.specs.Prelude.{◌≡◌, ◌≤◌, ◌<◌, ◌+◌, ◌*◌, ◌≤ℤ◌};
 ghost use Rattle.std.specs.Prelude.{IfOk};
-ghost use Rattle.energy_core.specs.Admission.{GoesOn, entered, is_beyond, has_bad_scale, fault_number};
-ghost use Rattle.energy_core.specs.Account.{moment_of, reached, after, energy_of, IsAccount};
+ghost use Rattle.energy_core.specs.Admission.{AccountsGoOnBy, entered, is_beyond, has_bad_scale, fault_number};
+ghost use Rattle.energy_core.specs.Account.{moment_of, reached, after, energy_of};
 ghost use Rattle.energy_core.specs.Account.{intervals_touched};
-ghost use Rattle.energy_core.specs.declared.entries.Last.{Last};
-ghost use Rattle.energy_core.specs.declared.entries.Entry.{Entry};
 
 use crate::counters::Counter;
 use crate::entries::{Entry, Last, Step};
-use crate::limits::{MAX_INTERVALS, MAX_RANGE, MAX_TOTAL};
+use crate::limits::{MAX_INTERVALS, MAX_RANGE, MAX_SCALE, MAX_TOTAL, MAX_UNIT, MIN_SCALE};
 use crate::measures::{is_long_span, unit};
 use crate::verdicts::Terms;
 
@@ -59,7 +57,7 @@ fn moment(entry: &Entry) -> u64
 fn reach(range: u64, entry: &Entry) -> u64
     requires { range ≤ MAX_RANGE }
     ensures value { result ≡ reached range entry.now }
-    ensures small { result ≤ 1099511627776 }
+    ensures small { result ≤ 256 * MAX_RANGE }
 {
     match *entry {
         Entry::Step { raw, rolls, .. } => u64::from(raw) + u64::from(rolls) * range,
@@ -70,11 +68,11 @@ fn reach(range: u64, entry: &Entry) -> u64
 /// The energy, in mWh, from where the counter stood to an entry that doesn't go back. All energy is computed here.
 pub(crate) fn energy(range: u64, last: &Last, entry: &Entry) -> u64
     requires range { range ≤ MAX_RANGE }
-    requires scale_low { negsuc 2 ≤ℤ last.now.sf }
-    requires scale_high { last.now.sf ≤ℤ pos 3 }
+    requires scale_low { MIN_SCALE ≤ℤ last.now.sf }
+    requires scale_high { last.now.sf ≤ℤ MAX_SCALE }
     requires rises { last.now.raw ≤ reached range entry.now }
     ensures value { result ≡ energy_of range last.now entry.now }
-    ensures small { result ≤ 1099511627776000000 }
+    ensures small { result ≤ 256 * MAX_RANGE * MAX_UNIT }
 {
     let unit = unit(last.sf);
     reach(range, entry) * unit - u64::from(last.raw) * unit
@@ -86,7 +84,7 @@ fn is_off_scale(entry: &Entry) -> bool
 {
     match *entry {
         Entry::Step { .. } => false,
-        Entry::Change { sf, .. } => sf < -3 || 3 < sf,
+        Entry::Change { sf, .. } => sf < MIN_SCALE || MAX_SCALE < sf,
     }
 }
 
@@ -126,18 +124,17 @@ pub fn enter<C: Counter>(
 ) -> Result<(Last, Step), TermFault>
     requires total { terms.now.total ≤ MAX_TOTAL }
     requires raw { last.now.raw < C.range counter.now }
-    requires scale_low { negsuc 2 ≤ℤ last.now.sf }
-    requires scale_high { last.now.sf ≤ℤ pos 3 }
+    requires scale_low { MIN_SCALE ≤ℤ last.now.sf }
+    requires scale_high { last.now.sf ≤ℤ MAX_SCALE }
     ensures booked { result ≡ entered (C.range counter.now) terms.now.total last.now entry.now }
     ensures account { let range = C.range counter.now in
-        (opening : Last) (es : List Entry) → IsAccount range opening es last.now terms.now.total
-        → IfOk result (GoesOn range opening (entry.now ∷ es) terms.now.total) }
+        AccountsGoOnBy range terms.now.total last.now entry.now result }
 
     // what the next call requires
     ensures total { IfOk result (λ r. terms.now.total + r.1.mwh ≤ MAX_TOTAL) }
     ensures raw { IfOk result (λ r. r.0.raw < C.range counter.now) }
-    ensures scale_low { IfOk result (λ r. negsuc 2 ≤ℤ r.0.sf) }
-    ensures scale_high { IfOk result (λ r. r.0.sf ≤ℤ pos 3) }
+    ensures scale_low { IfOk result (λ r. MIN_SCALE ≤ℤ r.0.sf) }
+    ensures scale_high { IfOk result (λ r. r.0.sf ≤ℤ MAX_SCALE) }
 
     // the step can be shared out over its intervals
     ensures later { IfOk result (λ r. r.1.from < r.1.till) }

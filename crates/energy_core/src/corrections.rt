@@ -1,15 +1,15 @@
 //! Corrections of a counter: readings by hand and at closing, resets and rescales.
-ghost use Rattle.std.specs.Prelude.{◌≡◌, ◌≤◌, ◌<◌, pos, negsuc, ◌≤ℤ◌};
+ghost use Rattle.std.specs.Prelude.{◌≡◌, ◌≤◌, ◌<◌, ◌≤ℤ◌};
 ghost use Rattle.energy_core.specs.declared.entries.Entry.TheVariants as entry;
 ghost use Rattle.energy_core.specs.Admission.{entered};
 
 use crate::admission::{TermFault, enter};
 use crate::counters::Counter;
 use crate::entries::{Entry, Last, Step};
-use crate::limits::MAX_TOTAL;
+use crate::limits::{MAX_SCALE, MAX_TOTAL, MIN_SCALE};
 use crate::verdicts::Terms;
 
-/// Books a reading by hand, over so many full turns. The ceiling isn't looked at.
+/// Books a reading by hand, or the one at closing, over so many full turns. The ceiling isn't looked at.
 pub fn manual<C: Counter>(
     counter: &C,
     terms: &Terms,
@@ -20,31 +20,12 @@ pub fn manual<C: Counter>(
 ) -> Result<(Last, Step), TermFault>
     requires total { terms.now.total ≤ MAX_TOTAL }
     requires raw { last.now.raw < C.range counter.now }
-    requires scale_low { negsuc 2 ≤ℤ last.now.sf }
-    requires scale_high { last.now.sf ≤ℤ pos 3 }
+    requires scale_low { MIN_SCALE ≤ℤ last.now.sf }
+    requires scale_high { last.now.sf ≤ℤ MAX_SCALE }
     ensures { let reading = entry.Step at raw rolls in
         result ≡ entered (C.range counter.now) terms.now.total last.now reading }
 {
     enter(counter, terms, last, &Entry::Step { at, raw, rolls })
-}
-
-/// Books the reading at closing, over so many full turns. The ceiling isn't looked at.
-pub fn close<C: Counter>(
-    counter: &C,
-    terms: &Terms,
-    last: &Last,
-    at: u64,
-    raw: u32,
-    rolls: u8,
-) -> Result<(Last, Step), TermFault>
-    requires total { terms.now.total ≤ MAX_TOTAL }
-    requires raw { last.now.raw < C.range counter.now }
-    requires scale_low { negsuc 2 ≤ℤ last.now.sf }
-    requires scale_high { last.now.sf ≤ℤ pos 3 }
-    ensures { let reading = entry.Step at raw rolls in
-        result ≡ entered (C.range counter.now) terms.now.total last.now reading }
-{
-    manual(counter, terms, last, at, raw, rolls)
 }
 
 /// Books a reset: the counter stood at `before` and was set to `after`. The ceiling isn't looked at.
@@ -58,8 +39,8 @@ pub fn reset<C: Counter>(
 ) -> Result<(Last, Step), TermFault>
     requires total { terms.now.total ≤ MAX_TOTAL }
     requires raw { last.now.raw < C.range counter.now }
-    requires scale_low { negsuc 2 ≤ℤ last.now.sf }
-    requires scale_high { last.now.sf ≤ℤ pos 3 }
+    requires scale_low { MIN_SCALE ≤ℤ last.now.sf }
+    requires scale_high { last.now.sf ≤ℤ MAX_SCALE }
     ensures { let change = entry.Change at before after last.now.sf in
         result ≡ entered (C.range counter.now) terms.now.total last.now change }
 {
@@ -78,8 +59,8 @@ pub fn rescale<C: Counter>(
 ) -> Result<(Last, Step), TermFault>
     requires total { terms.now.total ≤ MAX_TOTAL }
     requires raw { last.now.raw < C.range counter.now }
-    requires scale_low { negsuc 2 ≤ℤ last.now.sf }
-    requires scale_high { last.now.sf ≤ℤ pos 3 }
+    requires scale_low { MIN_SCALE ≤ℤ last.now.sf }
+    requires scale_high { last.now.sf ≤ℤ MAX_SCALE }
     ensures { let change = entry.Change at before after sf in
         result ≡ entered (C.range counter.now) terms.now.total last.now change }
 {

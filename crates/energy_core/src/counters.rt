@@ -54,11 +54,11 @@ pub struct Ranged {
 }
 
 impl Ranged {
-    ghost use Rattle.energy_core.specs.Ranged.{range_of};
+    ghost use Rattle.energy_core.specs.Ranged.{IsRange, range_of};
 
     /// A counter of that many counts, from 65,536 to 4,294,967,296.
     pub fn new(range: u64) -> Option<Self>
-        ensures valid { IsSome result ↔ ((MIN_RANGE ≤ range) × (range ≤ MAX_RANGE)) }
+        ensures valid { IsSome result ↔ IsRange range }
         ensures value { IfSome result (λ counter. range_of counter ≡ range) }
     {
         if (MIN_RANGE..=MAX_RANGE).contains(&range) {

@@ -12,7 +12,7 @@ mod measures;
 mod verdicts;
 
 pub use admission::{TermFault, enter};
-pub use corrections::{close, manual, rescale, reset};
+pub use corrections::{manual, manual as close, rescale, reset};
 pub use counters::{Acc32, Counter, Ranged};
 pub use entries::{Entry, Last, Step};
 pub use laws::{
@@ -20,6 +20,7 @@ pub use laws::{
     entered_is_booked, readings_keep_accounts, steps_add_up, truth_is_booked,
 };
 pub use limits::{
-    MAX_CEILING, MAX_INTERVALS, MAX_RANGE, MAX_SHOWN, MAX_TOTAL, MAX_UNIT, MIN_RANGE,
+    INTERVAL_SECONDS, MAX_CEILING, MAX_INTERVALS, MAX_RANGE, MAX_SCALE, MAX_SHOWN, MAX_TOTAL,
+    MAX_UNIT, MIN_RANGE, MIN_SCALE,
 };
 pub use verdicts::{Cause, Reading, Terms, Verdict, judge};

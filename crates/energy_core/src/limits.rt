@@ -9,7 +9,13 @@ pub const MAX_RANGE: u64 = 4_294_967_296;
 /// The greatest number that a counter shows: that of 32 bits.
 pub const MAX_SHOWN: u64 = 4_294_967_295;
 
-/// The greatest worth of one count, in mWh: that of the scale factor 3.
+/// The least scale factor of a counter: a count is a thousandth of a Wh.
+pub const MIN_SCALE: i16 = -3;
+
+/// The greatest scale factor of a counter: a count is a thousand Wh.
+pub const MAX_SCALE: i16 = 3;
+
+/// The greatest worth of one count, in mWh: that of the greatest scale factor.
 pub const MAX_UNIT: u64 = 1_000_000;
 
 /// The greatest ceiling of a load, in W.
@@ -17,6 +23,9 @@ pub const MAX_CEILING: u64 = 1_000_000_000;
 
 /// The most energy that an installation may have, in mWh.
 pub const MAX_TOTAL: u64 = 4_000_000_000_000_000_000;
+
+/// How many seconds an interval has. Each begins at a multiple of it.
+pub const INTERVAL_SECONDS: u64 = 900;
 
 /// The most intervals that a step may touch.
 pub const MAX_INTERVALS: u64 = 3000;

@@ -1,18 +1,15 @@
 //! Measures of what a counter shows: its unit, and its energy.
-ghost use Rattle.std.specs.Prelude.{◌≡◌, ◌≤◌, ◌<◌, ◌↔◌, pos, negsuc, ◌≤ℤ◌, IsTrue};
+ghost use Rattle.std.specs.Prelude.{◌≡◌, ◌≤◌, ◌<◌, ◌↔◌, ◌≤ℤ◌, IsTrue};
 ghost use Rattle.energy_core.specs.Value.{unit_of};
 ghost use Rattle.energy_core.specs.Account.{intervals_touched};
 
-use crate::limits::{MAX_INTERVALS, MAX_UNIT};
-
-/// How many seconds an interval has.
-const INTERVAL_SECONDS: u64 = 900;
+use crate::limits::{INTERVAL_SECONDS, MAX_INTERVALS, MAX_SCALE, MAX_UNIT, MIN_SCALE};
 
 /// How many mWh one count is.
 #[tactic(auto, unfolding(crate::specs::Value::unit_of))]
 pub(crate) fn unit(sf: i16) -> u64
-    requires low { negsuc 2 ≤ℤ sf }
-    requires high { sf ≤ℤ pos 3 }
+    requires low { MIN_SCALE ≤ℤ sf }
+    requires high { sf ≤ℤ MAX_SCALE }
     ensures value { result ≡ unit_of sf }
     ensures some { 1 ≤ result }
     ensures small { result ≤ MAX_UNIT }

@@ -1,12 +1,15 @@
 //! What holds of an installation, and whether a reading is accepted.
-ghost use Rattle.std.specs.Prelude.{◌≡◌, ◌≤◌, ◌<◌, ◌*◌, pos, negsuc, ◌≤ℤ◌, nat_lt, if◌then◌else◌};
+ghost use Rattle.std.specs.Prelude.{◌≡◌, ◌≤◌, ◌<◌, ◌*◌, ◌≤ℤ◌, nat_lt, if◌then◌else◌};
 ghost use Rattle.energy_core.specs.Value.{unit_of};
 ghost use Rattle.energy_core.specs.Verdict.{verdict_of, can_count, distance, cause_number};
 
 use crate::admission::energy;
 use crate::counters::Counter;
 use crate::entries::{Entry, Last};
-use crate::limits::{MAX_CEILING, MAX_RANGE, MAX_TOTAL, MAX_UNIT};
+use crate::limits::{
+    INTERVAL_SECONDS, MAX_CEILING, MAX_INTERVALS, MAX_RANGE, MAX_SCALE, MAX_TOTAL, MAX_UNIT,
+    MIN_SCALE,
+};
 use crate::measures::{is_long_span, unit};
 
 /// What holds of an installation when an entry is judged: the greatest load that can flow, in W, and its energy so
@@ -79,7 +82,7 @@ pub enum Verdict {
 fn may_count(ceiling: u64, unit: u64, seconds: u64, count: u64) -> bool
     requires ceiling { ceiling ≤ MAX_CEILING }
     requires unit { unit ≤ MAX_UNIT }
-    requires seconds { seconds ≤ 3000000 }
+    requires seconds { seconds ≤ MAX_INTERVALS * INTERVAL_SECONDS }
     requires count { count ≤ MAX_RANGE }
     ensures { result ≡ can_count ceiling unit seconds count }
 {
@@ -107,11 +110,11 @@ fn energy_to(range: u64, last: &Last, reading: &Reading, rolls: u8) -> u64
     requires range { range ≤ MAX_RANGE }
     requires from { last.now.raw < range }
     requires to { reading.now.raw < range }
-    requires scale_low { negsuc 2 ≤ℤ last.now.sf }
-    requires scale_high { last.now.sf ≤ℤ pos 3 }
+    requires scale_low { MIN_SCALE ≤ℤ last.now.sf }
+    requires scale_high { last.now.sf ≤ℤ MAX_SCALE }
     requires rolls { rolls ≡ (if nat_lt reading.now.raw last.now.raw then 1 else 0) }
     ensures value { result ≡ distance range last.now.raw reading.now.raw * unit_of last.now.sf }
-    ensures small { result ≤ 1099511627776000000 }
+    ensures small { result ≤ 256 * MAX_RANGE * MAX_UNIT }
 {
     let entry = Entry::Step {
         at: reading.at,
@@ -127,8 +130,8 @@ pub fn judge<C: Counter>(counter: &C, terms: &Terms, last: &Last, reading: &Read
     requires ceiling_high { terms.now.ceiling ≤ MAX_CEILING }
     requires total { terms.now.total ≤ MAX_TOTAL }
     requires raw { last.now.raw < C.range counter.now }
-    requires scale_low { negsuc 2 ≤ℤ last.now.sf }
-    requires scale_high { last.now.sf ≤ℤ pos 3 }
+    requires scale_low { MIN_SCALE ≤ℤ last.now.sf }
+    requires scale_high { last.now.sf ≤ℤ MAX_SCALE }
     ensures { result ≡ verdict_of (C.range counter.now) terms.now last.now reading.now }
 {
     let range = counter.range();

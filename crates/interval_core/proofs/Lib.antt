@@ -11,3 +11,4 @@ mod SpreadLemmas
 mod RowLemmas
 mod Rows
 mod ZoneLemmas
+mod Examples

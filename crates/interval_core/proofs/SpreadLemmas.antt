@@ -6,7 +6,8 @@ use Rattle.std.proofs.lemmas.List.Elements.{All-map}
 use Rattle.std.proofs.lemmas.List.FromFn.{length-map-range_with_len, get_or-map-range_with_len, length-range_with_len, get_or-range_with_len}
 use Rattle.energy_core.specs.declared.entries.Step.{Step}
 use Rattle.interval_core.specs.declared.shares.Share.{Share}
-use Rattle.interval_core.specs.Share.{share_at, share_of, shares_of, interval_count}
+use Rattle.interval_core.specs.Share.{share_at, share_of, shares_of}
+use Rattle.energy_core.specs.Account.{intervals_touched}
 use Rattle.interval_core.specs.Account.{Touches, IsAscending, IsSpread, starts_of}
 use Rattle.std.specs.Prelude.{◌⊎◌}
 use Rattle.interval_core.proofs.ShareLemmas.{running_mono}
@@ -30,10 +31,10 @@ rising (suc count) next =
     (All-map P start_of (range_with_len (next + 1) count) each, rising count (next + 1))
 
 touched-starts : (step : Step) (start : ℕ) → step.from < step.till
-    → Contains (map start_of (range_with_len (step.from / 900) (interval_count step))) start ↔ Touches step start
+    → Contains (map start_of (range_with_len (step.from / 900) (intervals_touched step.from step.till))) start ↔ Touches step start
 touched-starts step start forward =
     let first = step.from / 900 in
-    let count = interval_count step in (
+    let count = intervals_touched step.from step.till in (
       λ (k, lt, is).
           let within : k < count = rw (← length-map-range_with_len start_of first count) lt in
           let at : (first + k) * 900 ≡ start = sym (get_or-map-range_with_len start_of first count k (first + k) start within refl) ∙ is in
@@ -63,7 +64,7 @@ outside-zero step start forward (inr behind) =
 pub spread : (step : Step) → step.from < step.till → IsSpread step (shares_of step)
 spread step forward =
     let first = step.from / 900 in
-    let count = interval_count step in
+    let count = intervals_touched step.from step.till in
     let P : Share → Type 0 = λ share. share.mwh ≡ share_at step share.start in
     record {
       in_order = rw (starts-left step count first) (rising count first);

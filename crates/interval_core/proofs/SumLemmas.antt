@@ -5,7 +5,8 @@ use Rattle.std.proofs.Math.Nat.{mul-div_cancel, mul-zero, zero-div}
 use Rattle.std.proofs.lemmas.List.Sums.{sum_by-cons}
 use Rattle.energy_core.specs.declared.entries.Step.{Step}
 use Rattle.interval_core.specs.declared.shares.Share.{Share}
-use Rattle.interval_core.specs.Share.{running_energy, share_of, shares_of, interval_count}
+use Rattle.interval_core.specs.Share.{running_energy, share_of, shares_of}
+use Rattle.energy_core.specs.Account.{intervals_touched}
 use Rattle.interval_core.specs.Account.{energy_of}
 use Rattle.interval_core.proofs.ShareLemmas.{running_mono}
 
@@ -35,6 +36,6 @@ energy-left step (suc count) next forward begun end =
 
 pub energy-shares_of : (step : Step) → step.from < step.till → energy_of (shares_of step) ≡ step.mwh
 energy-shares_of step forward =
-    let all = energy-left step (interval_count step) (step.from / 900) forward (omega arith) (omega arith) in
+    let all = energy-left step (intervals_touched step.from step.till) (step.from / 900) forward (omega arith) (omega arith) in
     let begin : min (max (step.from / 900 * 900) step.from) step.till ≡ step.from = omega arith in
     omega (arith, all, ap (running_energy step) begin, running-from step, running-till step forward)

@@ -1,12 +1,14 @@
 -- The energy of a list of steps, interval by interval.
 use Rattle.std.specs.Prelude.{◌≡◌, ◌↔◌, ℕ, ◌+◌, ◌%◌, ◌<◌, ◌≤◌, ◌⊎◌, List, [], ◌∷◌, map, All, Any, Contains, sum_by}
 use Rattle.energy_core.specs.declared.entries.Step.{Step}
+use Rattle.energy_core.specs.declared.limits.TheConstants.{INTERVAL_SECONDS}
 use Rattle.interval_core.specs.declared.shares.Share.{Share}
 use Rattle.interval_core.specs.Share.{share_at, shares_of}
 
 -- A step touches the interval from `start`: they have a second in common.
 abbrev pub Touches : Step → ℕ → Type 0
-Touches step start = (start % 900 ≡ 0) × (start < step.till) × (step.from < start + 900)
+Touches step start = (start % INTERVAL_SECONDS ≡ 0) × (start < step.till)
+    × (step.from < start + INTERVAL_SECONDS)
 
 abbrev pub starts_of : List Share → List ℕ
 starts_of rows = map (λ row. row.start) rows
@@ -25,7 +27,7 @@ pub record IsSpread (step : Step) (shares : List Share) : Type 0 where
   pub in_order : IsAscending (starts_of shares)
   pub touched : (start : ℕ) → Contains (starts_of shares) start ↔ Touches step start
   pub each : All (λ share. share.mwh ≡ share_at step share.start) shares
-  pub outside : (start : ℕ) → (start + 900 ≤ step.from) ⊎ (step.till ≤ start)
+  pub outside : (start : ℕ) → (start + INTERVAL_SECONDS ≤ step.from) ⊎ (step.till ≤ start)
       → share_at step start ≡ 0
   pub whole : energy_of shares ≡ step.mwh
 

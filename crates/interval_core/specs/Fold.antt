@@ -1,10 +1,11 @@
 -- A fold that is given rows one by one.
-use Rattle.std.specs.Prelude.{◌≡◌, ℕ, ℤ, ◌+◌, ◌-◌, ◌≤◌, ◌<◌, ◌<ℤ◌, ◌≤ℤ◌, ◌^◌, min, Option, Some, None, MatchOption, List, [], ◌∷◌, ◌++◌, length, take, drop, All, Contains, Bool, if◌then◌else◌, ◌⊎◌}
+use Rattle.std.specs.Prelude.{◌≡◌, ℕ, ℤ, ◌+◌, ◌-◌, ◌≤◌, ◌<◌, ◌<ℤ◌, ◌≤ℤ◌, ◌^◌, min, Option, Some, None, MatchOption, List, [], ◌∷◌, ◌++◌, length, take, drop, All, Contains, Bool, if◌then◌else◌, ◌⊎◌, Result, OnOk}
 use Rattle.std.specs.List.{HoldsAt}
+use Rattle.interval_core.specs.declared.day.DayFault.{DayFault}
 use Rattle.interval_core.specs.declared.limits.TheConstants.{LAST_MOMENT}
 use Rattle.interval_core.specs.declared.shares.Share.{Share}
 use Rattle.interval_core.specs.declared.zone.Zone.{Zone}
-use Rattle.interval_core.specs.Account.{starts_of}
+use Rattle.interval_core.specs.Account.{energy_of, starts_of}
 use Rattle.interval_core.specs.Days.{DayAccount, AreAccounts, AreInOrder}
 
 -- what a fold shows: the accounts so far, and the start of the latest row
@@ -25,6 +26,13 @@ IsLatest rows latest =
 pub record HasTaken (zone : Zone) (rows : List Share) (fold : FoldState) : Type 0 where
   pub accounts : AreAccounts zone rows fold.accounts
   pub latest : IsLatest rows fold.latest
+
+-- Whatever rows the fold was given, it has this one behind them where the push was Ok.
+abbrev pub TakesRow : Zone → Share → (old : FoldState) → Result (Unit {0}) DayFault
+    → (new : FoldState) → Type 0
+TakesRow zone row old answer new = (rows : List Share) → HasTaken zone rows old
+    → energy_of rows + row.mwh < 2 ^ 128
+    → OnOk answer (HasTaken zone (rows ++ row ∷ []) new)
 
 -- how many intervals a day can have so far: no more than there were seconds
 abbrev pub most_intervals : Option ℕ → ℕ

@@ -1,6 +1,7 @@
 -- What the state of the iterator keeps.
 use Rattle.std.specs.Prelude.{◌≡◌, ◌+◌, ◌-◌, ◌*◌, ◌/◌, ◌<◌, ◌≤◌, max, List, map}
 use Rattle.std.specs.List.{range_with_len}
+use Rattle.energy_core.specs.declared.limits.TheConstants.{INTERVAL_SECONDS}
 use Rattle.interval_core.specs.Share.{running_energy, share_of}
 use Rattle.interval_core.specs.declared.shares.Share.{Share}
 use Rattle.interval_core.specs.declared.shares.Shares.TheInside.{Inside}
@@ -8,11 +9,11 @@ use Rattle.interval_core.specs.declared.shares.Shares.TheInside.{Inside}
 -- The next interval is one that the step touches or the one behind the last, and the running energy is known
 -- where it begins.
 pub record IsUnderway (s : Inside) : Type 0 where
-  pub begun : s.spread.step.from / 900 ≤ s.interval
-  pub end_is : s.end ≡ (s.spread.step.till - 1) / 900 + 1
+  pub begun : s.spread.step.from / INTERVAL_SECONDS ≤ s.interval
+  pub end_is : s.end ≡ (s.spread.step.till - 1) / INTERVAL_SECONDS + 1
   pub within : s.interval ≤ s.end
   pub reached_is : s.interval < s.end
-      → s.reached ≡ running_energy s.spread.step (max (s.interval * 900) s.spread.step.from)
+      → s.reached ≡ running_energy s.spread.step (max (s.interval * INTERVAL_SECONDS) s.spread.step.from)
 
 -- the shares that are left
 abbrev pub left : Inside → List Share

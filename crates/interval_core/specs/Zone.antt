@@ -1,9 +1,11 @@
 -- Zones and civil days. `jiff` says what the clocks of a zone show.
-use Rattle.std.specs.Prelude.{◌≡◌, ℕ, ℤ, pos, ◌+ℤ◌, ◌*ℤ◌, List}
+use Rattle.std.specs.Prelude.{◌≡◌, ◌≤◌, ℕ, ℤ, pos, ◌+ℤ◌, ◌*ℤ◌, IsSome, List, length}
 use Rattle.std.specs.Int.{int_div_euclid}
 use Rattle.jiff.specs.Words.{offset_at, plain_zone}
 use Rattle.jiff.specs.Placed.{IsPosixZone}
+use Rattle.jiff_tz.specs.PosixReader.{read_whole}
 use Rattle.jiff.specs.declared.tz.timezone.TimeZone.{TimeZone}
+use Rattle.interval_core.specs.declared.limits.TheConstants.{MAX_ZONE_TEXT}
 use Rattle.interval_core.specs.declared.zone.Zone.{Zone}
 
 abbrev pub rule_of : Zone → TimeZone
@@ -12,6 +14,10 @@ rule_of zone = zone.rule
 -- the zone is the POSIX rule that the text spells
 abbrev pub HasRule : List ℕ → Zone → Type 0
 HasRule text zone = IsPosixZone text (plain_zone (rule_of zone))
+
+-- a text that names a zone: `jiff` reads it as a POSIX rule, and it is short enough
+abbrev pub IsZoneText : List ℕ → Type 0
+IsZoneText text = IsSome (read_whole text) × (length text ≤ MAX_ZONE_TEXT)
 
 -- How far the clocks of the zone are ahead of UTC at a moment, in seconds.
 abbrev pub offset_of : Zone → ℕ → ℤ

@@ -1,14 +1,13 @@
 //! The shares of a step in the intervals that it touches.
 ghost use Rattle.std.specs.Prelude.{◌≡◌, ◌<◌, ◌≤◌};
 ghost use Rattle.std.specs.Iterator.{YieldsFirst, item_count};
-ghost use Rattle.interval_core.specs.Share.{interval_count, shares_of};
+ghost use Rattle.energy_core.specs.Account.{intervals_touched};
+ghost use Rattle.interval_core.specs.Share.{shares_of};
 
 use crate::spread::Spread;
+pub use energy_core::INTERVAL_SECONDS as INTERVAL;
 use energy_core::{MAX_INTERVALS, MAX_TOTAL, Step};
 use std::marker::Model;
-
-/// How many seconds an interval has. Each begins at a multiple of it.
-pub const INTERVAL: u64 = 900;
 
 /// So many mWh in the interval that begins at `start`, in seconds since 1970-01-01 UTC.
 #[derive(Clone, Copy, Debug, PartialEq, Eq)]
@@ -43,7 +42,7 @@ impl Shares {
     /// The shares of a step.
     pub fn of(step: &Step) -> Shares
         requires forward { step.now.from < step.now.till }
-        requires intervals { interval_count step.now ≤ MAX_INTERVALS }
+        requires intervals { intervals_touched step.now.from step.now.till ≤ MAX_INTERVALS }
         requires energy { step.now.mwh ≤ MAX_TOTAL }
         ensures { result ≡ shares_of step.now }
     {

@@ -44,8 +44,7 @@ impl Model for DayFold {
 }
 
 impl DayFold {
-    ghost use Rattle.interval_core.specs.Account.{energy_of};
-    ghost use Rattle.interval_core.specs.Fold.{no_rows, HasTaken};
+    ghost use Rattle.interval_core.specs.Fold.{no_rows, HasTaken, TakesRow};
     ghost use Rattle.interval_core.specs.Zone.{day_at};
 
     /// No rows yet. The allocator is kept for `push`; no memory is taken.
@@ -80,10 +79,8 @@ impl DayFold {
     pub fn push(&mut self, start: u64, mwh: u64, zone: &Zone) -> Result<(), DayFault>
         requires moment { start ≤ LAST_MOMENT }
         requires not_back { ForSome self.old.latest (λ latest. latest ≤ start) }
-        ensures taken { (rows : List Share) → HasTaken zone.now rows self.old
-            → energy_of rows + mwh < 2 ^ 128
-            → OnOk result (HasTaken zone.now
-            (rows ++ record { start = start; mwh = mwh } ∷ []) self.new) }
+        ensures taken { let row : Share = record { start = start; mwh = mwh } in
+            TakesRow zone.now row self.old result self.new }
         ensures latest { OnOk result (self.new.latest ≡ Some start) }
         ensures known { Contains (days_of self.old.accounts) (day_at zone.now start) → IsOk result }
         ensures err { OnErr result (self.new ≡ self.old) }

@@ -1,7 +1,6 @@
 //! Time zones: their texts, and the civil day of a moment.
-ghost use Rattle.std.specs.Prelude.{◌↔◌, ◌≤◌, IsOk, IsSome, IfOk, IfErr, ◌≡◌, Ok, Err, length};
-ghost use Rattle.jiff_tz.specs.PosixReader.{read_whole};
-ghost use Rattle.interval_core.specs.Zone.{HasRule, rule_of};
+ghost use Rattle.std.specs.Prelude.{◌↔◌, IsOk, IfOk, IfErr, ◌≡◌, Ok, Err};
+ghost use Rattle.interval_core.specs.Zone.{HasRule, IsZoneText, rule_of};
 ghost use Rattle.interval_core.specs.Faults.{zone_fault_number};
 
 use crate::limits::MAX_ZONE_TEXT;
@@ -52,8 +51,7 @@ pub struct Zone {
 impl Zone {
     /// The zone of a POSIX rule text, as `UTC0` or `CET-1CEST,M3.5.0,M10.5.0/3`, of at most 64 bytes.
     pub fn read(text: &str) -> Result<Zone, ZoneFault>
-        ensures succeeds { IsOk result
-            ↔ (IsSome (read_whole text.now) × (length text.now ≤ MAX_ZONE_TEXT)) }
+        ensures succeeds { IsOk result ↔ IsZoneText text.now }
         ensures value { IfOk result (HasRule text.now) }
         ensures err { IfErr result (λ fault. fault ≡ ZoneFault.Text) }
     {

@@ -2,7 +2,8 @@
 ghost use Rattle.std.specs.Prelude.{◌+◌, ◌^◌, ◌≤◌, ◌<◌, ◌∷◌, []};
 ghost use Rattle.std.specs.Option.{ForSome, option_to_list};
 ghost use Rattle.interval_core.specs.Account.{energy_of};
-ghost use Rattle.interval_core.specs.Share.{interval_count, shares_of};
+ghost use Rattle.energy_core.specs.Account.{intervals_touched};
+ghost use Rattle.interval_core.specs.Share.{shares_of};
 ghost use Rattle.meter_journal.specs.Books as books;
 ghost use Rattle.meter_journal.specs.Intervals.{rows_of_steps};
 ghost use Rattle.meter_journal.specs.Journal.{entries_in};
@@ -33,7 +34,7 @@ fn hand_share<K: RowSink<Share>>(waits: &mut Option<Share>, share: Share, sink: 
 /// Takes the shares of one more step.
 fn hand_step<K: RowSink<Share>>(waits: &mut Option<Share>, step: &Step, sink: &mut K)
     requires forward { step.now.from < step.now.till }
-    requires intervals { interval_count step.now ≤ MAX_INTERVALS }
+    requires intervals { intervals_touched step.now.from step.now.till ≤ MAX_INTERVALS }
     requires energy { energy_of (option_to_list waits.old) + step.now.mwh ≤ MAX_TOTAL }
     ensures passes { Passes K.takes sink.old sink.new waits.old waits.new (shares_of step.now) }
     ensures energy { energy_of (option_to_list waits.new)

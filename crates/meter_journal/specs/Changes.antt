@@ -2,6 +2,7 @@
 use Rattle.std.specs.Prelude.{◌≡◌, ℕ, ◌+◌, ◌%◌, ◌<◌, ◌≤◌, List, ◌∷◌, All, Some, Ok}
 use Rattle.energy_core.specs.declared.entries.Entry.{Entry}
 use Rattle.energy_core.specs.declared.entries.Step.{Step}
+use Rattle.energy_core.specs.declared.limits.TheConstants.{INTERVAL_SECONDS}
 use Rattle.energy_core.specs.Account.{after, energy_of, step_to}
 use Rattle.energy_core.specs.Admission.{entered}
 use Rattle.energy_core.specs.Laws.{IsSound}
@@ -19,8 +20,8 @@ use Rattle.meter_journal.specs.Fitting.{AreFitting}
 -- the row is that of a quarter hour that begins before the counter's last moment and ends behind its opening; so the
 -- counter has gone on since then
 pub record LiesWithin (opened last : ℕ) (row : Share) : Type 0 where
-  pub quarter : row.start % 900 ≡ 0
-  pub behind : opened < row.start + 900
+  pub quarter : row.start % INTERVAL_SECONDS ≡ 0
+  pub behind : opened < row.start + INTERVAL_SECONDS
   pub before : row.start < last
   pub gone_on : opened < last
 

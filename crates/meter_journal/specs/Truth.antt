@@ -5,6 +5,7 @@ use Rattle.energy_core.specs.declared.entries.Last.{Last}
 use Rattle.energy_core.specs.declared.entries.Entry.{Entry}
 use Rattle.energy_core.specs.declared.entries.Entry.TheVariants as entry
 use Rattle.energy_core.specs.declared.verdicts.Reading.{Reading}
+use Rattle.energy_core.specs.declared.limits.TheConstants.{INTERVAL_SECONDS}
 use Rattle.energy_core.specs.TrueRun.{Item, shown, told, newest, advance, true_steps, IsTrueRun, IsReadOftenEnough}
 use Rattle.meter_journal.specs.declared.lines.Installed.{Installed}
 use Rattle.meter_journal.specs.Books.{total_in, steps_in, interval_rows}
@@ -70,9 +71,9 @@ pub record IsKeptTruly (meter : Installed) (lines : Journal) (first : Item) (ite
   pub none_held : held_since lines ≡ []
   pub steps : steps_in meter lines ≡ true_steps meter.opening.sf first items
   pub energy : total_in meter lines ≡ advance meter.opening.sf first (newest first items)
-  pub no_less : (bound : ℕ) → bound % 900 ≡ 0
+  pub no_less : (bound : ℕ) → bound % INTERVAL_SECONDS ≡ 0
       → advance_to meter.opening.sf first items bound
       ≤ energy_before bound (interval_rows meter lines)
-  pub no_more : (bound : ℕ) → bound % 900 ≡ 0
+  pub no_more : (bound : ℕ) → bound % INTERVAL_SECONDS ≡ 0
       → energy_before bound (interval_rows meter lines)
       ≤ advance_past meter.opening.sf first items bound

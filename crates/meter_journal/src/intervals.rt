@@ -2,7 +2,8 @@
 ghost use Rattle.std.specs.Prelude.{◌≡◌, ◌+◌, ◌^◌, ◌≤◌, ◌<◌, ◌++◌, ◌∷◌, [], IsSome};
 ghost use Rattle.std.specs.Prelude.{OnOk, OnErr};
 ghost use Rattle.std.specs.Option.{ForSome, option_to_list};
-ghost use Rattle.interval_core.specs.Share.{interval_count, shares_of};
+ghost use Rattle.energy_core.specs.Account.{intervals_touched};
+ghost use Rattle.interval_core.specs.Share.{shares_of};
 ghost use Rattle.interval_core.specs.Account.{energy_of};
 ghost use Rattle.meter_journal.specs.Intervals.{with_shares};
 
@@ -58,7 +59,7 @@ fn join_last(rows: &mut Vec<Share>, share: Share) -> Result<(), AllocError>
 /// Joins the shares of a later step to these rows. Refused only for want of memory.
 pub fn append_shares(rows: &mut Vec<Share>, step: &Step) -> Result<(), AllocError>
     requires forward { step.now.from < step.now.till }
-    requires intervals { interval_count step.now ≤ MAX_INTERVALS }
+    requires intervals { intervals_touched step.now.from step.now.till ≤ MAX_INTERVALS }
     requires energy { energy_of rows.old.items + step.now.mwh ≤ MAX_TOTAL }
     ensures { OnOk result (rows.new.items ≡ with_shares rows.old.items (shares_of step.now)) }
 {

@@ -14,3 +14,4 @@ pub mod WrittenFields
 pub mod WrittenLists
 pub mod WrittenRows
 pub mod AnyLemmas
+mod Examples

@@ -14,6 +14,8 @@ use Rattle.sun_chain.specs.declared.model.Model.{Model}
 use Rattle.point_list.specs.Names.{is_name}
 use Rattle.point_list.specs.declared.fault.FaultyRow.{FaultyRow}
 use Rattle.point_list.specs.declared.fault.RowFault.TheVariants.{TooMany}
+use Rattle.point_list.specs.declared.lawful.TheConstants.{POINT_LIMIT}
+use Rattle.point_list.specs.declared.rows.TheConstants.{ROW_LIMIT}
 use Rattle.point_list.specs.declared.point.ListedPoint.{ListedPoint}
 use Rattle.point_list.specs.declared.point.PointScale.{PointScale}
 use Rattle.point_list.specs.declared.point.PointScale.TheVariants.{Unscaled, Named}
@@ -64,4 +66,4 @@ points_of_chain chain = points_from (words_of chain) 1 (models_of chain)
 -- points that are too many are told as the row behind the most
 abbrev pub chain_faults : List ListedPoint → List FaultyRow
 chain_faults points =
-    if nat_le (length points) 512 then [] else record { row = 514; fault = TooMany } ∷ []
+    if nat_le (length points) POINT_LIMIT then [] else record { row = ROW_LIMIT; fault = TooMany } ∷ []

@@ -8,6 +8,8 @@ use Rattle.sun_points.specs.declared.point_type.PointType.{PointType}
 use Rattle.sun_points.specs.PointType.{registers_of}
 use Rattle.point_list.specs.declared.fault.RowFault.{RowFault}
 use Rattle.point_list.specs.declared.fault.RowFault.TheVariants.{Csv, Header, Name, DoubleName, Function, Area, Address, «Type», Scale, NoSuchScale, GroupTooWide, TooMany}
+use Rattle.point_list.specs.declared.lawful.TheConstants.{POINT_LIMIT}
+use Rattle.mb_wire.specs.declared.limits.TheConstants.{ADDRESSES}
 use Rattle.point_list.specs.declared.row.RowFields.{RowFields}
 use Rattle.point_list.specs.Fields.{fixed_scale_of, function_of, number_within, type_of}
 use Rattle.point_list.specs.Names.{is_name}
@@ -52,7 +54,7 @@ is_no_number low high field = is_none (number_within low high field)
 
 -- a type that is good takes the point past the last register
 abbrev pub reaches_past : Option ℕ → Option PointType → Bool
-reaches_past (Some address) (Some kind) = nat_lt 65536 (address + registers_of kind)
+reaches_past (Some address) (Some kind) = nat_lt ADDRESSES (address + registers_of kind)
 reaches_past _ _ = false
 
 abbrev pub is_fixed_scale : List ℕ → Bool
@@ -84,7 +86,7 @@ conditions_where taken place row =
     )
     ∷ («Type», is_none (type_of row.kind))
     ∷ (Scale, is_bad_scale row.scale (type_of row.kind))
-    ∷ (TooMany, nat_le 512 place)
+    ∷ (TooMany, nat_le POINT_LIMIT place)
     ∷ []
 
 -- the same, `earlier` being the rows above

@@ -7,6 +7,7 @@ use Rattle.std.specs.Str.{bytes_eq}
 use Rattle.digits.specs.Digits.{number_of_digits}
 use Rattle.sun_points.specs.declared.point_type.PointType.{PointType}
 use Rattle.sun_points.specs.declared.point_type.PointType.TheVariants as kind
+use Rattle.mb_wire.specs.declared.limits.TheConstants.{MAX_READ_REGISTERS}
 use Rattle.mb_wire.specs.declared.span.ReadFunction.{ReadFunction}
 use Rattle.mb_wire.specs.declared.span.ReadFunction.TheVariants.{HoldingRegisters, InputRegisters}
 
@@ -27,11 +28,11 @@ function_coded n =
 abbrev pub function_of : List ℕ → Option ReadFunction
 function_of field = option_and_then function_coded (number_of field)
 
--- `string` and 1 to 125
+-- `string` and 1 to the most registers of one read
 abbrev pub text_type_of : List ℕ → Option PointType
 text_type_of field =
     if starts_with (λ a b. a == b) field (codes "string")
-    then option_and_then (λ n. Some (kind.Text n)) (number_within 1 125 (drop 6 field)) else None
+    then option_and_then (λ n. Some (kind.Text n)) (number_within 1 MAX_READ_REGISTERS (drop 6 field)) else None
 
 abbrev pub type_of : List ℕ → Option PointType
 type_of field =

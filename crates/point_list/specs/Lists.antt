@@ -18,6 +18,8 @@ use Rattle.point_list.specs.Names.{is_name}
 use Rattle.mb_wire.specs.Spans.{code_of}
 use Rattle.point_list.specs.Points.{end_of, scale_point}
 use Rattle.point_list.specs.Rows.{csv_rows}
+use Rattle.point_list.specs.declared.rows.TheConstants.{ROW_LIMIT}
+use Rattle.mb_wire.specs.declared.limits.TheConstants.{MAX_READ_REGISTERS}
 
 abbrev pub named_scale : List ℕ → Option PointScale
 named_scale field = if is_name field then Some (Named field) else None
@@ -71,11 +73,11 @@ abbrev pub row_faults : List (List (List ℕ)) → ℕ → List (Option RowFault
 row_faults rows zero = []
 row_faults rows (suc n) = row_faults rows n ++ (row_fault rows n ∷ [])
 
--- whether a point and its scale point lie in one area, within 125 registers
+-- whether a point and its scale point lie in one area, within one read
 abbrev pub is_one_group : ListedPoint → ListedPoint → Bool
 is_one_group point scale =
     (code_of point.function == code_of scale.function) && (point.area == scale.area)
-    && nat_le (max (end_of point) (end_of scale)) (min point.address scale.address + 125)
+    && nat_le (max (end_of point) (end_of scale)) (min point.address scale.address + MAX_READ_REGISTERS)
 
 abbrev pub group_fault : ListedPoint → Option ListedPoint → Option RowFault
 group_fault point None = Some NoSuchScale
@@ -132,9 +134,9 @@ abbrev pub list_faults : List (List (List ℕ)) → List FaultyRow
 list_faults [] = no_header
 list_faults (header ∷ rows) = if is_header header then faults_below rows else no_header
 
--- the header and the rows below it, none of which is read after the 513th
+-- the header and the rows below it, none of which is read after one that is too many
 abbrev pub rows_read : List ℕ → List (List (List ℕ))
-rows_read text = take 514 (csv_rows text)
+rows_read text = take ROW_LIMIT (csv_rows text)
 
 -- rows spell points, one each, in order
 abbrev pub SpellEach : List (List (List ℕ)) → List ListedPoint → Type 0

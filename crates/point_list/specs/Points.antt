@@ -6,7 +6,9 @@ use Rattle.std.specs.Str.{bytes_eq}
 use Rattle.sun_points.specs.declared.point_type.PointType.{PointType}
 use Rattle.sun_points.specs.declared.point_type.PointType.TheVariants as kind
 use Rattle.sun_points.specs.PointType.{registers_of}
+use Rattle.mb_wire.specs.declared.limits.TheConstants.{ADDRESSES, MAX_READ_REGISTERS}
 use Rattle.point_list.specs.Names.{is_name}
+use Rattle.point_list.specs.declared.lawful.TheConstants.{POINT_LIMIT}
 use Rattle.point_list.specs.declared.point.ListedPoint.{ListedPoint}
 use Rattle.point_list.specs.declared.point.PointScale.{PointScale}
 use Rattle.point_list.specs.declared.point.PointScale.TheVariants.{Unscaled, Fixed, Named}
@@ -32,11 +34,11 @@ end_of point = point.address + registers_of point.kind
 abbrev pub scale_point : List ListedPoint → List ℕ → Option ListedPoint
 scale_point points name = find (λ point. is_sunssf point.kind && bytes_eq point.name name) points
 
--- a point and its scale point lie in one area, within 125 registers
+-- a point and its scale point lie in one area, within one read
 pub record IsGroup (point scale : ListedPoint) : Type 0 where
   pub function : point.function ≡ scale.function
   pub area : point.area ≡ scale.area
-  pub narrow : max (end_of point) (end_of scale) ≤ min point.address scale.address + 125
+  pub narrow : max (end_of point) (end_of scale) ≤ min point.address scale.address + MAX_READ_REGISTERS
 
 -- a scale is for a type that takes one; a named one is that of a sunssf point of the list, in one group with the point
 abbrev pub HasLawfulScale : List ListedPoint → ListedPoint → PointScale → Type 0
@@ -49,9 +51,9 @@ HasLawfulScale points point (Named name) =
 
 -- what every point list keeps
 pub record IsPointList (points : List ListedPoint) : Type 0 where
-  pub few : length points ≤ 512
+  pub few : length points ≤ POINT_LIMIT
   pub named : All (λ point. IsTrue (is_name point.name)) points
   pub distinct : AllPairs (λ a b. a.name ≢ b.name) points
-  pub sized : All (λ point. (1 ≤ registers_of point.kind) × (registers_of point.kind ≤ 125)) points
-  pub inside : All (λ point. end_of point ≤ 65536) points
+  pub sized : All (λ point. (1 ≤ registers_of point.kind) × (registers_of point.kind ≤ MAX_READ_REGISTERS)) points
+  pub inside : All (λ point. end_of point ≤ ADDRESSES) points
   pub scaled : All (λ point. HasLawfulScale points point point.scale) points

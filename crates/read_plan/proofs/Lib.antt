@@ -8,5 +8,6 @@ pub mod PlaceLemmas
 pub mod PlanLemmas
 pub mod RuleLemmas
 pub mod ScaleLemmas
+mod Examples
 mod OneRule
 mod OnePlan

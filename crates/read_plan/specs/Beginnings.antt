@@ -2,12 +2,13 @@
 use Rattle.std.specs.Prelude.{◌≡◌, ℕ, ◌+◌, ◌<◌, ◌≤◌, Bool, ◌==◌, nat_lt, nat_le, ◌&&◌, ◌||◌, List}
 use Rattle.std.specs.List.{All, AllPairs, Any, Contains}
 use Rattle.read_plan.specs.declared.run.Run.{Run}
+use Rattle.read_plan.specs.declared.run.TheConstants.{READ_LIMIT}
 use Rattle.mb_wire.specs.Spans.{code_of}
 use Rattle.read_plan.specs.Plans.{ComesBefore, LiesWithinReach, SameArea}
 
 -- b begins after a, and ends beyond the reach of a read that begins at a
 abbrev pub BeginsApart : Run → Run → Type 0
-BeginsApart a b = ComesBefore a b × (SameArea a b → a.first + 125 < b.end)
+BeginsApart a b = ComesBefore a b × (SameArea a b → a.first + READ_LIMIT < b.end)
 
 -- items so far apart that no read holds two, and each item within reach of one of them
 pub record AreBeginnings (items found : List Run) : Type 0 where
@@ -25,8 +26,8 @@ ends_by run limit =
 -- the greatest last register of the items of an area that end within reach of its first register
 pub record IsGreatestEnd (items : List Run) (begin : Run) (end : ℕ) : Type 0 where
   pub at_item : Any
-      (λ item. SameArea begin item × (item.end ≤ begin.first + 125) × (item.end ≡ end)) items
-  pub last : All (λ item. SameArea begin item → item.end ≤ begin.first + 125 → item.end ≤ end) items
+      (λ item. SameArea begin item × (item.end ≤ begin.first + READ_LIMIT) × (item.end ≡ end)) items
+  pub last : All (λ item. SameArea begin item → item.end ≤ begin.first + READ_LIMIT → item.end ≤ end) items
 
 -- a read from a beginning to the greatest end within reach
 pub record ReadsFrom (items : List Run) (begin read : Run) : Type 0 where

@@ -1,6 +1,7 @@
 -- What a plan holds.
 use Rattle.std.specs.Prelude.{ℕ, ◌≡◌, ◌+◌, ◌<◌, ◌≤◌, List, length, map, slice_index, slice_index_or, take}
 use Rattle.std.specs.List.{All}
+use Rattle.mb_wire.specs.declared.limits.TheConstants.{ADDRESSES}
 use Rattle.read_plan.specs.declared.planned_reads.PlannedRead.{PlannedRead}
 use Rattle.read_plan.specs.declared.run.Run.{Run}
 use Rattle.read_plan.specs.Plans.{FollowsRule, Holds, IsContained, IsReadable}
@@ -34,8 +35,13 @@ pub record IsPlan (plan : Planned) : Type 0 where
   pub begun : (k : ℕ) (d : Run) → k < length plan.items
       → BeginsInside (slice_index_or plan.items k d) (slice_index plan.starts k)
   pub readable : All IsReadable plan.items
-  pub inside : All (λ item. item.end ≤ 65536) plan.items
+  pub inside : All (λ item. item.end ≤ ADDRESSES) plan.items
   pub rule : FollowsRule plan.items (read_runs plan.reads)
+
+-- the point of a number stands so many registers behind the first of a read
+abbrev pub StandsAt : Planned → (point read offset : ℕ) → Type 0
+StandsAt plan point read offset = (d : PlannedRead)
+    → (slice_index_or plan.reads read d).span.address + offset ≡ slice_index plan.starts point
 
 -- the first read of the item's area that holds it
 pub record IsFirstHolding (reads : List Run) (item : Run) (place : ℕ) : Type 0 where

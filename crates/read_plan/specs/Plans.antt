@@ -3,6 +3,7 @@ use Rattle.std.specs.Prelude.{◌≡◌, ℕ, ◌+◌, ◌<◌, ◌≤◌, ◌�
 use Rattle.std.specs.List.{All, AllPairs, Any}
 use Rattle.mb_wire.specs.Spans.{code_of}
 use Rattle.read_plan.specs.declared.run.Run.{Run}
+use Rattle.read_plan.specs.declared.run.TheConstants.{READ_LIMIT}
 
 -- of one function and one area number
 pub record SameArea (a b : Run) : Type 0 where
@@ -19,9 +20,9 @@ pub record Holds (read item : Run) : Type 0 where
 abbrev pub IsContained : List Run → Run → Type 0
 IsContained reads item = Any (λ read. Holds read item) reads
 
--- 1 to 125 registers
+-- no less than one register, and no more than a read holds
 abbrev pub IsReadable : Run → Type 0
-IsReadable run = (run.first < run.end) × (run.end ≤ run.first + 125)
+IsReadable run = (run.first < run.end) × (run.end ≤ run.first + READ_LIMIT)
 
 -- inside its area, which runs from the first to the last register of the points of one function and area number
 pub record IsInArea (points : List Run) (run : Run) : Type 0 where
@@ -53,11 +54,11 @@ EndsBefore a b =
     ⊎ ((a.function ≡ b.function) × (a.area < b.area))
     ⊎ (SameArea a b × a.end < b.end)
 
--- the item lies within the 125 registers from the read's first
+-- the item lies within the registers that a read from the first of this one can hold
 pub record LiesWithinReach (read item : Run) : Type 0 where
   pub same_area : SameArea read item
   pub from_first : read.first ≤ item.first
-  pub in_reach : item.end ≤ read.first + 125
+  pub in_reach : item.end ≤ read.first + READ_LIMIT
 
 -- a read begins at the first register of the first item of its area that no earlier read holds
 pub record BeginsAtFirstUnheld (items earlier : List Run) (read : Run) : Type 0 where

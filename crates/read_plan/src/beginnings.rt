@@ -8,9 +8,10 @@ ghost use Rattle.read_plan.specs.Beginnings.{AreBeginnings, IsGreatestEnd, ends_
 ghost use Rattle.read_plan.specs.Plans.{ComesBefore, EndsBefore, IsReadable, LiesWithinReach};
 
 use crate::run::{READ_LIMIT, Run};
+use mb_wire::ADDRESSES;
 use std::alloc::{AllocError, Global};
 
-// Whether an item lies within the 125 registers from where a read begins.
+// Whether an item lies within reach of a read that begins there.
 fn lies_within_reach(begin: &Run, item: &Run) -> bool
     ensures { IsTrue result ↔ LiesWithinReach begin.now item.now }
 {
@@ -62,8 +63,8 @@ pub fn ends_by_limit(run: &Run, limit: &Run) -> bool
 pub fn end_within_reach(items: &[Run], begin: &Run) -> u32
     requires ordered { AllPairs (λ a b. ¬ EndsBefore b a) items.now }
     requires among { Contains items.now begin.now }
-    requires few { begin.now.end ≤ begin.now.first + 125 }
-    requires fits { begin.now.first < 65536 }
+    requires few { begin.now.end ≤ begin.now.first + READ_LIMIT }
+    requires fits { begin.now.first < ADDRESSES }
     ensures { IsGreatestEnd items.now begin.now result }
 {
     let limit = Run {

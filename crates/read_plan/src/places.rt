@@ -1,5 +1,5 @@
 //! Plans, and where points stand in them.
-ghost use Rattle.std.specs.Prelude.{◌≡◌, ◌+◌, ◌<◌, length, slice_index, slice_index_or};
+ghost use Rattle.std.specs.Prelude.{◌≡◌, ◌<◌, length, slice_index_or};
 
 use crate::beginnings::ends_by_limit;
 use crate::planned_reads::PlannedRead;
@@ -38,8 +38,7 @@ impl Model for Plan {
 }
 
 impl Plan {
-    ghost use Rattle.read_plan.specs.PlannedReads.{IsFirstHolding, IsPlan, read_runs};
-    ghost use Rattle.read_plan.specs.declared.planned_reads.PlannedRead.{PlannedRead};
+    ghost use Rattle.read_plan.specs.PlannedReads.{IsFirstHolding, IsPlan, StandsAt, read_runs};
     ghost use Rattle.read_plan.specs.declared.run.Run.{Run};
 
     pub(crate) fn new(starts: Vec<u16>, items: Vec<Run>, reads: Vec<PlannedRead>) -> Plan
@@ -75,9 +74,7 @@ impl Plan {
         requires { point < length self.now.items }
         ensures first { (d : Run) → IsFirstHolding (read_runs self.now.reads)
             (slice_index_or self.now.items point d) result.read }
-        ensures offset { (d : PlannedRead) →
-            (slice_index_or self.now.reads result.read d).span.address + result.offset
-            ≡ slice_index self.now.starts point }
+        ensures offset { StandsAt self.now point result.read result.offset }
     {
         let item = self.items[point];
         let read = self

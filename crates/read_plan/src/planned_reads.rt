@@ -4,7 +4,7 @@ ghost use Rattle.std.specs.List.{All};
 ghost use Rattle.read_plan.specs.Plans.{IsReadable};
 
 use crate::run::Run;
-use mb_wire::ReadSpan;
+use mb_wire::{ADDRESSES, ReadSpan};
 use std::alloc::{AllocError, Global};
 
 /// One read of a plan: registers of an area.
@@ -33,7 +33,7 @@ impl PlannedRead {
     // A run of 1 to 125 registers as a read.
     pub(crate) fn of_run(run: &Run) -> PlannedRead
         requires readable { IsReadable run.now }
-        requires inside { run.now.end ≤ 65536 }
+        requires inside { run.now.end ≤ ADDRESSES }
         ensures { read_run result ≡ run.now }
     {
         let count = run.end - run.first;
@@ -50,7 +50,7 @@ impl PlannedRead {
     // Runs of 1 to 125 registers as reads.
     pub(crate) fn of_runs(alloc: Global, runs: &[Run]) -> Result<Vec<PlannedRead>, AllocError>
         requires readable { All IsReadable runs.now }
-        requires inside { All (λ run. run.end ≤ 65536) runs.now }
+        requires inside { All (λ run. run.end ≤ ADDRESSES) runs.now }
         ensures { IfOk result (λ v. map read_run v.items ≡ runs.now) }
     {
         let mut reads = Vec::new(alloc);

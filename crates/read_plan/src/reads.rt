@@ -7,6 +7,7 @@ ghost use Rattle.read_plan.specs.Plans.{EndsBefore, FollowsRule, IsReadable};
 use crate::beginnings::{beginnings, end_within_reach};
 use crate::order::{by_end, by_first};
 use crate::run::Run;
+use mb_wire::ADDRESSES;
 use std::alloc::{AllocError, Global};
 
 // A read from each beginning, the items being in order of their ends.
@@ -14,7 +15,7 @@ fn reads_from(alloc: Global, items: &[Run], begins: &[Run]) -> Result<Vec<Run>, 
     requires ordered { AllPairs (λ a b. ¬ EndsBefore b a) items.now }
     requires among { All (Contains items.now) begins.now }
     requires readable { All IsReadable begins.now }
-    requires inside { All (λ item. item.first < 65536) begins.now }
+    requires inside { All (λ item. item.first < ADDRESSES) begins.now }
     ensures { IfOk result (λ v. AllZip (ReadsFrom items.now) begins.now v.items) }
 {
     let mut reads = Vec::new(alloc);
@@ -28,7 +29,7 @@ fn reads_from(alloc: Global, items: &[Run], begins: &[Run]) -> Result<Vec<Run>, 
 /// The reads of the rule for items of 1 to 125 registers.
 pub fn rule_reads(alloc: Global, items: &[Run]) -> Result<Vec<Run>, AllocError>
     requires readable { All IsReadable items.now }
-    requires inside { All (λ item. item.first < 65536) items.now }
+    requires inside { All (λ item. item.first < ADDRESSES) items.now }
     ensures { IfOk result (λ v. FollowsRule items.now v.items) }
 {
     let in_order = by_first(alloc, items)?;

@@ -2,7 +2,8 @@
 ghost use Rattle.std.specs.Prelude.{◌≡◌, ◌<◌, ◌≤◌, [], ◌∷◌};
 ghost use Rattle.sqlite.specs.Held.{state};
 ghost use Rattle.store_tables.specs.Steps.{Steps};
-ghost use Rattle.interval_core.specs.Share.{interval_count, shares_of};
+ghost use Rattle.energy_core.specs.Account.{intervals_touched};
+ghost use Rattle.interval_core.specs.Share.{shares_of};
 ghost use Rattle.store_tables.specs.Limits.{latest_moment};
 ghost use Rattle.store_meters.specs.Rows.{greatest_total};
 ghost use Rattle.store_intervals.specs.Rows.{IsSoundShare};
@@ -77,7 +78,7 @@ pub fn book_step<S: Alter>(
     step: &Step,
 ) -> Result<(), Error>
     requires forward { step.now.from < step.now.till }
-    requires intervals { interval_count step.now ≤ MAX_INTERVALS }
+    requires intervals { intervals_touched step.now.from step.now.till ≤ MAX_INTERVALS }
     requires energy { step.now.mwh ≤ greatest_total }
     requires till { step.now.till ≤ latest_moment }
     ensures same_reference { tx.new.conn.ghost_name ≡ tx.old.conn.ghost_name }
@@ -99,7 +100,7 @@ pub fn take_step<S: Alter>(
     step: &Step,
 ) -> Result<(), Error>
     requires forward { step.now.from < step.now.till }
-    requires intervals { interval_count step.now ≤ MAX_INTERVALS }
+    requires intervals { intervals_touched step.now.from step.now.till ≤ MAX_INTERVALS }
     requires energy { step.now.mwh ≤ greatest_total }
     requires till { step.now.till ≤ latest_moment }
     ensures same_reference { tx.new.conn.ghost_name ≡ tx.old.conn.ghost_name }

@@ -6,3 +6,4 @@ pub mod Rows
 pub mod SomeChain
 pub mod Splices
 pub mod TableRules
+mod Examples

@@ -4,6 +4,7 @@ pub mod Chain
 pub mod Walk
 pub mod Tables
 pub mod Points
+pub mod Replaced
 pub mod Common
 pub mod TableRules
 pub mod Laws

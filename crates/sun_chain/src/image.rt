@@ -1,8 +1,9 @@
 //! The words that were read from a device, by address.
 ghost use Rattle.std.specs.Prelude.{◌≡◌, ◌↔◌, ℕ, ◌+◌, ◌<◌, ◌≤◌, length, None, IfSome, IsSome, OnOk};
-ghost use Rattle.std.specs.Prelude.{OnErr, ◌++◌, ◌-◌, take, drop, replicate, true, vec_len};
+ghost use Rattle.std.specs.Prelude.{OnErr, ◌++◌, ◌-◌, replicate, true, vec_len};
 ghost use Rattle.std.specs.Option.{option_map};
 ghost use Rattle.std.specs.List.{list_all};
+ghost use Rattle.sun_chain.specs.Replaced.{replaced};
 
 use crate::fault::ImageFault;
 use std::alloc::{AllocError, Global};
@@ -126,18 +127,14 @@ fn pad<T: Copy>(items: &mut Vec<T>, size: usize, value: T) -> Result<(), AllocEr
 
 fn copy_at(items: &mut Vec<u16>, start: usize, words: &[u16])
     requires { start + length words.now ≤ vec_len items.old }
-    ensures { items.new.items
-        ≡ take start items.old.items
-        ++ (words.now ++ drop (length words.now) (drop start items.old.items)) }
+    ensures { items.new.items ≡ replaced start (length words.now) words.now items.old.items }
 {
     items[start..start + words.len()].copy_from_slice(words);
 }
 
 fn mark_at(marks: &mut Vec<bool>, start: usize, count: usize)
     requires { start + count ≤ vec_len marks.old }
-    ensures { marks.new.items
-        ≡ take start marks.old.items
-        ++ (replicate count true ++ drop count (drop start marks.old.items)) }
+    ensures { marks.new.items ≡ replaced start count (replicate count true) marks.old.items }
 {
     marks[start..start + count].fill(true);
 }

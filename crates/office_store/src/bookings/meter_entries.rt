@@ -1,8 +1,7 @@
 //! Entries of meters.
 ghost use Rattle.std.specs.Prelude.{◌≡◌, ◌≤◌, ◌<◌, IsTrue, IfOk, OnOk};
 ghost use Rattle.sqlite.specs.Held.{state};
-ghost use Rattle.energy_core.specs.Account.{moment_of};
-ghost use Rattle.interval_core.specs.Share.{interval_count};
+ghost use Rattle.energy_core.specs.Account.{intervals_touched, moment_of};
 ghost use Rattle.meter_journal.specs.Journal as journal;
 ghost use Rattle.office_events.specs.declared.facts.Fact.TheVariants as fact;
 ghost use Rattle.store_tables.specs.Columns.{is_within};
@@ -69,7 +68,8 @@ fn go_on(standing: &Standing, entry: &Entry) -> Result<Advance, RowFault>
     ensures advances { IfOk result (Advances standing.now entry.now) }
     ensures sound { IfOk result (λ advance. IsSoundLast advance.last) }
     ensures forward { IfOk result (λ advance. advance.step.from < advance.step.till) }
-    ensures intervals { IfOk result (λ advance. interval_count advance.step ≤ MAX_INTERVALS) }
+    ensures intervals { IfOk result
+        (λ advance. intervals_touched advance.step.from advance.step.till ≤ MAX_INTERVALS) }
     ensures energy { IfOk result (λ advance. advance.step.mwh ≤ greatest_total) }
     ensures till { IfOk result (λ advance. advance.step.till ≤ latest_moment) }
     ensures moment { OnOk result (moment_of entry.now ≤ latest_moment) }
@@ -134,7 +134,8 @@ fn book_entry<S: Alter>(
     requires row { IsSoundEntry row }
     requires last { IsSoundLast advance.now.last }
     requires forward { advance.now.step.from < advance.now.step.till }
-    requires intervals { interval_count advance.now.step ≤ MAX_INTERVALS }
+    requires intervals { let step = advance.now.step in
+        intervals_touched step.from step.till ≤ MAX_INTERVALS }
     requires energy { advance.now.step.mwh ≤ greatest_total }
     requires till { advance.now.step.till ≤ latest_moment }
     ensures same_reference { tx.new.conn.ghost_name ≡ tx.old.conn.ghost_name }
