@@ -4,16 +4,17 @@ use Rattle.http_commands.specs.Given.{Gives}
 use Rattle.http_commands.specs.declared.fault.CommandFault.{CommandFault}
 use Rattle.http_commands.specs.declared.fault.CommandFault.TheVariants.{Memory}
 use Rattle.http_head.specs.Heads.{IsBadHead, is_past_limits}
-use Rattle.http_request.specs.HeadTests.{Start, head_fault}
+use Rattle.http_head.specs.declared.head.Head.{Head}
+use Rattle.http_request.specs.HeadTests.{Start, head_fault, start_at}
 use Rattle.http_route.specs.Routes.{Table}
 use Rattle.http_route.specs.Targets.{is_question, name_in, route_in}
 use Rattle.http_route.specs.declared.routes.Route.{Route}
 use Rattle.http_status.specs.declared.Status.{Status}
 use Rattle.http_status.specs.declared.Status.TheVariants.{BadRequest, FieldsTooLarge}
-use Rattle.http_whole.specs.Whole.{HoldsRequest}
+use Rattle.http_whole.specs.Whole.{HoldsRequest, body_of}
 use Rattle.office_events.specs.declared.commands.Command.{Command}
 use Rattle.http_answer.specs.Offices.{Office}
-use Rattle.http_answer.specs.Replies.{fault, reply_bytes, reply_of}
+use Rattle.http_answer.specs.Replies.{ask, command_reply, fault, reply_bytes, reply_of}
 use Rattle.http_answer.specs.Requests.{name_asked}
 
 -- the request is a command's, of this route, all tests of whose head pass
@@ -45,6 +46,13 @@ bad_head_status bytes = if is_past_limits bytes then FieldsTooLarge else BadRequ
 pub record RepliesToBadHead (bytes reply : List ℕ) : Type 0 where
   pub bad : IsBadHead bytes
   pub is : reply ≡ reply_bytes (fault (bad_head_status bytes))
+
+-- the reply to a command whose request stands here, by what its body gives
+abbrev pub reply_to_command : Office → Table → (bytes : List ℕ) → Head
+    → Result Command CommandFault → List ℕ
+reply_to_command office table bytes at given =
+    reply_bytes
+    (command_reply (ask office (start_at bytes at) (body_of table bytes at)) given)
 
 abbrev pub IsReply : Office → Table → (bytes reply : List ℕ) → Type 0
 IsReply office table bytes reply =

@@ -8,9 +8,9 @@ ghost use Rattle.http_request.specs.declared.ask.Ask.TheVariants.{Command as Ask
 ghost use Rattle.http_route.specs.Targets.{name_of};
 ghost use Rattle.http_whole.specs.Whole.{Holds, IsWhole, TestsRequest, body_of};
 ghost use Rattle.http_answer.specs.Offices.{Office};
-ghost use Rattle.http_answer.specs.Replies.{ask, command_reply, fault, question_reply, reply_bytes};
+ghost use Rattle.http_answer.specs.Replies.{fault, question_reply, reply_bytes};
 ghost use Rattle.http_answer.specs.Requests.{name_asked};
-ghost use Rattle.http_answer.specs.Whole.{IsReply};
+ghost use Rattle.http_answer.specs.Whole.{IsReply, reply_to_command};
 
 use http_commands::CommandFault;
 use http_head::{Head, Look};
@@ -56,7 +56,6 @@ pub fn commands_are_replied_to(
     requires gives { Gives found.now.route (name_asked (name_of found.now))
         (body_of router.now bytes.now head.now) given.now }
     requires memory { given.now ≢ Err Memory }
-    ensures { (office : Office) → IsReply office router.now bytes.now (reply_bytes (command_reply
-        (ask office (start_at bytes.now head.now) (body_of router.now bytes.now head.now))
-        given.now)) }
+    ensures { (office : Office) → IsReply office router.now bytes.now
+        (reply_to_command office router.now bytes.now head.now given.now) }
 {}

@@ -20,7 +20,7 @@ fn push_scale(text: &mut Text, sf: i16)
     ensures bytes { text.new ≡ text.old ++ codes "\",\"sf\":" ++ signed_decimal sf }
     ensures size { length text.new ≤ length text.old + 30 }
 {
-    text.push_signed(b"\",\"sf\":", i64::from(sf));
+    text.push_number(b"\",\"sf\":", i64::from(sf));
 }
 
 /// The body for a meter: where it stands, its range, and its whole energy in mWh, as a string of digits.

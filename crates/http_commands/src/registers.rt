@@ -1,8 +1,8 @@
 //! The commands that speak of the meter at a register.
 ghost use Rattle.std.specs.Prelude.{◌≡◌};
 ghost use Rattle.serde_json.specs.View.{view};
-ghost use Rattle.http_json.specs.Tables.{close_members, exchange_members, fault_of, install_members, manual_members, rescale_members, reset_members, void_members};
-ghost use Rattle.http_commands.specs.Commands.{close, exchange, install, manual, rescale, reset, unless_fault, void};
+ghost use Rattle.http_route.specs.declared.routes.Route.TheVariants as route;
+ghost use Rattle.http_commands.specs.Commands.{command_of};
 
 use crate::values::{name, or_full_range};
 use http_json::{
@@ -12,8 +12,7 @@ use office_events::{Close, Command, Exchange, Install, Manual, Name, Rescale, Re
 
 // A meter is installed.
 pub(crate) fn install(register: Option<Name>, body: &Body) -> Result<Command, BodyFault>
-    ensures { result ≡ unless_fault (fault_of install_members (view body.now))
-        (install register (view body.now)) }
+    ensures { result ≡ command_of route.Install register (view body.now) }
 {
     let given = install_in(body)?;
     Ok(Command::Install(Install {
@@ -28,8 +27,7 @@ pub(crate) fn install(register: Option<Name>, body: &Body) -> Result<Command, Bo
 
 // A meter is closed, and another installed.
 pub(crate) fn exchange(register: Option<Name>, body: &Body) -> Result<Command, BodyFault>
-    ensures { result ≡ unless_fault (fault_of exchange_members (view body.now))
-        (exchange register (view body.now)) }
+    ensures { result ≡ command_of route.Exchange register (view body.now) }
 {
     let given = exchange_in(body)?;
     Ok(Command::Exchange(Exchange {
@@ -46,8 +44,7 @@ pub(crate) fn exchange(register: Option<Name>, body: &Body) -> Result<Command, B
 
 // A counter is set.
 pub(crate) fn reset(register: Option<Name>, body: &Body) -> Result<Command, BodyFault>
-    ensures { result ≡ unless_fault (fault_of reset_members (view body.now))
-        (reset register (view body.now)) }
+    ensures { result ≡ command_of route.Reset register (view body.now) }
 {
     let given = reset_in(body)?;
     Ok(Command::Reset(Reset {
@@ -59,8 +56,7 @@ pub(crate) fn reset(register: Option<Name>, body: &Body) -> Result<Command, Body
 
 // A counter is set, at another scale.
 pub(crate) fn rescale(register: Option<Name>, body: &Body) -> Result<Command, BodyFault>
-    ensures { result ≡ unless_fault (fault_of rescale_members (view body.now))
-        (rescale register (view body.now)) }
+    ensures { result ≡ command_of route.Rescale register (view body.now) }
 {
     let given = rescale_in(body)?;
     Ok(Command::Rescale(Rescale {
@@ -73,8 +69,7 @@ pub(crate) fn rescale(register: Option<Name>, body: &Body) -> Result<Command, Bo
 
 // A reading by hand.
 pub(crate) fn manual(register: Option<Name>, body: &Body) -> Result<Command, BodyFault>
-    ensures { result ≡ unless_fault (fault_of manual_members (view body.now))
-        (manual register (view body.now)) }
+    ensures { result ≡ command_of route.Manual register (view body.now) }
 {
     let given = manual_in(body)?;
     Ok(Command::Manual(Manual {
@@ -87,8 +82,7 @@ pub(crate) fn manual(register: Option<Name>, body: &Body) -> Result<Command, Bod
 
 // A meter is closed.
 pub(crate) fn close(register: Option<Name>, body: &Body) -> Result<Command, BodyFault>
-    ensures { result ≡ unless_fault (fault_of close_members (view body.now))
-        (close register (view body.now)) }
+    ensures { result ≡ command_of route.Close register (view body.now) }
 {
     let given = close_in(body)?;
     Ok(Command::Close(Close {
@@ -100,8 +94,7 @@ pub(crate) fn close(register: Option<Name>, body: &Body) -> Result<Command, Body
 
 // An entry is voided.
 pub(crate) fn void(meter: Option<Name>, body: &Body) -> Result<Command, BodyFault>
-    ensures { result ≡ unless_fault (fault_of void_members (view body.now))
-        (void meter (view body.now)) }
+    ensures { result ≡ command_of route.Void meter (view body.now) }
 {
     let given = void_in(body)?;
     Ok(Command::Void(VoidEntry {

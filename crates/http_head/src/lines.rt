@@ -13,46 +13,52 @@ fn is_empty_line(line: &[u8]) -> bool
     }
 }
 
-/// Whether the bytes hold an empty line after one that is not empty.
-pub fn has_head_end(bytes: &[u8]) -> bool
-    ensures { result ≡ has_head_end bytes.now }
+// What a scan for the end of a head found.
+#[derive(Clone, Copy)]
+struct LineScan {
+    // How many lines the head has: those before the empty line that ends it.
+    lines: usize,
+    // Whether that empty line has come.
+    ended: bool,
+}
+
+// Scans the bytes for an empty line after one that is not empty.
+fn scan(bytes: &[u8]) -> LineScan
+    ensures lines { result.lines ≡ length (lines_of_head bytes.now) }
+    ensures ended { result.ended ≡ has_head_end bytes.now }
 {
     let mut text_seen = false;
+    let mut lines = 0;
     let mut start = 0;
     for (i, byte) in bytes.iter().enumerate() {
         if *byte == b'\n' {
             if is_empty_line(&bytes[start..i]) {
                 if text_seen {
-                    return true;
+                    return LineScan { lines, ended: true };
                 }
             } else {
                 text_seen = true;
+                lines += 1;
             }
             start = i + 1;
         }
     }
-    false
+    LineScan {
+        lines,
+        ended: false,
+    }
+}
+
+/// Whether the bytes hold an empty line after one that is not empty.
+pub fn has_head_end(bytes: &[u8]) -> bool
+    ensures { result ≡ has_head_end bytes.now }
+{
+    scan(bytes).ended
 }
 
 /// How many lines a head has: those before the empty line that ends it.
 pub fn head_line_count(bytes: &[u8]) -> usize
     ensures { result ≡ length (lines_of_head bytes.now) }
 {
-    let mut text_seen = false;
-    let mut count = 0;
-    let mut start = 0;
-    for (i, byte) in bytes.iter().enumerate() {
-        if *byte == b'\n' {
-            if is_empty_line(&bytes[start..i]) {
-                if text_seen {
-                    return count;
-                }
-            } else {
-                text_seen = true;
-                count += 1;
-            }
-            start = i + 1;
-        }
-    }
-    count
+    scan(bytes).lines
 }

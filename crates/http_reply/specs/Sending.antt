@@ -15,6 +15,25 @@ pub record Sends (base given : Option (List ℕ)) (buffered : List ℕ) (failed 
   pub came : Appends base given sent
   pub whole : failed ≡ false → left ≡ buffered
 
+-- How far what was put has come: what was given to the link, what is buffered behind that, and whether a give
+-- has failed.
+pub record Progress : Type 0 where
+  pub given : Option (List ℕ)
+  pub buffered : List ℕ
+  pub failed : Bool
+
+-- bytes are put behind all that was put before
+abbrev pub PutsBehind : Progress → Progress → List ℕ → Type 0
+PutsBehind old new bytes =
+    (base : Option (List ℕ)) (all : List ℕ) → Sends base old.given old.buffered old.failed all
+    → Sends base new.given new.buffered new.failed (all ++ bytes)
+
+-- nothing is put behind all that was put before
+abbrev pub PutsNothing : Progress → Progress → Type 0
+PutsNothing old new =
+    (base : Option (List ℕ)) (all : List ℕ) → Sends base old.given old.buffered old.failed all
+    → Sends base new.given new.buffered new.failed all
+
 -- What a contract sees of an outlet: which link it is to, what that tells of itself, which bytes are buffered, and
 -- whether a give has failed.
 pub record Outgoing : Type 0 where

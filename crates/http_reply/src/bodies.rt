@@ -2,8 +2,10 @@
 ghost use Rattle.std.specs.Prelude.{◌≡◌};
 ghost use Rattle.http_reply.specs.Bodies.{fault_text, refused_text};
 
-use crate::text::Text;
 use http_status::Status;
+
+/// A text of at most 8,192 bytes: the body of a reply.
+pub type Text = row_text::Text<8192>;
 
 /// The body for a refusal, by its number.
 pub fn refused_body(number: u8) -> Text

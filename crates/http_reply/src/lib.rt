@@ -5,9 +5,7 @@ mod bodies;
 mod outbox;
 mod outlet;
 mod reply;
-mod text;
 
-pub use bodies::{fault_body, refused_body};
+pub use bodies::{Text, fault_body, refused_body};
 pub use outlet::Outlet;
 pub use reply::{put_json, put_text_head};
-pub use text::Text;

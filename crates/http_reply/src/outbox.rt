@@ -1,5 +1,5 @@
 //! Bytes that are buffered until there are enough of them to give.
-ghost use Rattle.std.specs.Prelude.{◌≡◌, ◌≤◌, ◌<◌, ◌+◌, ℕ, ◌++◌, List, [], Option, length};
+ghost use Rattle.std.specs.Prelude.{◌≡◌, ◌≤◌, ◌<◌, ◌+◌, ◌++◌, [], length};
 ghost use Rattle.std.specs.Prelude.{true, false, is_err, not, ◌&&◌};
 ghost use Rattle.std.specs.Io.KnownBytes.{Keeps};
 ghost use Rattle.mb_wire.specs.Links.{risen};
@@ -38,8 +38,8 @@ fn give_all<L: Link>(link: &mut L, bytes: &[u8]) -> Result<(), LinkFailed>
 }
 
 impl Outbox {
-    ghost use Rattle.http_reply.specs.Sending.{Sends};
-    ghost use Rattle.http_reply.specs.Holding.{buffered_in};
+    ghost use Rattle.http_reply.specs.Sending.{PutsBehind, PutsNothing};
+    ghost use Rattle.http_reply.specs.Holding.{buffered_in, progress};
 
     // Holds nothing.
     pub(crate) fn new() -> Outbox
@@ -62,9 +62,8 @@ impl Outbox {
 
     // Gives what is buffered.
     pub(crate) fn flush<L: Link>(&mut self, link: &mut L)
-        ensures sends { (base : Option (List ℕ)) (all : List ℕ)
-            → Sends base (L.given link.old) (buffered_in self.old) self.old.failed all
-            → Sends base (L.given link.new) (buffered_in self.new) self.new.failed all }
+        ensures sends { PutsNothing (progress (L.given link.old) self.old)
+            (progress (L.given link.new) self.new) }
         ensures empty { self.new.failed ≡ false → buffered_in self.new ≡ [] }
         ensures stays { self.old.failed ≡ true → self.new.failed ≡ true }
         ensures failures { L.failed link.new
@@ -83,9 +82,8 @@ impl Outbox {
 
     // Gives what is buffered, where there is no room for so many bytes more.
     fn make_room<L: Link>(&mut self, link: &mut L, count: usize)
-        ensures sends { (base : Option (List ℕ)) (all : List ℕ)
-            → Sends base (L.given link.old) (buffered_in self.old) self.old.failed all
-            → Sends base (L.given link.new) (buffered_in self.new) self.new.failed all }
+        ensures sends { PutsNothing (progress (L.given link.old) self.old)
+            (progress (L.given link.new) self.new) }
         ensures room { self.new.failed ≡ false → 512 < self.new.filled + count
             → buffered_in self.new ≡ [] }
         ensures stays { self.old.failed ≡ true → self.new.failed ≡ true }
@@ -115,10 +113,8 @@ impl Outbox {
     fn pass<L: Link>(&mut self, link: &mut L, bytes: &[u8])
         requires works { self.old.failed ≡ false }
         requires empty { buffered_in self.old ≡ [] }
-        ensures sends { (base : Option (List ℕ)) (all : List ℕ)
-            → Sends base (L.given link.old) (buffered_in self.old) self.old.failed all
-            → Sends base (L.given link.new) (buffered_in self.new) self.new.failed
-            (all ++ bytes.now) }
+        ensures sends { PutsBehind (progress (L.given link.old) self.old)
+            (progress (L.given link.new) self.new) bytes.now }
         ensures failures { L.failed link.new ≡ risen self.new.failed (L.failed link.old) }
         ensures remaining { Keeps (L.remaining link.old) (L.remaining link.new) }
         ensures takes { L.taken link.new ≡ L.taken link.old }
@@ -129,10 +125,8 @@ impl Outbox {
 
     // Puts bytes behind those put before.
     pub(crate) fn put<L: Link>(&mut self, link: &mut L, bytes: &[u8])
-        ensures sends { (base : Option (List ℕ)) (all : List ℕ)
-            → Sends base (L.given link.old) (buffered_in self.old) self.old.failed all
-            → Sends base (L.given link.new) (buffered_in self.new) self.new.failed
-            (all ++ bytes.now) }
+        ensures sends { PutsBehind (progress (L.given link.old) self.old)
+            (progress (L.given link.new) self.new) bytes.now }
         ensures stays { self.old.failed ≡ true → self.new.failed ≡ true }
         ensures failures { L.failed link.new
             ≡ risen (self.new.failed && not self.old.failed) (L.failed link.old) }

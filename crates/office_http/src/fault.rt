@@ -1,7 +1,7 @@
 //! Why a request was not served.
 ghost use Rattle.std.specs.Prelude.{◌≡◌};
 
-use http_read::{MOST_TAKES, TakeFault};
+use http_read::TakeFault;
 use std::error::Error;
 use std::fmt;
 use std::fmt::{Display, Formatter};
@@ -56,12 +56,10 @@ impl From<TakeFault> for HandleFault {
 impl Display for HandleFault {
     fn fmt<W: fmt::Write>(&self, f: &mut Formatter<W>) -> fmt::Result {
         match self {
-            HandleFault::Read => write!(f, "a read of the connection failed"),
+            HandleFault::Read => write!(f, "{}", TakeFault::Read),
             HandleFault::Write => write!(f, "a write to the connection failed"),
-            HandleFault::Short => write!(f, "the input ended inside the request"),
-            HandleFault::TurnsUsed => {
-                write!(f, "the request was not whole after {MOST_TAKES} reads")
-            }
+            HandleFault::Short => write!(f, "{}", TakeFault::Short),
+            HandleFault::TurnsUsed => write!(f, "{}", TakeFault::TurnsUsed),
             HandleFault::Cut => write!(
                 f,
                 "the books failed while rows were written, so the reply is cut off"

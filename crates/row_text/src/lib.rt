@@ -4,5 +4,5 @@
 mod line;
 mod rows;
 
-pub use line::Line;
+pub use line::{Line, Text};
 pub use rows::{day_line, end_line, interval_line, write_day, write_end, write_interval};
