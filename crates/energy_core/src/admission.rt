@@ -6,9 +6,10 @@ ghost use Rattle.energy_core.specs.Account.{moment_of, reached, after, energy_of
 ghost use Rattle.energy_core.specs.Account.{intervals_touched};
 
 use crate::counters::Counter;
+use crate::energies::energy_up_to;
 use crate::entries::{Entry, Last, Step};
 use crate::limits::{MAX_INTERVALS, MAX_RANGE, MAX_SCALE, MAX_TOTAL, MAX_UNIT, MIN_SCALE};
-use crate::measures::{is_long_span, unit};
+use crate::measures::is_long_span;
 use crate::verdicts::Terms;
 
 /// Why an entry is refused.
@@ -65,7 +66,7 @@ fn reach(range: u64, entry: &Entry) -> u64
     }
 }
 
-/// The energy, in mWh, from where the counter stood to an entry that doesn't go back. All energy is computed here.
+/// The energy, in mWh, from where the counter stood to an entry that doesn't go back.
 pub(crate) fn energy(range: u64, last: &Last, entry: &Entry) -> u64
     requires range { range ≤ MAX_RANGE }
     requires scale_low { MIN_SCALE ≤ℤ last.now.sf }
@@ -74,8 +75,7 @@ pub(crate) fn energy(range: u64, last: &Last, entry: &Entry) -> u64
     ensures value { result ≡ energy_of range last.now entry.now }
     ensures small { result ≤ 256 * MAX_RANGE * MAX_UNIT }
 {
-    let unit = unit(last.sf);
-    reach(range, entry) * unit - u64::from(last.raw) * unit
+    energy_up_to(last, u128::from(reach(range, entry))) as u64
 }
 
 /// Whether an entry sets a scale that no register may have.

@@ -4,6 +4,7 @@
 mod admission;
 mod corrections;
 mod counters;
+mod energies;
 mod entries;
 mod fault_texts;
 mod laws;
@@ -14,6 +15,7 @@ mod verdicts;
 pub use admission::{TermFault, enter};
 pub use corrections::{manual, manual as close, rescale, reset};
 pub use counters::{Acc32, Counter, Ranged};
+pub use energies::energy_up_to;
 pub use entries::{Entry, Last, Step};
 pub use laws::{
     accepted_is_entered, accepted_is_plausible, accounts_are_sound, accounts_begin, accounts_go_on,

@@ -18,11 +18,8 @@ impl FailingBooks {
         ensures faults { (⟦<FailingBooks as Books>⟧.ledger result).fault_count ≡ 0 }
     {
         FailingBooks {
-            books,
-            calls: 0,
-            failing,
-            faults: 0,
             rows_come_first: true,
+            ..FailingBooks::new(books, failing)
         }
     }
 }

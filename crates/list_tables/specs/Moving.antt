@@ -1,6 +1,7 @@
 -- What one more fact makes of a meter.
 use Rattle.std.specs.Prelude.{◌≡◌, ◌+◌, ◌≤◌, ◌<◌, ℕ, false, List, [], ◌∷◌, ◌++◌, length, Ok}
 use Rattle.energy_core.specs.declared.entries.Entry.{Entry}
+use Rattle.energy_core.specs.declared.entries.Last.{Last}
 use Rattle.energy_core.specs.Account.{after, step_to}
 use Rattle.energy_core.specs.Admission.{entered}
 use Rattle.meter_journal.specs.declared.lines.EntryRow.{EntryRow}
@@ -12,9 +13,11 @@ use Rattle.office_events.specs.declared.facts.BookedEntry.{BookedEntry}
 use Rattle.office_events.specs.declared.facts.Fact.{Fact}
 use Rattle.office_events.specs.declared.questions.Installation.{Installation}
 use Rattle.office_books.specs.Sound.{IsSound}
+use Rattle.office_laws.specs.Laws.{IsRecorded}
 use Rattle.office_laws.specs.Steps.{moved_by}
+use Rattle.office_rules.specs.Lawful.{AreLawful}
 use Rattle.office_rules.specs.Meters.{opened, installed, standing, rows_of, installation_of}
-use Rattle.list_tables.specs.Accounts.{HasNumbers}
+use Rattle.list_tables.specs.Accounts.{as_begun, HasNumbers}
 use Rattle.list_tables.specs.declared.meter.Meter.{Meter}
 
 -- the entry may be booked where the counter stands
@@ -25,8 +28,7 @@ MayEnter row e =
 
 -- it stands where it was opened, without rows
 pub record HasBegun (opening : Opening) (meter : Meter) : Type 0 where
-  pub row : meter.row
-      ≡ record { opening = opening; last = opened opening; total = 0; ended = false }
+  pub row : meter.row ≡ as_begun opening
   pub rows : meter.rows.items ≡ []
 
 -- it has one more row, and moved on to it
@@ -42,16 +44,16 @@ pub record IsSame (old new : Meter) : Type 0 where
   pub row : new.row ≡ old.row
   pub rows : new.rows.items ≡ old.rows.items
 
--- the rows after the entry at a place was voided
-abbrev pub rows_without : ℕ → Meter → List EntryRow
-rows_without place old =
-    journal.with_void (opened old.row.opening) place (lists.latest_first old.rows.items)
+-- these rows, the latest first, became those by voiding the entry at a place, where there is one
+abbrev pub VoidsAt : Last → (place : ℕ) → (before after : List EntryRow) → Type 0
+VoidsAt last place before after =
+    lists.AreNumbered before → 2 ≤ place → place < length before + 2
+    → after ≡ journal.with_void last place before
 
 -- an entry at a place was voided: the rows are those without it, and the meter stands as these leave it
 pub record HasStruck (place : ℕ) (old new : Meter) : Type 0 where
-  pub rows : lists.AreNumbered (lists.latest_first old.rows.items) → 2 ≤ place
-      → place < length (lists.latest_first old.rows.items) + 2
-      → lists.latest_first new.rows.items ≡ rows_without place old
+  pub rows : VoidsAt (opened old.row.opening) place (lists.latest_first old.rows.items)
+      (lists.latest_first new.rows.items)
   pub row : HasNumbers old.row.opening
       → HasAccount (installed old.row.opening)
       (journal.entries_in (lists.latest_first new.rows.items))
@@ -62,3 +64,9 @@ pub record HasStruck (place : ℕ) (old new : Meter) : Type 0 where
 pub record IsAsSaid (known : List Fact) (opening : Opening) (meter : Meter) : Type 0 where
   pub row : meter.row ≡ installation_of known opening
   pub rows : lists.latest_first meter.rows.items ≡ rows_of known opening
+
+-- so it is by all lawful facts that say of an installation what the meter has
+abbrev pub WhereSaid : Meter → (List Fact → Opening → Type 0) → Type 0
+WhereSaid meter so =
+    (known : List Fact) (opening : Opening) → AreLawful known → IsRecorded known opening
+    → IsAsSaid known opening meter → so known opening

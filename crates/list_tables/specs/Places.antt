@@ -1,6 +1,7 @@
 -- Where facts stand, by what they are looked up by.
-use Rattle.std.specs.Prelude.{◌≡◌, ℕ, Bool, false, List, [], ◌∷◌, reverse, length, Option, Some, None, if◌then◌else◌}
+use Rattle.std.specs.Prelude.{◌≡◌, ℕ, Bool, false, List, [], ◌∷◌, ◌++◌, cond, reverse, length, Option, Some, None, if◌then◌else◌}
 use Rattle.std.specs.BTreeMap.{get}
+use Rattle.std.specs.Ordering.{is_eq}
 use Rattle.std.specs.List.{slice_get}
 use Rattle.std.specs.declared.vec.Vec.{Vec}
 use Rattle.office_events.specs.declared.facts.DeviceList.{DeviceList}
@@ -77,6 +78,18 @@ under (Some places) = places.items
 -- the place of the latest that passes
 abbrev pub latest_place : (Fact → Bool) → List Fact → Option ℕ
 latest_place p known = slice_get (places_of p known) 0
+
+-- the places under one key are one more, and those under the others as they were
+abbrev pub HaveOneMore : Key → (place : ℕ) → (before after : Places) → Type 0
+HaveOneMore key place before after =
+    (other : Key) → under (get key_cmp after.places other)
+    ≡ cond (is_eq (key_cmp key other)) (under (get key_cmp before.places key) ++ place ∷ [])
+    (under (get key_cmp before.places other))
+
+-- under each key they are as they were
+abbrev pub AreUnchanged : (before after : Places) → Type 0
+AreUnchanged before after =
+    (other : Key) → under (get key_cmp after.places other) ≡ under (get key_cmp before.places other)
 
 -- Under each key are the places of its facts, in the order in which they came.
 abbrev pub ArePlacesOf : Kind → Places → List Fact → Type 0

@@ -1,6 +1,7 @@
 -- All tables of some facts.
-use Rattle.std.specs.Prelude.{◌≡◌, List}
+use Rattle.std.specs.Prelude.{◌≡◌, List, reverse}
 use Rattle.office_events.specs.declared.facts.Fact.{Fact}
+use Rattle.office_rules.specs.Lawful.{AreLawful}
 use Rattle.list_tables.specs.declared.places.Kind.{Kind}
 use Rattle.list_tables.specs.declared.places.Kind.TheVariants.{DeviceLists, Registers, DeviceRegisters, RegisterOpenings, Replies}
 use Rattle.list_tables.specs.declared.places.Places.{Places}
@@ -37,3 +38,8 @@ pub record AreWhole (tables : Tables) (known : List Fact) : Type 0 where
   pub openings : ArePlacesOf RegisterOpenings tables.openings.table known
   pub replies : ArePlacesOf Replies tables.replies.table known
   pub meters : AreMeters tables.meters.table known
+
+-- so it is by lawful facts, in the order in which they came, of which the tables are whole
+abbrev pub WhereWhole : Tables → (facts : List Fact) → (List Fact → Type 0) → Type 0
+WhereWhole tables facts so =
+    (known : List Fact) → facts ≡ reverse known → AreLawful known → AreWhole tables known → so known

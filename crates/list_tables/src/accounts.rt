@@ -1,23 +1,18 @@
 //! Where a meter stands behind rows that may be any.
-ghost use Rattle.std.specs.Prelude.{◌≡◌, ◌≤◌, ◌<◌, ◌*◌, ◌^◌, true, Some, None, IsTrue, IfSome};
+ghost use Rattle.std.specs.Prelude.{◌≡◌, ◌≤◌, IsTrue, IfSome};
 ghost use Rattle.meter_journal.specs.Books as books;
-ghost use Rattle.meter_journal.specs.Intervals.{rows_of_steps};
-ghost use Rattle.meter_journal.specs.Journal.{entries_in};
-ghost use Rattle.meter_journal.specs.Lists as lists;
-ghost use Rattle.office_books.specs.Rows.{TakesAll};
 ghost use Rattle.office_books.specs.Sound.{IsSound};
 ghost use Rattle.office_rules.specs.Meters as meters;
-ghost use Rattle.list_tables.specs.Accounts.{HasNumbers};
-ghost use Rattle.list_tables.specs.IntervalRows.{TakesSome};
+ghost use Rattle.list_tables.specs.Accounts.{as_begun, HasNumbers, HaveAccount, StandsBehind};
+ghost use Rattle.list_tables.specs.IntervalRows.{TakesRowsOf, TakesSome};
 
 use crate::interval_rows::hand_rows;
 use energy_core::{
-    Last, MAX_CEILING, MAX_RANGE, MIN_RANGE, Ranged, Terms, accounts_are_sound, enter,
-    entered_is_booked,
+    Last, MAX_RANGE, MIN_RANGE, Ranged, Terms, accounts_are_sound, enter, entered_is_booked,
 };
 use interval_core::Share;
 use meter_journal::{EntryRow, Installed, Tally, tally_behind};
-use office_books::RowSink;
+use office_books::{RowSink, is_sound};
 use office_events::{Installation, Opening};
 
 /// Whether the rows that stand have an account.
@@ -25,10 +20,8 @@ fn have_account(meter: &Installed, rows: &[EntryRow]) -> bool
     requires range_low { MIN_RANGE ≤ meter.now.range }
     requires range_high { meter.now.range ≤ MAX_RANGE }
     requires installed { books.IsWellInstalled meter.now }
-    ensures so { IsTrue result
-        → books.HasAccount meter.now (entries_in (lists.latest_first rows.now)) }
-    ensures if_so { books.HasAccount meter.now (entries_in (lists.latest_first rows.now))
-        → IsTrue result }
+    ensures so { IsTrue result → HaveAccount meter.now rows.now }
+    ensures if_so { HaveAccount meter.now rows.now → IsTrue result }
 {
     accounts_are_sound();
     entered_is_booked();
@@ -57,6 +50,17 @@ fn have_account(meter: &Installed, rows: &[EntryRow]) -> bool
     true
 }
 
+/// Where the counter of a meter stood when it was installed.
+pub(crate) fn opened(opening: &Opening) -> Last
+    ensures { result ≡ meters.opened opening.now }
+{
+    Last {
+        at: opening.at,
+        raw: opening.raw,
+        sf: opening.sf,
+    }
+}
+
 /// A meter as it was installed.
 fn installed(opening: &Opening) -> Installed
     ensures { result ≡ meters.installed opening.now }
@@ -64,11 +68,19 @@ fn installed(opening: &Opening) -> Installed
     Installed {
         range: opening.range,
         ceiling: opening.ceiling,
-        opening: Last {
-            at: opening.at,
-            raw: opening.raw,
-            sf: opening.sf,
-        },
+        opening: opened(opening),
+    }
+}
+
+/// An installation that was just opened.
+pub(crate) fn begun(opening: &Opening) -> Installation
+    ensures { result ≡ as_begun opening.now }
+{
+    Installation {
+        opening: *opening,
+        last: opened(opening),
+        total: 0,
+        ended: false,
     }
 }
 
@@ -77,17 +89,12 @@ fn has_numbers(opening: &Opening) -> bool
     ensures so { IsTrue result → HasNumbers opening.now }
     ensures if_so { HasNumbers opening.now → IsTrue result }
 {
-    let ranged = MIN_RANGE <= opening.range && opening.range <= MAX_RANGE;
-    let limited = 1 <= opening.ceiling && opening.ceiling <= MAX_CEILING;
-    let scaled = -3 <= opening.sf && opening.sf <= 3;
-    ranged && limited && scaled && u64::from(opening.raw) < opening.range
+    is_sound(&begun(opening))
 }
 
 /// An installation behind these rows, if they have an account.
 pub(crate) fn standing(opening: &Opening, rows: &[EntryRow], ended: bool) -> Option<Installation>
-    ensures found { let es = entries_in (lists.latest_first rows.now) in
-        HasNumbers opening.now → books.HasAccount (meters.installed opening.now) es
-        → result ≡ Some (meters.standing opening.now es ended) }
+    ensures found { StandsBehind opening.now rows.now ended result }
     ensures sound { IfSome result IsSound }
 {
     accounts_are_sound();
@@ -109,10 +116,8 @@ pub(crate) fn standing(opening: &Opening, rows: &[EntryRow], ended: bool) -> Opt
 
 /// Hands on the interval rows of these rows; some or none if they have no account.
 pub(crate) fn hand_on<K: RowSink<Share>>(opening: &Opening, rows: &[EntryRow], sink: &mut K)
-    ensures whole { let es = entries_in (lists.latest_first rows.now) in
-        let meter = meters.installed opening.now in
-        HasNumbers opening.now → books.HasAccount meter es
-        → TakesAll K.takes sink.old (rows_of_steps (books.steps_after meter es)) sink.new }
+    ensures whole { HasNumbers opening.now
+        → TakesRowsOf K.takes sink.old (meters.installed opening.now) rows.now sink.new }
     ensures some { TakesSome K.takes sink.old sink.new }
 {
     if has_numbers(opening) {

@@ -5,11 +5,7 @@ ghost use Rattle.interval_core.specs.Account.{energy_of};
 ghost use Rattle.energy_core.specs.Account.{intervals_touched};
 ghost use Rattle.interval_core.specs.Share.{shares_of};
 ghost use Rattle.meter_journal.specs.Books as books;
-ghost use Rattle.meter_journal.specs.Intervals.{rows_of_steps};
-ghost use Rattle.meter_journal.specs.Journal.{entries_in};
-ghost use Rattle.meter_journal.specs.Lists as lists;
-ghost use Rattle.office_books.specs.Rows.{TakesAll};
-ghost use Rattle.list_tables.specs.IntervalRows.{Passes, TakesSome};
+ghost use Rattle.list_tables.specs.IntervalRows.{Passes, TakesRowsOf, TakesSome};
 
 use energy_core::{
     MAX_INTERVALS, MAX_RANGE, MAX_TOTAL, MIN_RANGE, Ranged, Step, Terms, accounts_are_sound, enter,
@@ -52,9 +48,7 @@ pub(crate) fn hand_rows<K: RowSink<Share>>(meter: &Installed, rows: &[EntryRow],
     requires range_low { MIN_RANGE ≤ meter.now.range }
     requires range_high { meter.now.range ≤ MAX_RANGE }
     requires installed { books.IsWellInstalled meter.now }
-    ensures whole { let es = entries_in (lists.latest_first rows.now) in
-        books.HasAccount meter.now es
-        → TakesAll K.takes sink.old (rows_of_steps (books.steps_after meter.now es)) sink.new }
+    ensures whole { TakesRowsOf K.takes sink.old meter.now rows.now sink.new }
     ensures some { TakesSome K.takes sink.old sink.new }
 {
     accounts_are_sound();

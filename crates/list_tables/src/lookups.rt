@@ -14,15 +14,7 @@ fn as_register(fact: &Fact) -> Option<Register>
 {
     match fact {
         Fact::Register(register) => Some(*register),
-        Fact::Device(_)
-        | Fact::List(_)
-        | Fact::Opening(_)
-        | Fact::Entry(_)
-        | Fact::Hold(_)
-        | Fact::Void(_)
-        | Fact::Poll(_)
-        | Fact::Outcome(_)
-        | Fact::Reply(_) => None,
+        _ => None,
     }
 }
 
@@ -31,15 +23,7 @@ fn as_opening(fact: &Fact) -> Option<Opening>
 {
     match fact {
         Fact::Opening(opening) => Some(*opening),
-        Fact::Device(_)
-        | Fact::List(_)
-        | Fact::Register(_)
-        | Fact::Entry(_)
-        | Fact::Hold(_)
-        | Fact::Void(_)
-        | Fact::Poll(_)
-        | Fact::Outcome(_)
-        | Fact::Reply(_) => None,
+        _ => None,
     }
 }
 
@@ -47,22 +31,14 @@ fn as_opening(fact: &Fact) -> Option<Opening>
 pub(crate) fn register_at(facts: &[Fact], place: usize) -> Option<Register>
     ensures { result ≡ spots.register_at facts.now place }
 {
-    if place < facts.len() {
-        as_register(&facts[place])
-    } else {
-        None
-    }
+    as_register(facts.get(place)?)
 }
 
 /// The opening at a place.
 pub(crate) fn opening_at(facts: &[Fact], place: usize) -> Option<Opening>
     ensures { result ≡ spots.opening_at facts.now place }
 {
-    if place < facts.len() {
-        as_opening(&facts[place])
-    } else {
-        None
-    }
+    as_opening(facts.get(place)?)
 }
 
 /// The registers at places.
@@ -90,15 +66,7 @@ fn as_list(fact: &Fact) -> Result<Option<PlannedList>, AllocError>
             }
             Ok(Some(put.list.clone()?))
         }
-        Fact::Device(_)
-        | Fact::Register(_)
-        | Fact::Opening(_)
-        | Fact::Entry(_)
-        | Fact::Hold(_)
-        | Fact::Void(_)
-        | Fact::Poll(_)
-        | Fact::Outcome(_)
-        | Fact::Reply(_) => Ok(None),
+        _ => Ok(None),
     }
 }
 
@@ -128,15 +96,7 @@ fn as_repeat(fact: &Fact, request: &[u8]) -> Option<Repeat>
 {
     match fact {
         Fact::Reply(reply) => Some(repeat_by(reply, request)),
-        Fact::Device(_)
-        | Fact::List(_)
-        | Fact::Register(_)
-        | Fact::Opening(_)
-        | Fact::Entry(_)
-        | Fact::Hold(_)
-        | Fact::Void(_)
-        | Fact::Poll(_)
-        | Fact::Outcome(_) => None,
+        _ => None,
     }
 }
 
@@ -144,9 +104,5 @@ fn as_repeat(fact: &Fact, request: &[u8]) -> Option<Repeat>
 pub(crate) fn repeat_at(facts: &[Fact], place: usize, request: &[u8]) -> Option<Repeat>
     ensures { result ≡ spots.repeat_at request.now facts.now place }
 {
-    if place < facts.len() {
-        as_repeat(&facts[place], request)
-    } else {
-        None
-    }
+    as_repeat(facts.get(place)?, request)
 }

@@ -1,43 +1,27 @@
 //! A meter as it stands.
-ghost use Rattle.std.specs.Prelude.{◌≡◌, ◌∷◌, ◌++◌, ◌≤◌, ◌<◌, ◌*◌, ◌^◌, List, [], ◌+◌, length, take, IsTrue, OnOk, OnErr, IfSome};
+ghost use Rattle.std.specs.Prelude.{◌≡◌, take, IsTrue, OnOk, OnErr, IfSome};
 ghost use Rattle.std.specs.Option.{option_map};
 ghost use Rattle.meter_journal.specs.Journal as journal;
 ghost use Rattle.meter_journal.specs.Journal.{row_at};
 ghost use Rattle.meter_journal.specs.Lists as lists;
 ghost use Rattle.office_books.specs.Rows.{TakesAll};
 ghost use Rattle.office_books.specs.Sound.{IsSound};
-ghost use Rattle.office_events.specs.declared.facts.Fact.{Fact};
-ghost use Rattle.office_events.specs.declared.facts.Opening.{Opening};
-ghost use Rattle.office_laws.specs.Laws.{IsRecorded};
 ghost use Rattle.office_laws.specs.Steps.{moved_by};
 ghost use Rattle.office_rules.specs.Intervals.{rows_of_opening};
-ghost use Rattle.office_rules.specs.Lawful.{AreLawful};
 ghost use Rattle.office_rules.specs.Meters.{place_in, rows_of};
 ghost use Rattle.list_tables.specs.IntervalRows.{TakesSome};
-ghost use Rattle.list_tables.specs.Moving.{MayEnter};
+ghost use Rattle.list_tables.specs.Moving.{MayEnter, VoidsAt};
 
-use crate::accounts::{hand_on, standing};
-use energy_core::{Last, MAX_CEILING, MAX_RANGE, MAX_TOTAL, MIN_RANGE};
+use crate::accounts::{begun, hand_on, opened, standing};
+use energy_core::Last;
 use interval_core::Share;
 use meter_journal::{
     EntryKind, EntryRow, find_row, journals_are_kept, places_were_kept, row_behind, strike,
 };
-use office_books::{RowSink, enter};
+use office_books::{RowSink, enter, is_sound};
 use office_events::{BookedEntry, EntryPlace, Installation, Opening};
 use office_laws::{installations_are_in_range, journals_fit};
 use std::alloc::{AllocError, Global};
-
-/// Whether the numbers of an installation are in their ranges.
-pub(crate) fn is_sound(row: &Installation) -> bool
-    ensures so { IsTrue result → IsSound row.now }
-    ensures if_so { IsSound row.now → IsTrue result }
-{
-    let ranged = MIN_RANGE <= row.opening.range && row.opening.range <= MAX_RANGE;
-    let limited = 1 <= row.opening.ceiling && row.opening.ceiling <= MAX_CEILING;
-    let scaled = -3 <= row.last.sf && row.last.sf <= 3;
-    let shown = u64::from(row.last.raw) < row.opening.range;
-    ranged && limited && scaled && shown && row.total <= MAX_TOTAL
-}
 
 /// Whether entries of a kind close their meter.
 fn is_closing(kind: EntryKind) -> bool
@@ -81,9 +65,7 @@ pub(crate) fn are_numbered(rows: &[EntryRow]) -> bool
 
 /// Voids the entry at a place, if there is one.
 fn strike_among(last: &Last, rows: &mut [EntryRow], place: u64)
-    ensures { let before = lists.latest_first rows.old in
-        lists.AreNumbered before → 2 ≤ place → place < length before + 2
-        → lists.latest_first rows.new ≡ journal.with_void last.now place before }
+    ensures { VoidsAt last.now place (lists.latest_first rows.old) (lists.latest_first rows.new) }
 {
     if place >= 2 && place - 2 < rows.len() as u64 && are_numbered(rows) {
         strike(last, rows, place);
@@ -92,9 +74,8 @@ fn strike_among(last: &Last, rows: &mut [EntryRow], place: u64)
 
 /// Voids the entry at a place, if there is one.
 fn strike_there(last: &Last, rows: &mut Vec<EntryRow>, place: u64)
-    ensures { let before = lists.latest_first rows.old.items in
-        lists.AreNumbered before → 2 ≤ place → place < length before + 2
-        → lists.latest_first rows.new.items ≡ journal.with_void last.now place before }
+    ensures { VoidsAt last.now place (lists.latest_first rows.old.items)
+        (lists.latest_first rows.new.items) }
 {
     strike_among(last, rows, place);
 }
@@ -118,23 +99,14 @@ pub(crate) struct Meter {
 }
 
 impl Meter {
-    ghost use Rattle.list_tables.specs.Moving.{HasBegun, HasEntered, IsSame, HasStruck, IsAsSaid};
+    ghost use Rattle.list_tables.specs.Moving.{HasBegun, HasEntered, IsSame, HasStruck, WhereSaid};
 
     /// A meter that was just installed.
     pub(crate) fn begin(alloc: Global, opening: &Opening) -> Meter
         ensures { HasBegun opening.now result }
     {
         Meter {
-            row: Installation {
-                opening: *opening,
-                last: Last {
-                    at: opening.at,
-                    raw: opening.raw,
-                    sf: opening.sf,
-                },
-                total: 0,
-                ended: false,
-            },
+            row: begun(opening),
             rows: Vec::new(alloc),
         }
     }
@@ -156,11 +128,7 @@ impl Meter {
     {
         let opening = self.row.opening;
         let ended = self.row.ended;
-        let last = Last {
-            at: opening.at,
-            raw: opening.raw,
-            sf: opening.sf,
-        };
+        let last = opened(&opening);
         strike_there(&last, &mut self.rows, place);
         if let Some(row) = standing(&opening, &self.rows, ended) {
             self.row = row;
@@ -169,10 +137,8 @@ impl Meter {
 
     /// Where the meter stood before its entry at a place, and the next that stands.
     pub(crate) fn placed(&self, place: u64) -> Option<EntryPlace>
-        ensures found { (known : List Fact) (opening : Opening) → AreLawful known
-            → IsRecorded known opening
-            → IsAsSaid known opening self.now
-            → result ≡ option_map (place_in known opening) (row_at place (rows_of known opening)) }
+        ensures found { WhereSaid self.now (λ known opening.
+            result ≡ option_map (place_in known opening) (row_at place (rows_of known opening))) }
         ensures sound { IfSome result (λ found. IsSound found.before) }
     {
         journals_fit();
@@ -201,9 +167,8 @@ impl Meter {
 
     /// Hands on its energy by quarter hours.
     pub(crate) fn hand_on<K: RowSink<Share>>(&self, sink: &mut K)
-        ensures whole { (known : List Fact) (opening : Opening) → AreLawful known
-            → IsRecorded known opening → IsAsSaid known opening self.now
-            → TakesAll K.takes sink.old (rows_of_opening known opening) sink.new }
+        ensures whole { WhereSaid self.now (λ known opening.
+            TakesAll K.takes sink.old (rows_of_opening known opening) sink.new) }
         ensures some { TakesSome K.takes sink.old sink.new }
     {
         journals_fit();

@@ -10,12 +10,12 @@ ghost use Rattle.list_tables.specs.IntervalRows.{TakesSome};
 ghost use Rattle.list_tables.specs.Moving.{HasEntered, IsSame, HasStruck};
 
 use crate::keys::Key;
-use crate::meter::{Meter, is_sound};
+use crate::meter::Meter;
 use crate::places::named;
 use crate::table::Table;
 use interval_core::Share;
 use meter_journal::journals_are_kept;
-use office_books::RowSink;
+use office_books::{RowSink, is_sound};
 use office_events::{BookedEntry, EntryPlace, Fact, Installation, Name, Opening, VoidedEntry};
 use office_laws::{
     entries_move_on, holds_change_nothing, installations_are_in_range, journals_fit,

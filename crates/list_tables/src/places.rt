@@ -1,5 +1,5 @@
 //! Where facts of a kind stand, by name.
-ghost use Rattle.std.specs.Prelude.{◌≡◌, ◌∷◌, ◌++◌, List, [], cond, reverse, OnOk, OnErr};
+ghost use Rattle.std.specs.Prelude.{◌≡◌, List, [], reverse, OnOk, OnErr};
 ghost use Rattle.office_events.specs.declared.facts.Fact.{Fact};
 ghost use Rattle.list_tables.specs.Keys as keys;
 ghost use Rattle.list_tables.specs.Places as places;
@@ -104,10 +104,7 @@ pub(crate) struct Places {
 }
 
 impl Places {
-    ghost use Rattle.std.specs.BTreeMap.{get};
-    ghost use Rattle.std.specs.Ordering.{is_eq};
-    ghost use Rattle.list_tables.specs.Keys.{key_cmp};
-    ghost use Rattle.list_tables.specs.Places.{ArePlaces, ArePlacesOf, under, places_of, latest_place, has_key};
+    ghost use Rattle.list_tables.specs.Places.{ArePlaces, ArePlacesOf, AreUnchanged, HaveOneMore, places_of, latest_place, has_key};
     ghost use Rattle.list_tables.specs.declared.places.Kind.{Kind};
 
     /// No facts.
@@ -124,12 +121,8 @@ impl Places {
 
     /// One place more under a key.
     fn add(&mut self, key: Key, place: usize) -> Result<(), AllocError>
-        ensures ok { OnOk result ((other : Key) → under (get key_cmp self.new.places other)
-            ≡ cond (is_eq (key_cmp key other))
-            (under (get key_cmp self.old.places key) ++ place ∷ [])
-            (under (get key_cmp self.old.places other))) }
-        ensures err { OnErr result ((other : Key) → under (get key_cmp self.new.places other)
-            ≡ under (get key_cmp self.old.places other)) }
+        ensures ok { OnOk result (HaveOneMore key place self.old self.new) }
+        ensures err { OnErr result (AreUnchanged self.old self.new) }
         ensures kind { self.new.kind ≡ self.old.kind }
     {
         if let Some(places) = self.places.get_mut(&key) {

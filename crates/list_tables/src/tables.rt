@@ -39,7 +39,7 @@ pub struct Tables {
 }
 
 impl Tables {
-    ghost use Rattle.list_tables.specs.Whole.{HaveCome, AreWhole};
+    ghost use Rattle.list_tables.specs.Whole.{HaveCome, AreWhole, WhereWhole};
 
     /// Tables that have no facts yet.
     pub fn new(alloc: Global) -> Tables
@@ -184,9 +184,8 @@ impl Tables {
 
     /// The latest installation at a register, as it stands.
     pub fn installation(&self, facts: &[Fact], register: &Name) -> Option<Installation>
-        ensures found { (known : List Fact) → facts.now ≡ reverse known → AreLawful known
-            → AreWhole self.now known
-            → result ≡ installation_at known register.now }
+        ensures found { WhereWhole self.now facts.now (λ known.
+            result ≡ installation_at known register.now) }
         ensures sound { IfSome result IsSound }
     {
         match self.installed(facts, register) {
@@ -215,9 +214,8 @@ impl Tables {
 
     /// Hands on the energy of the installation that was opened at a place of the facts, if one was.
     fn hand_on_at<K: RowSink<Share>>(&self, facts: &[Fact], place: usize, sink: &mut K)
-        ensures whole { (known : List Fact) → facts.now ≡ reverse known → AreLawful known
-            → AreWhole self.now known
-            → TakesAll K.takes sink.old (rows_at known facts.now (place ∷ [])) sink.new }
+        ensures whole { WhereWhole self.now facts.now (λ known.
+            TakesAll K.takes sink.old (rows_at known facts.now (place ∷ [])) sink.new) }
         ensures some { TakesSome K.takes sink.old sink.new }
     {
         match opening_at(facts, place) {
@@ -228,9 +226,8 @@ impl Tables {
 
     /// Hands on the energy of the installations that were opened at these places, one after the other.
     fn hand_on_all<K: RowSink<Share>>(&self, facts: &[Fact], places: &[usize], sink: &mut K)
-        ensures whole { (known : List Fact) → facts.now ≡ reverse known → AreLawful known
-            → AreWhole self.now known
-            → TakesAll K.takes sink.old (rows_at known facts.now places.now) sink.new }
+        ensures whole { WhereWhole self.now facts.now (λ known.
+            TakesAll K.takes sink.old (rows_at known facts.now places.now) sink.new) }
         ensures some { TakesSome K.takes sink.old sink.new }
     {
         for place in places {
@@ -245,9 +242,8 @@ impl Tables {
         register: &Name,
         sink: &mut K,
     )
-        ensures whole { (known : List Fact) → facts.now ≡ reverse known → AreLawful known
-            → AreWhole self.now known
-            → TakesAll K.takes sink.old (rows_of_register known register.now) sink.new }
+        ensures whole { WhereWhole self.now facts.now (λ known.
+            TakesAll K.takes sink.old (rows_of_register known register.now) sink.new) }
         ensures some { TakesSome K.takes sink.old sink.new }
     {
         self.hand_on_all(facts, self.openings.table.all(named(register)), sink);

@@ -5,6 +5,7 @@ use Rattle.office_events.specs.declared.facts.Opening.{Opening}
 use Rattle.office_events.specs.declared.facts.Fact.{Fact}
 use Rattle.office_rules.specs.Facts.{devices_in, registers_in, openings_in, holds_in, voids_in, polls_in, ended_in, replies_in, list_of}
 use Rattle.office_rules.specs.Meters.{rows_of}
+use Rattle.office_books.specs.Ledgers.{Ledger}
 
 pub record AreSame (facts others : List Fact) : Type 0 where
   pub devices : devices_in facts ≡ devices_in others
@@ -18,3 +19,9 @@ pub record AreSame (facts others : List Fact) : Type 0 where
   pub polls : polls_in facts ≡ polls_in others
   pub outcomes : IsPermutation (ended_in facts) (ended_in others)
   pub replies : IsPermutation (replies_in facts) (replies_in others)
+
+-- While books are clean and open, two lists of facts that they hold differ in no row.
+abbrev pub AreKnown : Ledger → Type 0
+AreKnown books =
+    (known others : List Fact) → books.is_clean → books.is_open → books.holds known
+    → books.holds others → AreSame known others

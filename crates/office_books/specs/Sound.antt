@@ -1,7 +1,12 @@
 -- Installations whose next reading can be judged.
-use Rattle.std.specs.Prelude.{◌≤◌, ◌<◌, Option, Result, IfOk, IfSome}
+use Rattle.std.specs.Prelude.{◌≡◌, ◌≤◌, ◌<◌, ◌+◌, Option, Result, Ok, Err, IfOk, IfSome}
 use Rattle.energy_core.specs.declared.limits.TheConstants.{MAX_CEILING, MAX_RANGE, MAX_TOTAL, MIN_RANGE}
+use Rattle.energy_core.specs.declared.admission.TermFault.{TermFault}
+use Rattle.energy_core.specs.declared.entries.Entry.{Entry}
+use Rattle.energy_core.specs.declared.entries.Last.{Last}
+use Rattle.energy_core.specs.declared.entries.Step.{Step}
 use Rattle.energy_core.specs.Account.{IsScale}
+use Rattle.energy_core.specs.Admission.{entered}
 use Rattle.office_events.specs.declared.questions.Installation.{Installation}
 use Rattle.office_events.specs.declared.questions.EntryPlace.{EntryPlace}
 use Rattle.office_books.specs.declared.faults.BooksFault.{BooksFault}
@@ -26,3 +31,14 @@ pub record ReadsPlace (old new : Ledger) (result : Result (Option EntryPlace) Bo
   where
     pub reads : OnlyReads old new result
     pub sound : IfOk result (λ place. IfSome place (λ p. IsSound p.before))
+
+-- an entry that may be entered moved the installation on: to where the counter stands then, and by the energy of its step
+abbrev pub MovesBy : Entry → (row moved : Installation) → Type 0
+MovesBy e row moved =
+    (last : Last) (step : Step) → entered row.opening.range row.total row.last e ≡ Ok (last, step)
+    → (moved.last ≡ last) × (moved.total ≡ row.total + step.mwh)
+
+-- one that may not left it as it was
+abbrev pub StaysAt : Entry → (row moved : Installation) → Type 0
+StaysAt e row moved =
+    (fault : TermFault) → entered row.opening.range row.total row.last e ≡ Err fault → moved ≡ row

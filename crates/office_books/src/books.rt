@@ -42,7 +42,7 @@ pub trait Books: Drop {
     ghost use Rattle.office_books.specs.Sound.{ReadsInstallation, ReadsPlace};
     ghost use Rattle.office_books.specs.Repeats.{repeat_of};
     ghost use Rattle.office_books.specs.Rows.{HandsOn};
-    ghost use Rattle.office_books.specs.Same.{AreSame};
+    ghost use Rattle.office_books.specs.Same.{AreKnown};
 
     /// What is known of them.
     ghost ledger: { Self → Ledger };
@@ -57,10 +57,7 @@ pub trait Books: Drop {
 
     /// By this law what they hold are all tables: two lists of facts that they hold differ in no row, while they are open.
     fn tables_are_known(&self)
-        ensures { (known others : List Fact) → (ledger self.now).is_clean
-            → (ledger self.now).is_open
-            → (ledger self.now).holds known
-            → (ledger self.now).holds others → AreSame known others };
+        ensures { AreKnown (ledger self.now) };
 
     /// The devices, in the order in which they were added.
     fn devices(&mut self) -> Result<Vec<Device>, BooksFault>

@@ -1,11 +1,7 @@
 //! The next entry of an installation.
-ghost use Rattle.std.specs.Prelude.{◌≡◌, ◌+◌, Ok, Err};
-ghost use Rattle.energy_core.specs.Admission.{entered};
-ghost use Rattle.energy_core.specs.declared.entries.Last.{Last};
-ghost use Rattle.energy_core.specs.declared.entries.Step.{Step};
-ghost use Rattle.energy_core.specs.declared.admission.TermFault.{TermFault};
+ghost use Rattle.std.specs.Prelude.{◌≡◌};
 ghost use Rattle.office_rules.specs.Readings.{judgement};
-ghost use Rattle.office_books.specs.Sound.{IsSound};
+ghost use Rattle.office_books.specs.Sound.{IsSound, MovesBy, StaysAt};
 
 use energy_core::{Entry, Ranged, Reading, Terms, Verdict};
 use office_events::Installation;
@@ -37,12 +33,8 @@ pub fn enter(row: &Installation, entry: &Entry) -> Installation
     requires { IsSound row.now }
     ensures sound { IsSound result }
     ensures same { (result.opening ≡ row.now.opening) × (result.ended ≡ row.now.ended) }
-    ensures entered { (last : Last) (step : Step)
-        → entered row.now.opening.range row.now.total row.now.last entry.now ≡ Ok (last, step)
-        → (result.last ≡ last) × (result.total ≡ row.now.total + step.mwh) }
-    ensures refused { (fault : TermFault)
-        → entered row.now.opening.range row.now.total row.now.last entry.now ≡ Err fault
-        → result ≡ row.now }
+    ensures entered { MovesBy entry.now row.now result }
+    ensures refused { StaysAt entry.now row.now result }
 {
     let Some(counter) = Ranged::new(row.opening.range) else {
         unreachable!()

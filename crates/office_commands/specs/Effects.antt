@@ -73,6 +73,14 @@ abbrev pub facts_obeyed : (at : ℕ) → List sessions.Slot → List Fact → Co
 facts_obeyed at slots known c replies =
     with_facts (added_by (next_poll known) at slots known c ++ replies) known
 
+-- Such a command moves the books on to the facts that it leaves, where these are lawful.
+abbrev pub MovesOnBy : {T : Type 0} → (at : ℕ) → Command → (replies : List Fact)
+    → (old new : Ledger) → Result T BooksFault → Type 0
+MovesOnBy at c replies old new result =
+    (slots : List sessions.Slot) (known : List Fact)
+    → let later = facts_obeyed at slots known c replies in
+    AreLawful later → Moves old new known later result
+
 -- A command was carried out over these facts and slots: what it adds is booked, its reads are started, and it is answered.
 pub record Obeys (old new : Ledger) (after : List Slot) (slots : List sessions.Slot)
     (known : List Fact) (at : ℕ) (c : Command)

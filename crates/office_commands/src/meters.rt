@@ -1,7 +1,9 @@
 //! Meters that are installed, corrected and closed.
-ghost use Rattle.std.specs.Prelude.{◌≡◌, false, None, Some, Option};
+ghost use Rattle.std.specs.Prelude.{◌≡◌, ◌≤◌, false, None, Some, Option};
 ghost use Rattle.std.specs.Option.{option_and_then, option_to_list};
+ghost use Rattle.energy_core.specs.declared.entries.Entry.TheVariants as entry;
 ghost use Rattle.office_events.specs.declared.facts.Fact.{Fact};
+ghost use Rattle.office_events.specs.declared.facts.Fact.TheVariants as fact;
 ghost use Rattle.office_events.specs.declared.commands.Command.TheVariants as command;
 ghost use Rattle.office_rules.specs.Meters.{open_at};
 ghost use Rattle.office_rules.specs.History as history;
@@ -10,11 +12,11 @@ ghost use Rattle.office_lines.specs.Ranges.{FitsCounter};
 ghost use Rattle.office_books.specs.Ledgers.{Finds, OnlyReads};
 ghost use Rattle.office_commands.specs.Adding as adding;
 
-use energy_core::Entry;
-use office_books::{Books, BooksFault};
+use energy_core::{Entry, MAX_SHOWN};
+use office_books::{Books, BooksFault, meter_at};
 use office_events::{
-    BookedEntry, Close, Command, EntryKind, Exchange, Fact, Install, Installation, Manual, Name,
-    Opening, Rescale, Reset, VoidEntry, VoidedEntry,
+    BookedEntry, Close, Command, EntryKind, Exchange, Fact, Install, Installation, MAX_ROLLS,
+    Manual, Name, Opening, Rescale, Reset, VoidEntry, VoidedEntry,
 };
 
 /// The opening that a command makes.
@@ -48,21 +50,56 @@ pub fn installed_by(exchange: &Exchange) -> Install
     }
 }
 
+/// The entry of a kind by which the counter of an installation went on to a number, over so many full turns.
+fn step_on(row: &Installation, kind: EntryKind, at: u64, raw: u64, rolls: u64) -> Fact
+    requires raw { raw ≤ MAX_SHOWN }
+    requires rolls { rolls ≤ MAX_ROLLS }
+    ensures { let made = entry.Step at raw rolls in
+        result ≡ fact.Entry (record { meter = row.now.opening.meter; kind = kind; entry = made }) }
+{
+    Fact::Entry(BookedEntry {
+        meter: row.opening.meter,
+        kind,
+        entry: Entry::Step {
+            at,
+            raw: raw as u32,
+            rolls: rolls as u8,
+        },
+    })
+}
+
+/// The entry of a kind by which it went on to a number, and was set to another.
+fn change_on(row: &Installation, kind: EntryKind, at: u64, before: u64, after: u64, sf: i16) -> Fact
+    requires before { before ≤ MAX_SHOWN }
+    requires after { after ≤ MAX_SHOWN }
+    ensures { let made = entry.Change at before after sf in
+        result ≡ fact.Entry (record { meter = row.now.opening.meter; kind = kind; entry = made }) }
+{
+    Fact::Entry(BookedEntry {
+        meter: row.opening.meter,
+        kind,
+        entry: Entry::Change {
+            at,
+            before: before as u32,
+            after: after as u32,
+            sf,
+        },
+    })
+}
+
 /// The entry that an exchange makes at the meter that it closes.
 pub fn closing_by(moment: u64, row: &Installation, exchange: &Exchange) -> Fact
     requires field { asks_bad_field moment (command.Exchange exchange.now) ≡ false }
     requires counter { FitsCounter (command.Exchange exchange.now) }
     ensures { Some result ≡ history.made_on moment (command.Exchange exchange.now) row.now }
 {
-    Fact::Entry(BookedEntry {
-        meter: row.opening.meter,
-        kind: EntryKind::Closing,
-        entry: Entry::Step {
-            at: moment,
-            raw: exchange.last as u32,
-            rolls: exchange.rolls as u8,
-        },
-    })
+    step_on(
+        row,
+        EntryKind::Closing,
+        moment,
+        exchange.last,
+        exchange.rolls,
+    )
 }
 
 /// The entry that a reset makes.
@@ -70,16 +107,8 @@ pub fn reset_by(moment: u64, row: &Installation, reset: &Reset) -> Fact
     requires counter { FitsCounter (command.Reset reset.now) }
     ensures { Some result ≡ history.made_on moment (command.Reset reset.now) row.now }
 {
-    Fact::Entry(BookedEntry {
-        meter: row.opening.meter,
-        kind: EntryKind::Reset,
-        entry: Entry::Change {
-            at: moment,
-            before: reset.before as u32,
-            after: reset.after as u32,
-            sf: row.last.sf,
-        },
-    })
+    let sf = row.last.sf;
+    change_on(row, EntryKind::Reset, moment, reset.before, reset.after, sf)
 }
 
 /// The entry that a change of the scale makes.
@@ -88,16 +117,15 @@ pub fn rescale_by(moment: u64, row: &Installation, rescale: &Rescale) -> Fact
     requires counter { FitsCounter (command.Rescale rescale.now) }
     ensures { Some result ≡ history.made_on moment (command.Rescale rescale.now) row.now }
 {
-    Fact::Entry(BookedEntry {
-        meter: row.opening.meter,
-        kind: EntryKind::Rescale,
-        entry: Entry::Change {
-            at: moment,
-            before: rescale.before as u32,
-            after: rescale.after as u32,
-            sf: rescale.sf as i16,
-        },
-    })
+    let sf = rescale.sf as i16;
+    change_on(
+        row,
+        EntryKind::Rescale,
+        moment,
+        rescale.before,
+        rescale.after,
+        sf,
+    )
 }
 
 /// The entry of a number that someone read off.
@@ -106,15 +134,8 @@ pub fn manual_by(moment: u64, row: &Installation, manual: &Manual) -> Fact
     requires counter { FitsCounter (command.Manual manual.now) }
     ensures { Some result ≡ history.made_on moment (command.Manual manual.now) row.now }
 {
-    Fact::Entry(BookedEntry {
-        meter: row.opening.meter,
-        kind: EntryKind::Manual,
-        entry: Entry::Step {
-            at: manual.at.unwrap_or(moment),
-            raw: manual.raw as u32,
-            rolls: manual.rolls as u8,
-        },
-    })
+    let at = manual.at.unwrap_or(moment);
+    step_on(row, EntryKind::Manual, at, manual.raw, manual.rolls)
 }
 
 /// The entry that a closing makes.
@@ -123,15 +144,7 @@ pub fn close_by(moment: u64, row: &Installation, close: &Close) -> Fact
     requires counter { FitsCounter (command.Close close.now) }
     ensures { Some result ≡ history.made_on moment (command.Close close.now) row.now }
 {
-    Fact::Entry(BookedEntry {
-        meter: row.opening.meter,
-        kind: EntryKind::Closing,
-        entry: Entry::Step {
-            at: moment,
-            raw: close.raw as u32,
-            rolls: close.rolls as u8,
-        },
-    })
+    step_on(row, EntryKind::Closing, moment, close.raw, close.rolls)
 }
 
 /// That an entry stands no more.
@@ -154,9 +167,6 @@ pub fn open_meter<B: Books>(
         (λ known row. row ≡ option_and_then (open_at known) register.now) }
     ensures reads { OnlyReads (B.ledger books.old) (B.ledger books.new) result }
 {
-    let Some(register) = register else {
-        return Ok(None);
-    };
-    let row = books.installation(register)?;
+    let row = meter_at(books, register)?;
     Ok(row.filter(|row| !row.ended))
 }

@@ -9,7 +9,7 @@ ghost use Rattle.office_rules.specs.History.{kind_of};
 ghost use Rattle.office_rules.specs.Refusals.{is_start};
 ghost use Rattle.office_lines.specs.Ranges.{IsCommandInRange};
 ghost use Rattle.office_books.specs.Ledgers.{GoesOn, Moves};
-ghost use Rattle.office_commands.specs.Effects.{Tries, facts_obeyed};
+ghost use Rattle.office_commands.specs.Effects.{MovesOnBy, Tries};
 
 use crate::additions::facts_by;
 use crate::effects::Done;
@@ -53,9 +53,8 @@ pub fn record<B: Books>(
 ) -> Result<Done, BooksFault>
     requires range { IsCommandInRange moment command.now }
     requires no_start { is_start command.now ≡ false }
-    ensures books { (kept : List sessions.Slot) (known : List Fact)
-        → let later = facts_obeyed moment kept known command.now (option_to_list reply) in
-        AreLawful later → Moves (B.ledger books.old) (B.ledger books.new) known later result }
+    ensures books { MovesOnBy moment command.now (option_to_list reply) (B.ledger books.old)
+        (B.ledger books.new) result }
     ensures goes { GoesOn (B.ledger books.old) (B.ledger books.new) result }
     ensures answer { IfOk result (λ done. done.answer ≡ answers.Done (kind_of command.now)) }
     ensures sent { IfOk result (λ done. done.outgoing ≡ []) }

@@ -1,15 +1,13 @@
 //! The reads that a command wants sent.
 ghost use Rattle.std.specs.Prelude.{◌≡◌, true, [], ◌∷◌, map, length, IfOk};
-ghost use Rattle.std.specs.Option.{option_and_then};
-ghost use Rattle.office_rules.specs.Facts.{list_of};
 ghost use Rattle.office_rules.specs.History.{spans_by, round_spans};
 ghost use Rattle.office_rules.specs.Refusals.{is_start, reads_in_all};
 ghost use Rattle.office_events.specs.declared.commands.Command.TheVariants as command;
 ghost use Rattle.office_books.specs.Ledgers.{Finds, OnlyReads};
 
 use mb_wire::ReadSpan;
-use office_books::{Books, BooksFault};
-use office_events::{Command, Name, PlannedList, StartRound};
+use office_books::{Books, BooksFault, list_at};
+use office_events::{Command, PlannedList, StartRound};
 use read_plan::PlannedRead;
 use std::alloc::{AllocError, Global};
 
@@ -18,21 +16,6 @@ use std::alloc::{AllocError, Global};
 pub struct Reads {
     pub spans: Vec<ReadSpan>,
     pub of: u64,
-}
-
-/// The list of a device.
-fn list_of<B: Books>(
-    books: &mut B,
-    device: &Option<Name>,
-) -> Result<Option<PlannedList>, BooksFault>
-    ensures found { Finds (B.ledger books.old) (B.ledger books.new) result
-        (λ known list. list ≡ option_and_then (list_of known) device.now) }
-    ensures reads { OnlyReads (B.ledger books.old) (B.ledger books.new) result }
-{
-    match device {
-        None => Ok(None),
-        Some(device) => books.list(device),
-    }
 }
 
 /// The registers of these reads.
@@ -74,7 +57,7 @@ fn reads_of_round<B: Books>(
         (λ known reads. reads.of ≡ reads_in_all known (command.StartRound round.now)) }
     ensures reads { OnlyReads (B.ledger books.old) (B.ledger books.new) result }
 {
-    let list = list_of(books, &round.device)?;
+    let list = list_at(books, &round.device)?;
     Ok(reads_from(alloc, &list, round.from)?)
 }
 

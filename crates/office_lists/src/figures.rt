@@ -1,8 +1,7 @@
 //! Figures that go on with the facts, so that nobody has to walk these.
-ghost use Rattle.std.specs.Prelude.{◌≤◌, ◌<◌, ◌+◌, ◌∷◌, List, [], length};
-ghost use Rattle.office_books.specs.Ledgers.{with_facts};
+ghost use Rattle.std.specs.Prelude.{◌<◌, ◌∷◌, List, [], length};
 ghost use Rattle.office_events.specs.declared.facts.Fact.{Fact};
-ghost use Rattle.office_lists.specs.Figures.{AreFigures};
+ghost use Rattle.office_lists.specs.Figures.{AreFigures, CountOn, most_facts};
 
 use crate::kinds::{moment, openings};
 use office_events::Fact;
@@ -27,8 +26,7 @@ impl Figures {
 
     /// The figures after one fact more.
     fn after(&self, fact: &Fact) -> Figures
-        ensures { (known : List Fact) → AreFigures self.now known
-            → length known < 18446744073709551615
+        ensures { (known : List Fact) → AreFigures self.now known → length known < most_facts
             → AreFigures result (fact.now ∷ known) }
     {
         Figures {
@@ -39,9 +37,7 @@ impl Figures {
 
     /// The figures after these facts.
     pub(crate) fn after_all(&self, facts: &[Fact]) -> Figures
-        ensures { (known : List Fact) → AreFigures self.now known
-            → length known + length facts.now ≤ 18446744073709551615
-            → AreFigures result (with_facts facts.now known) }
+        ensures { CountOn facts.now self.now result }
     {
         let mut figures = *self;
         for fact in facts {

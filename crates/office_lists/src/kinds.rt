@@ -10,15 +10,7 @@ pub(crate) fn device_in(fact: &Fact) -> Option<Device>
 {
     match fact {
         Fact::Device(device) => Some(*device),
-        Fact::List(_)
-        | Fact::Register(_)
-        | Fact::Opening(_)
-        | Fact::Entry(_)
-        | Fact::Hold(_)
-        | Fact::Void(_)
-        | Fact::Poll(_)
-        | Fact::Outcome(_)
-        | Fact::Reply(_) => None,
+        _ => None,
     }
 }
 
@@ -28,15 +20,7 @@ pub(crate) fn openings(fact: &Fact) -> usize
 {
     match fact {
         Fact::Opening(_) => 1,
-        Fact::Device(_)
-        | Fact::List(_)
-        | Fact::Register(_)
-        | Fact::Entry(_)
-        | Fact::Hold(_)
-        | Fact::Void(_)
-        | Fact::Poll(_)
-        | Fact::Outcome(_)
-        | Fact::Reply(_) => 0,
+        _ => 0,
     }
 }
 

@@ -8,8 +8,7 @@ use crate::arrivals::Arrival;
 use crate::entries::refusal_of_entry;
 use crate::given::{GivenEntry, read_off, rescaled};
 use crate::limits::{is_bad_close, is_bad_manual, is_off_scale_rescale};
-use crate::meters::meter_at;
-use office_books::{Books, BooksFault};
+use office_books::{Books, BooksFault, meter_at};
 use office_events::{Close, Manual, Refusal, Rescale, Reset};
 
 /// Why a counter is not reset.

@@ -9,9 +9,8 @@ use crate::entries::refusal_of_entry;
 use crate::given::GivenEntry;
 use crate::installs::are_all;
 use crate::limits::{is_bad_exchange, is_off_scale_exchange};
-use crate::meters::meter_at;
 use crate::names::has_meter;
-use office_books::{Books, BooksFault};
+use office_books::{Books, BooksFault, meter_at};
 use office_events::{Exchange, Refusal};
 
 /// Why a meter is not exchanged.

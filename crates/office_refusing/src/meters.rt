@@ -1,27 +1,11 @@
-//! The latest meter at a register.
+//! Whether a meter is open at a register.
 ghost use Rattle.std.specs.Prelude.{◌≡◌, is_some};
 ghost use Rattle.std.specs.Option.{option_and_then};
-ghost use Rattle.office_rules.specs.Meters.{installation_at, if_open, open_at};
+ghost use Rattle.office_rules.specs.Meters.{if_open, open_at};
 ghost use Rattle.office_books.specs.Ledgers.{Finds, OnlyReads};
-ghost use Rattle.office_books.specs.Sound.{ReadsInstallation};
 
-use office_books::{Books, BooksFault};
+use office_books::{Books, BooksFault, meter_at};
 use office_events::{Installation, Name};
-
-/// The latest meter at the register of a name.
-pub fn meter_at<B: Books>(
-    books: &mut B,
-    given: &Option<Name>,
-) -> Result<Option<Installation>, BooksFault>
-    ensures found { Finds (B.ledger books.old) (B.ledger books.new) result
-        (λ known row. row ≡ option_and_then (installation_at known) given.now) }
-    ensures reads { ReadsInstallation (B.ledger books.old) (B.ledger books.new) result }
-{
-    match given {
-        None => Ok(None),
-        Some(register) => books.installation(register),
-    }
-}
 
 /// Whether a meter is open.
 fn is_open(row: &Option<Installation>) -> bool

@@ -1,10 +1,9 @@
 //! Why polls are not started.
 ghost use Rattle.std.specs.Prelude.{◌≡◌, ◌+◌, List, Option, Some, None, IfOk, is_some, length, nat_lt};
-ghost use Rattle.std.specs.Option.{option_and_then};
 ghost use Rattle.poll_core.specs.Settling as session;
 ghost use Rattle.office_events.specs.declared.commands.Command.TheVariants as command;
 ghost use Rattle.office_events.specs.declared.facts.Device.{Device};
-ghost use Rattle.office_rules.specs.Facts.{list_of, polls_in, poll_limit};
+ghost use Rattle.office_rules.specs.Facts.{polls_in, poll_limit};
 ghost use Rattle.office_rules.specs.Sessions as sessions;
 ghost use Rattle.office_rules.specs.History.{round_spans};
 ghost use Rattle.office_lines.specs.Keeping.{KeepsSlots, KeepsPresent};
@@ -14,7 +13,7 @@ ghost use Rattle.office_refusing.specs.Reasons.{IsWhyAmong, Befits};
 ghost use Rattle.office_refusing.specs.Rounds.{HasRoom, HasRoomOn};
 
 use crate::arrivals::Arrival;
-use office_books::{Books, BooksFault};
+use office_books::{Books, BooksFault, list_at};
 use office_events::{MAX_POLLS, Name, PlannedList, Refusal, StartPoll, StartRound, StoreCause};
 use office_lines::{Slot, place_of};
 use poll_core::Session;
@@ -47,18 +46,6 @@ fn reads_left(list: &PlannedList, from: u64) -> u64
     ensures { result ≡ length (round_spans from (Some list.now)) }
 {
     (list.reads().len() as u64).saturating_sub(from)
-}
-
-/// The point list of the device of a name.
-fn list_at<B: Books>(books: &mut B, given: &Option<Name>) -> Result<Option<PlannedList>, BooksFault>
-    ensures found { Finds (B.ledger books.old) (B.ledger books.new) result
-        (λ known list. list ≡ option_and_then (list_of known) given.now) }
-    ensures reads { OnlyReads (B.ledger books.old) (B.ledger books.new) result }
-{
-    match given {
-        None => Ok(None),
-        Some(device) => books.list(device),
-    }
 }
 
 /// Whether so many polls more would be numbered past the greatest number.

@@ -8,15 +8,15 @@ use Rattle.office_events.specs.declared.events.Event.{Event}
 use Rattle.office_events.specs.declared.events.Event.TheVariants as event
 use Rattle.office_rules.specs.Facts.{is_named}
 use Rattle.office_rules.specs.Sessions as sessions
-use Rattle.office_rules.specs.History.{with_outcomes, settled_by}
-use Rattle.office_rules.specs.Notes.{outcomes_notes}
+use Rattle.office_rules.specs.History.{with_outcomes, with_settled, settled_by}
+use Rattle.office_rules.specs.Notes.{outcomes_notes, settled_notes}
 use Rattle.office_lines.specs.declared.slots.Slot.{Slot}
 use Rattle.office_lines.specs.Keeping.{KeepsSlot}
 use Rattle.office_lines.specs.Moments.{none_later}
 use Rattle.office_books.specs.declared.faults.BooksFault.{BooksFault}
 use Rattle.office_books.specs.Ledgers.{Ledger}
 use Rattle.office_settling.specs.declared.drafts.Draft.{Draft}
-use Rattle.office_settling.specs.Drafts.{Grows}
+use Rattle.office_settling.specs.Drafts.{Adds, Grows}
 
 -- the events that come from devices and their connections, and a tick
 abbrev pub IsSettling : Event → Type 0
@@ -94,3 +94,19 @@ abbrev pub SettleNothing : (number at : ℕ) → Event → List sessions.Slot �
 SettleNothing number at e [] = Unit {0}
 SettleNothing number at e (slot ∷ slots) =
     (settled_by number at e slot ≡ []) × SettleNothing number at e slots
+
+-- An event that may reach a slot adds the outcomes that it settles there, and their readings, whatever the next poll's number.
+abbrev pub AddsOfSlot : {T : Type 0} → (old new : Ledger) → (at : ℕ) → Event → Slot
+    → (before after : Draft) → Result T BooksFault → Type 0
+AddsOfSlot old new at e kept before after result =
+    (number : ℕ) (stood : sessions.Slot) → MayReach at kept stood
+    → let outcomes = settled_by number at e stood in
+    Adds old new before after result (with_outcomes at outcomes) (outcomes_notes at outcomes)
+
+-- So it does of each of these slots, one after the other.
+abbrev pub AddsOfSlots : {T : Type 0} → (old new : Ledger) → (at : ℕ) → Event → List Slot
+    → (before after : Draft) → Result T BooksFault → Type 0
+AddsOfSlots old new at e kept before after result =
+    (number : ℕ) (stood : List sessions.Slot) → MayReachAll at kept stood
+    → Adds old new before after result (with_settled number at e stood)
+    (settled_notes number at e stood)

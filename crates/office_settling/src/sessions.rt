@@ -23,9 +23,8 @@ fn settle_piece<B: Books>(
 ) -> Result<(), BooksFault>
     requires limit { moment ≤ moment_limit }
     requires rests { session.old.settling ≡ None }
-    ensures tells { let happened = happening.Piece moment piece.now in
-        TellsAll (B.ledger books.old) (B.ledger books.new) session.old session.new
-        happened draft.old draft.new result }
+    ensures tells { TellsAll (B.ledger books.old) (B.ledger books.new) session.old session.new
+        (happening.Piece moment piece.now) draft.old draft.new result }
     ensures quiet { SettlesNothing session.old (happening.Piece moment piece.now)
         → IsIdle result books.old books.new draft.old draft.new }
     ensures rests { OnOk result (session.new.settling ≡ None) }
@@ -54,9 +53,8 @@ fn settle_tick<B: Books>(
 ) -> Result<(), BooksFault>
     requires limit { moment ≤ moment_limit }
     requires rests { session.old.settling ≡ None }
-    ensures tells { let happened = happening.Tick moment in
-        TellsAll (B.ledger books.old) (B.ledger books.new) session.old session.new
-        happened draft.old draft.new result }
+    ensures tells { TellsAll (B.ledger books.old) (B.ledger books.new) session.old session.new
+        (happening.Tick moment) draft.old draft.new result }
     ensures quiet { SettlesNothing session.old (happening.Tick moment)
         → IsIdle result books.old books.new draft.old draft.new }
     ensures rests { OnOk result (session.new.settling ≡ None) }
@@ -83,9 +81,8 @@ fn settle_close<B: Books>(
 ) -> Result<(), BooksFault>
     requires limit { moment ≤ moment_limit }
     requires rests { session.old.settling ≡ None }
-    ensures tells { let happened = happening.Close moment closing in
-        TellsAll (B.ledger books.old) (B.ledger books.new) session.old session.new
-        happened draft.old draft.new result }
+    ensures tells { TellsAll (B.ledger books.old) (B.ledger books.new) session.old session.new
+        (happening.Close moment closing) draft.old draft.new result }
     ensures quiet { SettlesNothing session.old (happening.Close moment closing)
         → IsIdle result books.old books.new draft.old draft.new }
     ensures reads { OnlyReads (B.ledger books.old) (B.ledger books.new) result }
@@ -113,9 +110,8 @@ pub fn settle_session<B: Books>(
     requires settling { IsSettling event.now }
     requires limit { moment ≤ moment_limit }
     requires rests { session.old.settling ≡ None }
-    ensures tells { let happened = happening_on moment event.now device.now in
-        TellsReached (B.ledger books.old) (B.ledger books.new) session.old session.new
-        happened draft.old draft.new result }
+    ensures tells { TellsReached (B.ledger books.old) (B.ledger books.new) session.old session.new
+        (happening_on moment event.now device.now) draft.old draft.new result }
     ensures stays { let ends = ends_session (happening_on moment event.now device.now) in
         IfOk result (λ b. b ≡ not ends) }
     ensures quiet { ReachesQuietly session.old (happening_on moment event.now device.now)

@@ -3,12 +3,11 @@ ghost use Rattle.std.specs.Prelude.{◌≡◌, ℕ, ◌≤◌, [], List, map, So
 ghost use Rattle.office_rules.specs.Facts.{moment_limit};
 ghost use Rattle.office_rules.specs.Sessions as sessions;
 ghost use Rattle.office_rules.specs.Sessions.{slot_after};
-ghost use Rattle.office_rules.specs.History.{settled_by, with_outcomes, with_settled};
-ghost use Rattle.office_rules.specs.Notes.{outcomes_notes, settled_notes};
+ghost use Rattle.office_rules.specs.History.{settled_by};
 ghost use Rattle.office_lines.specs.Keeping.{KeepsSlot, KeepsSlots};
 ghost use Rattle.office_books.specs.Ledgers.{OnlyReads};
-ghost use Rattle.office_settling.specs.Drafts.{Adds, IsIdle};
-ghost use Rattle.office_settling.specs.Settling.{IsSettling, SettleNothing, MayReach, MayReachAll};
+ghost use Rattle.office_settling.specs.Drafts.{IsIdle};
+ghost use Rattle.office_settling.specs.Settling.{AddsOfSlot, AddsOfSlots, IsSettling, SettleNothing, MayReach, MayReachAll};
 
 use crate::drafts::Draft;
 use crate::sessions::settle_session;
@@ -49,10 +48,8 @@ fn settle_slot<B: Books>(
     requires limit { moment ≤ moment_limit }
     ensures keeps { (number : ℕ) (stood : sessions.Slot) → MayReach moment slot.old stood
         → OnOk result (KeepsSlot slot.new (slot_after number moment [] event.now stood)) }
-    ensures adds { (number : ℕ) (stood : sessions.Slot) → MayReach moment slot.old stood
-        → Adds (B.ledger books.old) (B.ledger books.new) draft.old draft.new result
-        (with_outcomes moment (settled_by number moment event.now stood))
-        (outcomes_notes moment (settled_by number moment event.now stood)) }
+    ensures adds { AddsOfSlot (B.ledger books.old) (B.ledger books.new) moment event.now slot.old
+        draft.old draft.new result }
     ensures quiet { (number : ℕ) (stood : sessions.Slot) → MayReach moment slot.old stood
         → settled_by number moment event.now stood ≡ []
         → IsIdle result books.old books.new draft.old draft.new }
@@ -83,10 +80,8 @@ pub fn settle_slots<B: Books>(
     requires limit { moment ≤ moment_limit }
     ensures keeps { (number : ℕ) (stood : List sessions.Slot) → MayReachAll moment slots.old stood
         → OnOk result (KeepsSlots slots.new (map (slot_after number moment [] event.now) stood)) }
-    ensures adds { (number : ℕ) (stood : List sessions.Slot) → MayReachAll moment slots.old stood
-        → Adds (B.ledger books.old) (B.ledger books.new) draft.old draft.new result
-        (with_settled number moment event.now stood)
-        (settled_notes number moment event.now stood) }
+    ensures adds { AddsOfSlots (B.ledger books.old) (B.ledger books.new) moment event.now slots.old
+        draft.old draft.new result }
     ensures quiet { (number : ℕ) (stood : List sessions.Slot) → MayReachAll moment slots.old stood
         → SettleNothing number moment event.now stood
         → IsIdle result books.old books.new draft.old draft.new }

@@ -1,0 +1,18 @@
+//! Whether the next reading of an installation can be judged.
+ghost use Rattle.std.specs.Prelude.{IsTrue};
+ghost use Rattle.office_books.specs.Sound.{IsSound};
+
+use energy_core::{MAX_CEILING, MAX_RANGE, MAX_TOTAL, MIN_RANGE};
+use office_events::Installation;
+
+/// Whether the numbers of an installation are in their ranges.
+pub fn is_sound(row: &Installation) -> bool
+    ensures so { IsTrue result → IsSound row.now }
+    ensures if_so { IsSound row.now → IsTrue result }
+{
+    let ranged = MIN_RANGE <= row.opening.range && row.opening.range <= MAX_RANGE;
+    let limited = 1 <= row.opening.ceiling && row.opening.ceiling <= MAX_CEILING;
+    let scaled = -3 <= row.last.sf && row.last.sf <= 3;
+    let shown = u64::from(row.last.raw) < row.opening.range;
+    ranged && limited && scaled && shown && row.total <= MAX_TOTAL
+}
