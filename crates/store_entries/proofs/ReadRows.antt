@@ -11,7 +11,7 @@ use Rattle.store_entries.specs.declared.rows.EntryKind.TheVariants.{Opening, Rea
 use Rattle.store_entries.specs.declared.rows.EntryRow.{EntryRow}
 use Rattle.store_tables.specs.Limits.{greatest_place, latest_moment}
 use Rattle.store_entries.specs.Latest.{entry_moment, entry_moment_shown, HasEntryMoment, void_moment, void_moment_shown, HasVoidMoment, IsTimelyVoid}
-use Rattle.store_entries.specs.Rows.{place_shown, entry_place, HasEntryPlace, voided_shown, voided_place, HasPlace, IsSoundVoided, Entered, entry_in, entry_shown, kind_in, kind_number, IsRow, IsSoundEntry, IsSoundEntered}
+use Rattle.store_entries.specs.Rows.{voided_shown, voided_place, HasPlace, IsSoundVoided, Entered, entry_in, entry_shown, kind_in, kind_number, IsRow, IsSoundEntry, IsSoundEntered}
 
 kind_back : (k : EntryKind) → kind_in (Int (pos (kind_number k))) ≡ Some k
 kind_back Opening = refl
@@ -58,9 +58,6 @@ sound_entry row (Ok e) is =
     })
 
 -- ---- places
-
-pub reads_entry_place : (row : Row) (r : Result ℕ RowFault) → r ≡ or_damaged (whole_in 1 greatest_place (column row 0)) → ReadsRow row place_shown HasEntryPlace IsSoundEntered r
-reads_entry_place = reads_number 1 greatest_place place_shown entry_place IsSoundEntered (λ e. refl) (λ e is. is.place)
 
 pub reads_void : (row : Row) (r : Result ℕ RowFault) → r ≡ or_damaged (whole_in 1 greatest_place (column row 0)) → ReadsRow row voided_shown HasPlace IsSoundVoided r
 reads_void = reads_number 1 greatest_place voided_shown voided_place IsSoundVoided (λ v. refl) (λ v is. is)

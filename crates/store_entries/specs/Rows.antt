@@ -101,9 +101,6 @@ entry_in row =
 abbrev pub entry_place : Entered → ℕ
 entry_place e = e.entry.place
 
-abbrev pub HasEntryPlace : Entered → ℕ → Type 0
-HasEntryPlace e place = place ≡ e.entry.place
-
 -- ---- voids
 
 -- the entry of a meter at a place was voided at a moment
@@ -111,6 +108,9 @@ pub record Voided : Type 0 where
   pub meter : List ℕ
   pub place : ℕ
   pub moment : ℕ
+
+abbrev pub voided_at : (meter : List ℕ) → (place moment : ℕ) → Voided
+voided_at meter place moment = record { meter = meter; place = place; moment = moment }
 
 abbrev pub voided_columns : Voided → Row
 voided_columns v = Text v.meter ∷ Int (pos v.place) ∷ Int (pos v.moment) ∷ []

@@ -2,9 +2,9 @@
 ghost use Rattle.std.specs.Prelude.{◌≡◌, IfOk};
 ghost use Rattle.sqlite.specs.Order.{column};
 ghost use Rattle.store_tables.specs.Asking.{ReadsRow};
-ghost use Rattle.store_tables.specs.Columns.{whole_in, or_damaged};
-ghost use Rattle.store_tables.specs.Limits.{greatest_place, latest_moment, IsPlace};
-ghost use Rattle.store_entries.specs.Rows.{place_shown, HasEntryPlace, kind_in, entry_in};
+ghost use Rattle.store_tables.specs.Columns.{or_damaged};
+ghost use Rattle.store_tables.specs.Limits.{IsPlace};
+ghost use Rattle.store_entries.specs.Rows.{kind_in, entry_in};
 ghost use Rattle.store_entries.specs.Rows.{entry_shown, IsRow, IsSoundEntry, IsSoundEntered};
 ghost use Rattle.store_entries.specs.Rows.{voided_shown, HasPlace, IsSoundVoided};
 
@@ -21,20 +21,6 @@ fn kind(row: &Row, at: usize) -> Result<EntryKind, RowFault>
         Some(kind) => Ok(kind),
         None => Err(RowFault::Damaged),
     }
-}
-
-/// A place in the first column.
-pub(crate) fn place(row: &Row) -> Result<u64, RowFault>
-    ensures { result ≡ or_damaged (whole_in 1 greatest_place (column row.now 0)) }
-{
-    whole(row, 0, 1, GREATEST_PLACE)
-}
-
-/// A moment in the first column.
-pub(crate) fn moment(row: &Row) -> Result<u64, RowFault>
-    ensures { result ≡ or_damaged (whole_in 0 latest_moment (column row.now 0)) }
-{
-    whole(row, 0, 0, LATEST_MOMENT)
 }
 
 /// An entry.
@@ -72,13 +58,5 @@ pub fn read_void(row: &Row) -> Result<u64, RowFault>
     ensures read { ReadsRow row.now voided_shown HasPlace IsSoundVoided result }
     ensures sound { IfOk result IsPlace }
 {
-    place(row)
-}
-
-/// Reads the place of the last entry of `last_entry_rows`.
-pub fn read_place(row: &Row) -> Result<u64, RowFault>
-    ensures read { ReadsRow row.now place_shown HasEntryPlace IsSoundEntered result }
-    ensures sound { IfOk result IsPlace }
-{
-    place(row)
+    whole(row, 0, 1, GREATEST_PLACE)
 }

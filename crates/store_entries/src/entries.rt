@@ -3,19 +3,23 @@ ghost use Rattle.std.specs.Prelude.{◌≡◌, ◌≤◌, IfOk, IfSome};
 ghost use Rattle.sqlite.specs.Held.{state};
 ghost use Rattle.store_tables.specs.Content.{Edits, with_row, changed_where};
 ghost use Rattle.store_tables.specs.Steps.{Steps};
-ghost use Rattle.store_tables.specs.Answer.{IsFound, IsLast, AnyOrder, LastFirst, FirstFirst};
-ghost use Rattle.store_tables.specs.Asking.{Asks, AsksInside, LooksUp};
-ghost use Rattle.store_tables.specs.Asking.{TellsRows, Shows, ShowsFirst};
-ghost use Rattle.store_tables.specs.Limits.{IsPlace, greatest_place};
+ghost use Rattle.store_tables.specs.Answer.{IsFound, AnyOrder, LastFirst, FirstFirst};
+ghost use Rattle.store_tables.specs.Asking.{Asks, AsksInside, LooksUp, TellsRows, Shows};
+ghost use Rattle.store_tables.specs.Asking.{ShowsFirst};
+ghost use Rattle.store_tables.specs.Limits.{greatest_place};
 ghost use Rattle.store_entries.specs.Rows.{entry_columns, entry_shown, place_shown, entry_place};
-ghost use Rattle.store_entries.specs.Rows.{is_entry, is_of, IsRow, HasEntryPlace, rolled};
+ghost use Rattle.store_entries.specs.Rows.{is_entry, is_of, IsRow, rolled};
 ghost use Rattle.store_entries.specs.Rows.{IsSoundEntry, IsSoundEntered};
 ghost use Rattle.store_entries.specs.Trees.{entries};
 
-use crate::columns::{entry, place};
+use crate::columns::entry;
 use crate::rows::EntryRow;
 use sqlite::{Alter, Connection, Error, Row, Transaction, params};
 use store_tables::{RowFault, number, signed};
+
+/// The entries of a meter, by their places.
+pub(crate) const OF_METER: &str =
+    "SELECT place, kind, moment, raw, rolls, \"after\", sf FROM entries WHERE meter = ?1 ORDER BY place";
 
 /// Adds an entry of a meter.
 pub fn insert_entry<S: Alter>(
@@ -97,44 +101,16 @@ pub fn entry_at<S: Alter>(
     }
 }
 
-/// The place of the last entry of a meter, if there is one.
-fn last_rows<S: Alter>(conn: &mut Connection<S>, meter: &str) -> Result<Vec<Row>, Error>
-    ensures asks { Asks S.Store conn.old conn.new }
-    ensures shows { TellsRows S.Store conn.old conn.new entries entry_columns result
-        (ShowsFirst (is_of meter.now) (LastFirst entry_place) place_shown) }
-{
-    conn.query_all(
-        "SELECT place FROM entries WHERE meter = ?1 ORDER BY place DESC LIMIT 1",
-        params![meter],
-    )
-}
-
-/// The greatest place of the entries of a meter.
-pub fn last_place<S: Alter>(conn: &mut Connection<S>, meter: &str) -> Result<Option<u64>, RowFault>
-    ensures finds { LooksUp S.Store conn.old conn.new entries entry_columns IsSoundEntered result
-        (IsLast (is_of meter.now) HasEntryPlace entry_place) }
-    ensures sound { IfOk result (λ found. IfSome found IsPlace) }
-{
-    let rows = last_rows(conn, meter)?;
-    match rows.first() {
-        None => Ok(None),
-        Some(row) => Ok(Some(place(row)?)),
-    }
-}
-
 /// The entries of a meter in order of place; `read_entry` reads each.
 pub fn entry_rows<S: Alter>(conn: &mut Connection<S>, meter: &str) -> Result<Vec<Row>, Error>
     ensures asks { Asks S.Store conn.old conn.new }
     ensures shows { TellsRows S.Store conn.old conn.new entries entry_columns result
         (Shows (is_of meter.now) (FirstFirst entry_place) entry_shown) }
 {
-    conn.query_all(
-        "SELECT place, kind, moment, raw, rolls, \"after\", sf FROM entries WHERE meter = ?1 ORDER BY place",
-        params![meter],
-    )
+    conn.query_all(OF_METER, params![meter])
 }
 
-/// The place of the last entry of a meter inside a transaction; `read_place` reads it.
+/// The place of the last entry of a meter inside a transaction, if there is one, in its first column.
 pub fn last_entry_rows<S: Alter>(
     tx: &mut Transaction<'_, S>,
     meter: &str,

@@ -18,10 +18,7 @@ pub fn entry_rows_inside<S: Alter>(
     ensures shows { TellsRows S.Store tx.old.conn.now tx.new.conn.now entries entry_columns result
         (Shows (is_of meter.now) (FirstFirst entry_place) entry_shown) }
 {
-    tx.query_all(
-        "SELECT place, kind, moment, raw, rolls, \"after\", sf FROM entries WHERE meter = ?1 ORDER BY place",
-        params![meter],
-    )
+    tx.query_all(crate::entries::OF_METER, params![meter])
 }
 
 /// The voided entries of a meter in order of place; `read_void` reads each.
@@ -34,8 +31,5 @@ pub fn void_rows_inside<S: Alter>(
     ensures shows { TellsRows S.Store tx.old.conn.now tx.new.conn.now voids voided_columns result
         (Shows (is_void_of meter.now) (FirstFirst voided_place) voided_shown) }
 {
-    tx.query_all(
-        "SELECT place FROM voids WHERE meter = ?1 ORDER BY place",
-        params![meter],
-    )
+    tx.query_all(crate::voids::OF_METER, params![meter])
 }

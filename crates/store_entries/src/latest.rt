@@ -10,9 +10,8 @@ ghost use Rattle.store_entries.specs.Latest.{void_moment, void_moment_shown, Has
 ghost use Rattle.store_entries.specs.Latest.{IsTimelyVoid};
 ghost use Rattle.store_entries.specs.Trees.{entries, voids};
 
-use crate::columns::moment;
 use sqlite::{Alter, Connection, Error, Row};
-use store_tables::RowFault;
+use store_tables::{LATEST_MOMENT, RowFault, first_whole};
 
 /// The latest moment of an entry, if there is one.
 fn entry_moments<S: Alter>(conn: &mut Connection<S>) -> Result<Vec<Row>, Error>
@@ -33,10 +32,7 @@ pub fn latest_entry<S: Alter>(conn: &mut Connection<S>) -> Result<Option<u64>, R
     ensures sound { IfOk result (λ found. IfSome found (λ n. n ≤ latest_moment)) }
 {
     let rows = entry_moments(conn)?;
-    match rows.first() {
-        None => Ok(None),
-        Some(row) => Ok(Some(moment(row)?)),
-    }
+    first_whole(&rows, 0, LATEST_MOMENT)
 }
 
 /// The latest moment at which an entry was voided, if one was.
@@ -55,8 +51,5 @@ pub fn latest_void<S: Alter>(conn: &mut Connection<S>) -> Result<Option<u64>, Ro
     ensures sound { IfOk result (λ found. IfSome found (λ n. n ≤ latest_moment)) }
 {
     let rows = void_moments(conn)?;
-    match rows.first() {
-        None => Ok(None),
-        Some(row) => Ok(Some(moment(row)?)),
-    }
+    first_whole(&rows, 0, LATEST_MOMENT)
 }

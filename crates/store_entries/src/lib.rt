@@ -8,8 +8,8 @@ mod latest;
 mod rows;
 mod voids;
 
-pub use columns::{read_entry, read_place, read_void};
-pub use entries::{entry_at, entry_rows, insert_entry, last_entry_rows, last_place, roll_entry};
+pub use columns::{read_entry, read_void};
+pub use entries::{entry_at, entry_rows, insert_entry, last_entry_rows, roll_entry};
 pub use inside::{entry_rows_inside, void_rows_inside};
 pub use latest::{latest_entry, latest_void};
 pub use rows::{EntryKind, EntryRow};

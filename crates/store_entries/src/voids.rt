@@ -6,11 +6,15 @@ ghost use Rattle.store_tables.specs.Steps.{Steps};
 ghost use Rattle.store_tables.specs.Answer.{FirstFirst};
 ghost use Rattle.store_tables.specs.Asking.{Asks, TellsRows, Shows};
 ghost use Rattle.store_tables.specs.Limits.{IsPlace, latest_moment};
-ghost use Rattle.store_entries.specs.Rows.{voided_columns, voided_shown, voided_place, is_void_of};
+ghost use Rattle.store_entries.specs.Rows.{voided_at, voided_columns, voided_shown};
+ghost use Rattle.store_entries.specs.Rows.{voided_place, is_void_of};
 ghost use Rattle.store_entries.specs.Trees.{voids};
 
 use sqlite::{Alter, Connection, Error, Row, Transaction, params};
 use store_tables::number;
+
+/// The places of the voided entries of a meter.
+pub(crate) const OF_METER: &str = "SELECT place FROM voids WHERE meter = ?1 ORDER BY place";
 
 /// Says that the entry of a meter at a place was voided at a moment.
 pub fn insert_void<S: Alter>(
@@ -23,8 +27,7 @@ pub fn insert_void<S: Alter>(
     requires moment { moment ≤ latest_moment }
     ensures same_reference { tx.new.conn.ghost_name ≡ tx.old.conn.ghost_name }
     ensures does { Steps (state S.Store tx.old.conn.now) (state S.Store tx.new.conn.now) result
-        (Edits voids voided_columns
-        (with_row (record { meter = meter.now; place = place; moment = moment }))) }
+        (Edits voids voided_columns (with_row (voided_at meter.now place moment))) }
 {
     let place = number(place);
     let moment = number(moment);
@@ -40,8 +43,5 @@ pub fn void_rows<S: Alter>(conn: &mut Connection<S>, meter: &str) -> Result<Vec<
     ensures shows { TellsRows S.Store conn.old conn.new voids voided_columns result
         (Shows (is_void_of meter.now) (FirstFirst voided_place) voided_shown) }
 {
-    conn.query_all(
-        "SELECT place FROM voids WHERE meter = ?1 ORDER BY place",
-        params![meter],
-    )
+    conn.query_all(OF_METER, params![meter])
 }

@@ -1,20 +1,19 @@
--- Shares of a meter that are booked in rows, and taken out of them.
-use Rattle.std.proofs.Common.{◌≡◌, ℕ, ◌+◌, ◌-◌, ◌≤◌, ◌<◌, ◌==◌, ◌&&◌, ◌||◌, Bool, true, false, cond, inl, inr, List, [], ◌∷◌, ◌++◌, map, filter, refl, sym, ap, ap₂, subst, ◌∙◌, bytes_eq, IsTrue, IsPermutation, arith}
-use Rattle.std.specs.List.{list_any, AllByRecursion}
+-- Shares of a meter that are booked in rows.
+use Rattle.std.proofs.Common.{◌≡◌, ℕ, ◌+◌, ◌==◌, ◌&&◌, ◌||◌, Bool, true, false, cond, inl, inr, List, [], ◌∷◌, ◌++◌, map, filter, refl, sym, ap, ap₂, subst, ◌∙◌, bytes_eq, IsPermutation, arith}
+use Rattle.std.specs.List.{list_any}
 use Rattle.std.proofs.lemmas.Bool.{cases_Bool, cond-true, cond-false}
 use Rattle.std.proofs.lemmas.Bool.Decides.{nat_tests}
 use Rattle.std.proofs.lemmas.Slice.Eq.{bytes_eq-Decides}
 use Rattle.std.proofs.lemmas.List.{map-append, append-nil}
-use Rattle.std.proofs.lemmas.List.Sorted.{IsPermutation-refl, IsPermutation-sym, IsPermutation-trans, IsPermutation-cons, IsPermutation-map, IsPermutation-middle, All-permutation}
-use Rattle.std.proofs.lemmas.List.Elements.{All-from_recursion, recursion_from_All}
-use Rattle.sqlite_keyed.proofs.ListLemmas.{map-map, all-filter}
+use Rattle.std.proofs.lemmas.List.Sorted.{IsPermutation-sym, IsPermutation-trans, IsPermutation-cons, IsPermutation-map, IsPermutation-middle}
+use Rattle.sqlite_keyed.proofs.ListLemmas.{map-map}
 use Rattle.interval_core.specs.declared.shares.Share.{Share}
 use Rattle.meter_journal.specs.Intervals as journal
 use Rattle.store_tables.specs.Content.{changed_where}
 use Rattle.store_intervals.specs.Rows.{Interval, is_of, is_at}
-use Rattle.store_intervals.specs.StepShares.{raised, lowered, with_share, without_share, with_shares, without_shares}
+use Rattle.store_intervals.specs.StepShares.{raised, with_share, with_shares}
 use Rattle.store_facts.specs.Rows.{interval_of}
-use Rattle.store_facts.proofs.Passing.{filter_agree, map_agree, any_agree, filter_edited, filter_spared, any_filter, any_permutation, any_map}
+use Rattle.store_facts.proofs.Passing.{map_agree, any_agree, filter_edited, filter_spared, any_filter, any_permutation, any_map}
 
 -- ---- the rows of one meter, as the journal has them
 
@@ -175,28 +174,6 @@ booked meter [] rows shares apart are = are
 booked meter (share ∷ adds) rows shares apart are =
     booked meter adds (with_share meter share rows) (journal.with_share share shares) (apart_with share shares apart) (booked_one meter share rows shares apart are)
 
--- a share is taken out
-lower_step : (b : Bool) (meter : List ℕ) (share x : Share)
-    → cond b (lowered share.mwh (interval_of meter x)) (interval_of meter x) ≡ interval_of meter (cond b (record { start = x.start; mwh = x.mwh - share.mwh }) x)
-lower_step true meter share x = refl
-lower_step false meter share x = refl
-
-lower_meter : (b : Bool) (share : Share) (i : Interval) → (let made : Interval = cond b (lowered share.mwh i) i in made.meter) ≡ i.meter
-lower_meter true share i = refl
-lower_meter false share i = refl
-
-pub taken_one : (meter : List ℕ) (share : Share) (rows : List Interval) (shares : List Share) → AreRowsOf meter rows shares
-    → AreRowsOf meter (without_share meter share rows) (journal.without_share share shares)
-taken_one meter share rows shares are =
-    edited meter (λ i. cond (is_at meter share.start i) (lowered share.mwh i) i) (journal.less share) rows shares
-    (λ i. lower_meter (is_at meter share.start i) share i)
-    (λ x. ap (λ b. cond b (lowered share.mwh (interval_of meter x)) (interval_of meter x)) (at_start meter share.start x) ∙ lower_step (x.start == share.start) meter share x) are
-
-pub taken : (meter : List ℕ) (out : List Share) (rows : List Interval) (shares : List Share) → AreRowsOf meter rows shares
-    → AreRowsOf meter (without_shares meter out rows) (journal.without_each out shares)
-taken meter [] rows shares are = are
-taken meter (share ∷ out) rows shares are = taken meter out (without_share meter share rows) (journal.without_share share shares) (taken_one meter share rows shares are)
-
 -- ---- the rows of the other meters
 
 not_other : (a b : Bool) → (a ≡ true → b ≡ true → ⊥) → a ≡ true → b ≡ false
@@ -227,12 +204,3 @@ pub others_booked : (meter other : List ℕ) (adds : List Share) (rows : List In
 others_booked meter other [] rows apart = refl
 others_booked meter other (share ∷ adds) rows apart =
     others_booked meter other adds (with_share meter share rows) apart ∙ others_booked_one meter other share rows apart
-
-pub others_taken : (meter other : List ℕ) (out : List Share) (rows : List Interval) → bytes_eq meter other ≡ false
-    → filter (is_of other) (without_shares meter out rows) ≡ filter (is_of other) rows
-others_taken meter other [] rows apart = refl
-others_taken meter other (share ∷ out) rows apart =
-    others_taken meter other out (without_share meter share rows) apart
-    ∙ filter_spared (is_of other) (λ i. cond (is_at meter share.start i) (lowered share.mwh i) i)
-    (λ i. ap (λ m. bytes_eq m other) (lower_meter (is_at meter share.start i) share i))
-    (λ i is. cond-false _ _ _ (not_at meter other share.start i apart is)) rows

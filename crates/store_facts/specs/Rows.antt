@@ -1,6 +1,7 @@
 -- The rows that the tables have for facts.
 use Rattle.std.specs.Prelude.{◌≡◌, ℕ, ℤ, ◌+◌, ◌≤◌, IsTrue, false, List, [], ◌∷◌, length, map, Vec, Option, Some, None}
 use Rattle.std.specs.List.{find}
+use Rattle.mb_wire.specs.declared.span.ReadFunction.{ReadFunction}
 use Rattle.energy_core.specs.declared.entries.Entry.{Entry}
 use Rattle.energy_core.specs.declared.entries.Entry.TheVariants as entry
 use Rattle.energy_core.specs.Account.{moment_of, last_of}
@@ -33,6 +34,7 @@ use Rattle.store_tables.specs.Limits.{latest_moment}
 use Rattle.store_lists.specs.declared.rows.RegisterScale.{RegisterScale}
 use Rattle.store_lists.specs.declared.rows.RegisterScale.TheVariants as scale
 use Rattle.store_lists.specs.declared.rows.Point.{Point}
+use Rattle.store_lists.specs.declared.rows.PointRow.{PointRow}
 use Rattle.store_lists.specs.Rows.{Added, Listed, Registered, listed_at}
 use Rattle.store_meters.specs.declared.rows.LastRow.{LastRow}
 use Rattle.store_meters.specs.Rows.{Installed, Ranged, IsRange, greatest_ceiling}
@@ -68,6 +70,10 @@ added place device = record {
     window = device.window;
   };
 }
+
+abbrev pub point_row : (place : ℕ) → ReadFunction → (area address : ℕ) → PointRow
+point_row place function area address =
+    record { place = place; function = function; area = area; address = address }
 
 abbrev pub listed : (device : List ℕ) → (place : ℕ) → ListedPoint → Listed
 listed device place point = record {

@@ -5,7 +5,7 @@ ghost use Rattle.std.specs.String.{string_bytes};
 ghost use Rattle.point_list.specs.RowTexts as written;
 ghost use Rattle.store_tables.specs.Limits.{IsPlace};
 ghost use Rattle.store_lists.specs.Rows.{IsSoundPoint};
-ghost use Rattle.store_facts.specs.Rows.{IsPlacedPoint, ArePlacedPoints};
+ghost use Rattle.store_facts.specs.Rows.{IsPlacedPoint, ArePlacedPoints, point_row};
 
 use mb_wire::ReadFunction;
 use point_list::{ListedPoint, PointName, PointScale, type_text};
@@ -60,12 +60,7 @@ fn scale(alloc: Global, scale: &PointScale) -> Result<String, RowFault>
 
 /// The numbers of a point at a place of its list.
 fn numbers(place: u64, function: ReadFunction, area: u8, address: u16) -> PointRow
-    ensures row { result ≡ record {
-      place = place;
-      function = function;
-      area = area;
-      address = address;
-    } }
+    ensures row { result ≡ point_row place function area address }
     ensures sound { IsPlace place → IsSoundPoint result }
 {
     PointRow {

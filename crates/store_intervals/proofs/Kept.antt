@@ -1,9 +1,8 @@
 -- The rows of the table, whatever their last column has, and how they stand for intervals.
-use Rattle.std.proofs.Common.{◌≡◌, ◌≤◌, ◌<◌, ◌^◌, ◌+◌, ◌-◌, ◌==◌, inl, inr, ℕ, pos, List, [], ◌∷◌, map, Bool, ◌&&◌, bytes_eq, Some, refl, sym, ap, ap₂, subst, ◌∙◌, arith, if◌then◌else◌, IsPermutation, ◌-ℤ◌}
+use Rattle.std.proofs.Common.{◌≡◌, ◌≤◌, ◌<◌, ◌^◌, ◌+◌, ◌==◌, inl, inr, ℕ, pos, List, [], ◌∷◌, map, Bool, ◌&&◌, bytes_eq, Some, refl, sym, ap, ap₂, subst, ◌∙◌, arith, if◌then◌else◌, IsPermutation}
 use Rattle.std.specs.List.{list_any}
 use Rattle.std.proofs.lemmas.Bool.{cases_Bool}
 use Rattle.std.proofs.lemmas.Bool.Decides.{nat_tests}
-use Rattle.std.proofs.lemmas.Int.{ints}
 use Rattle.sqlite.specs.declared.types.Value.{Value}
 use Rattle.sqlite.specs.declared.types.Value.TheVariants.{Int, Text}
 use Rattle.sqlite.specs.Order.{Row}
@@ -12,7 +11,7 @@ use Rattle.sqlite.specs.Kind.TheVariants.{Integer}
 use Rattle.sqlite.specs.Cast.{cast}
 use Rattle.sqlite.specs.Effect.{Database}
 use Rattle.sqlite_sql.specs.declared.ops.BinaryOp.TheVariants.{Arith}
-use Rattle.sqlite_sql.specs.declared.ops.ArithOp.TheVariants.{Add, Sub}
+use Rattle.sqlite_sql.specs.declared.ops.ArithOp.TheVariants.{Add}
 use Rattle.sqlite_keyed.proofs.ListLemmas.{map-map}
 use Rattle.interval_core.specs.declared.shares.Share.{Share}
 use Rattle.store_tables.specs.Content.{Content, Edits, changed_where}
@@ -21,7 +20,7 @@ use Rattle.store_tables.proofs.Tables.{cast_int}
 use Rattle.store_intervals.specs.Trees.{intervals}
 use Rattle.store_meters.specs.Rows.{greatest_total}
 use Rattle.store_intervals.specs.Rows.{Interval, interval_columns, is_at}
-use Rattle.store_intervals.specs.StepShares.{raised, lowered, with_share, without_share, AreSmall, HasEnergy, EditsIf}
+use Rattle.store_intervals.specs.StepShares.{raised, with_share, AreSmall, EditsIf}
 
 pub record Kept : Type 0 where
   pub meter : List ℕ
@@ -41,9 +40,6 @@ is_kept meter start k = bytes_eq k.meter meter && (k.start == start)
 abbrev pub adds : (mwh : ℕ) → Kept → Kept
 adds mwh k = record { meter = k.meter; start = k.start; energy = cast Integer (binary (Arith Add) k.energy (Int (pos mwh))) }
 
-abbrev pub takes : (mwh : ℕ) → Kept → Kept
-takes mwh k = record { meter = k.meter; start = k.start; energy = cast Integer (binary (Arith Sub) k.energy (Int (pos mwh))) }
-
 abbrev pub upserted : (meter : List ℕ) → (start mwh : ℕ) → List Kept → List Kept
 upserted meter start mwh ks =
     if list_any (is_kept meter start) ks then changed_where (is_kept meter start) (adds mwh) ks
@@ -58,13 +54,6 @@ sum_is : (a b : ℕ) → a + b < 2 ^ 63 → binary (Arith Add) (Int (pos a)) (In
 unfolding binary
 sum_is a b h = rw (fits (a + b) h)
 
-rest_is : (a b : ℕ) → b ≤ a → pos a -ℤ pos b ≡ pos (a - b)
-rest_is a b h = omega (arith, ints)
-
-difference_is : (a b : ℕ) → b ≤ a → a < 2 ^ 63 → binary (Arith Sub) (Int (pos a)) (Int (pos b)) ≡ Int (pos (a - b))
-unfolding binary
-difference_is a b low h = rw (rest_is a b low, fits (a - b) (omega arith))
-
 -- ---- intervals
 
 any_kept : (meter : List ℕ) (start : ℕ) (is : List Interval) → list_any (is_kept meter start) (map kept_of is) ≡ list_any (is_at meter start) is
@@ -76,9 +65,6 @@ any_kept meter start (i ∷ is) = elim (cases_Bool (is_at meter start i)) [
 
 one_added : (mwh : ℕ) (i : Interval) → i.share.mwh + mwh ≤ greatest_total → adds mwh (kept_of i) ≡ kept_of (raised mwh i)
 one_added mwh i small = ap (λ v. record { meter = i.meter; start = i.share.start; energy = cast Integer v }) (sum_is i.share.mwh mwh (omega (arith, small))) ∙ ap (λ v. record { meter = i.meter; start = i.share.start; energy = v }) (cast_int (pos (i.share.mwh + mwh)))
-
-one_taken : (mwh : ℕ) (i : Interval) → mwh ≤ i.share.mwh → i.share.mwh ≤ greatest_total → takes mwh (kept_of i) ≡ kept_of (lowered mwh i)
-one_taken mwh i low small = ap (λ v. record { meter = i.meter; start = i.share.start; energy = cast Integer v }) (difference_is i.share.mwh mwh low (omega (arith, small))) ∙ ap (λ v. record { meter = i.meter; start = i.share.start; energy = v }) (cast_int (pos (i.share.mwh - mwh)))
 
 all_added : (meter : List ℕ) (start mwh : ℕ) (is : List Interval) → AreSmall (changed_where (is_at meter start) (raised mwh) is)
     → changed_where (is_kept meter start) (adds mwh) (map kept_of is) ≡ map kept_of (changed_where (is_at meter start) (raised mwh) is)
@@ -93,14 +79,6 @@ pub added_share : (meter : List ℕ) (share : Share) (is : List Interval) → Ar
 added_share meter share is small = elim (cases_Bool (list_any (is_at meter share.start) is)) [
   | inl there ↦ rw (any_kept meter share.start is, there) (all_added meter share.start share.mwh is (rw there at small))
   | inr none ↦ rw (any_kept meter share.start is, none) refl
-]
-
-pub taken_share : (meter : List ℕ) (share : Share) (is : List Interval) → AreSmall is → HasEnergy meter share is
-    → changed_where (is_kept meter share.start) (takes share.mwh) (map kept_of is) ≡ map kept_of (without_share meter share is)
-taken_share meter share [] small has = refl
-taken_share meter share (i ∷ is) small has = elim (cases_Bool (is_at meter share.start i)) [
-  | inl here ↦ rw here (ap₂ ◌∷◌ (one_taken share.mwh i (has.0 here) small.0) (taken_share meter share is small.1 has.1))
-  | inr off ↦ rw off (ap (λ ks. kept_of i ∷ ks) (taken_share meter share is small.1 has.1))
 ]
 
 -- ---- from the rows of the table to intervals

@@ -1,4 +1,4 @@
--- Shares booked and taken out one after the other.
+-- Shares booked one after the other.
 use Rattle.std.proofs.Common.{◌≡◌, ◌≤◌, ◌<◌, ◌+◌, inl, inr, ℕ, List, [], ◌∷◌, ◌++◌, Ok, Contains, refl, sym, ap, subst, ◌∙◌, arith}
 use Rattle.std.specs.List.{list_any, AllByRecursion}
 use Rattle.std.proofs.lemmas.Bool.{cases_Bool}
@@ -18,7 +18,7 @@ use Rattle.store_intervals.specs.Trees.{intervals}
 use Rattle.store_meters.specs.Rows.{greatest_total}
 use Rattle.store_tables.specs.Limits.{latest_moment}
 use Rattle.store_intervals.specs.Rows.{Interval, interval_columns, is_at, IsSoundShare}
-use Rattle.store_intervals.specs.StepShares.{raised, with_share, without_share, with_shares, without_shares, AreSmall, AreTherein, EditsIf, BooksShares, TakesShares}
+use Rattle.store_intervals.specs.StepShares.{raised, with_share, with_shares, AreSmall, EditsIf, BooksShares}
 use Rattle.store_intervals.proofs.Kept.{turns_weaker}
 
 -- ---- each share is in its ranges
@@ -85,39 +85,7 @@ booked_then meter shares share =
     let last = subst AreSmall (sym (with_one_more meter shares share is)) small in
     (small_before meter share (with_shares meter shares is) last, last, with_one_more meter shares share is))
 
--- ---- taking out
-
-without_one_more : (meter : List ℕ) (shares : List Share) (share : Share) (is : List Interval) → without_share meter share (without_shares meter shares is) ≡ without_shares meter (shares ++ share ∷ []) is
-without_one_more meter [] share is = refl
-without_one_more meter (s ∷ shares) share is = without_one_more meter shares share (without_share meter s is)
-
-lowered_small : (meter : List ℕ) (share : Share) (is : List Interval) → AreSmall is → AreSmall (without_share meter share is)
-lowered_small meter share [] small = tt
-lowered_small meter share (i ∷ is) small = elim (cases_Bool (is_at meter share.start i)) [
-  | inl here ↦ rw here (omega (arith, small.0), lowered_small meter share is small.1)
-  | inr off ↦ rw off (small.0, lowered_small meter share is small.1)
-]
-
-all_small : (meter : List ℕ) (shares : List Share) (is : List Interval) → AreSmall is → AreSmall (without_shares meter shares is)
-all_small meter [] is small = small
-all_small meter (s ∷ shares) is small = all_small meter shares (without_share meter s is) (lowered_small meter s is small)
-
-there_before : (meter : List ℕ) (shares : List Share) (share : Share) (is : List Interval) → AreTherein meter (shares ++ share ∷ []) is → AreTherein meter shares is × AreTherein meter (share ∷ []) (without_shares meter shares is)
-there_before meter [] share is there = (tt, there)
-there_before meter (s ∷ shares) share is there = let rest = there_before meter shares share (without_share meter s is) there.1 in ((there.0, rest.0), rest.1)
-
-pub taken_then : (meter : List ℕ) (shares : List Share) (share : Share) (x y z : Content) → TakesShares meter shares x y → TakesShares meter (share ∷ []) y z → TakesShares meter (shares ++ share ∷ []) x z
-taken_then meter shares share =
-    edits_then (λ is. AreSmall is × AreTherein meter (shares ++ share ∷ []) is) (λ is. AreSmall is × AreTherein meter shares is) (λ is. AreSmall is × AreTherein meter (share ∷ []) is)
-    (without_shares meter (shares ++ share ∷ [])) (without_shares meter shares) (without_share meter share)
-    (λ is may.
-    let parts = there_before meter shares share is may.1 in
-    ((may.0, parts.0), (all_small meter shares is may.0, parts.1), without_one_more meter shares share is))
-
 -- ---- before the first share
 
 pub nothing_booked : (meter : List ℕ) (a : State) → Steps {X = Unit {0}} {E = Error} a a (Ok tt) (BooksShares meter [])
 nothing_booked meter a = weaker a a (Ok tt) _ _ (turns_weaker _ _ a.now a.now (no_edit AreSmall)) (no_steps a tt)
-
-pub nothing_taken : (meter : List ℕ) (a : State) → Steps {X = Unit {0}} {E = Error} a a (Ok tt) (TakesShares meter [])
-nothing_taken meter a = weaker a a (Ok tt) _ _ (turns_weaker _ _ a.now a.now (no_edit (λ is. AreSmall is × AreTherein meter [] is))) (no_steps a tt)

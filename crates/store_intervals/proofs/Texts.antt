@@ -4,13 +4,13 @@ use Rattle.sqlite.specs.declared.types.Value.TheVariants.{Null, Int}
 use Rattle.sqlite.specs.Term.{Term, lit, col}
 use Rattle.sqlite.specs.Query.{Query, inner, end}
 use Rattle.sqlite.specs.Source.TheVariants.{Values}
-use Rattle.sqlite.specs.Command.TheVariants.{Select, Insert, InsertOr, Update, Delete}
+use Rattle.sqlite.specs.Command.TheVariants.{Select, Insert, InsertOr, Delete}
 use Rattle.sqlite_schema.specs.declared.command.Conflict.TheVariants.{Abort}
 use Rattle.sqlite_schema.specs.declared.command.Upsert.{Upsert}
 use Rattle.sqlite_sql.specs.Term.{op2}
 use Rattle.sqlite_sql.specs.declared.ops.BinaryOp.TheVariants.{Compare, Arith}
-use Rattle.sqlite_sql.specs.declared.ops.CompareOp.TheVariants.{Eq, Ge}
-use Rattle.sqlite_sql.specs.declared.ops.ArithOp.TheVariants.{Add, Sub}
+use Rattle.sqlite_sql.specs.declared.ops.CompareOp.TheVariants.{Eq}
+use Rattle.sqlite_sql.specs.declared.ops.ArithOp.TheVariants.{Add}
 use Rattle.sqlite.specs.Collation.TheVariants.{Binary}
 use Rattle.sqlite_tied.specs.Compute.{everything}
 use Rattle.sqlite_value.specs.declared.keys.Key.{Key}
@@ -47,41 +47,6 @@ add_share_is = refl
 pub add_share_plain : IsPlain (understood books_schema add_share)
 unfolding understood everything
 add_share_plain = (refl, refl)
-
--- ---- take_share
-
-abbrev pub take_share : List ℕ
-take_share = codes "UPDATE intervals SET mwh = mwh - ?3 WHERE meter = ?1 AND start = ?2"
-
-abbrev pub take_share_tests : List Term
-take_share_tests = is_param 1 0 ∷ is_param 2 1 ∷ []
-
-abbrev pub take_share_news : List Term
-take_share_news = col 1 0 ∷ col 1 1 ∷ col 1 2 ∷ op2 (Arith Sub) (col 1 3) (col 0 2) ∷ []
-
-pub take_share_is : command_of (understood books_schema take_share) ≡ Update 9 (record { lets = []; body = scan 14 take_share_tests (col 1 0 ∷ take_share_news) [] no_limit })
-unfolding understood everything
-take_share_is = refl
-
-pub take_share_plain : IsPlain (understood books_schema take_share)
-unfolding understood everything
-take_share_plain = (refl, refl)
-
--- ---- drop_from
-
-abbrev pub drop_from : List ℕ
-drop_from = codes "DELETE FROM intervals WHERE meter = ?1 AND start >= ?2"
-
-abbrev pub drop_from_tests : List Term
-drop_from_tests = is_param 1 0 ∷ op2 (Compare Ge Binary) (col 1 2) (col 0 1) ∷ []
-
-pub drop_from_is : command_of (understood books_schema drop_from) ≡ Delete 9 (record { lets = []; body = scan 14 drop_from_tests (col 1 0 ∷ []) [] no_limit })
-unfolding understood everything
-drop_from_is = refl
-
-pub drop_from_plain : IsPlain (understood books_schema drop_from)
-unfolding understood everything
-drop_from_plain = (refl, refl)
 
 -- ---- insert_row
 

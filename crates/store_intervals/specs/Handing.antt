@@ -1,6 +1,8 @@
 -- Rows of the table, handed on to a sink in order, as they come.
 use Rattle.std.specs.Prelude.{◌≡◌, ◌≢◌, ◌<◌, ◌≤◌, ◌⊎◌, ℕ, Bool, bytes_eq, ◌&&◌, List, [], ◌∷◌, ◌++◌, map, Result, Ok, Err, OnOk, IfErr}
 use Rattle.std.specs.List.{AllByRecursion, AllZip}
+use Rattle.sqlite.specs.Given.{IsPlain}
+use Rattle.sqlite.specs.Listing.{understood}
 use Rattle.sqlite.specs.Order.{Row}
 use Rattle.sqlite.specs.Store.{Ghosts}
 use Rattle.sqlite.specs.Held.{Held, state}
@@ -111,3 +113,11 @@ pub record HandsOnQuery {S K : Type 0} (g : Ghosts S) (sql : List ℕ) (params :
   pub damaged : result ≡ Err Damaged
       → (asked : Held S) × (row : Row) × IsAsked g sql params old asked (given ++ row ∷ [])
       × (share_in row ≡ Err Damaged)
+
+-- the same where the store gave back what was written, of a query that asks the tables alone
+abbrev pub HandsOnPlain : {S K : Type 0} → Ghosts S → (sql : List ℕ) → (params : Row)
+    → (old new : Held S) → (takes : K → Share → K → Type 0) → (before after : K)
+    → Result (Unit {0}) RowFault → Type 0
+HandsOnPlain g sql params old new takes before after result =
+    HasCleanDisk (state g new) → IsPlain (understood old.schema sql)
+    → HandsOnQuery g sql params old takes before after result

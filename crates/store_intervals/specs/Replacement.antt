@@ -9,6 +9,9 @@ use Rattle.store_intervals.specs.Rows.{Interval, interval_columns, is_of}
 abbrev pub row_of : (meter : List ℕ) → Share → Interval
 row_of meter share = record { meter = meter; share = share }
 
+abbrev pub row_from : (meter : List ℕ) → (start mwh : ℕ) → Interval
+row_from meter start mwh = row_of meter (record { start = start; mwh = mwh })
+
 -- the rows of a meter come to the others, or stand in the place of those that it had
 abbrev pub with_rows : (meter : List ℕ) → List Share → List Interval → List Interval
 with_rows meter shares rows = map (row_of meter) shares ++ rows

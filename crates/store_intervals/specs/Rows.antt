@@ -1,5 +1,5 @@
 -- Rows of the table `intervals`, their columns, and the ranges of their values.
-use Rattle.std.specs.Prelude.{ℕ, pos, ◌≤◌, nat_le, List, [], ◌∷◌, Bool, bytes_eq, ◌&&◌, ◌==◌, Result, Ok}
+use Rattle.std.specs.Prelude.{ℕ, pos, ◌≤◌, List, [], ◌∷◌, Bool, bytes_eq, ◌&&◌, ◌==◌, Result, Ok}
 use Rattle.sqlite.specs.declared.types.Value.TheVariants.{Int, Text}
 use Rattle.sqlite.specs.Order.{Row, column}
 use Rattle.interval_core.specs.declared.shares.Share.{Share}
@@ -20,15 +20,12 @@ interval_columns i = Text i.meter ∷ Int (pos i.share.start) ∷ Int (pos i.sha
 abbrev pub share_shown : Interval → Row
 share_shown i = Int (pos i.share.start) ∷ Int (pos i.share.mwh) ∷ []
 
--- a row of a meter, its row of the interval from a start, and one of an interval from there on
+-- a row of a meter, and its row of the interval from a start
 abbrev pub is_of : (meter : List ℕ) → Interval → Bool
 is_of meter i = bytes_eq i.meter meter
 
 abbrev pub is_at : (meter : List ℕ) → (start : ℕ) → Interval → Bool
 is_at meter start i = bytes_eq i.meter meter && (i.share.start == start)
-
-abbrev pub is_from : (meter : List ℕ) → (start : ℕ) → Interval → Bool
-is_from meter start i = bytes_eq i.meter meter && nat_le start i.share.start
 
 abbrev pub start_of : Interval → ℕ
 start_of i = i.share.start

@@ -7,5 +7,5 @@ mod step_shares;
 mod streams;
 
 pub use replacement::replace_shares;
-pub use step_shares::{book_step, drop_from, take_step};
+pub use step_shares::book_step;
 pub use streams::{meter_intervals, register_intervals};

@@ -5,7 +5,7 @@ ghost use Rattle.store_tables.specs.Content.{Edits, with_row, without_where};
 ghost use Rattle.store_tables.specs.Steps.{Steps};
 ghost use Rattle.store_intervals.specs.Trees.{intervals};
 ghost use Rattle.store_intervals.specs.Rows.{interval_columns, is_of, IsSoundShare};
-ghost use Rattle.store_intervals.specs.Replacement.{row_of, with_rows, ReplacesShares};
+ghost use Rattle.store_intervals.specs.Replacement.{row_from, with_rows, ReplacesShares};
 
 use interval_core::Share;
 use sqlite::{Alter, Error, Transaction, params};
@@ -21,8 +21,7 @@ fn insert_row<S: Alter>(
     requires sound { IsSoundShare (record { start = start; mwh = mwh }) }
     ensures same_reference { tx.new.conn.ghost_name ≡ tx.old.conn.ghost_name }
     ensures does { Steps (state S.Store tx.old.conn.now) (state S.Store tx.new.conn.now) result
-        (Edits intervals interval_columns
-        (with_row (row_of meter.now (record { start = start; mwh = mwh })))) }
+        (Edits intervals interval_columns (with_row (row_from meter.now start mwh))) }
 {
     let start = number(start);
     let mwh = number(mwh);

@@ -1,12 +1,10 @@
 //! Rows of the table `intervals`, handed on as they come.
 ghost use Rattle.sqlite.specs.Given.{IsPlain};
-ghost use Rattle.sqlite.specs.Held.{state};
 ghost use Rattle.sqlite.specs.Listing.{understood};
-ghost use Rattle.sqlite.specs.State.{HasCleanDisk};
 ghost use Rattle.sqlite.specs.Values.{bound};
 ghost use Rattle.store_tables.specs.Schema.{books_schema};
 ghost use Rattle.store_tables.specs.Asking.{Asks};
-ghost use Rattle.store_intervals.specs.Handing.{TookSome, HandsOn, HandsOnQuery, HaveIntervals};
+ghost use Rattle.store_intervals.specs.Handing.{TookSome, HandsOn, HandsOnPlain, HaveIntervals};
 ghost use Rattle.store_intervals.specs.Handing.{AreSharesOfMeter, AreSoundIntervals, HaveLying};
 ghost use Rattle.store_intervals.specs.Handing.{AreSharesAt, AreSoundLying};
 
@@ -26,9 +24,7 @@ fn hand_on<S: Alter, K: RowSink<Share>>(
 ) -> Result<(), RowFault>
     ensures asks { IsPlain (understood books_schema sql.now) → Asks S.Store conn.old conn.new }
     ensures some { TookSome K.takes sink.old sink.new }
-    ensures reads { HasCleanDisk (state S.Store conn.new)
-        → IsPlain (understood conn.old.schema sql.now)
-        → HandsOnQuery S.Store sql.now (bound params.now) conn.old
+    ensures reads { HandsOnPlain S.Store sql.now (bound params.now) conn.old conn.new
         K.takes sink.old sink.new result }
 {
     let mut rows = conn.query(sql, params)?;

@@ -1,27 +1,17 @@
 -- What is read of a row that the queries show.
-use Rattle.std.proofs.Common.{◌≡◌, ◌==◌, inl, inr, ℕ, ℤ, Option, Some, None, Ok, Result, refl, subst}
+use Rattle.std.proofs.Common.{◌≡◌, ◌==◌, inl, inr, ℕ, ℤ, Option, Some, None, Ok, refl, subst}
 use Rattle.std.proofs.lemmas.Bool.{cases_Bool}
 use Rattle.sqlite.specs.declared.types.Value.{Value}
 use Rattle.sqlite.specs.Order.{Row, column}
-use Rattle.store_tables.specs.declared.faults.RowFault.{RowFault}
-use Rattle.store_tables.specs.Asking.{ReadsRow}
-use Rattle.store_tables.specs.Columns.{whole_in, within, function_in, or_damaged}
+use Rattle.store_tables.specs.Columns.{whole_in, within, function_in}
 use Rattle.store_tables.specs.Limits.{greatest_place}
-use Rattle.store_tables.proofs.ReadLemmas.{reads_number, has_read, whole_bounds, within_bounds, ok_is}
+use Rattle.store_tables.proofs.ReadLemmas.{has_read, whole_bounds, within_bounds, ok_is}
 use Rattle.store_lists.specs.declared.rows.DeviceRow.{DeviceRow}
 use Rattle.store_lists.specs.declared.rows.PointRow.{PointRow}
 use Rattle.store_lists.specs.declared.rows.RegisterRow.{RegisterRow}
 use Rattle.store_lists.specs.declared.rows.RegisterScale.{RegisterScale}
 use Rattle.store_lists.specs.declared.rows.RegisterScale.TheVariants.{Fixed, At}
-use Rattle.store_lists.specs.Rows.{device_place, device_place_shown, HasDevicePlace, IsSoundAdded, IsSoundDevice, device_in, point_in, IsSoundPoint, register_place, register_place_shown, HasRegisterPlace, IsSoundRegister, IsSoundRegistered, IsSoundScale, register_in, scale_of, fixed_by, at_by}
-
--- ---- places
-
-pub reads_device_place : (row : Row) (r : Result ℕ RowFault) → r ≡ or_damaged (whole_in 1 greatest_place (column row 0)) → ReadsRow row device_place_shown HasDevicePlace IsSoundAdded r
-reads_device_place = reads_number 1 greatest_place device_place_shown device_place IsSoundAdded (λ d. refl) (λ d is. is.row.place)
-
-pub reads_register_place : (row : Row) (r : Result ℕ RowFault) → r ≡ or_damaged (whole_in 1 greatest_place (column row 0)) → ReadsRow row register_place_shown HasRegisterPlace IsSoundRegistered r
-reads_register_place = reads_number 1 greatest_place register_place_shown register_place IsSoundRegistered (λ r. refl) (λ r is. is.row.place)
+use Rattle.store_lists.specs.Rows.{IsSoundDevice, device_in, point_in, IsSoundPoint, IsSoundRegister, IsSoundScale, register_in, scale_of, fixed_by, at_by}
 
 -- ---- what was read is sound
 

@@ -57,9 +57,6 @@ pub record IsDevice (d : Added) (a : Device) : Type 0 where
   pub name : string_bytes a.name ≡ d.name
   pub row : a.row ≡ d.row
 
-abbrev pub HasDevicePlace : Added → ℕ → Type 0
-HasDevicePlace d place = place ≡ d.row.place
-
 -- the device that the columns of a row are, or damage
 abbrev pub device_in : Row → Result DeviceRow RowFault
 device_in row =
@@ -78,6 +75,10 @@ pub record Listed : Type 0 where
   pub kind : List ℕ
   pub scale : List ℕ
   pub row : PointRow
+
+abbrev pub listed_as : (device name kind scale : List ℕ) → PointRow → Listed
+listed_as device name kind scale row =
+    record { device = device; name = name; kind = kind; scale = scale; row = row }
 
 abbrev pub point_columns : Listed → Row
 point_columns p =
@@ -116,13 +117,7 @@ pub record IsPoint (p : Listed) (a : Point) : Type 0 where
 -- a point as it stands in the list of a device
 abbrev pub listed_at : (device : List ℕ) → Point → Listed
 listed_at device p =
-    record {
-      device = device;
-      name = string_bytes p.name;
-      kind = string_bytes p.kind;
-      scale = string_bytes p.scale;
-      row = p.row;
-    }
+    listed_as device (string_bytes p.name) (string_bytes p.kind) (string_bytes p.scale) p.row
 
 -- the points of a device come to the others, or stand in the place of those that it had
 abbrev pub with_points : (device : List ℕ) → List Point → List Listed → List Listed
@@ -160,6 +155,9 @@ pub record Registered : Type 0 where
   pub name : List ℕ
   pub device : List ℕ
   pub row : RegisterRow
+
+abbrev pub registered_as : (name device : List ℕ) → RegisterRow → Registered
+registered_as name device row = record { name = name; device = device; row = row }
 
 abbrev pub register_columns : Registered → Row
 register_columns r =
@@ -199,9 +197,6 @@ pub record IsRegister (r : Registered) (a : Register) : Type 0 where
   pub name : string_bytes a.name ≡ r.name
   pub device : string_bytes a.device ≡ r.device
   pub row : a.row ≡ r.row
-
-abbrev pub HasRegisterPlace : Registered → ℕ → Type 0
-HasRegisterPlace r place = place ≡ r.row.place
 
 abbrev pub fixed_by : Option ℤ → Option RegisterScale
 fixed_by None = None

@@ -2,8 +2,7 @@
 ghost use Rattle.std.specs.Prelude.{◌≡◌, IfOk};
 ghost use Rattle.sqlite.specs.Order.{column};
 ghost use Rattle.store_tables.specs.Asking.{ReadsRow};
-ghost use Rattle.store_tables.specs.Columns.{whole_in, or_damaged};
-ghost use Rattle.store_tables.specs.Limits.{greatest_place};
+ghost use Rattle.store_tables.specs.Columns.{or_damaged};
 ghost use Rattle.store_lists.specs.Rows.{device_shown, device_in, IsDevice, IsSoundDevice};
 ghost use Rattle.store_lists.specs.Rows.{IsSoundAdded, point_shown, point_in, IsPoint};
 ghost use Rattle.store_lists.specs.Rows.{IsSoundPoint, IsSoundListed, register_shown, register_in};
@@ -14,13 +13,6 @@ use office_events::{LAST_ADDRESS, LAST_COUNTER, LAST_UNIT};
 use poll_core::{MAX_TIMEOUT, MAX_WINDOW};
 use sqlite::Row;
 use store_tables::{GREATEST_PLACE, RowFault, function, scale, text, whole};
-
-/// A place in the first column.
-pub(crate) fn place(row: &Row) -> Result<u64, RowFault>
-    ensures { result ≡ or_damaged (whole_in 1 greatest_place (column row.now 0)) }
-{
-    whole(row, 0, 1, GREATEST_PLACE)
-}
 
 /// The numbers of a device.
 fn device(row: &Row) -> Result<DeviceRow, RowFault>

@@ -1,21 +1,17 @@
 //! The table `devices`.
-ghost use Rattle.std.specs.Prelude.{◌≡◌, IfOk, IfSome};
+ghost use Rattle.std.specs.Prelude.{◌≡◌};
 ghost use Rattle.sqlite.specs.Held.{state};
 ghost use Rattle.store_tables.specs.Content.{Edits, with_row};
 ghost use Rattle.store_tables.specs.Steps.{Steps};
-ghost use Rattle.store_tables.specs.Limits.{IsPlace};
-ghost use Rattle.store_tables.specs.Answer.{IsLast, LastFirst, FirstFirst, every};
-ghost use Rattle.store_tables.specs.Asking.{Asks, AsksInside, LooksUp};
-ghost use Rattle.store_tables.specs.Asking.{TellsRows, Shows, ShowsFirst};
+ghost use Rattle.store_tables.specs.Answer.{LastFirst, FirstFirst, every};
+ghost use Rattle.store_tables.specs.Asking.{Asks, AsksInside, TellsRows, Shows, ShowsFirst};
 ghost use Rattle.store_lists.specs.Rows.{device_columns, device_shown, device_place};
-ghost use Rattle.store_lists.specs.Rows.{device_place_shown, HasDevicePlace, IsSoundDevice};
-ghost use Rattle.store_lists.specs.Rows.{IsSoundAdded};
+ghost use Rattle.store_lists.specs.Rows.{device_place_shown, IsSoundDevice};
 ghost use Rattle.store_lists.specs.Trees.{devices};
 
-use crate::columns::place;
 use crate::rows::DeviceRow;
 use sqlite::{Alter, Connection, Error, Row, Transaction, params};
-use store_tables::{RowFault, number};
+use store_tables::number;
 
 /// Adds a device.
 pub fn insert_device<S: Alter>(
@@ -51,28 +47,6 @@ pub fn device_rows<S: Alter>(conn: &mut Connection<S>) -> Result<Vec<Row>, Error
         "SELECT place, name, unit, timeout, \"window\" FROM devices ORDER BY place",
         &[],
     )
-}
-
-/// The place of the last device, if there is one.
-fn last_rows<S: Alter>(conn: &mut Connection<S>) -> Result<Vec<Row>, Error>
-    ensures asks { Asks S.Store conn.old conn.new }
-    ensures shows { TellsRows S.Store conn.old conn.new devices device_columns result
-        (ShowsFirst every (LastFirst device_place) device_place_shown) }
-{
-    conn.query_all("SELECT place FROM devices ORDER BY place DESC LIMIT 1", &[])
-}
-
-/// The greatest place of a device, which counts them.
-pub fn last_device<S: Alter>(conn: &mut Connection<S>) -> Result<Option<u64>, RowFault>
-    ensures finds { LooksUp S.Store conn.old conn.new devices device_columns IsSoundAdded result
-        (IsLast every HasDevicePlace device_place) }
-    ensures sound { IfOk result (λ found. IfSome found IsPlace) }
-{
-    let rows = last_rows(conn)?;
-    match rows.first() {
-        None => Ok(None),
-        Some(row) => Ok(Some(place(row)?)),
-    }
 }
 
 /// The place of the last device inside a transaction, if there is one, in its first column.

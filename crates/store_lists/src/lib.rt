@@ -8,9 +8,9 @@ mod registers;
 mod rows;
 
 pub use columns::{read_device, read_point, read_register};
-pub use devices::{device_rows, insert_device, last_device, last_device_rows};
+pub use devices::{device_rows, insert_device, last_device_rows};
 pub use points::{point_rows, replace_points};
 pub use registers::{
-    insert_register, last_register, last_register_rows, register_count, register_of, register_rows,
+    insert_register, last_register_rows, register_count, register_of, register_rows,
 };
 pub use rows::{Device, DeviceRow, Point, PointRow, Register, RegisterRow, RegisterScale};

@@ -5,8 +5,8 @@ ghost use Rattle.store_tables.specs.Content.{Edits, with_row, without_where};
 ghost use Rattle.store_tables.specs.Steps.{Steps};
 ghost use Rattle.store_tables.specs.Answer.{FirstFirst};
 ghost use Rattle.store_tables.specs.Asking.{Asks, TellsRows, Shows};
-ghost use Rattle.store_lists.specs.Rows.{point_columns, point_shown, point_place, is_point_of};
-ghost use Rattle.store_lists.specs.Rows.{with_points, with_list, IsSoundPoint};
+ghost use Rattle.store_lists.specs.Rows.{listed_as, point_columns, point_shown, point_place};
+ghost use Rattle.store_lists.specs.Rows.{is_point_of, with_points, with_list, IsSoundPoint};
 ghost use Rattle.store_lists.specs.Trees as trees;
 
 use crate::rows::{Point, PointRow};
@@ -25,13 +25,8 @@ fn insert_point<'a, S: Alter>(
     requires sound { IsSoundPoint point }
     ensures same_reference { tx.new.conn.ghost_name ≡ tx.old.conn.ghost_name }
     ensures does { Steps (state S.Store tx.old.conn.now) (state S.Store tx.new.conn.now) result
-        (Edits trees.points point_columns (with_row (record {
-          device = device.now;
-          name = name.now;
-          kind = kind.now;
-          scale = scale.now;
-          row = point;
-        }))) }
+        (Edits trees.points point_columns
+        (with_row (listed_as device.now name.now kind.now scale.now point))) }
 {
     let place = number(point.place);
     tx.execute(

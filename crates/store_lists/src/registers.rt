@@ -4,19 +4,17 @@ ghost use Rattle.sqlite.specs.declared.types.Value.TheVariants.{Int};
 ghost use Rattle.sqlite.specs.Held.{state};
 ghost use Rattle.store_tables.specs.Content.{Edits, with_row};
 ghost use Rattle.store_tables.specs.Steps.{Steps};
-ghost use Rattle.store_tables.specs.Limits.{IsPlace};
-ghost use Rattle.store_tables.specs.Answer.{IsFound, IsLast, AnyOrder, LastFirst, FirstFirst};
-ghost use Rattle.store_tables.specs.Answer.{every};
+ghost use Rattle.store_tables.specs.Answer.{IsFound, AnyOrder, LastFirst, FirstFirst, every};
 ghost use Rattle.store_tables.specs.Asking.{Asks, AsksInside, Tells, LooksUp};
 ghost use Rattle.store_tables.specs.Asking.{TellsRows, Shows, ShowsFirst};
-ghost use Rattle.store_lists.specs.Rows.{register_columns, register_shown, register_place};
+ghost use Rattle.store_lists.specs.Rows.{registered_as, register_columns, register_shown};
+ghost use Rattle.store_lists.specs.Rows.{register_place};
 ghost use Rattle.store_lists.specs.Rows.{register_place_shown, is_register, is_register_of};
-ghost use Rattle.store_lists.specs.Rows.{IsRegister, HasRegisterPlace, IsRegisterCount};
-ghost use Rattle.store_lists.specs.Rows.{IsSoundRegister, IsSoundRegistered, scale_kind};
-ghost use Rattle.store_lists.specs.Rows.{scale_number};
+ghost use Rattle.store_lists.specs.Rows.{IsRegister, IsRegisterCount, IsSoundRegister};
+ghost use Rattle.store_lists.specs.Rows.{IsSoundRegistered, scale_kind, scale_number};
 ghost use Rattle.store_lists.specs.Trees.{registers};
 
-use crate::columns::{place, read_register};
+use crate::columns::read_register;
 use crate::rows::{Register, RegisterRow, RegisterScale};
 use sqlite::types::Value;
 use sqlite::{Alter, Connection, Error, Row, Transaction, params};
@@ -52,8 +50,7 @@ pub fn insert_register<S: Alter>(
     requires sound { IsSoundRegister register }
     ensures same_reference { tx.new.conn.ghost_name ≡ tx.old.conn.ghost_name }
     ensures does { Steps (state S.Store tx.old.conn.now) (state S.Store tx.new.conn.now) result
-        (Edits registers register_columns
-        (with_row (record { name = name.now; device = device.now; row = register }))) }
+        (Edits registers register_columns (with_row (registered_as name.now device.now register))) }
 {
     let place = number(register.place);
     let scale = value(register.scale);
@@ -132,32 +129,6 @@ pub fn register_count<S: Alter>(conn: &mut Connection<S>, device: &str) -> Resul
 {
     let rows = places_of(conn, device)?;
     Ok(rows.len())
-}
-
-/// The place of the last register, if there is one.
-fn last_rows<S: Alter>(conn: &mut Connection<S>) -> Result<Vec<Row>, Error>
-    ensures asks { Asks S.Store conn.old conn.new }
-    ensures shows { TellsRows S.Store conn.old conn.new registers register_columns result
-        (ShowsFirst every (LastFirst register_place) register_place_shown) }
-{
-    conn.query_all(
-        "SELECT place FROM registers ORDER BY place DESC LIMIT 1",
-        &[],
-    )
-}
-
-/// The greatest place of a register, which counts them.
-pub fn last_register<S: Alter>(conn: &mut Connection<S>) -> Result<Option<u64>, RowFault>
-    ensures finds { LooksUp S.Store conn.old conn.new
-        registers register_columns IsSoundRegistered result
-        (IsLast every HasRegisterPlace register_place) }
-    ensures sound { IfOk result (λ found. IfSome found IsPlace) }
-{
-    let rows = last_rows(conn)?;
-    match rows.first() {
-        None => Ok(None),
-        Some(row) => Ok(Some(place(row)?)),
-    }
 }
 
 /// The place of the last register inside a transaction, if there is one, in its first column.

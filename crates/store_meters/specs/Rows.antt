@@ -28,6 +28,9 @@ pub record Installed : Type 0 where
   pub register : List ℕ
   pub row : InstallationRow
 
+abbrev pub meter_at : (meter register : List ℕ) → InstallationRow → Installed
+meter_at meter register row = record { meter = meter; register = register; row = row }
+
 abbrev pub installed_columns : Installed → Row
 installed_columns i =
     Int (pos i.row.place) ∷ Null ∷ Text i.meter ∷ Text i.register ∷ Int (pos i.row.ceiling)

@@ -2,8 +2,7 @@
 ghost use Rattle.std.specs.Prelude.{◌≡◌, IfOk};
 ghost use Rattle.sqlite.specs.Order.{column};
 ghost use Rattle.store_tables.specs.Asking.{ReadsRow};
-ghost use Rattle.store_tables.specs.Columns.{whole_in, or_damaged};
-ghost use Rattle.store_tables.specs.Limits.{greatest_place};
+ghost use Rattle.store_tables.specs.Columns.{or_damaged};
 ghost use Rattle.store_meters.specs.Rows.{range_shown, HasRange, IsRange, IsSoundRanged, flag_in};
 ghost use Rattle.store_meters.specs.Rows.{last_in, installation_in, installed_shown, IsInstalled};
 ghost use Rattle.store_meters.specs.Rows.{IsSoundInstallation, IsSoundInstalled};
@@ -22,13 +21,6 @@ fn flag(row: &Row, at: usize) -> Result<bool, RowFault>
         1 => Ok(true),
         _ => Err(RowFault::Damaged),
     }
-}
-
-/// A place in the first column.
-pub(crate) fn place(row: &Row) -> Result<u64, RowFault>
-    ensures { result ≡ or_damaged (whole_in 1 greatest_place (column row.now 0)) }
-{
-    whole(row, 0, 1, GREATEST_PLACE)
 }
 
 /// Where a meter stands.

@@ -6,17 +6,24 @@ ghost use Rattle.store_tables.specs.Steps.{Steps};
 ghost use Rattle.store_tables.specs.Answer.{IsFound, IsLast, AnyOrder, LastFirst, every};
 ghost use Rattle.store_tables.specs.Asking.{Asks, AsksInside, TellsRows, ShowsFirst, LooksUp};
 ghost use Rattle.store_tables.specs.Limits.{IsPlace};
-ghost use Rattle.store_meters.specs.Rows.{installed_columns, installed_shown};
+ghost use Rattle.store_meters.specs.Rows.{meter_at, installed_columns, installed_shown};
 ghost use Rattle.store_meters.specs.Rows.{installed_place_shown, installed_place, is_meter, is_at};
 ghost use Rattle.store_meters.specs.Rows.{IsInstalled, HasInstalledPlace, moved, ended};
 ghost use Rattle.store_meters.specs.Rows.{ended_number, IsSoundLast, IsSoundInstallation};
 ghost use Rattle.store_meters.specs.Rows.{IsSoundInstalled};
 ghost use Rattle.store_meters.specs.Trees.{installations};
 
-use crate::columns::{place, read_installation};
+use crate::columns::read_installation;
 use crate::rows::{Installation, InstallationRow, LastRow};
 use sqlite::{Alter, Connection, Error, Row, Transaction, params};
-use store_tables::{RowFault, number, signed};
+use store_tables::{GREATEST_PLACE, RowFault, first_whole, number, signed};
+
+/// The row of a meter.
+const OF_METER: &str =
+    "SELECT place, meter, register, ceiling, ended, last_moment, last_raw, last_sf, total FROM installations WHERE meter = ?1 LIMIT 1";
+
+/// The place of the last installation.
+const LAST: &str = "SELECT place FROM installations ORDER BY place DESC LIMIT 1";
 
 /// The flag as the table has it.
 fn flag(is: bool) -> u32
@@ -35,8 +42,7 @@ pub fn insert_installation<S: Alter>(
     requires sound { IsSoundInstallation row }
     ensures same_reference { tx.new.conn.ghost_name ≡ tx.old.conn.ghost_name }
     ensures does { Steps (state S.Store tx.old.conn.now) (state S.Store tx.new.conn.now) result
-        (Edits installations installed_columns
-        (with_row (record { meter = meter.now; register = register.now; row = row }))) }
+        (Edits installations installed_columns (with_row (meter_at meter.now register.now row))) }
 {
     let place = number(row.place);
     let ceiling = number(row.ceiling);
@@ -98,10 +104,7 @@ fn rows_of<S: Alter>(conn: &mut Connection<S>, meter: &str) -> Result<Vec<Row>, 
     ensures shows { TellsRows S.Store conn.old conn.new installations installed_columns result
         (ShowsFirst (is_meter meter.now) AnyOrder installed_shown) }
 {
-    conn.query_all(
-        "SELECT place, meter, register, ceiling, ended, last_moment, last_raw, last_sf, total FROM installations WHERE meter = ?1 LIMIT 1",
-        params![meter],
-    )
+    conn.query_all(OF_METER, params![meter])
 }
 
 /// The installation of a meter.
@@ -156,10 +159,7 @@ fn last_rows<S: Alter>(conn: &mut Connection<S>) -> Result<Vec<Row>, Error>
     ensures shows { TellsRows S.Store conn.old conn.new installations installed_columns result
         (ShowsFirst every (LastFirst installed_place) installed_place_shown) }
 {
-    conn.query_all(
-        "SELECT place FROM installations ORDER BY place DESC LIMIT 1",
-        &[],
-    )
+    conn.query_all(LAST, &[])
 }
 
 /// The greatest place of an installation, which counts them.
@@ -170,10 +170,7 @@ pub fn last_installation<S: Alter>(conn: &mut Connection<S>) -> Result<Option<u6
     ensures sound { IfOk result (λ found. IfSome found IsPlace) }
 {
     let rows = last_rows(conn)?;
-    match rows.first() {
-        None => Ok(None),
-        Some(row) => Ok(Some(place(row)?)),
-    }
+    first_whole(&rows, 1, GREATEST_PLACE)
 }
 
 /// The row of a meter inside a transaction, if there is one; `read_installation` reads it.
@@ -187,10 +184,7 @@ pub fn installation_rows<S: Alter>(
         installations installed_columns result
         (ShowsFirst (is_meter meter.now) AnyOrder installed_shown) }
 {
-    tx.query_all(
-        "SELECT place, meter, register, ceiling, ended, last_moment, last_raw, last_sf, total FROM installations WHERE meter = ?1 LIMIT 1",
-        params![meter],
-    )
+    tx.query_all(OF_METER, params![meter])
 }
 
 /// The place of the last installation inside a transaction, if there is one, in its first column.
@@ -201,8 +195,5 @@ pub fn last_installation_rows<S: Alter>(tx: &mut Transaction<'_, S>) -> Result<V
         installations installed_columns result
         (ShowsFirst every (LastFirst installed_place) installed_place_shown) }
 {
-    tx.query_all(
-        "SELECT place FROM installations ORDER BY place DESC LIMIT 1",
-        &[],
-    )
+    tx.query_all(LAST, &[])
 }

@@ -11,7 +11,10 @@ ghost use Rattle.store_meters.specs.Trees.{ranges};
 
 use energy_core::{MAX_RANGE, MIN_RANGE};
 use sqlite::{Alter, Connection, Error, Row, Transaction, params};
-use store_tables::{RowFault, number, whole};
+use store_tables::{RowFault, first_whole, number};
+
+/// The row of a meter.
+const OF_METER: &str = "SELECT \"range\" FROM ranges WHERE meter = ?1 LIMIT 1";
 
 /// Adds how many counts the counter of a meter has.
 pub fn insert_range<S: Alter>(
@@ -37,10 +40,7 @@ fn rows_of<S: Alter>(conn: &mut Connection<S>, meter: &str) -> Result<Vec<Row>, 
     ensures shows { TellsRows S.Store conn.old conn.new ranges ranged_columns result
         (ShowsFirst (is_range_of meter.now) AnyOrder range_shown) }
 {
-    conn.query_all(
-        "SELECT \"range\" FROM ranges WHERE meter = ?1 LIMIT 1",
-        params![meter],
-    )
+    conn.query_all(OF_METER, params![meter])
 }
 
 /// How many counts the counter of a meter has.
@@ -50,10 +50,7 @@ pub fn range_of<S: Alter>(conn: &mut Connection<S>, meter: &str) -> Result<Optio
     ensures sound { IfOk result (λ found. IfSome found IsRange) }
 {
     let rows = rows_of(conn, meter)?;
-    match rows.first() {
-        None => Ok(None),
-        Some(row) => Ok(Some(whole(row, 0, MIN_RANGE, MAX_RANGE)?)),
-    }
+    first_whole(&rows, MIN_RANGE, MAX_RANGE)
 }
 
 /// The row of a meter inside a transaction, if there is one; `read_range` reads it.
@@ -63,8 +60,5 @@ pub fn range_rows<S: Alter>(tx: &mut Transaction<'_, S>, meter: &str) -> Result<
     ensures shows { TellsRows S.Store tx.old.conn.now tx.new.conn.now ranges ranged_columns result
         (ShowsFirst (is_range_of meter.now) AnyOrder range_shown) }
 {
-    tx.query_all(
-        "SELECT \"range\" FROM ranges WHERE meter = ?1 LIMIT 1",
-        params![meter],
-    )
+    tx.query_all(OF_METER, params![meter])
 }

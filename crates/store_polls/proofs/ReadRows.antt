@@ -20,15 +20,12 @@ use Rattle.store_polls.specs.declared.rows.OutcomeRow.{OutcomeRow}
 use Rattle.store_polls.specs.declared.rows.ReplyKind.{ReplyKind}
 use Rattle.store_polls.specs.declared.rows.ReplyKind.TheVariants as kind
 use Rattle.store_polls.specs.declared.rows.Repeat.{Repeat}
-use Rattle.store_polls.specs.Rows.{number_shown, poll_number, poll_in, HasNumber, IsSoundPoll, IsSoundStarted, greatest_count, outcome_shown, outcome_in, malformation_of, lost_of, malformed_of, lost_by, outcome_of, IsOutcome, IsSoundOutcome, hold_place_shown, hold_place, HasHoldPlace, IsSoundHeld, kind_word, kind_in, reply_shown, repeat_in, repeat_as, IsRepeat, IsSoundKept, start_of, start_shown, HasStart, outcome_moment, outcome_moment_shown, HasOutcomeMoment, hold_moment, hold_moment_shown, HasHoldMoment, reply_moment, reply_moment_shown, HasReplyMoment}
+use Rattle.store_polls.specs.Rows.{number_shown, poll_number, poll_in, HasNumber, IsSoundPoll, IsSoundStarted, greatest_count, outcome_shown, outcome_in, malformation_of, lost_of, malformed_of, lost_by, outcome_of, IsOutcome, IsSoundOutcome, IsSoundHeld, kind_word, kind_in, reply_shown, repeat_in, repeat_as, IsRepeat, IsSoundKept, start_of, start_shown, HasStart, outcome_moment, outcome_moment_shown, HasOutcomeMoment, hold_moment, hold_moment_shown, HasHoldMoment, reply_moment, reply_moment_shown, HasReplyMoment}
 
 -- ---- numbers
 
 pub reads_poll_number : (row : Row) (r : Result ℕ RowFault) → r ≡ or_damaged (whole_in 1 greatest_place (column row 0)) → ReadsRow row number_shown HasNumber IsSoundStarted r
 reads_poll_number = reads_number 1 greatest_place number_shown poll_number IsSoundStarted (λ p. refl) (λ p is. is.row.number)
-
-pub reads_hold_place : (row : Row) (r : Result ℕ RowFault) → r ≡ or_damaged (whole_in 1 greatest_place (column row 0)) → ReadsRow row hold_place_shown HasHoldPlace IsSoundHeld r
-reads_hold_place = reads_number 1 greatest_place hold_place_shown hold_place IsSoundHeld (λ h. refl) (λ h is. is.place)
 
 -- ---- moments
 

@@ -192,9 +192,6 @@ hold_place h = h.row.place
 abbrev pub hold_place_shown : Held → Row
 hold_place_shown h = Int (pos h.row.place) ∷ []
 
-abbrev pub HasHoldPlace : Held → ℕ → Type 0
-HasHoldPlace h place = place ≡ h.row.place
-
 pub record IsSoundHold (h : HoldRow) : Type 0 where
   pub place : IsPlace h.place
   pub poll : IsPlace h.poll
@@ -240,6 +237,11 @@ pub record Kept : Type 0 where
   pub request : List ℕ
   pub kind : ReplyKind
   pub moment : ℕ
+
+abbrev pub kept_under : (caller : List ℕ) → (number : ℕ) → (request : List ℕ) → ReplyKind
+    → (moment : ℕ) → Kept
+kept_under caller number request kind moment =
+    record { caller = caller; number = number; request = request; kind = kind; moment = moment }
 
 abbrev pub reply_columns : Kept → Row
 reply_columns k =

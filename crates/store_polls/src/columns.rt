@@ -2,40 +2,16 @@
 ghost use Rattle.std.specs.Prelude.{◌≡◌, IfOk};
 ghost use Rattle.sqlite.specs.Order.{column};
 ghost use Rattle.store_tables.specs.Asking.{ReadsRow};
-ghost use Rattle.store_tables.specs.Columns.{whole_in, or_damaged};
-ghost use Rattle.store_tables.specs.Limits.{greatest_place, latest_moment, IsPlace};
+ghost use Rattle.store_tables.specs.Columns.{or_damaged};
 ghost use Rattle.store_polls.specs.Rows.{poll_in, poll_shown, IsStarted, IsSoundPoll};
 ghost use Rattle.store_polls.specs.Rows.{IsSoundStarted, greatest_count, malformation_of, lost_of};
-ghost use Rattle.store_polls.specs.Rows.{outcome_of, outcome_in, hold_place_shown, HasHoldPlace};
-ghost use Rattle.store_polls.specs.Rows.{IsSoundHeld, kind_in, same_bytes, repeat_in};
+ghost use Rattle.store_polls.specs.Rows.{outcome_of, outcome_in, kind_in, same_bytes, repeat_in};
 
 use crate::rows::{OutcomeRow, Poll, PollRow, Repeat, ReplyKind};
 use poll_core::{LostCause, Malformation, Outcome};
 use sqlite::Row;
 use sqlite::types::ValueRef;
 use store_tables::{GREATEST_PLACE, LATEST_MOMENT, RowFault, function, text, whole};
-
-/// A place or number in the first column.
-pub(crate) fn place(row: &Row) -> Result<u64, RowFault>
-    ensures { result ≡ or_damaged (whole_in 1 greatest_place (column row.now 0)) }
-{
-    whole(row, 0, 1, GREATEST_PLACE)
-}
-
-/// A moment in the first column.
-pub(crate) fn moment(row: &Row) -> Result<u64, RowFault>
-    ensures { result ≡ or_damaged (whole_in 0 latest_moment (column row.now 0)) }
-{
-    whole(row, 0, 0, LATEST_MOMENT)
-}
-
-/// Reads the place of the last held reading of `last_hold_rows`.
-pub fn read_place(row: &Row) -> Result<u64, RowFault>
-    ensures read { ReadsRow row.now hold_place_shown HasHoldPlace IsSoundHeld result }
-    ensures sound { IfOk result IsPlace }
-{
-    place(row)
-}
 
 /// How many registers there may be from an address on.
 fn room(address: u16) -> u64

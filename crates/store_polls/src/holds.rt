@@ -41,7 +41,7 @@ pub fn insert_hold<S: Alter>(
     )
 }
 
-/// The place of the last held reading inside a transaction, if there is one; `read_place` reads it.
+/// The place of the last held reading inside a transaction, if there is one, in its first column.
 pub fn last_hold_rows<S: Alter>(tx: &mut Transaction<'_, S>) -> Result<Vec<Row>, Error>
     ensures same_reference { tx.new.conn.ghost_name ≡ tx.old.conn.ghost_name }
     ensures asks { AsksInside S.Store tx.old.conn.now tx.new.conn.now result }

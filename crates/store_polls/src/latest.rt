@@ -12,9 +12,8 @@ ghost use Rattle.store_polls.specs.Rows.{HasHoldMoment, IsSoundHeld, reply_colum
 ghost use Rattle.store_polls.specs.Rows.{reply_moment_shown, HasReplyMoment, IsSoundKept};
 ghost use Rattle.store_polls.specs.Trees.{polls, outcomes, holds, replies};
 
-use crate::columns::moment;
 use sqlite::{Alter, Connection, Error, Row};
-use store_tables::RowFault;
+use store_tables::{LATEST_MOMENT, RowFault, first_whole};
 
 /// The latest start of a poll, if there is one.
 fn start_rows<S: Alter>(conn: &mut Connection<S>) -> Result<Vec<Row>, Error>
@@ -35,10 +34,7 @@ pub fn latest_start<S: Alter>(conn: &mut Connection<S>) -> Result<Option<u64>, R
     ensures sound { IfOk result (λ found. IfSome found (λ n. n ≤ latest_moment)) }
 {
     let rows = start_rows(conn)?;
-    match rows.first() {
-        None => Ok(None),
-        Some(row) => Ok(Some(moment(row)?)),
-    }
+    first_whole(&rows, 0, LATEST_MOMENT)
 }
 
 /// The latest moment of an outcome, if there is one.
@@ -60,10 +56,7 @@ pub fn latest_outcome<S: Alter>(conn: &mut Connection<S>) -> Result<Option<u64>,
     ensures sound { IfOk result (λ found. IfSome found (λ n. n ≤ latest_moment)) }
 {
     let rows = outcome_rows(conn)?;
-    match rows.first() {
-        None => Ok(None),
-        Some(row) => Ok(Some(moment(row)?)),
-    }
+    first_whole(&rows, 0, LATEST_MOMENT)
 }
 
 /// The latest moment of a held reading, if there is one.
@@ -82,10 +75,7 @@ pub fn latest_hold<S: Alter>(conn: &mut Connection<S>) -> Result<Option<u64>, Ro
     ensures sound { IfOk result (λ found. IfSome found (λ n. n ≤ latest_moment)) }
 {
     let rows = hold_rows(conn)?;
-    match rows.first() {
-        None => Ok(None),
-        Some(row) => Ok(Some(moment(row)?)),
-    }
+    first_whole(&rows, 0, LATEST_MOMENT)
 }
 
 /// The latest moment of a kept reply, if there is one.
@@ -107,8 +97,5 @@ pub fn latest_reply<S: Alter>(conn: &mut Connection<S>) -> Result<Option<u64>, R
     ensures sound { IfOk result (λ found. IfSome found (λ n. n ≤ latest_moment)) }
 {
     let rows = reply_rows(conn)?;
-    match rows.first() {
-        None => Ok(None),
-        Some(row) => Ok(Some(moment(row)?)),
-    }
+    first_whole(&rows, 0, LATEST_MOMENT)
 }

@@ -9,7 +9,7 @@ mod polls;
 mod replies;
 mod rows;
 
-pub use columns::{read_place, read_poll};
+pub use columns::read_poll;
 pub use holds::{insert_hold, last_hold_rows};
 pub use latest::{latest_hold, latest_outcome, latest_reply, latest_start};
 pub use outcomes::{insert_outcome, outcome_of};

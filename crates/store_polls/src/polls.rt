@@ -12,10 +12,10 @@ ghost use Rattle.store_polls.specs.Rows.{IsSoundStarted};
 ghost use Rattle.store_polls.specs.Pending.{ShowsPending};
 ghost use Rattle.store_polls.specs.Trees.{polls};
 
-use crate::columns::{place, read_poll};
+use crate::columns::read_poll;
 use crate::rows::{Poll, PollRow};
 use sqlite::{Alter, Connection, Error, Row, Transaction, params};
-use store_tables::{RowFault, number};
+use store_tables::{GREATEST_PLACE, RowFault, first_whole, number};
 
 /// Adds a poll of a device.
 pub fn insert_poll<S: Alter>(
@@ -89,10 +89,7 @@ pub fn last_poll<S: Alter>(conn: &mut Connection<S>) -> Result<Option<u64>, RowF
     ensures sound { IfOk result (λ found. IfSome found IsPlace) }
 {
     let rows = last_rows(conn)?;
-    match rows.first() {
-        None => Ok(None),
-        Some(row) => Ok(Some(place(row)?)),
-    }
+    first_whole(&rows, 1, GREATEST_PLACE)
 }
 
 /// The polls that have no outcome, in order of their numbers; `read_poll` reads each.

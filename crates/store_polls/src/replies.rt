@@ -6,8 +6,8 @@ ghost use Rattle.store_tables.specs.Steps.{Steps};
 ghost use Rattle.store_tables.specs.Limits.{latest_moment};
 ghost use Rattle.store_tables.specs.Answer.{IsFound, AnyOrder};
 ghost use Rattle.store_tables.specs.Asking.{Asks, TellsRows, ShowsFirst, LooksUp};
-ghost use Rattle.store_polls.specs.Rows.{reply_columns, reply_shown, is_reply, IsCallNumber};
-ghost use Rattle.store_polls.specs.Rows.{IsRepeat, IsSoundKept};
+ghost use Rattle.store_polls.specs.Rows.{kept_under, reply_columns, reply_shown, is_reply};
+ghost use Rattle.store_polls.specs.Rows.{IsCallNumber, IsRepeat, IsSoundKept};
 ghost use Rattle.store_polls.specs.Trees.{replies};
 
 use crate::columns::repeat;
@@ -28,13 +28,8 @@ pub fn insert_reply<S: Alter>(
     requires moment { moment ≤ latest_moment }
     ensures same_reference { tx.new.conn.ghost_name ≡ tx.old.conn.ghost_name }
     ensures does { Steps (state S.Store tx.old.conn.now) (state S.Store tx.new.conn.now) result
-        (Edits replies reply_columns (with_row (record {
-          caller = caller.now;
-          number = number;
-          request = request.now;
-          kind = kind;
-          moment = moment;
-        }))) }
+        (Edits replies reply_columns (with_row
+        (kept_under caller.now number request.now kind moment))) }
 {
     let number = store_tables::number(number);
     let moment = store_tables::number(moment);

@@ -1,16 +1,17 @@
 -- From the rows that a query shows to what a look-up answers.
-use Rattle.std.proofs.Common.{◌≡◌, ◌≢◌, ℕ, List, [], ◌∷◌, map, take, slice_get, Bool, Option, Some, None, Ok, Err, Result, IsErrAnd, refl, sym, ap, subst, ◌∙◌}
+use Rattle.std.proofs.Common.{◌≡◌, ◌≢◌, ◌≤◌, ℕ, List, [], ◌∷◌, map, take, slice_get, Bool, Option, Some, None, Ok, Err, Result, IfOk, IfSome, IsErrAnd, refl, sym, ap, subst, ◌∙◌}
 use Rattle.std.specs.List.{AllByRecursion}
 use Rattle.std.proofs.lemmas.List.Sorted.{All-permutation}
 use Rattle.std.proofs.lemmas.List.Elements.{All-from_recursion, recursion_from_All}
 use Rattle.sqlite_keyed.proofs.ListLemmas.{all-filter}
-use Rattle.sqlite.specs.Order.{Row}
+use Rattle.sqlite.specs.Order.{Row, column}
 use Rattle.sqlite.specs.declared.error.Error.{Error}
 use Rattle.sqlite.specs.Store.{Ghosts}
 use Rattle.sqlite.specs.Held.{Held}
 use Rattle.store_tables.specs.declared.faults.RowFault.{RowFault}
 use Rattle.store_tables.specs.declared.faults.RowFault.TheVariants.{Sql, Damaged}
 use Rattle.store_tables.specs.Answer.{AreFound}
+use Rattle.store_tables.specs.Columns.{whole_in, first_of, first_in, or_damaged, and_then}
 use Rattle.store_tables.specs.Asking.{Asks, Tells, ShowsFirst, ReadsRow, LooksUp}
 
 module _ {S A X : Type 0} (g : Ghosts S) (old new : Held S) (tree : ℕ) (columns : X → Row) (IsSound : X → Type 0) (Answers : List X → A → Type 0) (asks : Asks g old new) where
@@ -70,3 +71,28 @@ module _ {S A X : Type 0} (g : Ghosts S) (old new : Held S) (tree : ℕ) (column
         let one = some_shown row it.0 is it.2 in
         subst (λ f. f ≢ Damaged) (sym fails) (reads.fault one.0 one.2 (one_sound rows it.0 one.0 it.1 sound one.1));
   }
+
+-- ---- the number of the first row
+
+module _ {S X : Type 0} (g : Ghosts S) (old new : Held S) (tree : ℕ) (columns : X → Row) (IsSound : X → Type 0) (asks : Asks g old new) (passes : X → Bool) (Later : X → X → Type 0) (shown : X → Row)
+    (items : List Row) (shows : Tells {E = Error} g old new tree columns (Ok items) (ShowsFirst passes Later shown)) (Answers : List X → Option ℕ → Type 0) (low high : ℕ) (of : X → ℕ)
+    (reads : (row : Row) (r : Result ℕ RowFault) → r ≡ or_damaged (whole_in low high (column row 0)) → ReadsRow row shown (λ x n. n ≡ of x) IsSound r)
+    (none : (xs found : List X) → AreFound passes Later xs found → slice_get found 0 ≡ None → Answers xs None)
+    (some : (xs found : List X) (x : X) (n : ℕ) → AreFound passes Later xs found → slice_get found 0 ≡ Some x → n ≡ of x → Answers xs (Some n)) where
+  looked_row : (row : Row) (r : Result ℕ RowFault) → slice_get items 0 ≡ Some row → r ≡ or_damaged (whole_in low high (column row 0)) → LooksUp g old new tree columns IsSound (and_then r (λ n. Ok (Some n))) Answers
+  looked_row row (Ok n) is read =
+      looked_some g old new tree columns IsSound asks passes Later shown items shows Answers (λ x m. m ≡ of x) row n is (reads row (Ok n) read) (λ xs found x are at seen. some xs found x n are at seen)
+  looked_row row (Err e) is read =
+      looked_fault g old new tree columns IsSound asks passes Later shown items shows Answers (λ x m. m ≡ of x) row e (Err e) is (reads row (Err e) read) refl
+
+  looked_of : (o : Option Row) → slice_get items 0 ≡ o → LooksUp g old new tree columns IsSound (first_of low high o) Answers
+  looked_of None is = looked_none g old new tree columns IsSound asks passes Later shown items shows Answers is none
+  looked_of (Some row) is = looked_row row (or_damaged (whole_in low high (column row 0))) is refl
+
+  pub looked_number : (r : Result (Option ℕ) RowFault) → r ≡ first_in low high items → LooksUp g old new tree columns IsSound r Answers
+  looked_number r is = subst (λ s. LooksUp g old new tree columns IsSound s Answers) (sym is) (looked_of (slice_get items 0) refl)
+
+pub at_most : (low high : ℕ) (r : Result (Option ℕ) RowFault) → IfOk r (λ found. IfSome found (λ n. (low ≤ n) × (n ≤ high))) → IfOk r (λ found. IfSome found (λ n. n ≤ high))
+at_most low high (Err e) h = tt
+at_most low high (Ok None) h = tt
+at_most low high (Ok (Some n)) h = h.1

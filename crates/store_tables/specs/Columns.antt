@@ -1,8 +1,10 @@
 -- A value of a row as a number or a text within its bounds.
-use Rattle.std.specs.Prelude.{ℕ, suc, ℤ, pos, negsuc, Bool, nat_le, ◌&&◌, ◌==◌, if◌then◌else◌, Option, Some, None, Result, Ok, Err}
+use Rattle.std.specs.Prelude.{ℕ, suc, ℤ, pos, negsuc, Bool, nat_le, ◌&&◌, ◌==◌, if◌then◌else◌, List, Option, Some, None, Result, Ok, Err}
+use Rattle.std.specs.List.{slice_get}
 use Rattle.std.specs.Option.{option_and_then}
 use Rattle.mb_wire.specs.declared.span.ReadFunction.{ReadFunction}
 use Rattle.mb_wire.specs.declared.span.ReadFunction.TheVariants.{HoldingRegisters, InputRegisters}
+use Rattle.sqlite.specs.Order.{Row, column}
 use Rattle.sqlite.specs.declared.types.Value.{Value}
 use Rattle.sqlite.specs.declared.types.Value.TheVariants.{Null, Int, Real, Text, Blob}
 use Rattle.store_tables.specs.declared.faults.RowFault.{RowFault}
@@ -47,3 +49,12 @@ abbrev pub and_then : {X Y : Type 0} → Result X RowFault → (X → Result Y R
     → Result Y RowFault
 and_then (Err e) next = Err e
 and_then (Ok x) next = next x
+
+-- the whole number in the first column of a row, if there is a row, and of the first of some rows
+abbrev pub first_of : (low high : ℕ) → Option Row → Result (Option ℕ) RowFault
+first_of low high None = Ok None
+first_of low high (Some row) =
+    and_then (or_damaged (whole_in low high (column row 0))) (λ n. Ok (Some n))
+
+abbrev pub first_in : (low high : ℕ) → List Row → Result (Option ℕ) RowFault
+first_in low high rows = first_of low high (slice_get rows 0)

@@ -1,11 +1,11 @@
 //! Columns of a row that a query answered.
-ghost use Rattle.std.specs.Prelude.{◌≡◌, ◌≤◌, string_bytes, IsUtf8, IfOk, IfErr};
+ghost use Rattle.std.specs.Prelude.{◌≡◌, ◌≤◌, string_bytes, IsUtf8, IfOk, IfErr, IfSome};
 ghost use Rattle.sqlite.specs.declared.types.Value.TheVariants.{Text};
 ghost use Rattle.sqlite.specs.declared.error.ErrorCode.TheVariants.{OutOfMemory};
 ghost use Rattle.sqlite.specs.declared.error.Error.TheVariants.{SqliteFailure};
 ghost use Rattle.sqlite.specs.Order.{column};
 ghost use Rattle.store_tables.specs.declared.faults.RowFault.TheVariants.{Sql};
-ghost use Rattle.store_tables.specs.Columns.{whole_in, within, function_in, or_damaged};
+ghost use Rattle.store_tables.specs.Columns.{whole_in, first_in, within, function_in, or_damaged};
 
 use crate::faults::RowFault;
 use mb_wire::ReadFunction;
@@ -30,6 +30,17 @@ pub fn whole(row: &Row, at: usize, low: u64, high: u64) -> Result<u64, RowFault>
             }
         }
         _ => Err(RowFault::Damaged),
+    }
+}
+
+/// The whole number from `low` to `high` in the first column of the first of these rows, if there is a row.
+pub fn first_whole(rows: &[Row], low: u64, high: u64) -> Result<Option<u64>, RowFault>
+    ensures read { result ≡ first_in low high rows.now }
+    ensures bounds { IfOk result (λ found. IfSome found (λ n. (low ≤ n) × (n ≤ high))) }
+{
+    match rows.first() {
+        None => Ok(None),
+        Some(row) => Ok(Some(whole(row, 0, low, high)?)),
     }
 }
 

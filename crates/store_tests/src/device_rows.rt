@@ -8,8 +8,8 @@ use std::alloc::{AllocError, Global};
 use std::test::Fail;
 use store_lists::{
     Device, DeviceRow, Point, PointRow, RegisterRow, RegisterScale, device_rows, insert_device,
-    insert_register, last_device, last_register, point_rows, read_device, read_point,
-    read_register, register_count, register_of, register_rows, replace_points,
+    insert_register, point_rows, read_device, read_point, read_register, register_count,
+    register_of, register_rows, replace_points,
 };
 use store_tables::RowFault;
 
@@ -113,7 +113,6 @@ fn devices_stand_in_the_order_of_their_places(rt: HostRuntime) -> Result<(), Fai
     assert_eq!(rt; devices.len(), 2);
     assert!(rt; is_device(&read_device(&devices[0]), "inv", FIRST_DEVICE));
     assert!(rt; is_device(&read_device(&devices[1]), "pv", DEVICE));
-    assert_eq!(rt; last_device(&mut conn), Ok(Some(2)));
     Ok(())
 }
 
@@ -125,7 +124,6 @@ fn registers_are_those_of_their_device(rt: HostRuntime) -> Result<(), Fail> {
     let scale = RegisterScale::At(40_096);
     assert!(rt; matches!(read_register(&registers[0]), Ok(main) if main.row.scale == scale));
     assert_eq!(rt; register_count(&mut conn, "pv"), Ok(1));
-    assert_eq!(rt; last_register(&mut conn), Ok(Some(2)));
     assert!(rt; matches!(register_of(&mut conn, "pv"), Ok(None)));
     Ok(())
 }

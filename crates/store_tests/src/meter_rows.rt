@@ -4,14 +4,14 @@ use sqlite::{Connection, Error, MemStore, Row, Transaction};
 use std::alloc::Global;
 use std::test::Fail;
 use store_entries::{
-    EntryRow, entry_at, entry_rows, insert_entry, insert_void, last_entry_rows, last_place,
-    read_entry, read_place, read_void, roll_entry, void_rows,
+    EntryRow, entry_at, entry_rows, insert_entry, insert_void, last_entry_rows, read_entry,
+    read_void, roll_entry, void_rows,
 };
 use store_meters::{
     Installation, InstallationRow, end_installation, installation_at, installation_of,
     installation_rows, last_installation, move_installation, range_of, read_installation,
 };
-use store_tables::RowFault;
+use store_tables::{GREATEST_PLACE, RowFault, first_whole};
 
 fn is_of_row(at: &Installation, row: InstallationRow) -> bool {
     at.meter.as_str() == "m1" && at.register.as_str() == "main" && at.row == row
@@ -45,9 +45,6 @@ fn entries_are_found_by_their_places(rt: HostRuntime) -> Result<(), Fail> {
     let mut conn = one_meter(rt.alloc())?;
     for (place, entry) in &ENTRIES {
         assert_eq!(rt; entry_at(&mut conn, "m1", *place), Ok(*entry), "{place}");
-    }
-    for (meter, last) in &[("m1", Some(2)), ("m2", None)] {
-        assert_eq!(rt; last_place(&mut conn, meter), Ok(*last), "{meter}");
     }
     let rows = entry_rows(&mut conn, "m1")?;
     assert_eq!(rt; rows.len(), 2);
@@ -140,7 +137,7 @@ fn a_transaction_sees_its_own_writes(rt: HostRuntime) -> Result<(), Fail> {
     assert_eq!(rt; installed.len(), 1);
     assert!(rt; is_ended(&installed[0]));
     assert_eq!(rt; last.len(), 1);
-    assert_eq!(rt; read_place(&last[0]), Ok(3));
-    assert_eq!(rt; last_place(&mut conn, "m1"), Ok(Some(2)));
+    assert_eq!(rt; first_whole(&last, 1, GREATEST_PLACE), Ok(Some(3)));
+    assert_eq!(rt; entry_at(&mut conn, "m1", 3), Ok(None));
     Ok(())
 }

@@ -9,9 +9,9 @@ use std::test::Fail;
 use store_polls::{
     HoldRow, OutcomeRow, Poll, PollRow, Repeat, ReplyKind, insert_hold, insert_outcome,
     insert_poll, insert_reply, last_hold_rows, last_poll, outcome_of, pending_rows, poll_at,
-    read_place, read_poll, repeat_of,
+    read_poll, repeat_of,
 };
-use store_tables::RowFault;
+use store_tables::{GREATEST_PLACE, RowFault, first_whole};
 
 /// Three registers from 40094 on.
 const FIRST: PollRow = PollRow {
@@ -136,7 +136,7 @@ fn a_request_is_kept_with_its_bytes(rt: HostRuntime) -> Result<(), Fail> {
     let mut conn = three_polls(rt.alloc())?;
     let held = keep(&mut conn)?;
     assert_eq!(rt; held.len(), 1);
-    assert_eq!(rt; read_place(&held[0]), Ok(1));
+    assert_eq!(rt; first_whole(&held, 1, GREATEST_PLACE), Ok(Some(1)));
     for (caller, number, request, repeat) in &REQUESTS {
         let found = repeat_of(&mut conn, caller, *number, request);
         assert_eq!(rt; found, Ok(*repeat), "{caller} {number}");

@@ -1,10 +1,8 @@
-use Rattle.store_tables.specs.Limits.{greatest_place}
-use Rattle.store_tables.proofs.ReadLemmas.{number_bounds}
 use Rattle.store_entries.proofs.ReadRows.{reads_void}
 use Rattle.store_entries.proofs.columns.read_void.Goals as goal
 
 pub returns-clause-read : goal.returns-clause-read
-returns-clause-read c = reads_void c.args.row.now c.place.result c.place.ensures
+returns-clause-read c = reads_void c.args.row.now c.whole.result c.whole.ensures.read
 
 pub returns-clause-sound : goal.returns-clause-sound
-returns-clause-sound c = number_bounds 1 greatest_place c.args.row.now c.place.result c.place.ensures
+returns-clause-sound c = c.whole.ensures.bounds

@@ -1,29 +1,19 @@
-use Rattle.std.proofs.Common.{sym, ◌∙◌, ap, slice_get}
-use Rattle.std.specs.Option.{option_copied}
+use Rattle.std.proofs.Common.{ap, ◌∙◌}
+use Rattle.energy_core.specs.declared.limits.TheConstants.{MAX_RANGE, MIN_RANGE}
 use Rattle.store_tables.specs.Answer.{AnyOrder}
+use Rattle.store_tables.specs.Columns.{first_in}
 use Rattle.store_tables.proofs.Selects.{found_none, found_some}
-use Rattle.store_tables.proofs.LookUps.{looked_none, looked_some, looked_fault}
+use Rattle.store_tables.proofs.LookUps.{looked_number}
 use Rattle.store_meters.specs.Rows.{HasRange, IsSoundRanged, is_range_of, range_shown, ranged_columns}
 use Rattle.store_meters.specs.Trees.{ranges}
 use Rattle.store_meters.proofs.ReadRows as reading
 use Rattle.store_meters.proofs.ranges.range_of.Goals as goal
 
-pub returns-in-None-clause-finds : goal.returns-in-None-clause-finds
-returns-in-None-clause-finds g c =
-    looked_none g.S.Store c.args.conn.now c.rows_of.new.conn ranges ranged_columns IsSoundRanged c.in_ok-rows.ensures.asks (is_range_of c.args.meter.now) (AnyOrder) range_shown c.in_ok-rows.rows.items c.in_ok-rows.ensures.shows _
-    (ap (λ xs. slice_get xs 0) (sym c.deref.ensures.value) ∙ (sym c.first.ensures.value ∙ ap option_copied c.in-None.is)) (λ xs found are is. found_none (is_range_of c.args.meter.now) HasRange (AnyOrder) xs found are is)
-
-pub returns-in_err-whole-in-Some-clause-finds : goal.returns-in_err-whole-in-Some-clause-finds
-returns-in_err-whole-in-Some-clause-finds g c =
-    looked_fault g.S.Store c.args.conn.now c.rows_of.new.conn ranges ranged_columns IsSoundRanged c.in_ok-rows.ensures.asks (is_range_of c.args.meter.now) (AnyOrder) range_shown c.in_ok-rows.rows.items c.in_ok-rows.ensures.shows _
-    HasRange c.in-Some.row.now c.in_err-whole-in-Some.field-0.0 c.from_residual-in_err-whole-in-Some.result
-    (ap (λ xs. slice_get xs 0) (sym c.deref.ensures.value) ∙ (sym c.first.ensures.value ∙ ap option_copied c.in-Some.is)) (reading.reads_range c.in-Some.row.now _ c.in_err-whole-in-Some.ensures.read) c.from_residual-in_err-whole-in-Some.ensures.1
-
 pub returns-clause-finds : goal.returns-clause-finds
 returns-clause-finds g c =
-    looked_some g.S.Store c.args.conn.now c.rows_of.new.conn ranges ranged_columns IsSoundRanged c.in_ok-rows.ensures.asks (is_range_of c.args.meter.now) (AnyOrder) range_shown c.in_ok-rows.rows.items c.in_ok-rows.ensures.shows _
-    HasRange c.in-Some.row.now c.in_ok-whole-in-Some.field-0 (ap (λ xs. slice_get xs 0) (sym c.deref.ensures.value) ∙ (sym c.first.ensures.value ∙ ap option_copied c.in-Some.is))
-    (reading.reads_range c.in-Some.row.now _ c.in_ok-whole-in-Some.ensures.read) (λ xs found x are is seen. found_some (is_range_of c.args.meter.now) HasRange (AnyOrder) xs found x _ are is seen)
+    let mine = is_range_of c.args.meter.now in
+    looked_number g.S.Store c.args.conn.now c.rows_of.new.conn ranges ranged_columns IsSoundRanged c.in_ok-rows.ensures.asks mine AnyOrder range_shown c.in_ok-rows.rows.items c.in_ok-rows.ensures.shows _
+    MIN_RANGE MAX_RANGE (λ r. r.range) reading.reads_range (found_none mine HasRange AnyOrder) (found_some mine HasRange AnyOrder) c.first_whole.result (c.first_whole.ensures.read ∙ ap (first_in MIN_RANGE MAX_RANGE) c.deref.ensures.value)
 
 pub returns-clause-sound : goal.returns-clause-sound
-returns-clause-sound g c = c.in_ok-whole-in-Some.ensures.bounds
+returns-clause-sound g c = c.first_whole.ensures.bounds

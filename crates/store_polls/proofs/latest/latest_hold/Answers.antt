@@ -1,31 +1,18 @@
-use Rattle.std.proofs.Common.{sym, ◌∙◌, ap, slice_get, Ok}
-use Rattle.std.specs.Option.{option_copied}
+use Rattle.std.proofs.Common.{ap, ◌∙◌}
 use Rattle.store_tables.specs.Answer.{LastFirst, every}
-use Rattle.store_tables.proofs.Selects.{found_none, last_some}
 use Rattle.store_tables.specs.Limits.{latest_moment}
-use Rattle.store_tables.proofs.ReadLemmas.{number_bounds}
-use Rattle.store_tables.proofs.LookUps.{looked_none, looked_some, looked_fault}
+use Rattle.store_tables.specs.Columns.{first_in}
+use Rattle.store_tables.proofs.Selects.{found_none, last_some}
+use Rattle.store_tables.proofs.LookUps.{at_most, looked_number}
 use Rattle.store_polls.specs.Rows.{HasHoldMoment, IsSoundHeld, hold_columns, hold_moment, hold_moment_shown}
 use Rattle.store_polls.specs.Trees.{holds}
 use Rattle.store_polls.proofs.ReadRows as reading
 use Rattle.store_polls.proofs.latest.latest_hold.Goals as goal
 
-pub returns-in-None-clause-finds : goal.returns-in-None-clause-finds
-returns-in-None-clause-finds g c =
-    looked_none g.S.Store c.args.conn.now c.hold_rows.new.conn holds hold_columns IsSoundHeld c.in_ok-rows.ensures.asks (every) (LastFirst hold_moment) hold_moment_shown c.in_ok-rows.rows.items c.in_ok-rows.ensures.shows _
-    (ap (λ xs. slice_get xs 0) (sym c.deref.ensures.value) ∙ (sym c.first.ensures.value ∙ ap option_copied c.in-None.is)) (λ xs found are is. found_none (every) HasHoldMoment (LastFirst hold_moment) xs found are is)
-
-pub returns-in_err-moment-in-Some-clause-finds : goal.returns-in_err-moment-in-Some-clause-finds
-returns-in_err-moment-in-Some-clause-finds g c =
-    looked_fault g.S.Store c.args.conn.now c.hold_rows.new.conn holds hold_columns IsSoundHeld c.in_ok-rows.ensures.asks (every) (LastFirst hold_moment) hold_moment_shown c.in_ok-rows.rows.items c.in_ok-rows.ensures.shows _
-    HasHoldMoment c.in-Some.row.now c.in_err-moment-in-Some.field-0.0 c.from_residual-in_err-moment-in-Some.result
-    (ap (λ xs. slice_get xs 0) (sym c.deref.ensures.value) ∙ (sym c.first.ensures.value ∙ ap option_copied c.in-Some.is)) (reading.reads_hold_moment c.in-Some.row.now _ c.in_err-moment-in-Some.ensures) c.from_residual-in_err-moment-in-Some.ensures.1
-
 pub returns-clause-finds : goal.returns-clause-finds
 returns-clause-finds g c =
-    looked_some g.S.Store c.args.conn.now c.hold_rows.new.conn holds hold_columns IsSoundHeld c.in_ok-rows.ensures.asks (every) (LastFirst hold_moment) hold_moment_shown c.in_ok-rows.rows.items c.in_ok-rows.ensures.shows _
-    HasHoldMoment c.in-Some.row.now c.in_ok-moment-in-Some.field-0 (ap (λ xs. slice_get xs 0) (sym c.deref.ensures.value) ∙ (sym c.first.ensures.value ∙ ap option_copied c.in-Some.is))
-    (reading.reads_hold_moment c.in-Some.row.now _ c.in_ok-moment-in-Some.ensures) (λ xs found x are is seen. last_some (every) HasHoldMoment hold_moment xs found x _ are is seen)
+    looked_number g.S.Store c.args.conn.now c.hold_rows.new.conn holds hold_columns IsSoundHeld c.in_ok-rows.ensures.asks every (LastFirst hold_moment) hold_moment_shown c.in_ok-rows.rows.items c.in_ok-rows.ensures.shows _
+    0 latest_moment hold_moment reading.reads_hold_moment (found_none every HasHoldMoment (LastFirst hold_moment)) (last_some every HasHoldMoment hold_moment) c.first_whole.result (c.first_whole.ensures.read ∙ ap (first_in 0 latest_moment) c.deref.ensures.value)
 
 pub returns-clause-sound : goal.returns-clause-sound
-returns-clause-sound g c = (number_bounds 0 latest_moment c.in-Some.row.now (Ok c.in_ok-moment-in-Some.field-0) c.in_ok-moment-in-Some.ensures).1
+returns-clause-sound g c = at_most 0 latest_moment c.first_whole.result c.first_whole.ensures.bounds

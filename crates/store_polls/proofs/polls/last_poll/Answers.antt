@@ -1,31 +1,18 @@
-use Rattle.std.proofs.Common.{sym, ◌∙◌, ap, slice_get, Ok}
-use Rattle.std.specs.Option.{option_copied}
+use Rattle.std.proofs.Common.{ap, ◌∙◌}
 use Rattle.store_tables.specs.Answer.{LastFirst, every}
-use Rattle.store_tables.proofs.Selects.{found_none, last_some}
 use Rattle.store_tables.specs.Limits.{greatest_place}
-use Rattle.store_tables.proofs.ReadLemmas.{number_bounds}
-use Rattle.store_tables.proofs.LookUps.{looked_none, looked_some, looked_fault}
+use Rattle.store_tables.specs.Columns.{first_in}
+use Rattle.store_tables.proofs.Selects.{found_none, last_some}
+use Rattle.store_tables.proofs.LookUps.{looked_number}
 use Rattle.store_polls.specs.Rows.{HasNumber, IsSoundStarted, number_shown, poll_columns, poll_number}
 use Rattle.store_polls.specs.Trees.{polls}
 use Rattle.store_polls.proofs.ReadRows as reading
 use Rattle.store_polls.proofs.polls.last_poll.Goals as goal
 
-pub returns-in-None-clause-finds : goal.returns-in-None-clause-finds
-returns-in-None-clause-finds g c =
-    looked_none g.S.Store c.args.conn.now c.last_rows.new.conn polls poll_columns IsSoundStarted c.in_ok-rows.ensures.asks (every) (LastFirst poll_number) number_shown c.in_ok-rows.rows.items c.in_ok-rows.ensures.shows _
-    (ap (λ xs. slice_get xs 0) (sym c.deref.ensures.value) ∙ (sym c.first.ensures.value ∙ ap option_copied c.in-None.is)) (λ xs found are is. found_none (every) HasNumber (LastFirst poll_number) xs found are is)
-
-pub returns-in_err-place-in-Some-clause-finds : goal.returns-in_err-place-in-Some-clause-finds
-returns-in_err-place-in-Some-clause-finds g c =
-    looked_fault g.S.Store c.args.conn.now c.last_rows.new.conn polls poll_columns IsSoundStarted c.in_ok-rows.ensures.asks (every) (LastFirst poll_number) number_shown c.in_ok-rows.rows.items c.in_ok-rows.ensures.shows _
-    HasNumber c.in-Some.row.now c.in_err-place-in-Some.field-0.0 c.from_residual-in_err-place-in-Some.result
-    (ap (λ xs. slice_get xs 0) (sym c.deref.ensures.value) ∙ (sym c.first.ensures.value ∙ ap option_copied c.in-Some.is)) (reading.reads_poll_number c.in-Some.row.now _ c.in_err-place-in-Some.ensures) c.from_residual-in_err-place-in-Some.ensures.1
-
 pub returns-clause-finds : goal.returns-clause-finds
 returns-clause-finds g c =
-    looked_some g.S.Store c.args.conn.now c.last_rows.new.conn polls poll_columns IsSoundStarted c.in_ok-rows.ensures.asks (every) (LastFirst poll_number) number_shown c.in_ok-rows.rows.items c.in_ok-rows.ensures.shows _
-    HasNumber c.in-Some.row.now c.in_ok-place-in-Some.field-0 (ap (λ xs. slice_get xs 0) (sym c.deref.ensures.value) ∙ (sym c.first.ensures.value ∙ ap option_copied c.in-Some.is))
-    (reading.reads_poll_number c.in-Some.row.now _ c.in_ok-place-in-Some.ensures) (λ xs found x are is seen. last_some (every) HasNumber poll_number xs found x _ are is seen)
+    looked_number g.S.Store c.args.conn.now c.last_rows.new.conn polls poll_columns IsSoundStarted c.in_ok-rows.ensures.asks every (LastFirst poll_number) number_shown c.in_ok-rows.rows.items c.in_ok-rows.ensures.shows _
+    1 greatest_place poll_number reading.reads_poll_number (found_none every HasNumber (LastFirst poll_number)) (last_some every HasNumber poll_number) c.first_whole.result (c.first_whole.ensures.read ∙ ap (first_in 1 greatest_place) c.deref.ensures.value)
 
 pub returns-clause-sound : goal.returns-clause-sound
-returns-clause-sound g c = number_bounds 1 greatest_place c.in-Some.row.now (Ok c.in_ok-place-in-Some.field-0) c.in_ok-place-in-Some.ensures
+returns-clause-sound g c = c.first_whole.ensures.bounds
