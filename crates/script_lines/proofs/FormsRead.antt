@@ -1,14 +1,12 @@
 -- A line is read exactly where its words have a form.
-use Rattle.std.proofs.Common.{◌≡◌, ◌⊎◌, inl, inr, ℕ, Bool, true, false, List, [], ◌∷◌, Some, None, Option, refl, sym, ap, ◌∙◌, subst}
-use Rattle.std.specs.Prelude.{if◌then◌else◌, codes}
-use Rattle.std.specs.Str.{bytes_eq}
-use Rattle.std.proofs.lemmas.Slice.Eq.{bytes_eq-Decides}
+use Rattle.std.proofs.Common.{◌≡◌, ℕ, List, [], ◌∷◌, Some, None, Option, refl, sym, ◌∙◌, subst}
+use Rattle.std.specs.Prelude.{codes}
 use Rattle.office_events.specs.declared.commands.Command.TheVariants as command
 use Rattle.office_events.specs.declared.events.Event.TheVariants as event
 use Rattle.poll_core.specs.declared.outcome.Closing.TheVariants as closing
 use Rattle.script_lines.specs.Forms.{HasForm, IsLine, form_of}
 use Rattle.script_lines.specs.LineWords.Fields.{Number, Of, Spell, Word}
-use Rattle.script_lines.specs.LineReader.{Values, asked_by, SaysBytes, early_verb, first_of, kinds_asked, kinds_of, late_verb, line_asked, line_of, line_said, made, middle_verb, question_of, said_by, said_from, timed_said, verb_of}
+use Rattle.script_lines.specs.LineReader.{Values, asked_by, SaysBytes, kinds_asked, kinds_of, line_asked, line_of, line_said, made, question_of, questions, said_by, said_from, timed_said, verb_of, verbs}
 use Rattle.script_lines.specs.Seen.{BringBytes, IsOnly}
 use Rattle.script_lines.specs.LineWords.Values.{number_of}
 use Rattle.script_lines.specs.declared.verbs.Question.{Question}
@@ -17,23 +15,8 @@ use Rattle.script_lines.specs.declared.verbs.Verb.{Verb}
 use Rattle.script_lines.specs.declared.verbs.Verb.TheVariants as verb
 use Rattle.script_lines.specs.declared.script.ScriptLine.{ScriptLine}
 use Rattle.script_lines.specs.declared.script.ScriptLine.TheVariants as line
-use Rattle.script_lines.proofs.Made.{bound, fields, made_spelled, same, spelled_made}
-
-chosen : {Y : Type 0} (b : Bool) (x y : Option Y) (z : Y) → (if b then x else y) ≡ Some z → ((b ≡ true) × (x ≡ Some z)) ⊎ (y ≡ Some z)
-chosen true x y z h = inl (refl, h)
-chosen false x y z h = inr h
-
-is_text : (word text : List ℕ) → bytes_eq word text ≡ true → word ≡ text
-is_text word text h = (bytes_eq-Decides word text).0 h
-
--- one test of a word, or what the further tests say
-tested : {V : Type 0} (text_of : V → List ℕ) (word : List ℕ) (v given : V) (rest : Option V) → (rest ≡ Some given → word ≡ text_of given)
-    → (if bytes_eq word (text_of v) then Some v else rest) ≡ Some given → word ≡ text_of given
-tested text_of word v given rest later h =
-    elim (chosen (bytes_eq word (text_of v)) (Some v) rest given h) [
-      | inl here ↦ is_text word (text_of v) here.0 ∙ ap text_of (same v given here.1)
-      | inr there ↦ later there
-    ]
+use Rattle.script_lines.proofs.Chosen.{meant, same}
+use Rattle.script_lines.proofs.Made.{bound, fields, made_spelled, spelled_made}
 
 abbrev verb_text : Verb → List ℕ
 verb_text verb.Device = codes "device"
@@ -73,49 +56,8 @@ verb_known verb.Tick = refl
 verb_known verb.Gone = refl
 verb_known verb.Failed = refl
 
-early_verb_word : (word : List ℕ) (v : Verb) → early_verb word ≡ Some v → word ≡ verb_text v
-early_verb_word word v h =
-    tested verb_text word verb.Device v _
-    (tested verb_text word verb.List v _
-    (tested verb_text word verb.Register v _
-    (tested verb_text word verb.Install v _
-    (tested verb_text word verb.Exchange v _
-    (tested verb_text word verb.Reset v None (λ none. cc none))))))
-    h
-
-middle_verb_word : (word : List ℕ) (v : Verb) → middle_verb word ≡ Some v → word ≡ verb_text v
-middle_verb_word word v h =
-    tested verb_text word verb.Rescale v _
-    (tested verb_text word verb.Manual v _
-    (tested verb_text word verb.Close v _
-    (tested verb_text word verb.Void v _
-    (tested verb_text word verb.Connect v _
-    (tested verb_text word verb.Start v None (λ none. cc none))))))
-    h
-
-late_verb_word : (word : List ℕ) (v : Verb) → late_verb word ≡ Some v → word ≡ verb_text v
-late_verb_word word v h =
-    tested verb_text word verb.Round v _
-    (tested verb_text word verb.Bytes v _
-    (tested verb_text word verb.Tick v _
-    (tested verb_text word verb.Gone v _
-    (tested verb_text word verb.Failed v None (λ none. cc none)))))
-    h
-
-either : {X : Type 0} (a b : Option X) (x : X) → first_of a b ≡ Some x → (a ≡ Some x) ⊎ (b ≡ Some x)
-either None b x h = inr h
-either (Some a) b x h = inl h
-
 verb_word : (word : List ℕ) (v : Verb) → verb_of word ≡ Some v → word ≡ verb_text v
-verb_word word v h =
-    elim (either (early_verb word) (first_of (middle_verb word) (late_verb word)) v h) [
-      | inl early ↦ early_verb_word word v early
-      | inr more ↦
-          elim (either (middle_verb word) (late_verb word) v more) [
-            | inl middle ↦ middle_verb_word word v middle
-            | inr late ↦ late_verb_word word v late
-          ]
-    ]
+verb_word word v h = meant (λ v w. w ≡ verb_text v) verbs word v (refl, (refl, (refl, (refl, (refl, (refl, (refl, (refl, (refl, (refl, (refl, (refl, (refl, (refl, (refl, (refl, (refl, tt))))))))))))))))) h
 
 abbrev question_text : Question → List ℕ
 question_text question.Meter = codes "meter"
@@ -137,12 +79,7 @@ not_number question.Days = refl
 not_number question.Poll = refl
 
 question_word : (word : List ℕ) (q : Question) → question_of word ≡ Some q → word ≡ question_text q
-question_word word q h =
-    tested question_text word question.Meter q _
-    (tested question_text word question.Intervals q _
-    (tested question_text word question.Days q _
-    (tested question_text word question.Poll q None (λ none. cc none))))
-    h
+question_word word q h = meant (λ q w. w ≡ question_text q) questions word q (refl, (refl, (refl, (refl, tt)))) h
 
 -- The words of a verb's line are its moment, the verb and its values.
 

@@ -1,3 +1,4 @@
+pub mod Chosen
 pub mod FormsRead
 pub mod Made
 pub mod Pieces

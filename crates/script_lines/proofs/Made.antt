@@ -1,16 +1,14 @@
 -- What is made of the values of words, and the fields that they spell.
 use Rattle.std.proofs.Common.{◌≡◌, ℕ, List, [], ◌∷◌, Some, None, Option, refl, sym, ap, ◌∙◌, subst}
 use Rattle.std.specs.Prelude.{option_map}
-use Rattle.script_lines.specs.LineWords.Fields.{Kind, Value, Field, Of, Spell, first_value, missing, spelled}
-use Rattle.script_lines.specs.LineReader.{◌>>=◌, Values, made}
+use Rattle.script_lines.specs.LineWords.Fields.{Kind, Value, Field, Of, Spell, first_value, missing, spelled, ◌>>=◌}
+use Rattle.script_lines.specs.LineReader.{Values, made}
+use Rattle.script_lines.proofs.Chosen.{same}
 
 -- the fields of values
 abbrev pub fields : (kinds : List Kind) → Values kinds → List Field
 fields [] values = []
 fields (kind ∷ kinds) values = Of kind values.0 ∷ fields kinds values.1
-
-pub same : {Y : Type 0} (x y : Y) → Some x ≡ Some y → x ≡ y
-same x y h = cc h
 
 -- a step that gave something had something to go on with
 pub bound : {X Y : Type 0} (o : Option X) (f : X → Option Y) (y : Y) → (o >>= f) ≡ Some y → (x : X) × (o ≡ Some x) × (f x ≡ Some y)
@@ -25,7 +23,7 @@ paired (Some x) words v h =
     (ap (λ (q : _ × List (List ℕ)). Some q.0) p, ap (λ (q : _ × List (List ℕ)). q.1) p)
 
 -- a value that was read is spelled by the first word, or may be missing
-first_spelled : (kind : Kind) (words : List (List ℕ)) (first : Value kind × List (List ℕ)) (more : List Field)
+pub first_spelled : (kind : Kind) (words : List (List ℕ)) (first : Value kind × List (List ℕ)) (more : List Field)
     → first_value kind words ≡ Some first → Spell first.1 more → Spell words (Of kind first.0 ∷ more)
 first_spelled kind [] first more h rest =
     let p = paired (missing kind) [] first h in

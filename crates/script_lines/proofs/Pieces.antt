@@ -1,23 +1,20 @@
 -- Words that say a device and bytes.
-use Rattle.std.proofs.Common.{◌≡◌, ◌⊎◌, inl, inr, ℕ, ◌<◌, ◌&&◌, Bool, true, false, List, [], ◌∷◌, Some, None, Option, refl, sym, ap, ◌∙◌, arith}
-use Rattle.std.specs.Prelude.{if◌then◌else◌, nat_le, length, IsSome, Result, Ok, Err}
+use Rattle.std.proofs.Common.{◌≡◌, inl, inr, ℕ, ◌<◌, ◌&&◌, true, List, [], ◌∷◌, Some, None, Option, refl, sym, ap, ◌∙◌, arith}
+use Rattle.std.specs.Prelude.{nat_le, length, IsSome, Result, Ok, Err}
 use Rattle.std.specs.Result.{result_ok}
 use Rattle.hex.specs.Hex.{decode_of}
 use Rattle.hex.specs.declared.error.FromHexError.{FromHexError}
 use Rattle.hex.proofs.HexLemmas.{decode_of-ok}
-use Rattle.script_lines.specs.LineWords.Fields.{AnyName, Hex, first_value, nothing_more}
-use Rattle.script_lines.specs.LineReader.{◌>>=◌, SaysPiece, device_bytes_said, made}
+use Rattle.script_lines.specs.LineWords.Fields.{AnyName, Hex, first_value, nothing_more, ◌>>=◌}
+use Rattle.script_lines.specs.LineReader.{SaysPiece, device_bytes_said, made}
 use Rattle.script_lines.specs.LineWords.Values.{bytes_of}
-use Rattle.script_lines.proofs.Made.{made_again, same, spelled_made}
+use Rattle.script_lines.proofs.Chosen.{chosen, same}
+use Rattle.script_lines.proofs.Made.{made_again, spelled_made}
 
 -- hex of one digit or more spells one byte or more
 decoded : (r : Result (List ℕ) FromHexError) (bytes : List ℕ) → result_ok r ≡ Some bytes → r ≡ Ok bytes
 decoded (Ok read) bytes h = ap Ok (same read bytes h)
 decoded (Err e) bytes h = cc h
-
-chosen : {Y : Type 0} (b : Bool) (x y : Option Y) (z : Y) → (if b then x else y) ≡ Some z → ((b ≡ true) × (x ≡ Some z)) ⊎ (y ≡ Some z)
-chosen true x y z h = inl (refl, h)
-chosen false x y z h = inr h
 
 no_hex : (hex : List ℕ) → bytes_of hex ≡ Some [] → ⊥
 no_hex hex h =

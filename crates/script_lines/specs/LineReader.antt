@@ -1,10 +1,10 @@
 -- What the private readers of a line answer, word by word. What a line is stands in `Forms`.
-use Rattle.std.specs.Prelude.{◌≡◌, ◌<◌, ℕ, if◌then◌else◌, List, [], ◌∷◌, Option, Some, None, codes, length}
-use Rattle.std.specs.Str.{bytes_eq}
+use Rattle.std.specs.Prelude.{◌≡◌, ◌<◌, ℕ, List, [], ◌∷◌, Option, Some, None, codes, length}
 use Rattle.office_events.specs.declared.commands.Command.TheVariants as command
 use Rattle.office_events.specs.declared.events.Event.TheVariants as event
 use Rattle.poll_core.specs.declared.outcome.Closing.TheVariants as closing
-use Rattle.script_lines.specs.LineWords.Fields.{Kind, AnyName, Number, Signed, Scale, Hex, Range, Moment, Value, first_value, nothing_more}
+use Rattle.script_lines.specs.LineWords.Fields.{Kind, AnyName, Number, Signed, Scale, Hex, Range, Moment, Value, first_value, nothing_more, ◌>>=◌}
+use Rattle.script_lines.specs.LineWords.Meanings.{meaning_in}
 use Rattle.script_lines.specs.Seen.{bytes_in}
 use Rattle.script_lines.specs.LineWords.Values.{number_of}
 use Rattle.script_lines.specs.declared.verbs.Verb.{Verb}
@@ -14,16 +14,14 @@ use Rattle.script_lines.specs.declared.verbs.Question.TheVariants as question
 use Rattle.script_lines.specs.declared.script.ScriptLine.{ScriptLine}
 use Rattle.script_lines.specs.declared.script.ScriptLine.TheVariants as line
 
--- goes on with a value, where there is one
-infixl 10 ◌>>=◌
-abbrev pub ◌>>=◌ : {X Y : Type 0} → Option X → (X → Option Y) → Option Y
-None >>= goes_on = None
-Some x >>= goes_on = goes_on x
-
 -- a value of each kind
 abbrev pub Values : List Kind → Type 0
 Values [] = Unit {0}
 Values (kind ∷ kinds) = Value kind × Values kinds
+
+-- a line that has no more words
+abbrev pub said_last : ScriptLine → List (List ℕ) → Option ScriptLine
+said_last line words = nothing_more words >>= λ none. Some line
 
 -- what is made of the values of all words
 abbrev pub made : {X : Type 0} (kinds : List Kind) → (Values kinds → X) → List (List ℕ) → Option X
@@ -157,50 +155,40 @@ asked_by question.Intervals words =
 asked_by question.Days words = made (kinds_asked question.Days) (line_asked question.Days) words
 asked_by question.Poll words = made (kinds_asked question.Poll) (line_asked question.Poll) words
 
--- one value, or the other where there is none
-abbrev pub first_of : {X : Type 0} → Option X → Option X → Option X
-first_of None other = other
-first_of (Some x) other = Some x
-
-abbrev pub early_verb : List ℕ → Option Verb
-early_verb word =
-    if bytes_eq word (codes "device") then Some verb.Device
-    else if bytes_eq word (codes "list") then Some verb.List
-    else if bytes_eq word (codes "register") then Some verb.Register
-    else if bytes_eq word (codes "install") then Some verb.Install
-    else if bytes_eq word (codes "exchange") then Some verb.Exchange
-    else if bytes_eq word (codes "reset") then Some verb.Reset
-    else None
-
-abbrev pub middle_verb : List ℕ → Option Verb
-middle_verb word =
-    if bytes_eq word (codes "rescale") then Some verb.Rescale
-    else if bytes_eq word (codes "manual") then Some verb.Manual
-    else if bytes_eq word (codes "close") then Some verb.Close
-    else if bytes_eq word (codes "void") then Some verb.Void
-    else if bytes_eq word (codes "connect") then Some verb.Connect
-    else if bytes_eq word (codes "start") then Some verb.Start
-    else None
-
-abbrev pub late_verb : List ℕ → Option Verb
-late_verb word =
-    if bytes_eq word (codes "round") then Some verb.Round
-    else if bytes_eq word (codes "bytes") then Some verb.Bytes
-    else if bytes_eq word (codes "tick") then Some verb.Tick
-    else if bytes_eq word (codes "gone") then Some verb.Gone
-    else if bytes_eq word (codes "failed") then Some verb.Failed
-    else None
+abbrev pub verbs : List (List ℕ × Verb)
+verbs =
+    (codes "device", verb.Device)
+    ∷ (codes "list", verb.List)
+    ∷ (codes "register", verb.Register)
+    ∷ (codes "install", verb.Install)
+    ∷ (codes "exchange", verb.Exchange)
+    ∷ (codes "reset", verb.Reset)
+    ∷ (codes "rescale", verb.Rescale)
+    ∷ (codes "manual", verb.Manual)
+    ∷ (codes "close", verb.Close)
+    ∷ (codes "void", verb.Void)
+    ∷ (codes "connect", verb.Connect)
+    ∷ (codes "start", verb.Start)
+    ∷ (codes "round", verb.Round)
+    ∷ (codes "bytes", verb.Bytes)
+    ∷ (codes "tick", verb.Tick)
+    ∷ (codes "gone", verb.Gone)
+    ∷ (codes "failed", verb.Failed)
+    ∷ []
 
 abbrev pub verb_of : List ℕ → Option Verb
-verb_of word = first_of (early_verb word) (first_of (middle_verb word) (late_verb word))
+verb_of word = meaning_in verbs word
+
+abbrev pub questions : List (List ℕ × Question)
+questions =
+    (codes "meter", question.Meter)
+    ∷ (codes "intervals", question.Intervals)
+    ∷ (codes "days", question.Days)
+    ∷ (codes "poll", question.Poll)
+    ∷ []
 
 abbrev pub question_of : List ℕ → Option Question
-question_of word =
-    if bytes_eq word (codes "meter") then Some question.Meter
-    else if bytes_eq word (codes "intervals") then Some question.Intervals
-    else if bytes_eq word (codes "days") then Some question.Days
-    else if bytes_eq word (codes "poll") then Some question.Poll
-    else None
+question_of word = meaning_in questions word
 
 abbrev pub timed_said : ℕ → List (List ℕ) → Option ScriptLine
 timed_said at [] = None

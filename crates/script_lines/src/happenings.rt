@@ -1,6 +1,7 @@
 //! The forms of what happens at devices, of a tick, and of questions, behind the words that name them.
 ghost use Rattle.std.specs.Prelude.{◌≡◌};
-ghost use Rattle.script_lines.specs.LineReader.{asked_by, said_by};
+ghost use Rattle.script_lines.specs.LineReader.{asked_by, said_by, said_last};
+ghost use Rattle.script_lines.specs.declared.script.ScriptLine.TheVariants as line;
 ghost use Rattle.script_lines.specs.declared.verbs.Verb.TheVariants as verb;
 
 use crate::line_words::{Words, next_name, next_number, nothing_more};
@@ -9,21 +10,25 @@ use crate::verbs::Question;
 use office_events::Event;
 use poll_core::Closing;
 
+/// The line of an event, behind whose words none is left.
+pub(crate) fn event_line(at: u64, event: Event, words: &mut Words<'_>) -> Option<ScriptLine>
+    ensures { result ≡ said_last (line.Event at event) words.old }
+{
+    nothing_more(words)?;
+    Some(ScriptLine::Event { at, event })
+}
+
 // `DEVICE FUNCTION ADDRESS COUNT`.
 pub(crate) fn start(at: u64, words: &mut Words<'_>) -> Option<ScriptLine>
     ensures { result ≡ said_by verb.Start at words.old }
 {
-    let device = next_name(words)?;
-    let function = next_number(words)?;
-    let address = next_number(words)?;
-    let count = next_number(words)?;
-    nothing_more(words)?;
     let start = GivenStart {
-        device,
-        function,
-        address,
-        count,
+        device: next_name(words)?,
+        function: next_number(words)?,
+        address: next_number(words)?,
+        count: next_number(words)?,
     };
+    nothing_more(words)?;
     Some(ScriptLine::Start { at, start })
 }
 
@@ -31,39 +36,31 @@ pub(crate) fn start(at: u64, words: &mut Words<'_>) -> Option<ScriptLine>
 pub(crate) fn connect(at: u64, words: &mut Words<'_>) -> Option<ScriptLine>
     ensures { result ≡ said_by verb.Connect at words.old }
 {
-    let device = next_name(words)?;
-    nothing_more(words)?;
-    let event = Event::Connected(device);
-    Some(ScriptLine::Event { at, event })
+    let event = Event::Connected(next_name(words)?);
+    event_line(at, event, words)
 }
 
 // Nothing more.
 pub(crate) fn tick(at: u64, words: &mut Words<'_>) -> Option<ScriptLine>
     ensures { result ≡ said_by verb.Tick at words.old }
 {
-    nothing_more(words)?;
-    let event = Event::Tick;
-    Some(ScriptLine::Event { at, event })
+    event_line(at, Event::Tick, words)
 }
 
 // `DEVICE`.
 pub(crate) fn gone(at: u64, words: &mut Words<'_>) -> Option<ScriptLine>
     ensures { result ≡ said_by verb.Gone at words.old }
 {
-    let device = next_name(words)?;
-    nothing_more(words)?;
-    let event = Event::Gone(device, Closing::Gone);
-    Some(ScriptLine::Event { at, event })
+    let event = Event::Gone(next_name(words)?, Closing::Gone);
+    event_line(at, event, words)
 }
 
 // `DEVICE`.
 pub(crate) fn failed(at: u64, words: &mut Words<'_>) -> Option<ScriptLine>
     ensures { result ≡ said_by verb.Failed at words.old }
 {
-    let device = next_name(words)?;
-    nothing_more(words)?;
-    let event = Event::Gone(device, Closing::Failed);
-    Some(ScriptLine::Event { at, event })
+    let event = Event::Gone(next_name(words)?, Closing::Failed);
+    event_line(at, event, words)
 }
 
 /// What is asked: `NAME`, or the number of a poll.

@@ -1,11 +1,13 @@
 //! The words of a line, and what each one spells.
 
 mod fields;
+mod meanings;
 mod values;
 mod words;
 
 pub use fields::{
     next_moment, next_name, next_number, next_range, next_scale, next_signed, nothing_more,
 };
+pub(crate) use meanings::meaning_in;
 pub use values::{hex_bytes, number};
 pub use words::Words;

@@ -1,15 +1,13 @@
 -- A line is read exactly where its words have a form.
-use Rattle.std.proofs.Common.{◌≡◌, ◌⊎◌, inl, inr, ℕ, ◌≤◌, Bool, true, false, List, [], ◌∷◌, Some, None, Option, refl, sym, ap, ◌∙◌, subst, arith}
-use Rattle.std.specs.Prelude.{if◌then◌else◌, codes, nat_le, option_map}
+use Rattle.std.proofs.Common.{◌≡◌, inl, inr, ℕ, ◌≤◌, true, List, [], ◌∷◌, Some, None, Option, refl, sym, ◌∙◌, subst, arith}
+use Rattle.std.specs.Prelude.{codes, nat_le}
 use Rattle.std.specs.Str.{bytes_eq}
 use Rattle.std.proofs.lemmas.Grind.{common_steps}
-use Rattle.std.proofs.lemmas.Slice.Eq.{bytes_eq-Decides}
 use Rattle.mb_device.specs.declared.kinds.Kind.{Kind}
 use Rattle.mb_device.specs.declared.kinds.Kind.TheVariants as kind
 use Rattle.script_lines.specs.LineWords.Fields.{Field, Number, Of, Spell, Word, first_value, nothing_more}
-use Rattle.script_lines.specs.LineWords.Values.{number_of}
 use Rattle.script_lines.specs.Bank.Forms.{IsBankLine, IsPart, bank_form, kind_word, trick_form}
-use Rattle.script_lines.specs.Bank.BankLine.{◌>>=◌, area_said, bank_said, cut_said, frame_said, kind_of, plain_of, set_said, three_said, trick_said, two_said}
+use Rattle.script_lines.specs.Bank.BankLine.{area_said, bank_said, cut_said, frame_said, kind_of, kinds, plain_of, set_said, three_said, trick_said, tricks, two_said}
 use Rattle.script_lines.specs.Bank.Seen.{ReadsBank}
 use Rattle.script_lines.specs.declared.bank.bank.BankLine.{BankLine}
 use Rattle.script_lines.specs.declared.bank.bank.BankLine.TheVariants as line
@@ -17,45 +15,8 @@ use Rattle.script_lines.specs.declared.bank.bank.GivenArea.{GivenArea}
 use Rattle.script_lines.specs.declared.bank.bank.GivenCell.{GivenCell}
 use Rattle.mb_device.specs.declared.trick.Trick.{Trick}
 use Rattle.mb_device.specs.declared.trick.Trick.TheVariants as trick
-
-same : {Y : Type 0} (x y : Y) → Some x ≡ Some y → x ≡ y
-same x y h = cc h
-
--- a step that gave something had something to go on with
-bound : {X Y : Type 0} (o : Option X) (f : X → Option Y) (y : Y) → (o >>= f) ≡ Some y → (x : X) × (o ≡ Some x) × (f x ≡ Some y)
-bound None f y h = cc h
-bound (Some x) f y h = (x, refl, h)
-
-chosen : {Y : Type 0} (b : Bool) (x y : Option Y) (z : Y) → (if b then x else y) ≡ Some z → ((b ≡ true) × (x ≡ Some z)) ⊎ (y ≡ Some z)
-chosen true x y z h = inl (refl, h)
-chosen false x y z h = inr h
-
-is_text : (word text : List ℕ) → bytes_eq word text ≡ true → word ≡ text
-is_text word text h = (bytes_eq-Decides word text).0 h
-
--- one test of a word, or what the further tests say
-tested : {V : Type 0} (P : V → List ℕ → Type 0) (word text : List ℕ) (v given : V) (rest : Option V) → P v text → (rest ≡ Some given → P given word)
-    → (if bytes_eq word text then Some v else rest) ≡ Some given → P given word
-tested P word text v given rest here later h =
-    elim (chosen (bytes_eq word text) (Some v) rest given h) [
-      | inl is ↦
-          subst (λ (w : List ℕ). P given w) (sym (is_text word text is.0)) (subst (λ (x : _). P x text) (same v given is.1) here)
-      | inr there ↦ later there
-    ]
-
-paired : {X : Type 0} (o : Option X) (words : List (List ℕ)) (v : X × List (List ℕ)) → option_map (λ x. (x, words)) o ≡ Some v
-    → (o ≡ Some v.0) × (words ≡ v.1)
-paired None words v h = cc h
-paired (Some x) words v h =
-    let p = same (x, words) v h in
-    (ap (λ (q : _ × List (List ℕ)). Some q.0) p, ap (λ (q : _ × List (List ℕ)). q.1) p)
-
-number_spelled : (words : List (List ℕ)) (first : ℕ × List (List ℕ)) (more : List Field) → first_value Number words ≡ Some first → Spell first.1 more
-    → Spell words (Of Number first.0 ∷ more)
-number_spelled [] first more h rest = cc h
-number_spelled (word ∷ words) first more h rest =
-    let p = paired (number_of word) words first h in
-    (p.0, subst (λ (words : List (List ℕ)). Spell words more) (sym p.1) rest)
+use Rattle.script_lines.proofs.Chosen.{chosen, is_text, meant, same}
+use Rattle.script_lines.proofs.Made.{bound, first_spelled}
 
 nothing_spelled : (words : List (List ℕ)) (none : Unit {0}) → nothing_more words ≡ Some none → Spell words []
 nothing_spelled [] none h = tt
@@ -72,15 +33,10 @@ two_form words two h =
     let b = bound (first_value Number a.0.1) _ two a.2 in
     let none = bound (nothing_more b.0.1) _ two b.2 in
     subst (λ (two : ℕ × ℕ). Spell words (numbers_form two)) (same _ two none.2)
-    (number_spelled words a.0 (Of Number b.0.0 ∷ []) a.1 (number_spelled a.0.1 b.0 [] b.1 (nothing_spelled b.0.1 none.0 none.1)))
+    (first_spelled Number words a.0 (Of Number b.0.0 ∷ []) a.1 (first_spelled Number a.0.1 b.0 [] b.1 (nothing_spelled b.0.1 none.0 none.1)))
 
 kind_is : (word : List ℕ) (k : Kind) → kind_of word ≡ Some k → word ≡ kind_word k
-kind_is word k h =
-    tested (λ k w. w ≡ kind_word k) word (codes "coil") kind.Coil k _ refl
-    (tested (λ k w. w ≡ kind_word k) word (codes "discrete") kind.Discrete k _ refl
-    (tested (λ k w. w ≡ kind_word k) word (codes "holding") kind.Holding k _ refl
-    (tested (λ k w. w ≡ kind_word k) word (codes "input") kind.Input k None refl (λ none. cc none))))
-    h
+kind_is word k h = meant (λ k w. w ≡ kind_word k) kinds word k (refl, (refl, (refl, (refl, tt)))) h
 
 abbrev three_form : Kind × ℕ × ℕ → List Field
 three_form v = Word (kind_word v.0) ∷ Of Number v.1 ∷ Of Number v.2 ∷ []
@@ -100,14 +56,7 @@ abbrev IsWord : Trick → List ℕ → Type 0
 IsWord t word = IsTrick (word ∷ []) t
 
 plain_is : (word : List ℕ) (t : Trick) → plain_of word ≡ Some t → IsWord t word
-plain_is word t h =
-    tested IsWord word (codes "drop") trick.Drop t _ ((refl, tt), tt)
-    (tested IsWord word (codes "twice") trick.Twice t _ ((refl, tt), tt)
-    (tested IsWord word (codes "later") trick.Later t _ ((refl, tt), tt)
-    (tested IsWord word (codes "id") trick.Id t _ ((refl, tt), tt)
-    (tested IsWord word (codes "unit") trick.Unit t _ ((refl, tt), tt)
-    (tested IsWord word (codes "garble") trick.Garble t None ((refl, tt), tt) (λ none. cc none))))))
-    h
+plain_is word t h = meant IsWord tricks word t (((refl, tt), tt), (((refl, tt), tt), (((refl, tt), tt), (((refl, tt), tt), (((refl, tt), tt), (((refl, tt), tt), tt)))))) h
 
 few : (n : ℕ) → nat_le n 259 ≡ true → n ≤ 259
 few n h = grind (arith, common_steps)
@@ -122,7 +71,7 @@ cut_form words t h =
     elim (chosen (nat_le count.0.0 259) (Some (trick.Cut count.0.0)) None t none.2) [
       | inl here ↦
           subst (λ (t : Trick). IsTrick (codes "cut" ∷ words) t) (same (trick.Cut count.0.0) t here.1)
-          ((refl, number_spelled words count.0 [] count.1 (nothing_spelled count.0.1 none.0 none.1)), few count.0.0 here.0)
+          ((refl, first_spelled Number words count.0 [] count.1 (nothing_spelled count.0.1 none.0 none.1)), few count.0.0 here.0)
       | inr gone ↦ cc gone
     ]
 
@@ -157,7 +106,7 @@ frame_form words said h =
     let t = bound (trick_said frame.0.1) _ said frame.2 in
     let is = trick_is frame.0.1 t.0 t.1 in
     subst (λ (l : BankLine). IsBankLine (codes "trick" ∷ words) l) (same (line.Trick frame.0.0 t.0) said t.2)
-    (record { form = (refl, number_spelled words frame.0 (trick_form t.0) frame.1 is.0); can = is.1 })
+    (record { form = (refl, first_spelled Number words frame.0 (trick_form t.0) frame.1 is.0); can = is.1 })
 
 turned : (word text : List ℕ) (words : List (List ℕ)) (said : BankLine) → bytes_eq word text ≡ true → IsBankLine (text ∷ words) said → IsBankLine (word ∷ words) said
 turned word text words said h is = subst (λ (w : List ℕ). IsBankLine (w ∷ words) said) (sym (is_text word text h)) is

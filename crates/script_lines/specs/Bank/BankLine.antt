@@ -3,25 +3,23 @@ use Rattle.std.specs.Prelude.{ℕ, nat_le, if◌then◌else◌, List, [], ◌∷
 use Rattle.std.specs.Str.{bytes_eq}
 use Rattle.mb_device.specs.declared.kinds.Kind.{Kind}
 use Rattle.mb_device.specs.declared.kinds.Kind.TheVariants as kind
-use Rattle.script_lines.specs.LineWords.Fields.{Number, first_value, nothing_more}
+use Rattle.script_lines.specs.LineWords.Fields.{Number, first_value, nothing_more, ◌>>=◌}
+use Rattle.script_lines.specs.LineWords.Meanings.{meaning_in}
 use Rattle.script_lines.specs.declared.bank.bank.BankLine.{BankLine}
 use Rattle.script_lines.specs.declared.bank.bank.BankLine.TheVariants as line
 use Rattle.mb_device.specs.declared.trick.Trick.{Trick}
 use Rattle.mb_device.specs.declared.trick.Trick.TheVariants as trick
 
--- goes on with a value, where there is one
-infixl 10 ◌>>=◌
-abbrev pub ◌>>=◌ : {X Y : Type 0} → Option X → (X → Option Y) → Option Y
-None >>= goes_on = None
-Some x >>= goes_on = goes_on x
+abbrev pub kinds : List (List ℕ × Kind)
+kinds =
+    (codes "coil", kind.Coil)
+    ∷ (codes "discrete", kind.Discrete)
+    ∷ (codes "holding", kind.Holding)
+    ∷ (codes "input", kind.Input)
+    ∷ []
 
 abbrev pub kind_of : List ℕ → Option Kind
-kind_of word =
-    if bytes_eq word (codes "coil") then Some kind.Coil
-    else if bytes_eq word (codes "discrete") then Some kind.Discrete
-    else if bytes_eq word (codes "holding") then Some kind.Holding
-    else if bytes_eq word (codes "input") then Some kind.Input
-    else None
+kind_of word = meaning_in kinds word
 
 -- the two numbers that are left
 abbrev pub two_said : List (List ℕ) → Option (ℕ × ℕ)
@@ -35,15 +33,19 @@ three_said [] = None
 three_said (word ∷ words) =
     kind_of word >>= λ kind. two_said words >>= λ two. Some (kind, two.0, two.1)
 
+-- the tricks that one word says
+abbrev pub tricks : List (List ℕ × Trick)
+tricks =
+    (codes "drop", trick.Drop)
+    ∷ (codes "twice", trick.Twice)
+    ∷ (codes "later", trick.Later)
+    ∷ (codes "id", trick.Id)
+    ∷ (codes "unit", trick.Unit)
+    ∷ (codes "garble", trick.Garble)
+    ∷ []
+
 abbrev pub plain_of : List ℕ → Option Trick
-plain_of word =
-    if bytes_eq word (codes "drop") then Some trick.Drop
-    else if bytes_eq word (codes "twice") then Some trick.Twice
-    else if bytes_eq word (codes "later") then Some trick.Later
-    else if bytes_eq word (codes "id") then Some trick.Id
-    else if bytes_eq word (codes "unit") then Some trick.Unit
-    else if bytes_eq word (codes "garble") then Some trick.Garble
-    else None
+plain_of word = meaning_in tricks word
 
 abbrev pub cut_said : List (List ℕ) → Option Trick
 cut_said words =

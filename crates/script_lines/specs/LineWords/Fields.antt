@@ -64,6 +64,12 @@ Spell [] (field ∷ fields) = IsMissing field × Spell [] fields
 Spell (word ∷ words) [] = ⊥
 Spell (word ∷ words) (field ∷ fields) = Spells word field × Spell words fields
 
+-- goes on with a value, where there is one
+infixl 10 ◌>>=◌
+abbrev pub ◌>>=◌ : {X Y : Type 0} → Option X → (X → Option Y) → Option Y
+None >>= goes_on = None
+Some x >>= goes_on = goes_on x
+
 -- the value of the first word and the words behind it
 abbrev pub first_value : (kind : Kind) → List (List ℕ) → Option (Value kind × List (List ℕ))
 first_value kind [] = option_map (λ value. (value, [])) (missing kind)

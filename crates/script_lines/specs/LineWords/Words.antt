@@ -1,5 +1,6 @@
 -- The words of a line.
-use Rattle.std.specs.Prelude.{ℕ, ◌==◌, List, [], Option, Some, None}
+use Rattle.std.specs.Prelude.{◌≡◌, ℕ, ◌==◌, List, [], ◌∷◌, MatchOption, Option, Some, None}
+use Rattle.std.specs.Borrow.{Bor}
 use Rattle.std.specs.List.{slice_split}
 
 -- what stands between the spaces of a line
@@ -10,3 +11,9 @@ words_of line = slice_split (λ byte. byte == 32) line
 abbrev pub words_left : Option (List ℕ) → List (List ℕ)
 words_left None = []
 words_left (Some line) = words_of line
+
+-- the first word was taken, and the others stay; nothing is taken where no word is left
+abbrev pub TakesFirst : (words : List (List ℕ)) → (taken : Option (Bor (List ℕ)))
+    → (rest : List (List ℕ)) → Type 0
+TakesFirst words taken rest =
+    MatchOption taken ((words ≡ []) × (rest ≡ [])) (λ word. words ≡ word.now ∷ rest)

@@ -4,11 +4,28 @@ ghost use Rattle.script_lines.specs.Bank.BankLine as said;
 ghost use Rattle.script_lines.specs.LineWords.Words.{words_of};
 
 use crate::bank::bank::{BankLine, GivenArea, GivenCell};
-use crate::line_words::{Words, next_number, nothing_more};
+use crate::line_words::{Words, meaning_in, next_number, nothing_more};
 use mb_device::{Kind, Trick};
 
 /// The most bytes of a frame that are a part of one.
 const MOST_CUT: u64 = 259;
+
+const KINDS: &[(&str, Kind)] = &[
+    ("coil", Kind::Coil),
+    ("discrete", Kind::Discrete),
+    ("holding", Kind::Holding),
+    ("input", Kind::Input),
+];
+
+// The tricks that one word says.
+const TRICKS: &[(&str, Trick)] = &[
+    ("drop", Trick::Drop),
+    ("twice", Trick::Twice),
+    ("later", Trick::Later),
+    ("id", Trick::Id),
+    ("unit", Trick::Unit),
+    ("garble", Trick::Garble),
+];
 
 impl BankLine {
     ghost use Rattle.script_lines.specs.Bank.Seen.{ReadsBank};
@@ -86,17 +103,7 @@ fn two(words: &mut Words<'_>) -> Option<(u64, u64)>
 fn kind_of(word: &[u8]) -> Option<Kind>
     ensures { result ≡ said.kind_of word.now }
 {
-    if word == b"coil".as_slice() {
-        Some(Kind::Coil)
-    } else if word == b"discrete".as_slice() {
-        Some(Kind::Discrete)
-    } else if word == b"holding".as_slice() {
-        Some(Kind::Holding)
-    } else if word == b"input".as_slice() {
-        Some(Kind::Input)
-    } else {
-        None
-    }
+    meaning_in(KINDS, word)
 }
 
 fn trick_in(words: &mut Words<'_>) -> Option<Trick>
@@ -127,19 +134,5 @@ fn cut(words: &mut Words<'_>) -> Option<Trick>
 fn plain_of(word: &[u8]) -> Option<Trick>
     ensures { result ≡ said.plain_of word.now }
 {
-    if word == b"drop".as_slice() {
-        Some(Trick::Drop)
-    } else if word == b"twice".as_slice() {
-        Some(Trick::Twice)
-    } else if word == b"later".as_slice() {
-        Some(Trick::Later)
-    } else if word == b"id".as_slice() {
-        Some(Trick::Id)
-    } else if word == b"unit".as_slice() {
-        Some(Trick::Unit)
-    } else if word == b"garble".as_slice() {
-        Some(Trick::Garble)
-    } else {
-        None
-    }
+    meaning_in(TRICKS, word)
 }

@@ -21,8 +21,7 @@ impl<'a> Model for Words<'a> {
 }
 
 impl<'a> Words<'a> {
-    ghost use Rattle.std.specs.Prelude.{[], ◌∷◌, MatchOption};
-    ghost use Rattle.script_lines.specs.LineWords.Words.{words_of};
+    ghost use Rattle.script_lines.specs.LineWords.Words.{TakesFirst, words_of};
 
     pub fn of(line: &'a [u8]) -> Self
         ensures { result ≡ words_of line.now }
@@ -31,9 +30,7 @@ impl<'a> Words<'a> {
     }
 
     pub fn next_word(&mut self) -> Option<&'a [u8]>
-        ensures { MatchOption result
-            ((self.old ≡ []) × (self.new ≡ []))
-            (λ word. self.old ≡ word.now ∷ self.new) }
+        ensures { TakesFirst self.old result self.new }
     {
         let rest = self.rest?;
         match first_space(rest) {

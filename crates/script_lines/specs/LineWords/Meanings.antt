@@ -1,0 +1,19 @@
+-- Words that stand for something.
+use Rattle.std.specs.Prelude.{ℕ, if◌then◌else◌, List, [], ◌∷◌, Option, Some, None, find, option_map}
+use Rattle.std.specs.Borrow.{Bor}
+use Rattle.std.specs.Str.{bytes_eq}
+
+-- what a word stands for in a table of words, if it is one of them
+abbrev pub meaning_in : {T : Type 0} → List (List ℕ × T) → List ℕ → Option T
+meaning_in [] word = None
+meaning_in (entry ∷ table) word =
+    if bytes_eq entry.0 word then Some entry.1 else meaning_in table word
+
+-- an entry of such a table
+abbrev pub entry_of : {T : Type 0} → Bor (List ℕ) × T → List ℕ × T
+entry_of entry = (entry.0.now, entry.1)
+
+-- what is found of the same, in a table of texts that are lent
+abbrev pub found_in : {T : Type 0} → List (Bor (List ℕ) × T) → List ℕ → Option T
+found_in table word =
+    option_map (λ entry. entry.1) (find (λ entry. bytes_eq entry.0.now word) table)
