@@ -2,8 +2,9 @@
 use Rattle.std.specs.Prelude.{◌≡◌, ◌<◌, ◌≤◌, ℕ, List, [], ◌++◌, length, flat_map, codes, Ok, Err}
 use Rattle.std.specs.Fmt.{decimal}
 use Rattle.std.specs.declared.result.Result.{Result}
+use Rattle.sun_chain.specs.declared.chain.Chain.{Chain}
 use Rattle.sun_chain.specs.Image.{Words}
-use Rattle.sun_chain.specs.Chain.{IsChain}
+use Rattle.sun_chain.specs.Chain.{IsChain, base_of, end_of, models_of, words_of}
 use Rattle.sun_chain.specs.Fault.{chain_fault_number}
 use Rattle.sun_chain.specs.Points.{Named, points_in, value_text}
 use Rattle.sun_chain.specs.Walk.{Fails}
@@ -35,6 +36,11 @@ chain_lines word base models end =
     codes "base " ++ decimal base ++ codes "\n" ++ flat_map (model_lines word) models
     ++ codes "end "
     ++ decimal end ++ codes "\n"
+
+-- the lines of a chain that was found
+abbrev pub lines_of : Chain → List ℕ
+lines_of chain =
+    chain_lines (words_of chain) (base_of chain) (models_of chain) (end_of chain)
 
 -- where a word is lacking
 abbrev pub place_text : ChainFault → List ℕ

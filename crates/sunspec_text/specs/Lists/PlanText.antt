@@ -1,5 +1,6 @@
 -- What is printed of a point list's plan: its reads, and where its points stand in them.
-use Rattle.std.specs.Prelude.{◌≡◌, ℕ, ◌+◌, List, [], ◌∷◌, ◌++◌, flat_map, map, codes, slice_index_or}
+use Rattle.std.specs.Prelude.{◌≡◌, ℕ, ◌+◌, List, [], ◌∷◌, ◌++◌, flat_map, map, Option, codes, slice_index_or}
+use Rattle.std.specs.Io.KnownBytes.{Appends}
 use Rattle.std.specs.Fmt.{decimal}
 use Rattle.std.specs.List.{All}
 use Rattle.command_io.specs.declared.status.Status.{Status}
@@ -52,6 +53,11 @@ abbrev pub point_line : PlacedPoint → List ℕ
 point_line placed =
     codes "point " ++ placed.point.name ++ codes " " ++ decimal (placed.read + 1) ++ codes " "
     ++ decimal placed.offset ++ codes "\n"
+
+-- what was written prints this
+abbrev pub Writes : (Prints : List ℕ → Type 0) → (output output' : Option (List ℕ)) → Type 0
+Writes Prints output output' =
+    (printed : List ℕ) × Appends output output' printed × Prints printed
 
 -- the lines of points, each of the list with its place
 pub record PointsPrint (list points : List ListedPoint) (reads : List PlannedRead)

@@ -1,11 +1,11 @@
 //! The chain of models in a device's words.
 ghost use Rattle.std.specs.Prelude.{IfSome, OnOk, flat_map, map};
 ghost use Rattle.std.specs.Io.KnownBytes.{Appends};
-ghost use Rattle.sun_chain.specs.Chain.{base_of, end_of, models_of, words_of};
+ghost use Rattle.sun_chain.specs.Chain.{words_of};
 ghost use Rattle.sun_chain.specs.Image.{word_in};
 ghost use Rattle.sun_chain.specs.Points.{seen};
-ghost use Rattle.sunspec_text.specs.Chains.ChainText.{ChainPrints, LinesPrint, WordsPrint, chain_lines};
-ghost use Rattle.sunspec_text.specs.Chains.ChainText.{fault_line, model_line, model_lines, point_line};
+ghost use Rattle.sunspec_text.specs.Chains.ChainText.{ChainPrints, LinesPrint, WordsPrint, fault_line};
+ghost use Rattle.sunspec_text.specs.Chains.ChainText.{lines_of, model_line, model_lines, point_line};
 ghost use Rattle.sunspec_text.specs.Chains.ImageLines.{nothing_read, words_told};
 ghost use Rattle.command_io.specs.Lines.{speaking_lines};
 ghost use Rattle.command_io.specs.Printing.{PrintsAs, PrintsFor};
@@ -77,8 +77,7 @@ fn print_fault<W: Write>(fault: ChainFault, output: &mut W) -> io::Result<()>
 
 fn print_chain<W: Write>(chain: &Chain<'_>, output: &mut W) -> io::Result<()>
     ensures { OnOk result (Appends (W.contents output.old) (W.contents output.new)
-        (chain_lines (words_of chain.now) (base_of chain.now) (models_of chain.now)
-        (end_of chain.now))) }
+        (lines_of chain.now)) }
 {
     let base = chain.base();
     write!(output, "base {base}\n")?;

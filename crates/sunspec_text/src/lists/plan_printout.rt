@@ -1,9 +1,9 @@
 //! The plan of a point list.
-ghost use Rattle.std.specs.Prelude.{◌≡◌, ◌+◌, ◌<◌, ◌^◌, ℕ, List, OnOk, length, map};
+ghost use Rattle.std.specs.Prelude.{◌≡◌, ◌+◌, ◌<◌, ◌^◌, OnOk, length, map};
 ghost use Rattle.std.specs.Io.KnownBytes.{Appends};
 ghost use Rattle.command_io.specs.Printing.{PrintsAs};
 ghost use Rattle.read_plan.specs.Items.{items_of};
-ghost use Rattle.sunspec_text.specs.Lists.PlanText.{LinesPrint, PointsPrint, PrintsPlan, point_line, read_head};
+ghost use Rattle.sunspec_text.specs.Lists.PlanText.{LinesPrint, PointsPrint, PrintsPlan, Writes, point_line, read_head};
 ghost use Rattle.sunspec_text.specs.Lists.PlanText.{read_line, read_lines, registers_text, span_line};
 
 use command_io::Status;
@@ -32,9 +32,8 @@ fn print_lines<W: Write>(list: &PointList, plan: &Plan, output: &mut W) -> io::R
     requires items { plan.now.items ≡ items_of list.now }
     requires starts { plan.now.starts ≡ map (λ point. point.address) list.now }
     requires each { length plan.now.items ≡ length list.now }
-    ensures { OnOk result ((printed : List ℕ)
-        × Appends (W.contents output.old) (W.contents output.new) printed
-        × LinesPrint list.now plan.now.reads printed) }
+    ensures { OnOk result (Writes (LinesPrint list.now plan.now.reads)
+        (W.contents output.old) (W.contents output.new)) }
 {
     print_reads(plan.reads(), output)?;
     print_points(list.points(), plan, output)?;
@@ -94,9 +93,8 @@ fn print_points<W: Write>(points: &[ListedPoint], plan: &Plan, output: &mut W) -
     requires starts { plan.now.starts ≡ map (λ point. point.address) points.now }
     requires few { length plan.now.reads < 2 ^ 64 }
     requires each { length plan.now.items ≡ length points.now }
-    ensures { OnOk result ((printed : List ℕ)
-        × Appends (W.contents output.old) (W.contents output.new) printed
-        × PointsPrint points.now points.now plan.now.reads printed) }
+    ensures { OnOk result (Writes (PointsPrint points.now points.now plan.now.reads)
+        (W.contents output.old) (W.contents output.new)) }
 {
     for (index, point) in points.iter().enumerate() {
         print_point(point, plan.place(index), output)?;
