@@ -35,7 +35,8 @@ TellsReport ledger past register moments later books back had holds status =
 
 -- So it is of the books, the clock and the writer, each as it was found and as it was left.
 abbrev pub ReportsOver : {B C W : Type 0} → stores.Ghosts B → clocks.Ghosts C → writers.Ghosts W
-    → (register : List ℕ) → (books back : B) → (before after : C) → (had holds : W) → Status → Type 0
+    → (register : List ℕ) → (books back : B) → (before after : C) → (had holds : W) → Status
+    → Type 0
 ReportsOver b c w register books back before after had holds end =
     OverStanding b.ledger books back (λ past. TellsReport b.ledger past register (c.moments before)
     (c.moments after) books back (w.contents had) (w.contents holds) end)
