@@ -2,6 +2,7 @@
 use Rattle.std.specs.Prelude.{◌≡◌, ℕ, List, ◌∷◌, Option}
 use Rattle.office_rules.specs.History.{History, Opened}
 use Rattle.office_books.specs.Ledgers.{Ledger}
+use Rattle.office_core.specs.Leaving.{BooksStand}
 use Rattle.office_core.specs.Standing.{books_in}
 use Rattle.office_core.specs.declared.office.Office.{Office}
 use Rattle.office_program.specs.Texts.OpenedOffice.{Opens}
@@ -18,3 +19,10 @@ pub record WithOffice {B : Type 0} (ledger : B → Ledger) (past : History)
   pub left : Office B
   pub does : Does (Opened opens.at ∷ past) then opened left
   pub handed : back ≡ books_in left
+
+-- Of books that stand behind what was accepted before this is told, if no wrong answer of a store was taken as true by the
+-- time that they are handed back.
+abbrev pub OverStanding : {B : Type 0} → (B → Ledger) → (books back : B)
+    → (Tells : (past : History) → Type 0) → Type 0
+OverStanding ledger books back Tells =
+    (past : History) → BooksStand (ledger books) past → (ledger back).is_clean → Tells past

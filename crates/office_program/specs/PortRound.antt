@@ -1,15 +1,19 @@
 -- A round over books.
 use Rattle.std.specs.Prelude.{◌≡◌, ℕ, List, Option, Result}
+use Rattle.std.specs.declared.io.Write as writers
+use Rattle.socket_link.specs.declared.clock.Clock as clocks
 use Rattle.office_events.specs.Names.{named}
 use Rattle.office_rules.specs.History.{History}
 use Rattle.office_books.specs.Ledgers.{Ledger}
+use Rattle.office_books.specs.declared.books.Books as stores
+use Rattle.office_core.specs.Standing.{After}
 use Rattle.office_core.specs.Taking.{failures_of}
 use Rattle.office_core.specs.declared.office.Office.{Office}
 use Rattle.office_rounds.specs.Rounds.{Wire, desk, passage}
 use Rattle.office_rounds.specs.declared.fault.RoundFault.{RoundFault}
 use Rattle.office_program.specs.Texts.OpenedOffice.{TellsUnopened}
 use Rattle.office_program.specs.Texts.Rounds.{PollsRound}
-use Rattle.office_program.specs.Opened.{WithOffice}
+use Rattle.office_program.specs.Opened.{OverStanding, WithOffice}
 use Rattle.office_program.specs.declared.port_round.Polling.{Polling}
 use Rattle.office_program.specs.declared.port_round.Polling.TheVariants.{Polled, Unopened, Unconnected}
 
@@ -37,12 +41,13 @@ PollsPort ledger device later had holds Unconnected behind then opened left =
     IsLeft had holds opened left
 PollsPort ledger device later had holds (Unopened status) behind then opened left = ⊥
 
--- the same, told of a past that the office had accepted
-abbrev pub PollsPortBehind : {B : Type 0} → (B → Ledger) → (device : List ℕ)
-    → (then later had holds : Option (List ℕ)) → Polling → (opened left : Office B)
-    → (behind : History) → Type 0
-PollsPortBehind ledger device then later had holds end opened left behind =
-    PollsPort ledger device later had holds end behind then opened left
+-- So it is of an office that is open, the clock and the writer, each as it was found and as it was left.
+abbrev pub PollsPortOf : {B C W : Type 0} → stores.Ghosts B → clocks.Ghosts C → writers.Ghosts W
+    → (device : List ℕ) → (old new : Office B) → (before after : C) → (had holds : W) → Polling
+    → Type 0
+PollsPortOf b c w device old new before after had holds end =
+    After b.ledger old new (λ past. PollsPort b.ledger device (c.moments after) (w.contents had)
+    (w.contents holds) end past (c.moments before) old new)
 
 -- The opening was refused, and that alone was printed; or the office was opened, and polled.
 abbrev pub TellsPolling : {B : Type 0} → (B → Ledger) → (past : History) → (device : List ℕ)
@@ -52,3 +57,10 @@ TellsPolling ledger past device moments later books back had holds (Unopened sta
     TellsUnopened past moments later (ledger books) (ledger back) status had holds
 TellsPolling ledger past device moments later books back had holds end =
     WithOffice ledger past moments back (PollsPort ledger device later had holds end)
+
+-- So it is of the books, the clock and the writer, each as it was found and as it was left.
+abbrev pub PollsOver : {B C W : Type 0} → stores.Ghosts B → clocks.Ghosts C → writers.Ghosts W
+    → (device : List ℕ) → (books back : B) → (before after : C) → (had holds : W) → Polling → Type 0
+PollsOver b c w device books back before after had holds end =
+    OverStanding b.ledger books back (λ past. TellsPolling b.ledger past device (c.moments before)
+    (c.moments after) books back (w.contents had) (w.contents holds) end)

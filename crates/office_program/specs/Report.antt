@@ -1,16 +1,19 @@
 -- A report over books.
 use Rattle.std.specs.Prelude.{◌≡◌, ◌⊎◌, ℕ, List, Option}
+use Rattle.std.specs.declared.io.Write as writers
+use Rattle.socket_link.specs.declared.clock.Clock as clocks
 use Rattle.command_io.specs.declared.status.Status.{Status}
 use Rattle.office_events.specs.Names.{named}
 use Rattle.office_rules.specs.History.{History}
 use Rattle.office_books.specs.Ledgers.{Ledger}
+use Rattle.office_books.specs.declared.books.Books as stores
 use Rattle.office_core.specs.Standing.{Stands, books_in}
 use Rattle.office_core.specs.Taking.{failures_of}
 use Rattle.office_core.specs.declared.office.Office.{Office}
 use Rattle.office_program.specs.Texts.OpenedOffice.{TellsUnopened}
 use Rattle.office_program.specs.Texts.Reports.{ReportPrints}
 use Rattle.office_program.specs.Texts.EndTexts.{Tells}
-use Rattle.office_program.specs.Opened.{WithOffice}
+use Rattle.office_program.specs.Opened.{OverStanding, WithOffice}
 
 -- All days of the register were printed, or why there are none; and the office was only asked.
 pub record Reports {B : Type 0} (ledger : B → Ledger) (register later had holds : Option (List ℕ))
@@ -29,3 +32,11 @@ TellsReport ledger past register moments later books back had holds status =
     TellsUnopened past moments later (ledger books) (ledger back) status had holds
     ⊎ WithOffice ledger past moments back
     (Reports ledger (named register) later had holds status)
+
+-- So it is of the books, the clock and the writer, each as it was found and as it was left.
+abbrev pub ReportsOver : {B C W : Type 0} → stores.Ghosts B → clocks.Ghosts C → writers.Ghosts W
+    → (register : List ℕ) → (books back : B) → (before after : C) → (had holds : W) → Status
+    → Type 0
+ReportsOver b c w register books back before after had holds end =
+    OverStanding b.ledger books back (λ past. TellsReport b.ledger past register (c.moments before)
+    (c.moments after) books back (w.contents had) (w.contents holds) end)

@@ -1,10 +1,7 @@
 //! A round of a device at a port.
-ghost use Rattle.office_core.specs.Leaving.{BooksStand};
 ghost use Rattle.office_rounds.specs.Passing as rounds;
-ghost use Rattle.office_core.specs.Standing.{After};
-ghost use Rattle.office_rules.specs.History.{History};
 ghost use Rattle.office_program.specs.Texts.Passing.{Lasts};
-ghost use Rattle.office_program.specs.PortRound.{PollsPortBehind, TellsPolling};
+ghost use Rattle.office_program.specs.PortRound.{PollsOver, PollsPortOf};
 
 use crate::command_end::Ended;
 use crate::texts::{open_office, poll_round};
@@ -57,9 +54,8 @@ fn poll_port<R: Net, B: Books, C: Clock, W: Write>(
     clock: &mut C,
     output: &mut W,
 ) -> Polling
-    ensures polls { After B.ledger office.old office.new
-        (PollsPortBehind B.ledger device.now (C.moments clock.old) (C.moments clock.new)
-        (W.contents output.old) (W.contents output.new) result office.old office.new) }
+    ensures polls { PollsPortOf B.Books C.Clock W.Write device.now
+        office.old office.new clock.old clock.new output.old output.new result }
     ensures lasts { rounds.Lasts B.ledger office.old office.new }
 {
     let Ok(mut link) = connect(net, place) else {
@@ -81,10 +77,8 @@ pub fn poll_books<R: Net, B: Books, C: Clock, W: Write>(
     clock: &mut C,
     output: &mut W,
 ) -> Ended<B, Polling>
-    ensures tells { (past : History) → BooksStand (B.ledger books) past
-        → (B.ledger result.books).is_clean
-        → TellsPolling B.ledger past device.now (C.moments clock.old) (C.moments clock.new)
-        books result.books (W.contents output.old) (W.contents output.new) result.end }
+    ensures tells { PollsOver B.Books C.Clock W.Write device.now books result.books
+        clock.old clock.new output.old output.new result.end }
     ensures lasts { Lasts (B.ledger books) (B.ledger result.books) }
 {
     match open_office(alloc, books, clock, output) {

@@ -1,8 +1,6 @@
 //! The report of a register.
-ghost use Rattle.office_core.specs.Leaving.{BooksStand};
-ghost use Rattle.office_rules.specs.History.{History};
 ghost use Rattle.office_program.specs.Texts.Passing.{Lasts};
-ghost use Rattle.office_program.specs.Report.{TellsReport};
+ghost use Rattle.office_program.specs.Report.{ReportsOver};
 
 use crate::command_end::Ended;
 use crate::texts::{open_office, report_days};
@@ -23,10 +21,8 @@ pub fn report_books<B: Books, C: Clock, W: Write>(
     clock: &mut C,
     output: &mut W,
 ) -> Ended<B, Status>
-    ensures tells { (past : History) → BooksStand (B.ledger books) past
-        → (B.ledger result.books).is_clean
-        → TellsReport B.ledger past register.now (C.moments clock.old) (C.moments clock.new)
-        books result.books (W.contents output.old) (W.contents output.new) result.end }
+    ensures tells { ReportsOver B.Books C.Clock W.Write register.now books result.books
+        clock.old clock.new output.old output.new result.end }
     ensures lasts { Lasts (B.ledger books) (B.ledger result.books) }
 {
     match open_office(alloc, books, clock, output) {

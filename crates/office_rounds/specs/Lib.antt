@@ -5,5 +5,6 @@ pub mod Rounds
 pub mod Passing
 pub mod Taking
 pub mod Stepping
+pub mod Between
 pub mod DeviceRounds
 pub mod Driver

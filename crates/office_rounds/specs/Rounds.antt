@@ -162,9 +162,3 @@ Rounds ledger device past through office (Ok x) = IsRound ledger device past thr
 Rounds ledger device past through office (Err fault) =
     IsNotConnectedBy ledger device past through office fault
     ⊎ IsBrokenOff ledger device past through office fault
-
--- the same, told of a past that the office had accepted
-abbrev pub RoundsBehind : {B : Type 0} → (B → Ledger) → (device : Option (List ℕ)) → Passage
-    → Office B → Result (Unit {0}) RoundFault → (past : History) → Type 0
-RoundsBehind ledger device through office result past =
-    Rounds ledger device past through office result

@@ -63,12 +63,6 @@ Feeds ledger past at e begun now office (Err Output) = IsUnprinted ledger past a
 Feeds ledger past at e begun now office (Err Link) = ⊥
 Feeds ledger past at e begun now office (Err TurnsUsed) = ⊥
 
--- the same, told of a past that the office had accepted
-abbrev pub FeedsBehind : {B : Type 0} → (B → Ledger) → (at : ℕ) → Event → (begun now : Desk)
-    → Office B → Result Answer RoundFault → (past : History) → Type 0
-FeedsBehind ledger at e begun now office result past =
-    Feeds ledger past at e begun now office result
-
 -- Where an event of a device is refused since the office has stopped, it had; it stops where such an event fails.
 pub record Stops (was : Bool) (e : Event) (reply : Result Answer Refusal) (now : Bool) : Type 0
   where
@@ -100,18 +94,6 @@ pub record EndsUnprinted {B : Type 0} (ledger : B → Ledger) (past : History) (
   pub reply : Result Answer Refusal
   pub taken : IsTaken ledger past at e reply begun now new
   pub stops : RefusedStops (is_stopped old) e reply (is_stopped new)
-
--- the same, told of a past that the office had accepted
-abbrev pub EndsPrintedBehind : {B : Type 0} → (B → Ledger) → (at : ℕ) → Event
-    → (cause : RoundFault) → (begun now : Desk) → (old new : Office B) → (fault : RoundFault)
-    → (past : History) → Type 0
-EndsPrintedBehind ledger at e cause begun now old new fault past =
-    EndsPrinted ledger past at e cause begun now old new fault
-
-abbrev pub EndsUnprintedBehind : {B : Type 0} → (B → Ledger) → (at : ℕ) → Event
-    → (begun now : Desk) → (old new : Office B) → (past : History) → Type 0
-EndsUnprintedBehind ledger at e begun now old new past =
-    EndsUnprinted ledger past at e begun now old new
 
 -- the fault that is told: that a writing has failed now, or the one that broke the round off
 abbrev pub fault_behind : (cause fault : RoundFault) → RoundFault
@@ -152,6 +134,17 @@ pub record Counts (device : Option (List ℕ)) (past : History) (fed : List Answ
   pub started : round.started ≡ counted (reads_started fed)
   pub planned : round.planned ≡ reads_planned fed
   pub ended : round.ended ≡ counted (polls_ended past fed)
+
+-- before anything was fed
+abbrev pub unfed : (device : Option (List ℕ)) → Progress
+unfed device = record {
+  device = device;
+  latest = 0;
+  first = None;
+  started = 0;
+  planned = 0;
+  ended = 0;
+}
 
 -- nothing was counted yet
 pub record IsNew (round : Progress) : Type 0 where
@@ -276,13 +269,6 @@ Connects ledger device past begun now office round (Err Output) =
     Output)
 Connects ledger device past begun now office round (Err Link) = ⊥
 Connects ledger device past begun now office round (Err TurnsUsed) = ⊥
-
--- the same, told of a past that the office had accepted
-abbrev pub ConnectsBehind : {B : Type 0} → (B → Ledger) → (device : Option (List ℕ))
-    → (begun now : Desk) → Office B → Progress → Result (Unit {0}) RoundFault → (past : History)
-    → Type 0
-ConnectsBehind ledger device begun now office round result past =
-    Connects ledger device past begun now office round result
 
 -- A round that was broken off is closed: the last thing that was fed is that the device is gone.
 pub record Closes {B : Type 0} (ledger : B → Ledger) (device : Option (List ℕ)) (past : History)

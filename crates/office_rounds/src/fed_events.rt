@@ -1,16 +1,11 @@
 //! Events that are fed to the office, and what it tells of them.
-ghost use Rattle.std.specs.Prelude.{◌≡◌, ℕ, List, Option};
-ghost use Rattle.office_rules.specs.History.{History};
-ghost use Rattle.office_core.specs.EventRun.{Answered};
-ghost use Rattle.office_core.specs.Standing.{After, books_in, is_stopped, notes_in, outgoing_in};
-ghost use Rattle.office_core.specs.Taking.{failures_of};
-ghost use Rattle.office_rounds.specs.Course.{Does, next_in};
+ghost use Rattle.std.specs.Prelude.{◌≡◌};
+ghost use Rattle.office_core.specs.Standing.{is_stopped};
+ghost use Rattle.office_rounds.specs.Between.{FeedsAndPrints, PrintsTold, TellsNext};
 ghost use Rattle.office_rounds.specs.Faults.{OfOffice};
 ghost use Rattle.office_rounds.specs.Passing.{Lasts};
-ghost use Rattle.office_rounds.specs.Rounds.{Desk, desk};
 ghost use Rattle.office_rounds.specs.Stepping as stepping;
-ghost use Rattle.office_rounds.specs.Stepping.{FeedStops, FeedsBehind, Going, Prints, Told};
-ghost use Rattle.script_text.specs.AnswerText.{accepted_text};
+ghost use Rattle.office_rounds.specs.Stepping.{FeedStops};
 
 use crate::fault::RoundFault;
 use crate::progress::Progress;
@@ -27,9 +22,7 @@ fn print<B: Books, W: Write>(
     answer: Answer,
     output: &mut W,
 ) -> Result<Answer, RoundFault>
-    ensures prints { Prints answer
-        (accepted_text answer (notes_in office.now) (outgoing_in office.now))
-        (W.contents output.old) (W.contents output.new) result }
+    ensures prints { PrintsTold W.Write office.now answer output.old output.new result }
     ensures kind { OfOffice result }
 {
     match write_accepted(&answer, office.notes(), office.outgoing(), output) {
@@ -45,11 +38,8 @@ pub(crate) fn feed<B: Books, W: Write>(
     event: &Event,
     output: &mut W,
 ) -> Result<Answer, RoundFault>
-    ensures feeds { (moments later : Option (List ℕ))
-        → After B.ledger office.old office.new (FeedsBehind B.ledger at event.now
-        (desk (W.contents output.old) moments (failures_of B.ledger office.old))
-        (desk (W.contents output.new) later (failures_of B.ledger office.new))
-        office.new result) }
+    ensures feeds { FeedsAndPrints B.Books W.Write at event.now office.old office.new
+        output.old output.new result }
     ensures stops { FeedStops (is_stopped office.old) event.now result (is_stopped office.new) }
     ensures kind { OfOffice result }
     ensures lasts { Lasts B.ledger office.old office.new }
@@ -80,14 +70,8 @@ pub(crate) fn tell<B: Books, C: Clock, W: Write>(
     clock: &mut C,
     output: &mut W,
 ) -> Result<u64, RoundFault>
-    ensures tells { (device : Option (List ℕ)) (past : History) (begun : Desk) (fed : List Answered)
-        → Going B.ledger device past begun (desk (W.contents output.old) (C.moments clock.old)
-        (failures_of B.ledger office.old)) office.old fed round.old
-        → Does device (next_in past fed) event.now
-        → (B.ledger (books_in office.new)).is_clean
-        → (one : Answered) × (one.event ≡ event.now) × Told B.ledger device past begun
-        (desk (W.contents output.new) (C.moments clock.new) (failures_of B.ledger office.new))
-        office.new fed one round.new result }
+    ensures tells { TellsNext B.Books C.Clock W.Write event.now round.old round.new
+        office.old office.new clock.old clock.new output.old output.new result }
     ensures kind { OfOffice result }
     ensures lasts { Lasts B.ledger office.old office.new }
 {

@@ -2,7 +2,7 @@
 ghost use Rattle.std.specs.Prelude.{◌≡◌, ◌+◌, Some};
 ghost use Rattle.std.specs.List.{count_by};
 ghost use Rattle.office_rounds.specs.Course as course;
-ghost use Rattle.office_rounds.specs.Stepping.{counted};
+ghost use Rattle.office_rounds.specs.Stepping.{counted, unfed};
 
 use office_events::{Answer, Name, Note};
 
@@ -79,18 +79,9 @@ fn planned_by(planned: u64, answer: &Answer) -> u64
 }
 
 impl Progress {
-    ghost use Rattle.std.specs.Prelude.{None};
-
     /// Nothing was fed.
     pub(crate) fn new(device: Option<Name>) -> Progress
-        ensures { result ≡ record {
-          device = device;
-          latest = 0;
-          first = None;
-          started = 0;
-          planned = 0;
-          ended = 0;
-        } }
+        ensures { result ≡ unfed device }
     {
         Progress {
             device,

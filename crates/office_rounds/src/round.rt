@@ -1,15 +1,11 @@
 //! A round.
-ghost use Rattle.std.specs.Prelude.{◌≡◌, ℕ, List, Option, Ok, Err};
+ghost use Rattle.std.specs.Prelude.{◌≡◌, Err};
 ghost use Rattle.mb_wire.specs.Links.{risen};
-ghost use Rattle.office_rules.specs.History.{History};
-ghost use Rattle.office_core.specs.EventRun.{Answered};
-ghost use Rattle.office_core.specs.Standing.{After, books_in};
-ghost use Rattle.office_core.specs.Taking.{failures_of};
-ghost use Rattle.office_rounds.specs.Course.{Over, StartFrom, Take, next_in};
+ghost use Rattle.office_rounds.specs.Between.{EndsUnconnected, PollsOut, PollsToEnd, RoundsOver, TakesTurns, TellsConnection};
 ghost use Rattle.office_rounds.specs.Faults.{OfOffice, is_link_fault};
 ghost use Rattle.office_rounds.specs.Passing.{AreAtMost, AreTakes, CountsFailures, Lasts};
-ghost use Rattle.office_rounds.specs.Rounds.{Desk, IsToldOf, Rounds, RoundsBehind, Wire, desk, passage, wire};
-ghost use Rattle.office_rounds.specs.Stepping.{Connects, ConnectsBehind, Going, IsNew, IsWired, StepsFrom, scene};
+ghost use Rattle.office_rounds.specs.Rounds.{IsToldOf};
+ghost use Rattle.office_rounds.specs.Stepping.{IsNew};
 
 use crate::fault::RoundFault;
 use crate::fed_events::{feed, latest_behind};
@@ -35,11 +31,8 @@ fn connect<B: Books, C: Clock, W: Write>(
     output: &mut W,
 ) -> Result<(), RoundFault>
     requires { IsNew round.old }
-    ensures connects { After B.ledger office.old office.new
-        (ConnectsBehind B.ledger round.old.device
-        (desk (W.contents output.old) (C.moments clock.old) (failures_of B.ledger office.old))
-        (desk (W.contents output.new) (C.moments clock.new) (failures_of B.ledger office.new))
-        office.new round.new result) }
+    ensures connects { TellsConnection B.Books C.Clock W.Write round.old round.new
+        office.old office.new clock.old clock.new output.old output.new result }
     ensures kind { OfOffice result }
     ensures lasts { Lasts B.ledger office.old office.new }
 {
@@ -65,14 +58,8 @@ fn take_turns<L: Link, B: Books, C: Clock, W: Write>(
     clock: &mut C,
     output: &mut W,
 ) -> Result<(), RoundFault>
-    ensures steps { StepsFrom B.ledger
-        (scene office.old (desk (W.contents output.old) (C.moments clock.old)
-        (failures_of B.ledger office.old))
-        (wire (L.remaining link.old) (L.given link.old)) round.old)
-        (scene office.new (desk (W.contents output.new) (C.moments clock.new)
-        (failures_of B.ledger office.new))
-        (wire (L.remaining link.new) (L.given link.new)) round.new)
-        (λ round fed past. Take) result (λ done. Over) }
+    ensures steps { TakesTurns L.Link B.Books C.Clock W.Write round.old round.new link.old link.new
+        office.old office.new clock.old clock.new output.old output.new result }
     ensures failures { L.failed link.new ≡ risen (is_link_fault result) (L.failed link.old) }
     ensures takes { AreAtMost 100000 (L.taken link.old) (L.taken link.new) }
     ensures used { result ≡ Err RoundFault.TurnsUsed
@@ -97,14 +84,8 @@ fn poll_connected<L: Link, B: Books, C: Clock, W: Write>(
     clock: &mut C,
     output: &mut W,
 ) -> Result<(), RoundFault>
-    ensures steps { StepsFrom B.ledger
-        (scene office.old (desk (W.contents output.old) (C.moments clock.old)
-        (failures_of B.ledger office.old))
-        (wire (L.remaining link.old) (L.given link.old)) round.old)
-        (scene office.new (desk (W.contents output.new) (C.moments clock.new)
-        (failures_of B.ledger office.new))
-        (wire (L.remaining link.new) (L.given link.new)) round.new)
-        (λ round fed past. StartFrom round.started) result (λ done. Over) }
+    ensures steps { PollsOut L.Link B.Books C.Clock W.Write round.old round.new link.old link.new
+        office.old office.new clock.old clock.new output.old output.new result }
     ensures failures { L.failed link.new ≡ risen (is_link_fault result) (L.failed link.old) }
     ensures takes { AreAtMost 100000 (L.taken link.old) (L.taken link.new) }
     ensures used { result ≡ Err RoundFault.TurnsUsed
@@ -126,15 +107,8 @@ fn poll_to_end<L: Link, B: Books, C: Clock, W: Write>(
     clock: &mut C,
     output: &mut W,
 ) -> Result<(), RoundFault>
-    ensures polls { (device : Option (List ℕ)) (past : History) (begun : Desk) (from : Wire)
-        (fed : List Answered) → Going B.ledger device past begun (desk (W.contents output.old)
-        (C.moments clock.old) (failures_of B.ledger office.old)) office.old fed round.old
-        → IsWired {X = Unit {0}} past from (wire (L.remaining link.old) (L.given link.old))
-        fed (Ok tt) → next_in past fed ≡ StartFrom round.old.started
-        → (B.ledger (books_in office.new)).is_clean → Rounds B.ledger device past
-        (passage begun (desk (W.contents output.new) (C.moments clock.new)
-        (failures_of B.ledger office.new)) from
-        (wire (L.remaining link.new) (L.given link.new))) office.new result }
+    ensures polls { PollsToEnd L.Link B.Books C.Clock W.Write round.old link.old link.new
+        office.old office.new clock.old clock.new output.old output.new result }
     ensures turns { AreAtMost 100000 (L.taken link.old) (L.taken link.new) }
     ensures used { result ≡ Err RoundFault.TurnsUsed
         → AreTakes 100000 (L.taken link.old) (L.taken link.new) }
@@ -155,12 +129,8 @@ fn end_unconnected<B: Books, C: Clock, W: Write>(
     clock: &mut C,
     output: &mut W,
 ) -> RoundFault
-    ensures ends { (device : Option (List ℕ)) (past : History) (begun : Desk) (wire : Wire)
-        → Connects B.ledger device past begun (desk (W.contents output.old) (C.moments clock.old)
-        (failures_of B.ledger office.old)) office.old round.now (Err fault)
-        → (B.ledger (books_in office.new)).is_clean → Rounds B.ledger device past
-        (passage begun (desk (W.contents output.new) (C.moments clock.new)
-        (failures_of B.ledger office.new)) wire wire) office.new (Err result) }
+    ensures ends { EndsUnconnected B.Books C.Clock W.Write round.now fault
+        office.old office.new clock.old clock.new output.old output.new result }
     ensures told { IsToldOf fault result }
     ensures lasts { Lasts B.ledger office.old office.new }
 {
@@ -192,12 +162,8 @@ pub fn round_over<L: Link, B: Books, C: Clock, W: Write>(
     clock: &mut C,
     output: &mut W,
 ) -> Result<(), RoundFault>
-    ensures rounds { After B.ledger office.old office.new (RoundsBehind B.ledger device
-        (passage
-        (desk (W.contents output.old) (C.moments clock.old) (failures_of B.ledger office.old))
-        (desk (W.contents output.new) (C.moments clock.new) (failures_of B.ledger office.new))
-        (wire (L.remaining link.old) (L.given link.old))
-        (wire (L.remaining link.new) (L.given link.new))) office.new result) }
+    ensures rounds { RoundsOver L.Link B.Books C.Clock W.Write device link.old link.new
+        office.old office.new clock.old clock.new output.old output.new result }
     ensures turns { AreAtMost 100000 (L.taken link.old) (L.taken link.new) }
     ensures used { result ≡ Err RoundFault.TurnsUsed
         → AreTakes 100000 (L.taken link.old) (L.taken link.new) }

@@ -1,14 +1,10 @@
 //! The end of a round that was broken off.
-ghost use Rattle.std.specs.Prelude.{◌≡◌, ℕ, List, Option};
-ghost use Rattle.office_rules.specs.History.{History};
-ghost use Rattle.office_core.specs.EventRun.{Answered};
-ghost use Rattle.office_core.specs.Standing.{After, books_in};
-ghost use Rattle.office_core.specs.Taking.{failures_of};
+ghost use Rattle.std.specs.Prelude.{◌≡◌};
+ghost use Rattle.office_rounds.specs.Between.{ClosesBroken, EndsAndPrints, EndsSilently};
 ghost use Rattle.office_rounds.specs.Passing.{Lasts};
 ghost use Rattle.office_rounds.specs.Rounds as rounds;
-ghost use Rattle.office_rounds.specs.Rounds.{Desk, IsToldOf, desk};
+ghost use Rattle.office_rounds.specs.Rounds.{IsToldOf};
 ghost use Rattle.office_rounds.specs.Stepping as stepping;
-ghost use Rattle.office_rounds.specs.Stepping.{Broken, Closes, EndsPrintedBehind, EndsUnprintedBehind};
 
 use crate::fault::RoundFault;
 use crate::fed_events::feed;
@@ -64,11 +60,8 @@ fn end_printed<B: Books, W: Write>(
     office: &mut Office<B>,
     output: &mut W,
 ) -> RoundFault
-    ensures ends { (moments later : Option (List ℕ))
-        → After B.ledger office.old office.new (EndsPrintedBehind B.ledger at gone.now cause
-        (desk (W.contents output.old) moments (failures_of B.ledger office.old))
-        (desk (W.contents output.new) later (failures_of B.ledger office.new))
-        office.old office.new result) }
+    ensures ends { EndsAndPrints B.Books W.Write at gone.now cause office.old office.new
+        output.old output.new result }
     ensures told { IsToldOf cause result }
     ensures lasts { Lasts B.ledger office.old office.new }
 {
@@ -80,10 +73,7 @@ fn end_printed<B: Books, W: Write>(
 
 // Tells the end, and prints nothing.
 fn end_unprinted<B: Books>(at: u64, gone: &Event, office: &mut Office<B>)
-    ensures ends { (printed moments later : Option (List ℕ))
-        → After B.ledger office.old office.new (EndsUnprintedBehind B.ledger at gone.now
-        (desk printed moments (failures_of B.ledger office.old))
-        (desk printed later (failures_of B.ledger office.new)) office.old office.new) }
+    ensures ends { EndsSilently B.Books at gone.now office.old office.new }
     ensures lasts { Lasts B.ledger office.old office.new }
 {
     let _answer = office.feed(at, gone);
@@ -98,13 +88,8 @@ pub(crate) fn close<B: Books, C: Clock, W: Write>(
     clock: &mut C,
     output: &mut W,
 ) -> RoundFault
-    ensures closes { (device : Option (List ℕ)) (past : History) (begun : Desk)
-        (fed : List Answered)
-        → Broken B.ledger device past begun (desk (W.contents output.old) (C.moments clock.old)
-        (failures_of B.ledger office.old)) office.old fed round.now cause
-        → (B.ledger (books_in office.new)).is_clean
-        → Closes B.ledger device past begun (desk (W.contents output.new) (C.moments clock.new)
-        (failures_of B.ledger office.new)) office.new fed cause result }
+    ensures closes { ClosesBroken B.Books C.Clock W.Write round.now cause
+        office.old office.new clock.old clock.new output.old output.new result }
     ensures told { IsToldOf cause result }
     ensures lasts { Lasts B.ledger office.old office.new }
 {

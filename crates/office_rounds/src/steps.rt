@@ -1,19 +1,13 @@
 //! The steps of a round.
-ghost use Rattle.std.specs.Prelude.{◌≡◌, ◌++◌, ℕ, List, Option, IfOk};
-ghost use Rattle.std.specs.Io.KnownBytes.{Appends, Consumes, Keeps};
+ghost use Rattle.std.specs.Prelude.{◌≡◌, IfOk};
+ghost use Rattle.std.specs.Io.KnownBytes.{Consumes, Keeps};
 ghost use Rattle.mb_wire.specs.Links.{risen};
-ghost use Rattle.office_rules.specs.History.{History};
-ghost use Rattle.office_core.specs.EventRun.{Answered};
-ghost use Rattle.office_core.specs.Standing.{books_in};
-ghost use Rattle.office_core.specs.Taking.{failures_of};
-ghost use Rattle.office_rounds.specs.Course.{IsTaken, Leave, StartFrom, Take, next_in};
+ghost use Rattle.office_rounds.specs.Between.{FeedsTaken, Follows, FollowsTaken, StartsLeft, StartsReads, TakesTurn, TellsGone};
+ghost use Rattle.office_rounds.specs.Course.{IsTaken};
 ghost use Rattle.office_rounds.specs.Faults.{AreGiven, OfOffice, OnlyLink, TakesOn, is_link_fault};
 ghost use Rattle.office_rounds.specs.Passing.{Lasts};
-ghost use Rattle.office_rounds.specs.Rounds.{Desk, Wire, desk, wire};
-ghost use Rattle.office_rounds.specs.Stepping.{Going, Steps, StepsFrom, next_behind_taken, next_left_in, scene};
-ghost use Rattle.office_rounds.specs.FedEvents.{frames_behind, piece_in, pieces_behind};
 ghost use Rattle.office_rounds.specs.Taking as taking;
-ghost use Rattle.office_rounds.specs.Taking.{Brings, TurnTakes, brought, over_or_take};
+ghost use Rattle.office_rounds.specs.Taking.{Brings, TurnTakes, brought};
 
 use crate::fault::RoundFault;
 use crate::fed_events::tell;
@@ -50,14 +44,8 @@ pub(crate) fn start<L: Link, B: Books, C: Clock, W: Write>(
     clock: &mut C,
     output: &mut W,
 ) -> Result<(), RoundFault>
-    ensures steps { StepsFrom B.ledger
-        (scene office.old (desk (W.contents output.old) (C.moments clock.old)
-        (failures_of B.ledger office.old))
-        (wire (L.remaining link.old) (L.given link.old)) round.old)
-        (scene office.new (desk (W.contents output.new) (C.moments clock.new)
-        (failures_of B.ledger office.new))
-        (wire (L.remaining link.new) (L.given link.new)) round.new)
-        (λ round fed past. StartFrom round.started) result (λ done. Take) }
+    ensures steps { StartsReads L.Link B.Books C.Clock W.Write round.old round.new link.old link.new
+        office.old office.new clock.old clock.new output.old output.new result }
     ensures failures { L.failed link.new ≡ risen (is_link_fault result) (L.failed link.old) }
     ensures takes { L.taken link.new ≡ L.taken link.old }
     ensures on { TakesOn result }
@@ -122,14 +110,8 @@ fn start_left<L: Link, B: Books, C: Clock, W: Write>(
     clock: &mut C,
     output: &mut W,
 ) -> Result<bool, RoundFault>
-    ensures steps { StepsFrom B.ledger
-        (scene office.old (desk (W.contents output.old) (C.moments clock.old)
-        (failures_of B.ledger office.old))
-        (wire (L.remaining link.old) (L.given link.old)) round.old)
-        (scene office.new (desk (W.contents output.new) (C.moments clock.new)
-        (failures_of B.ledger office.new))
-        (wire (L.remaining link.new) (L.given link.new)) round.new)
-        (λ round fed past. StartFrom round.started) result over_or_take }
+    ensures steps { StartsLeft L.Link B.Books C.Clock W.Write round.old round.new link.old link.new
+        office.old office.new clock.old clock.new output.old output.new result }
     ensures failures { L.failed link.new ≡ risen (is_link_fault result) (L.failed link.old) }
     ensures takes { L.taken link.new ≡ L.taken link.old }
     ensures on { TakesOn result }
@@ -148,12 +130,8 @@ fn leave<B: Books, C: Clock, W: Write>(
     clock: &mut C,
     output: &mut W,
 ) -> Result<bool, RoundFault>
-    ensures steps { (wire : Wire) → StepsFrom B.ledger
-        (scene office.old (desk (W.contents output.old) (C.moments clock.old)
-        (failures_of B.ledger office.old)) wire round.old)
-        (scene office.new (desk (W.contents output.new) (C.moments clock.new)
-        (failures_of B.ledger office.new)) wire round.new)
-        (λ round fed past. Leave) result over_or_take }
+    ensures steps { TellsGone B.Books C.Clock W.Write round.old round.new
+        office.old office.new clock.old clock.new output.old output.new result }
     ensures lasts { Lasts B.ledger office.old office.new }
     ensures kind { OfOffice result }
 {
@@ -173,14 +151,8 @@ fn follow<L: Link, B: Books, C: Clock, W: Write>(
     clock: &mut C,
     output: &mut W,
 ) -> Result<bool, RoundFault>
-    ensures steps { StepsFrom B.ledger
-        (scene office.old (desk (W.contents output.old) (C.moments clock.old)
-        (failures_of B.ledger office.old))
-        (wire (L.remaining link.old) (L.given link.old)) round.old)
-        (scene office.new (desk (W.contents output.new) (C.moments clock.new)
-        (failures_of B.ledger office.new))
-        (wire (L.remaining link.new) (L.given link.new)) round.new)
-        next_left_in result over_or_take }
+    ensures steps { Follows L.Link B.Books C.Clock W.Write round.old round.new link.old link.new
+        office.old office.new clock.old clock.new output.old output.new result }
     ensures failures { L.failed link.new ≡ risen (is_link_fault result) (L.failed link.old) }
     ensures takes { L.taken link.new ≡ L.taken link.old }
     ensures on { TakesOn result }
@@ -208,14 +180,8 @@ fn go_on<L: Link, B: Books, C: Clock, W: Write>(
     clock: &mut C,
     output: &mut W,
 ) -> Result<bool, RoundFault>
-    ensures steps { StepsFrom B.ledger
-        (scene office.old (desk (W.contents output.old) (C.moments clock.old)
-        (failures_of B.ledger office.old))
-        (wire (L.remaining link.old) (L.given link.old)) round.old)
-        (scene office.new (desk (W.contents output.new) (C.moments clock.new)
-        (failures_of B.ledger office.new))
-        (wire (L.remaining link.new) (L.given link.new)) round.new)
-        (next_behind_taken is_end endings) result over_or_take }
+    ensures steps { FollowsTaken L.Link B.Books C.Clock W.Write is_end endings round.old round.new
+        link.old link.new office.old office.new clock.old clock.new output.old output.new result }
     ensures failures { L.failed link.new ≡ risen (is_link_fault result) (L.failed link.old) }
     ensures takes { L.taken link.new ≡ L.taken link.old }
     ensures on { TakesOn result }
@@ -239,17 +205,8 @@ fn feed_taken<L: Link, B: Books, C: Clock, W: Write>(
     clock: &mut C,
     output: &mut W,
 ) -> Result<bool, RoundFault>
-    ensures steps { (device : Option (List ℕ)) (past : History) (begun : Desk) (from : Wire)
-        (fed : List Answered) → Going B.ledger device past begun (desk (W.contents output.old)
-        (C.moments clock.old) (failures_of B.ledger office.old)) office.old fed round.old
-        → Consumes from.remaining (L.remaining link.old) (pieces_behind fed ++ piece_in event.now)
-        → Appends from.given (L.given link.old) (frames_behind past fed)
-        → next_in past fed ≡ Take → IsTaken round.old.device event.now
-        → (B.ledger (books_in office.new)).is_clean → (later : List Answered)
-        × Steps B.ledger device past begun (desk (W.contents output.new)
-        (C.moments clock.new) (failures_of B.ledger office.new)) from
-        (wire (L.remaining link.new) (L.given link.new)) office.new later round.new
-        result over_or_take }
+    ensures steps { FeedsTaken L.Link B.Books C.Clock W.Write event.now round.old round.new
+        link.old link.new office.old office.new clock.old clock.new output.old output.new result }
     ensures failures { L.failed link.new ≡ risen (is_link_fault result) (L.failed link.old) }
     ensures takes { L.taken link.new ≡ L.taken link.old }
     ensures on { TakesOn result }
@@ -270,14 +227,8 @@ pub(crate) fn turn<L: Link, B: Books, C: Clock, W: Write>(
     clock: &mut C,
     output: &mut W,
 ) -> Result<bool, RoundFault>
-    ensures steps { StepsFrom B.ledger
-        (scene office.old (desk (W.contents output.old) (C.moments clock.old)
-        (failures_of B.ledger office.old))
-        (wire (L.remaining link.old) (L.given link.old)) round.old)
-        (scene office.new (desk (W.contents output.new) (C.moments clock.new)
-        (failures_of B.ledger office.new))
-        (wire (L.remaining link.new) (L.given link.new)) round.new)
-        (λ round fed past. Take) result over_or_take }
+    ensures steps { TakesTurn L.Link B.Books C.Clock W.Write round.old round.new link.old link.new
+        office.old office.new clock.old clock.new output.old output.new result }
     ensures failures { L.failed link.new ≡ risen (is_link_fault result) (L.failed link.old) }
     ensures takes { TurnTakes result (L.taken link.old) (L.taken link.new) }
     ensures lasts { Lasts B.ledger office.old office.new }

@@ -1,3 +1,2 @@
-pub mod StatusLemmas
 pub mod MonitorLemmas
 pub mod RunHttpLemmas

@@ -1,16 +1,21 @@
 -- The opening of an office at the moment that a clock tells.
-use Rattle.std.specs.Prelude.{ℕ, List, ◌∷◌, Option}
+use Rattle.std.specs.Prelude.{ℕ, List, ◌∷◌, Option, Result, IfOk, IfErr, MatchResult}
+use Rattle.std.specs.declared.io.Write as writers
+use Rattle.socket_link.specs.declared.clock.Clock as a_clock
 use Rattle.command_io.specs.declared.status.Status.{Status}
 use Rattle.command_io.specs.declared.status.Status.TheVariants.{Refused}
 use Rattle.office_events.specs.declared.refusals.Refusal.{Refusal}
 use Rattle.office_rules.specs.History.{History, Opened}
 use Rattle.office_books.specs.Ledgers.{Ledger}
+use Rattle.office_books.specs.declared.books.Books as stores
+use Rattle.office_core.specs.Leaving.{BooksStand}
 use Rattle.office_core.specs.Reopening.{IsNotOpened}
 use Rattle.office_core.specs.Standing.{Stands, books_in}
 use Rattle.office_core.specs.declared.office.Office.{Office}
 use Rattle.script_text.specs.AnswerText.{refused_line}
 use Rattle.socket_link.specs.Clocks as clocks
 use Rattle.office_program.specs.Texts.EndTexts.{IsTold}
+use Rattle.office_program.specs.Texts.Passing.{Lasts}
 use Rattle.office_program.specs.declared.texts.opened_office.Unopened.{Unopened}
 
 -- The office stands behind its opening: what waited is lost.
@@ -44,3 +49,25 @@ abbrev pub TellsWhereClean : {B : Type 0} → (B → Ledger) → (past : History
 TellsWhereClean ledger past moments later books had holds unopened =
     (ledger unopened.books).is_clean → TellsUnopened past moments later (ledger books)
     (ledger unopened.books) unopened.status had holds
+
+-- Over books that stand behind what was accepted before an office is opened so.
+abbrev pub OpensOver : {B C : Type 0} → stores.Ghosts B → a_clock.Ghosts C → (books : B)
+    → (before after : C) → Result (Office B) (Unopened B) → Type 0
+OpensOver b c books before after result =
+    (past : History) → BooksStand (b.ledger books) past
+    → IfOk result (OpensWhereClean b.ledger past (c.moments before) (c.moments after))
+
+-- Over such books an opening that is refused is told so.
+abbrev pub RefusesOver : {B C W : Type 0} → stores.Ghosts B → a_clock.Ghosts C → writers.Ghosts W
+    → (books : B) → (before after : C) → (had holds : W) → Result (Office B) (Unopened B) → Type 0
+RefusesOver b c w books before after had holds result =
+    (past : History) → BooksStand (b.ledger books) past
+    → IfErr result (TellsWhereClean b.ledger past (c.moments before) (c.moments after) books
+    (w.contents had) (w.contents holds))
+
+-- Whether it was opened or refused, a wrong answer that was taken as true stays one, and the zone stays.
+abbrev pub LastsInside : {B : Type 0} → (B → Ledger) → (books : B)
+    → Result (Office B) (Unopened B) → Type 0
+LastsInside ledger books result = MatchResult result
+    (λ office. Lasts (ledger books) (ledger (books_in office)))
+    (λ unopened. Lasts (ledger books) (ledger unopened.books))

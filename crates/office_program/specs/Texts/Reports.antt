@@ -1,6 +1,7 @@
 -- The report of a register: its days, or why there are none.
 use Rattle.std.specs.Prelude.{◌≡◌, ℕ, List, map, Option, Result, Ok, Err}
 use Rattle.std.specs.Option.{option_and_then}
+use Rattle.std.specs.declared.io.Write as writers
 use Rattle.command_io.specs.declared.status.Status.{Status}
 use Rattle.command_io.specs.declared.status.Status.TheVariants.{Fine, Refused}
 use Rattle.interval_core.specs.Days.{account_of}
@@ -10,7 +11,10 @@ use Rattle.office_events.specs.declared.refusals.Refusal.{Refusal}
 use Rattle.office_rules.specs.Facts.{register_of}
 use Rattle.office_rules.specs.History.{History, facts_of}
 use Rattle.office_books.specs.Ledgers.{Ledger}
+use Rattle.office_books.specs.declared.books.Books as stores
 use Rattle.office_core.specs.Asking.{AreDaysNamed, IsFound, OnlyAsks, is_there}
+use Rattle.office_core.specs.Standing.{After, books_in}
+use Rattle.office_core.specs.Taking.{failures_of}
 use Rattle.office_core.specs.declared.office.Office.{Office}
 use Rattle.report_lines.specs.Lines.{days_text, end_line}
 use Rattle.script_text.specs.AnswerText.{refused_line}
@@ -45,11 +49,13 @@ pub record ReportPrints (zone : Zone) (past : History) (register : Option (List 
   pub is : IsReport zone past register reply text
   pub means : meant ≡ meant_by reply
 
--- It is printed so, or a part of it, since a write failed; told of a past that the office had accepted.
-abbrev pub ReportsBehind : Zone → (register : Option (List ℕ)) → (before after : ℕ) → Status
-    → (old new : Option (List ℕ)) → (past : History) → Type 0
-ReportsBehind zone register before after status old new past =
-    Tells (ReportPrints zone past register before after) status old new
+-- It is printed so by an office over what it had accepted, or a part of it, since a write failed.
+abbrev pub ReportsDays : {B W : Type 0} → stores.Ghosts B → writers.Ghosts W
+    → (register : Option (List ℕ)) → (old new : Office B) → (had holds : W) → Status → Type 0
+ReportsDays b w register old new had holds status = After b.ledger old new
+    (λ past. Tells (ReportPrints (b.ledger (books_in old)).zone past register
+    (failures_of b.ledger old) (failures_of b.ledger new))
+    status (w.contents had) (w.contents holds))
 
 -- The office was only asked.
 pub record Asks {B : Type 0} (ledger : B → Ledger) (old new : Office B) : Type 0 where

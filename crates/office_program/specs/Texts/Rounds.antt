@@ -1,11 +1,17 @@
 -- The round of a device, and the refusal that broke it off.
 use Rattle.std.specs.Prelude.{◌≡◌, ◌⊎◌, ℕ, List, [], Option, Result, Ok, Err}
 use Rattle.std.specs.Io.KnownBytes.{Appends}
+use Rattle.std.specs.declared.io.Write as writers
+use Rattle.mb_wire.specs.declared.link.Link as links
+use Rattle.socket_link.specs.declared.clock.Clock as clocks
 use Rattle.command_io.specs.declared.status.Status.{Status}
 use Rattle.command_io.specs.declared.status.Status.TheVariants as status
 use Rattle.office_rules.specs.History.{History}
 use Rattle.office_books.specs.Ledgers.{Ledger}
+use Rattle.office_books.specs.declared.books.Books as stores
+use Rattle.office_core.specs.Standing.{After}
 use Rattle.office_core.specs.declared.office.Office.{Office}
+use Rattle.office_rounds.specs.Between.{passage_of}
 use Rattle.office_rounds.specs.Rounds.{Passage, desk, passage}
 use Rattle.office_rounds.specs.Rounds as one
 use Rattle.office_rounds.specs.declared.fault.RoundFault.{RoundFault}
@@ -39,11 +45,13 @@ pub record PollsRound {B : Type 0} (ledger : B → Ledger) (device : Option (Lis
   pub round : one.Rounds ledger device past (without_cause through printed) office done
   pub told : IsRefusalTold done result printed through.ended.printed
 
--- the same, told of a past that the office had accepted
-abbrev pub PollsRoundBehind : {B : Type 0} → (B → Ledger) → (device : Option (List ℕ)) → Passage
-    → Office B → Result (Unit {0}) RoundFault → (past : History) → Type 0
-PollsRoundBehind ledger device through office result past =
-    PollsRound ledger device past through office result
+-- So it is of the link, the office, the clock and the writer, each as it was found and as it was left.
+abbrev pub PollsRoundOver : {L B C W : Type 0} → links.Ghosts L → stores.Ghosts B → clocks.Ghosts C
+    → writers.Ghosts W → (device : Option (List ℕ)) → (from to : L) → (old new : Office B)
+    → (before after : C) → (had holds : W) → Result (Unit {0}) RoundFault → Type 0
+PollsRoundOver l b c w device from to old new before after had holds result =
+    After b.ledger old new (λ past. PollsRound b.ledger device past
+    (passage_of l b c w from to old new before after had holds) new result)
 
 -- how the command ends
 abbrev pub round_status : Result (Unit {0}) RoundFault → Status

@@ -1,10 +1,7 @@
 //! The opening of an office.
-ghost use Rattle.std.specs.Prelude.{◌≡◌, ◌≢◌, IfOk, IfErr, MatchResult};
-ghost use Rattle.office_core.specs.Leaving.{BooksStand};
-ghost use Rattle.office_core.specs.Standing.{IsFresh, books_in};
-ghost use Rattle.office_rules.specs.History.{History};
-ghost use Rattle.office_program.specs.Texts.OpenedOffice.{OpensWhereClean, TellsWhereClean};
-ghost use Rattle.office_program.specs.Texts.Passing.{Lasts};
+ghost use Rattle.std.specs.Prelude.{◌≡◌, ◌≢◌, IfOk, IfErr};
+ghost use Rattle.office_core.specs.Standing.{IsFresh};
+ghost use Rattle.office_program.specs.Texts.OpenedOffice.{LastsInside, OpensOver, RefusesOver};
 
 use crate::texts::end_texts::print_refusal;
 use command_io::Status;
@@ -29,19 +26,13 @@ pub fn open_office<B: Books, C: Clock, W: Write>(
     clock: &mut C,
     output: &mut W,
 ) -> Result<Office<B>, Unopened<B>>
-    ensures opened { (past : History) → BooksStand (B.ledger books) past
-        → IfOk result
-        (OpensWhereClean B.ledger past (C.moments clock.old) (C.moments clock.new)) }
+    ensures opened { OpensOver B.Books C.Clock books clock.old clock.new result }
     ensures fresh { IfOk result (λ office. IsFresh office) }
     ensures silent { IfOk result (λ office. output.new ≡ output.old) }
-    ensures refused { (past : History) → BooksStand (B.ledger books) past
-        → IfErr result
-        (TellsWhereClean B.ledger past (C.moments clock.old) (C.moments clock.new) books
-        (W.contents output.old) (W.contents output.new)) }
+    ensures refused { RefusesOver B.Books C.Clock W.Write books clock.old clock.new
+        output.old output.new result }
     ensures ends { IfErr result (λ e. e.status ≢ Status.Fine) }
-    ensures lasts { MatchResult result
-        (λ office. Lasts (B.ledger books) (B.ledger (books_in office)))
-        (λ e. Lasts (B.ledger books) (B.ledger e.books)) }
+    ensures lasts { LastsInside B.ledger books result }
 {
     let moment = clock.now();
     match Office::open(alloc, books, moment) {

@@ -1,7 +1,5 @@
 //! The report of a register.
-ghost use Rattle.office_core.specs.Standing.{After, books_in};
-ghost use Rattle.office_core.specs.Taking.{failures_of};
-ghost use Rattle.office_program.specs.Texts.Reports.{Asks, ReportsBehind, last_line, meant_by};
+ghost use Rattle.office_program.specs.Texts.Reports.{Asks, ReportsDays, last_line, meant_by};
 ghost use Rattle.office_program.specs.Texts.EndTexts.{IsTold};
 
 use crate::texts::end_texts::{ended, print_refusal};
@@ -34,10 +32,8 @@ pub fn report_days<B: Books, W: Write>(
     register: &Option<Name>,
     output: &mut W,
 ) -> Status
-    ensures prints { After B.ledger office.old office.new
-        (ReportsBehind (B.ledger (books_in office.old)).zone register.now
-        (failures_of B.ledger office.old) (failures_of B.ledger office.new)
-        result (W.contents output.old) (W.contents output.new)) }
+    ensures prints { ReportsDays B.Books W.Write register.now office.old office.new
+        output.old output.new result }
     ensures asks { Asks B.ledger office.old office.new }
 {
     let mut days = DayLines::to(output);

@@ -1,11 +1,8 @@
 //! The round of a device.
 ghost use Rattle.std.specs.Prelude.{◌≡◌, Err};
-ghost use Rattle.office_core.specs.Standing.{After};
-ghost use Rattle.office_core.specs.Taking.{failures_of};
 ghost use Rattle.office_rounds.specs.Passing.{AreAtMost, AreTakes, CountsFailures, Lasts};
-ghost use Rattle.office_rounds.specs.Rounds.{desk, passage, wire};
 ghost use Rattle.office_program.specs.Texts.Rounds as rounds;
-ghost use Rattle.office_program.specs.Texts.Rounds.{IsRefusalTold, PollsRoundBehind};
+ghost use Rattle.office_program.specs.Texts.Rounds.{IsRefusalTold, PollsRoundOver};
 
 use crate::texts::end_texts::print_refusal;
 use command_io::Status;
@@ -41,12 +38,8 @@ pub fn poll_round<L: Link, B: Books, C: Clock, W: Write>(
     clock: &mut C,
     output: &mut W,
 ) -> Result<(), RoundFault>
-    ensures rounds { After B.ledger office.old office.new (PollsRoundBehind B.ledger device
-        (passage
-        (desk (W.contents output.old) (C.moments clock.old) (failures_of B.ledger office.old))
-        (desk (W.contents output.new) (C.moments clock.new) (failures_of B.ledger office.new))
-        (wire (L.remaining link.old) (L.given link.old))
-        (wire (L.remaining link.new) (L.given link.new))) office.new result) }
+    ensures rounds { PollsRoundOver L.Link B.Books C.Clock W.Write device link.old link.new
+        office.old office.new clock.old clock.new output.old output.new result }
     ensures turns { AreAtMost 100000 (L.taken link.old) (L.taken link.new) }
     ensures used { result ≡ Err RoundFault.TurnsUsed
         → AreTakes 100000 (L.taken link.old) (L.taken link.new) }

@@ -3,7 +3,7 @@ use Rattle.std.specs.Prelude.{◌≡◌, ◌⊎◌, ◌≤◌, ℕ, List, [], �
 use Rattle.office_rules.specs.History.{History}
 use Rattle.office_books.specs.Ledgers.{Ledger}
 use Rattle.office_core.specs.EventRun.{Answered}
-use Rattle.office_core.specs.Standing.{Stands, books_in}
+use Rattle.office_core.specs.Standing.{After, Stands, books_in}
 use Rattle.office_core.specs.Taking.{failures_of}
 use Rattle.office_core.specs.declared.office.Office.{Office}
 use Rattle.office_rounds.specs.Rounds.{IsFed, desk}
@@ -69,6 +69,19 @@ GoesOn {B} {V} ledger sees at old new =
     → (later : List Answered) × Going ledger sees past begun at later None new
     × IsSettled new.rounds fed later
 
+-- So it does of the parts as they were found and left.
+abbrev pub FeedsOne : {B V : Type 0} → (B → Ledger) → (V → Shown → V → Type 0) → (at : ℕ) → Wished
+    → (old new : Office B) → (before after : List Round) → (from to : V) → Type 0
+FeedsOne ledger sees at one old new before after from to =
+    FeedsNext ledger sees at one (scene old (failures_of ledger old) before from)
+    (scene new (failures_of ledger new) after to)
+
+abbrev pub Settles : {B V : Type 0} → (B → Ledger) → (V → Shown → V → Type 0) → (at : ℕ)
+    → (old new : Office B) → (before after : List Round) → (from to : V) → Type 0
+Settles ledger sees at old new before after from to =
+    GoesOn ledger sees at (scene old (failures_of ledger old) before from)
+    (scene new (failures_of ledger new) after to)
+
 -- What a turn does: it feeds what is next behind what happened, until nothing is.
 pub record TakesTurn {B V : Type 0} (ledger : B → Ledger) (sees : V → Shown → V → Type 0)
     (past : History) (begun : Start V)
@@ -78,9 +91,9 @@ pub record TakesTurn {B V : Type 0} (ledger : B → Ledger) (sees : V → Shown 
   pub settled : IsSettled now.rounds [] fed
 
 -- So it does over an office, from what was to be fed as it began; the rounds and the witness come to be these.
-abbrev pub TurnsOver : {B V : Type 0} → (B → Ledger) → (V → Shown → V → Type 0) → (at : ℕ)
-    → (old new : Office B) → (begun : Table) → (rounds : List Round) → (from to : V)
-    → History → Type 0
-TurnsOver ledger sees at old new begun rounds from to past =
-    TakesTurn ledger sees past (start (failures_of ledger old) begun from) at
-    (scene new (failures_of ledger new) rounds to)
+abbrev pub Turns : {B V : Type 0} → (B → Ledger) → (V → Shown → V → Type 0) → (at : ℕ)
+    → (begun : Table) → (old new : Office B) → (rounds : List Round) → (from to : V) → Type 0
+Turns ledger sees at begun old new rounds from to =
+    After ledger old new (λ past. TakesTurn ledger sees past
+    (start (failures_of ledger old) begun from) at
+    (scene new (failures_of ledger new) rounds to))

@@ -136,9 +136,13 @@ abbrev pub came_from : ℕ → Option (Option (List ℕ)) → List ℕ → Optio
 came_from place None piece = None
 came_from place (Some device) piece = Some (wished (Some place) (event.Bytes device piece))
 
+-- These bytes are to be fed first.
+abbrev pub brought : ℕ → List ℕ → List Round → Table
+brought place piece rounds = table (came place (slice_get rounds place) piece) rounds
+
 -- What happens is fed first, or changes what a round wishes.
 abbrev pub opened : Happening → List Round → Table
 opened (Stands place) rounds = table None (at_place place joined rounds)
-opened (Came place piece) rounds = table (came place (slice_get rounds place) piece) rounds
+opened (Came place piece) rounds = brought place piece rounds
 opened (Ended place closing) rounds = table None (at_place place (leaving closing) rounds)
 opened Second rounds = table (Some (wished None event.Tick)) rounds

@@ -1,10 +1,9 @@
 //! One event that an office is fed.
 ghost use Rattle.std.specs.Prelude.{◌≡◌};
-ghost use Rattle.office_core.specs.Taking.{failures_of};
 ghost use Rattle.office_rounds.specs.Passing.{Lasts};
 ghost use Rattle.office_rounds.specs.Driver.Turns as turns;
 ghost use Rattle.office_rounds.specs.Driver.Turns.{answered_for, wished};
-ghost use Rattle.office_rounds.specs.Driver.Going.{FeedsNext, scene};
+ghost use Rattle.office_rounds.specs.Driver.Going.{FeedsOne};
 
 use crate::device_rounds::{Round, first_wishing, hear_all};
 use crate::driver::witness::Witness;
@@ -32,9 +31,8 @@ pub(crate) fn feed_one<B: Books, V: Witness>(
     at: u64,
     witness: &mut V,
 )
-    ensures feeds { FeedsNext B.ledger V.sees at (wished place event.now)
-        (scene office.old (failures_of B.ledger office.old) rounds.old witness.old)
-        (scene office.new (failures_of B.ledger office.new) rounds.new witness.new) }
+    ensures feeds { FeedsOne B.ledger V.sees at (wished place event.now) office.old office.new
+        rounds.old rounds.new witness.old witness.new }
     ensures lasts { Lasts B.ledger office.old office.new }
 {
     let answer = office.feed(at, event);

@@ -1,10 +1,8 @@
 //! A turn: what happened is fed, and then what the rounds wish.
 ghost use Rattle.std.specs.Prelude.{◌≡◌, ℕ, List, Some, None, slice_get};
-ghost use Rattle.office_core.specs.Standing.{After};
-ghost use Rattle.office_core.specs.Taking.{failures_of};
 ghost use Rattle.office_rounds.specs.Passing.{Lasts};
-ghost use Rattle.office_rounds.specs.Driver.Turns.{at_place, came, came_from, opened, table, wished};
-ghost use Rattle.office_rounds.specs.Driver.Going.{GoesOn, TurnsOver, scene};
+ghost use Rattle.office_rounds.specs.Driver.Turns.{at_place, brought, came, came_from, opened, table, wished};
+ghost use Rattle.office_rounds.specs.Driver.Going.{Settles, Turns};
 ghost use Rattle.office_rounds.specs.DeviceRounds.Rounds.{joined, leaving};
 
 use crate::device_rounds::{Round, Stage};
@@ -27,9 +25,8 @@ fn settle<B: Books, V: Witness>(
     at: u64,
     witness: &mut V,
 )
-    ensures settles { GoesOn B.ledger V.sees at
-        (scene office.old (failures_of B.ledger office.old) rounds.old witness.old)
-        (scene office.new (failures_of B.ledger office.new) rounds.new witness.new) }
+    ensures settles { Settles B.ledger V.sees at office.old office.new
+        rounds.old rounds.new witness.old witness.new }
     ensures lasts { Lasts B.ledger office.old office.new }
 {
     for _step in 0..MOST_STEPS {
@@ -67,9 +64,8 @@ fn begin<B: Books, V: Witness>(
     at: u64,
     witness: &mut V,
 )
-    ensures turns { After B.ledger office.old office.new (TurnsOver B.ledger V.sees at
-        office.old office.new (table (Some (wished place event.now)) rounds.old)
-        rounds.new witness.old witness.new) }
+    ensures turns { Turns B.ledger V.sees at (table (Some (wished place event.now)) rounds.old)
+        office.old office.new rounds.new witness.old witness.new }
     ensures lasts { Lasts B.ledger office.old office.new }
 {
     feed_one(rounds, place, event, office, at, witness);
@@ -83,8 +79,8 @@ fn go_on<B: Books, V: Witness>(
     at: u64,
     witness: &mut V,
 )
-    ensures turns { After B.ledger office.old office.new (TurnsOver B.ledger V.sees at
-        office.old office.new (table None rounds.old) rounds.new witness.old witness.new) }
+    ensures turns { Turns B.ledger V.sees at (table None rounds.old)
+        office.old office.new rounds.new witness.old witness.new }
     ensures lasts { Lasts B.ledger office.old office.new }
 {
     settle(rounds, office, at, witness);
@@ -113,9 +109,8 @@ fn take_bytes<B: Books, V: Witness>(
     at: u64,
     witness: &mut V,
 )
-    ensures turns { After B.ledger office.old office.new (TurnsOver B.ledger V.sees at
-        office.old office.new (table (came place (slice_get rounds.old place) piece) rounds.old)
-        rounds.new witness.old witness.new) }
+    ensures turns { Turns B.ledger V.sees at (brought place piece rounds.old)
+        office.old office.new rounds.new witness.old witness.new }
     ensures lasts { Lasts B.ledger office.old office.new }
 {
     match waiting_at(rounds, place) {
@@ -136,8 +131,8 @@ pub fn turn<B: Books, V: Witness>(
     at: u64,
     witness: &mut V,
 )
-    ensures turns { After B.ledger office.old office.new (TurnsOver B.ledger V.sees at
-        office.old office.new (opened happening rounds.old) rounds.new witness.old witness.new) }
+    ensures turns { Turns B.ledger V.sees at (opened happening rounds.old)
+        office.old office.new rounds.new witness.old witness.new }
     ensures lasts { Lasts B.ledger office.old office.new }
 {
     match happening {

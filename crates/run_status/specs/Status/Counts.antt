@@ -1,16 +1,13 @@
 -- How notes of the office are counted.
-use Rattle.std.specs.Prelude.{ℕ, ◌+◌, ◌-◌, ◌^◌, min, List, [], ◌∷◌, replicate, slice_index, slice_set}
+use Rattle.std.specs.Prelude.{◌-◌, List, [], ◌∷◌, replicate, slice_index, slice_set}
 use Rattle.energy_core.specs.Verdict.{cause_number}
 use Rattle.energy_core.specs.declared.verdicts.Cause.{Cause}
 use Rattle.poll_core.specs.declared.outcome.Outcome.{Outcome}
 use Rattle.poll_core.specs.declared.outcome.Outcome.TheVariants.{Answered, Exception, Silent, Malformed, Lost}
 use Rattle.office_events.specs.declared.answers.Note.{Note}
 use Rattle.office_events.specs.declared.answers.Note.TheVariants as note
+use Rattle.office_rounds.specs.DeviceRounds.Sums.{one_more}
 use Rattle.run_status.specs.declared.status.counts.Counts.{Counts}
-
--- one more; it stays at 2^64 - 1
-abbrev pub one_more : ℕ → ℕ
-one_more n = min (n + 1) (2 ^ 64 - 1)
 
 abbrev pub nothing : Counts
 nothing = record {

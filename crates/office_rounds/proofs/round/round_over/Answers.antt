@@ -1,8 +1,7 @@
 use Rattle.std.proofs.Common.{[], ◌∷◌, ap, sym}
 use Rattle.std.specs.Prelude.{Err, Ok}
-use Rattle.office_core.specs.Taking.{failures_of}
 use Rattle.office_rounds.specs.Course.{StartFrom}
-use Rattle.office_rounds.specs.Rounds.{desk, wire}
+use Rattle.office_rounds.specs.Between.{desk_of, wire_of}
 use Rattle.office_rounds.specs.Stepping.{connection}
 use Rattle.office_rounds.proofs.Wholes.{connects_same, kept_failures, not_used, wired_connected}
 use Rattle.office_rounds.proofs.round.round_over.Goals as goal
@@ -10,9 +9,9 @@ use Rattle.office_rounds.proofs.round.round_over.Goals as goal
 pub returns-in-Ok-clause-rounds : goal.returns-in-Ok-clause-rounds
 returns-in-Ok-clause-rounds g c = λ past stands clean.
     let device = c.args.device in
-    let begun = desk (g.W.Write.contents c.args.output.now) (g.C.Clock.moments c.args.clock.now) (failures_of g.B.Books.ledger c.args.office.now) in
-    let now = desk (g.W.Write.contents c.connect.new.output) (g.C.Clock.moments c.connect.new.clock) (failures_of g.B.Books.ledger c.connect.new.office) in
-    let w = wire (g.L.Link.remaining c.args.link.now) (g.L.Link.given c.args.link.now) in
+    let begun = desk_of g.B.Books g.C.Clock g.W.Write c.args.office.now c.args.clock.now c.args.output.now in
+    let now = desk_of g.B.Books g.C.Clock g.W.Write c.connect.new.office c.connect.new.clock c.connect.new.output in
+    let w = wire_of g.L.Link c.args.link.now in
     let h =
     connects_same g.B.Books.ledger device c.new-round.result.device past begun now c.connect.new.office c.connect.new.round (Ok c.in-Ok.field-0)
     (ap (λ round. round.device) c.new-round.ensures) (c.in-Ok.ensures.connects past stands (c.poll_to_end.ensures.lasts.clean clean)) in
@@ -22,9 +21,9 @@ returns-in-Ok-clause-rounds g c = λ past stands clean.
 pub returns-in-Err-clause-rounds : goal.returns-in-Err-clause-rounds
 returns-in-Err-clause-rounds g c = λ past stands clean.
     let device = c.args.device in
-    let begun = desk (g.W.Write.contents c.args.output.now) (g.C.Clock.moments c.args.clock.now) (failures_of g.B.Books.ledger c.args.office.now) in
-    let now = desk (g.W.Write.contents c.connect.new.output) (g.C.Clock.moments c.connect.new.clock) (failures_of g.B.Books.ledger c.connect.new.office) in
-    let w = wire (g.L.Link.remaining c.args.link.now) (g.L.Link.given c.args.link.now) in
+    let begun = desk_of g.B.Books g.C.Clock g.W.Write c.args.office.now c.args.clock.now c.args.output.now in
+    let now = desk_of g.B.Books g.C.Clock g.W.Write c.connect.new.office c.connect.new.clock c.connect.new.output in
+    let w = wire_of g.L.Link c.args.link.now in
     let h =
     connects_same g.B.Books.ledger device c.new-round.result.device past begun now c.connect.new.office c.connect.new.round (Err c.in-Err.fault)
     (ap (λ round. round.device) c.new-round.ensures) (c.in-Err.ensures.connects past stands (c.end_unconnected.ensures.lasts.clean clean)) in

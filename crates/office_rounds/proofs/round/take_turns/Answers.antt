@@ -1,9 +1,8 @@
 use Rattle.std.proofs.Common.{rules, sym, subst, ◌≡◌, ◌+◌, ◌∙◌, arith, true, false}
 use Rattle.std.specs.Prelude.{Result, Err, Ok}
-use Rattle.office_core.specs.Taking.{failures_of}
 use Rattle.office_rounds.specs.Course.{Over, Take}
-use Rattle.office_rounds.specs.Rounds.{desk, wire}
-use Rattle.office_rounds.specs.Stepping.{StepsFrom, scene}
+use Rattle.office_rounds.specs.Between.{scene_of}
+use Rattle.office_rounds.specs.Stepping.{StepsFrom}
 use Rattle.office_rounds.specs.Taking.{over_or_take}
 use Rattle.office_rounds.specs.declared.fault.RoundFault.{RoundFault}
 use Rattle.office_rounds.proofs.Stages.{as_turn, at_most, compose, used_up}
@@ -14,15 +13,11 @@ loop-turn-preserved g c =
     let so_far = c.loop-turn.invariant in
     let one = c.in_ok-is_over.ensures in
     let old =
-    scene c.args.office.now (desk (g.W.Write.contents c.args.output.now) (g.C.Clock.moments c.args.clock.now) (failures_of g.B.Books.ledger c.args.office.now))
-    (wire (g.L.Link.remaining c.args.link.now) (g.L.Link.given c.args.link.now)) c.args.round.now in
+    scene_of g.L.Link g.B.Books g.C.Clock g.W.Write c.args.round.now c.args.link.now c.args.office.now c.args.clock.now c.args.output.now in
     let mid =
-    scene c.loop-turn.office
-    (desk (g.W.Write.contents c.loop-turn.output) (g.C.Clock.moments c.loop-turn.clock) (failures_of g.B.Books.ledger c.loop-turn.office))
-    (wire (g.L.Link.remaining c.loop-turn.link) (g.L.Link.given c.loop-turn.link)) c.loop-turn.round in
+    scene_of g.L.Link g.B.Books g.C.Clock g.W.Write c.loop-turn.round c.loop-turn.link c.loop-turn.office c.loop-turn.clock c.loop-turn.output in
     let new =
-    scene c.turn.new.office (desk (g.W.Write.contents c.turn.new.output) (g.C.Clock.moments c.turn.new.clock) (failures_of g.B.Books.ledger c.turn.new.office))
-    (wire (g.L.Link.remaining c.turn.new.link) (g.L.Link.given c.turn.new.link)) c.turn.new.round in
+    scene_of g.L.Link g.B.Books g.C.Clock g.W.Write c.turn.new.round c.turn.new.link c.turn.new.office c.turn.new.clock c.turn.new.output in
     record {
       steps =
           as_turn g.B.Books.ledger old new (λ round fed past. Take) c.in_ok-is_over.is_over false
@@ -40,15 +35,11 @@ returns-in_err-is_over-clause-steps g c =
     let is : c.from_residual.result ≡ Err fault = search rules in
     let one = c.in_err-is_over.ensures in
     let old =
-    scene c.args.office.now (desk (g.W.Write.contents c.args.output.now) (g.C.Clock.moments c.args.clock.now) (failures_of g.B.Books.ledger c.args.office.now))
-    (wire (g.L.Link.remaining c.args.link.now) (g.L.Link.given c.args.link.now)) c.args.round.now in
+    scene_of g.L.Link g.B.Books g.C.Clock g.W.Write c.args.round.now c.args.link.now c.args.office.now c.args.clock.now c.args.output.now in
     let mid =
-    scene c.loop-turn.office
-    (desk (g.W.Write.contents c.loop-turn.output) (g.C.Clock.moments c.loop-turn.clock) (failures_of g.B.Books.ledger c.loop-turn.office))
-    (wire (g.L.Link.remaining c.loop-turn.link) (g.L.Link.given c.loop-turn.link)) c.loop-turn.round in
+    scene_of g.L.Link g.B.Books g.C.Clock g.W.Write c.loop-turn.round c.loop-turn.link c.loop-turn.office c.loop-turn.clock c.loop-turn.output in
     let new =
-    scene c.turn.new.office (desk (g.W.Write.contents c.turn.new.output) (g.C.Clock.moments c.turn.new.clock) (failures_of g.B.Books.ledger c.turn.new.office))
-    (wire (g.L.Link.remaining c.turn.new.link) (g.L.Link.given c.turn.new.link)) c.turn.new.round in
+    scene_of g.L.Link g.B.Books g.C.Clock g.W.Write c.turn.new.round c.turn.new.link c.turn.new.office c.turn.new.clock c.turn.new.output in
     let P : Result (Unit {0}) RoundFault → Type 0 = λ r. StepsFrom g.B.Books.ledger old new (λ round fed past. Take) r (λ done. Over) in
     subst P (sym is)
     (compose g.B.Books.ledger old mid new (λ round fed past. Take) (tt {0}) (λ done. Take) (λ round fed past. Take) (Err fault) over_or_take
@@ -62,15 +53,11 @@ pub returns-then-is_over-clause-steps : goal.returns-then-is_over-clause-steps
 returns-then-is_over-clause-steps g c =
     let one = c.in_ok-is_over.ensures in
     let old =
-    scene c.args.office.now (desk (g.W.Write.contents c.args.output.now) (g.C.Clock.moments c.args.clock.now) (failures_of g.B.Books.ledger c.args.office.now))
-    (wire (g.L.Link.remaining c.args.link.now) (g.L.Link.given c.args.link.now)) c.args.round.now in
+    scene_of g.L.Link g.B.Books g.C.Clock g.W.Write c.args.round.now c.args.link.now c.args.office.now c.args.clock.now c.args.output.now in
     let mid =
-    scene c.loop-turn.office
-    (desk (g.W.Write.contents c.loop-turn.output) (g.C.Clock.moments c.loop-turn.clock) (failures_of g.B.Books.ledger c.loop-turn.office))
-    (wire (g.L.Link.remaining c.loop-turn.link) (g.L.Link.given c.loop-turn.link)) c.loop-turn.round in
+    scene_of g.L.Link g.B.Books g.C.Clock g.W.Write c.loop-turn.round c.loop-turn.link c.loop-turn.office c.loop-turn.clock c.loop-turn.output in
     let new =
-    scene c.turn.new.office (desk (g.W.Write.contents c.turn.new.output) (g.C.Clock.moments c.turn.new.clock) (failures_of g.B.Books.ledger c.turn.new.office))
-    (wire (g.L.Link.remaining c.turn.new.link) (g.L.Link.given c.turn.new.link)) c.turn.new.round in
+    scene_of g.L.Link g.B.Books g.C.Clock g.W.Write c.turn.new.round c.turn.new.link c.turn.new.office c.turn.new.clock c.turn.new.output in
     as_turn g.B.Books.ledger old new (λ round fed past. Take) c.in_ok-is_over.is_over true
     (compose g.B.Books.ledger old mid new (λ round fed past. Take) (tt {0}) (λ done. Take) (λ round fed past. Take) (Ok c.in_ok-is_over.is_over) over_or_take
     c.loop-turn.invariant.steps (λ round fed past e. e) one.steps one.lasts.clean)
@@ -83,10 +70,7 @@ returns-then-is_over-clause-takes g c =
 pub returns-clause-steps : goal.returns-clause-steps
 returns-clause-steps g c =
     let old =
-    scene c.args.office.now (desk (g.W.Write.contents c.args.output.now) (g.C.Clock.moments c.args.clock.now) (failures_of g.B.Books.ledger c.args.office.now))
-    (wire (g.L.Link.remaining c.args.link.now) (g.L.Link.given c.args.link.now)) c.args.round.now in
+    scene_of g.L.Link g.B.Books g.C.Clock g.W.Write c.args.round.now c.args.link.now c.args.office.now c.args.clock.now c.args.output.now in
     let mid =
-    scene c.loop-turn.office
-    (desk (g.W.Write.contents c.loop-turn.output) (g.C.Clock.moments c.loop-turn.clock) (failures_of g.B.Books.ledger c.loop-turn.office))
-    (wire (g.L.Link.remaining c.loop-turn.link) (g.L.Link.given c.loop-turn.link)) c.loop-turn.round in
+    scene_of g.L.Link g.B.Books g.C.Clock g.W.Write c.loop-turn.round c.loop-turn.link c.loop-turn.office c.loop-turn.clock c.loop-turn.output in
     used_up {Y = Unit {0}} g.B.Books.ledger old mid (λ round fed past. Take) (tt {0}) (λ done. Take) (λ done. Over) c.loop-turn.invariant.steps

@@ -1,6 +1,6 @@
 use Rattle.std.proofs.Common.{ap, ◌∷◌, ◌∙◌, sym}
 use Rattle.office_rounds.specs.Course.{next_left, polls_ended, reads_planned, reads_started}
-use Rattle.office_rounds.specs.Rounds.{wire}
+use Rattle.office_rounds.specs.Between.{wire_of}
 use Rattle.office_rounds.specs.Taking.{next_by}
 use Rattle.office_rounds.proofs.Nexts.{by_next, frames_none}
 use Rattle.office_rounds.proofs.Stages.{does_take, of_device, wired_broken, wired_on}
@@ -9,7 +9,7 @@ use Rattle.office_rounds.proofs.steps.feed_taken.Goals as goal
 pub returns-in-Ok-clause-steps : goal.returns-in-Ok-clause-steps
 returns-in-Ok-clause-steps g c = λ device past begun from fed going taken given is kind clean.
     let e = c.args.event.now in
-    let w = wire (g.L.Link.remaining c.args.link.now) (g.L.Link.given c.args.link.now) in
+    let w = wire_of g.L.Link c.args.link.now in
     let mine = of_device device c.args.round.now.device e going.counts.device_is kind in
     let told = c.in-Ok.ensures.tells device past begun fed going
     (does_take device c.args.round.now.device _ e is going.counts.device_is kind) (c.go_on.ensures.lasts.clean clean) in
@@ -22,7 +22,7 @@ returns-in-Ok-clause-steps g c = λ device past begun from fed going taken given
 pub returns-in-Err-clause-steps : goal.returns-in-Err-clause-steps
 returns-in-Err-clause-steps g c = λ device past begun from fed going taken given is kind clean.
     let e = c.args.event.now in
-    let w = wire (g.L.Link.remaining c.args.link.now) (g.L.Link.given c.args.link.now) in
+    let w = wire_of g.L.Link c.args.link.now in
     let told = c.in-Err.ensures.tells device past begun fed going
     (does_take device c.args.round.now.device _ e is going.counts.device_is kind) clean in
     (told.0 ∷ fed, (told.2.0, wired_broken past from w fed told.0 e c.in-Err.fault taken given told.1 told.2.1))

@@ -1,7 +1,7 @@
 use Rattle.std.proofs.Common.{refl, arith, ◌∙◌, ap, List, ℕ}
 use Rattle.run_status.specs.declared.status.status.DeviceState.{DeviceState}
 use Rattle.run_status.specs.Status.MetricsText as text
-use Rattle.run_status.proofs.StatusLemmas.Loops.{all_on, one_on}
+use Rattle.office_rounds.proofs.DeviceRoundsLemmas.Loops.{all_on, one_on}
 use Rattle.run_status.proofs.status.metrics.put_moments.Goals as goal
 
 pub loop-device-preserved : goal.loop-device-preserved

@@ -3,7 +3,7 @@ use Rattle.run_status.specs.declared.status.status.DeviceState.{DeviceState}
 use Rattle.std.specs.Prelude.{codes}
 use Rattle.run_status.specs.Status.StatusText.{with_name}
 use Rattle.run_status.specs.Status.MetricsText as text
-use Rattle.run_status.proofs.StatusLemmas.Loops.{all_on, one_on}
+use Rattle.office_rounds.proofs.DeviceRoundsLemmas.Loops.{all_on, one_on}
 use Rattle.run_status.proofs.status.metrics.put_states.Goals as goal
 
 pub loop-device-preserved : goal.loop-device-preserved
