@@ -7,8 +7,8 @@ use Rattle.office_books.specs.declared.faults.BooksFault.TheVariants.{Store, Mem
 use Rattle.office_books.specs.declared.faults.StoreFault.TheVariants.{Refused}
 use Rattle.office_books.specs.Faults.{one_more}
 use Rattle.office_books.specs.Ledgers.{Ledger, KeepsFacts, Books, with_facts}
-use Rattle.office_lists.specs.declared.list_books.ListBooks.{ListBooks}
-use Rattle.office_lists.specs.Listed.{ledger_of}
+use Rattle.memory_books.specs.declared.list_books.ListBooks.{ListBooks}
+use Rattle.memory_books.specs.Listed.{ledger_of}
 use Rattle.failing_books.specs.Refusing.{refusing}
 
 pub keeps : (old new : Ledger) (n : ℕ) → KeepsFacts old new → KeepsFacts (refusing old n) (refusing new n)

@@ -9,7 +9,7 @@ use office_books::{Books, BooksFault, Repeat, RowSink, StoreFault};
 use office_events::{
     Device, EntryPlace, Fact, Installation, Name, PlannedList, Poll, PollRow, Register,
 };
-use office_lists::ListBooks;
+use memory_books::ListBooks;
 
 /// Books in memory. The call of one number is refused, as by a store; no other fails but for want of memory.
 #[derive(Drop)]
@@ -25,7 +25,7 @@ pub struct FailingBooks {
 impl FailingBooks {
     ghost use Rattle.std.specs.Prelude.{◌≡◌, List};
     ghost use Rattle.office_events.specs.declared.facts.Fact.{Fact};
-    ghost use Rattle.office_lists.specs.Listed.{ledger_of};
+    ghost use Rattle.memory_books.specs.Listed.{ledger_of};
 
     /// Nothing was called yet. Calls are counted from 1, but for those that can't fail and for the booking of no facts.
     pub fn new(books: ListBooks, failing: u64) -> FailingBooks
@@ -63,7 +63,7 @@ impl FailingBooks {
 }
 
 impl Books for FailingBooks {
-    ghost use Rattle.office_lists.specs.Listed.{ledger_of};
+    ghost use Rattle.memory_books.specs.Listed.{ledger_of};
     ghost use Rattle.failing_books.specs.Refusing.{refusing};
 
     ghost ledger = { λ failing. refusing (ledger_of failing.books) failing.faults };

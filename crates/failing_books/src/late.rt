@@ -3,12 +3,12 @@ ghost use Rattle.std.specs.Prelude.{◌≡◌};
 
 use crate::books::FailingBooks;
 use office_books::Books;
-use office_lists::ListBooks;
+use memory_books::ListBooks;
 
 impl FailingBooks {
     ghost use Rattle.std.specs.Prelude.{◌≡◌, List};
     ghost use Rattle.office_events.specs.declared.facts.Fact.{Fact};
-    ghost use Rattle.office_lists.specs.Listed.{ledger_of};
+    ghost use Rattle.memory_books.specs.Listed.{ledger_of};
 
     /// As `new`, but where the call that fails hands rows on, it does so before it is refused.
     pub fn after_rows(books: ListBooks, failing: u64) -> FailingBooks

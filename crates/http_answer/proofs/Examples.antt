@@ -6,7 +6,7 @@ use Rattle.matchit.proofs.OnLiterals.{matchit_on_literals}
 use Rattle.interval_core.specs.declared.shares.Share.{Share}
 use Rattle.http_commands.specs.declared.fault.CommandFault.TheVariants.{Malformed, Negative, Faulty}
 use Rattle.http_request.specs.HeadTests.{Start}
-use Rattle.http_route.specs.Routes.{routes}
+use Rattle.http_request.specs.Routing.Routes.{routes}
 use Rattle.office_events.specs.declared.answers.CommandKind.TheVariants as kind
 use Rattle.office_events.specs.declared.questions.Installation.{Installation}
 use Rattle.office_events.specs.declared.refusals.Refusal.TheVariants as refusal

@@ -2,3 +2,4 @@ pub mod Callers
 pub mod FaultRows
 pub mod Replying
 pub mod Examples
+pub mod SendingLemmas

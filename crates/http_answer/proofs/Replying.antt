@@ -4,22 +4,22 @@ use Rattle.std.proofs.lemmas.Bool.{cond-true, cond-false}
 use Rattle.http_commands.specs.Given.{Gives}
 use Rattle.http_commands.specs.declared.fault.CommandFault.{CommandFault}
 use Rattle.http_commands.specs.declared.fault.CommandFault.TheVariants.{Malformed, Memory}
-use Rattle.http_head.specs.declared.head.Head.{Head}
-use Rattle.http_head.specs.declared.head.Look.{Look}
-use Rattle.http_head.specs.declared.head.Look.TheVariants as look
+use Rattle.http_request.specs.declared.head.head.Head.{Head}
+use Rattle.http_request.specs.declared.head.head.Look.{Look}
+use Rattle.http_request.specs.declared.head.head.Look.TheVariants as look
 use Rattle.http_request.specs.Asking.{TestsHead}
 use Rattle.http_request.specs.HeadTests.{Start, head_fault, start_at}
 use Rattle.http_request.specs.declared.ask.Ask.TheVariants.{Command as AskedCommand, Question}
 use Rattle.http_request.specs.declared.post.Posted.{Posted}
-use Rattle.http_route.specs.Routes.{Table}
-use Rattle.http_route.specs.Targets.{is_question, name_in, name_of, route_in}
-use Rattle.http_route.specs.declared.routes.Route.{Route}
-use Rattle.http_route.specs.declared.routes.Route.TheVariants as route
-use Rattle.http_route.specs.declared.targets.Found.{Found}
-use Rattle.http_status.specs.declared.Status.{Status}
-use Rattle.http_status.specs.declared.Status.TheVariants.{BadRequest, FieldsTooLarge}
-use Rattle.http_whole.specs.Whole.{Holds, HoldsRequest, IsWhole, TestsRequest, body_of}
-use Rattle.http_whole.proofs.Unique.{request_of_whole}
+use Rattle.http_request.specs.Routing.Routes.{Table}
+use Rattle.http_request.specs.Routing.Targets.{is_question, name_in, name_of, route_in}
+use Rattle.http_request.specs.declared.routing.routes.Route.{Route}
+use Rattle.http_request.specs.declared.routing.routes.Route.TheVariants as route
+use Rattle.http_request.specs.declared.routing.targets.Found.{Found}
+use Rattle.http_request.specs.declared.status.Status.{Status}
+use Rattle.http_request.specs.declared.status.Status.TheVariants.{BadRequest, FieldsTooLarge}
+use Rattle.http_request.specs.Whole.Whole.{Holds, HoldsRequest, IsWhole, TestsRequest, body_of}
+use Rattle.http_request.proofs.WholeLemmas.Unique.{request_of_whole}
 use Rattle.office_events.specs.declared.commands.Command.{Command}
 use Rattle.http_answer.specs.Offices.{Office}
 use Rattle.http_answer.specs.Replies.{ask, command_reply, fault, found_reply, question_reply, reply_bytes, reply_of, route_reply, unless_failed}

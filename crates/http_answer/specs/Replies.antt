@@ -2,23 +2,23 @@
 use Rattle.std.specs.Prelude.{ℕ, List, ◌++◌, if◌then◌else◌, Option, Some, None, Result, Ok, Err}
 use Rattle.http_commands.specs.declared.fault.CommandFault.{CommandFault}
 use Rattle.http_commands.specs.declared.fault.CommandFault.TheVariants.{Malformed, Negative, Faulty, Memory}
-use Rattle.http_reply.specs.Bodies.{fault_text, refused_text}
-use Rattle.http_reply.specs.Replies.{json_reply, text_head}
+use Rattle.http_answer.specs.Sending.Bodies.{fault_text, refused_text}
+use Rattle.http_answer.specs.Sending.Replies.{json_reply, text_head}
 use Rattle.http_request.specs.HeadTests.{Start, head_fault}
 use Rattle.http_request.specs.Tests.{PostHeaders, caller_in, post_headers_of, request_in}
-use Rattle.http_route.specs.Routes.{Table}
-use Rattle.http_route.specs.Targets.{name_in, route_in}
-use Rattle.http_route.specs.declared.routes.Route.{Route}
-use Rattle.http_route.specs.declared.routes.Route.TheVariants as route
-use Rattle.http_status.specs.declared.Status.{Status}
-use Rattle.http_status.specs.declared.Status.TheVariants.{Fine, BadRequest, NotFound as NotThere, Unprocessable}
+use Rattle.http_request.specs.Routing.Routes.{Table}
+use Rattle.http_request.specs.Routing.Targets.{name_in, route_in}
+use Rattle.http_request.specs.declared.routing.routes.Route.{Route}
+use Rattle.http_request.specs.declared.routing.routes.Route.TheVariants as route
+use Rattle.http_request.specs.declared.status.Status.{Status}
+use Rattle.http_request.specs.declared.status.Status.TheVariants.{Fine, BadRequest, NotFound as NotThere, Unprocessable}
 use Rattle.office_events.specs.Numbers.{refusal_number}
 use Rattle.office_events.specs.declared.answers.CommandKind.{CommandKind}
 use Rattle.office_events.specs.declared.commands.Command.{Command}
 use Rattle.office_events.specs.declared.events.Asked.{Asked}
 use Rattle.office_events.specs.declared.refusals.Refusal.{Refusal}
 use Rattle.office_events.specs.declared.refusals.Refusal.TheVariants as refusal
-use Rattle.report_lines.specs.Lines.{days_text, intervals_text}
+use Rattle.interval_core.specs.Lines.{days_text, intervals_text}
 use Rattle.http_answer.specs.Faults.{faults_text}
 use Rattle.http_answer.specs.Kinds.{done_text}
 use Rattle.http_answer.specs.Offices.{Office}

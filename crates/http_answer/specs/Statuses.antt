@@ -1,6 +1,6 @@
 -- The status of each refusal.
-use Rattle.http_status.specs.declared.Status.{Status}
-use Rattle.http_status.specs.declared.Status.TheVariants.{NotFound as NotThere, Conflict, Unprocessable, Unavailable}
+use Rattle.http_request.specs.declared.status.Status.{Status}
+use Rattle.http_request.specs.declared.status.Status.TheVariants.{NotFound as NotThere, Conflict, Unprocessable, Unavailable}
 use Rattle.office_events.specs.declared.refusals.Refusal.{Refusal}
 use Rattle.office_events.specs.declared.refusals.Refusal.TheVariants as refusal
 

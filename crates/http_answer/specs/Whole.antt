@@ -3,15 +3,15 @@ use Rattle.std.specs.Prelude.{◌≡◌, ◌≢◌, ◌⊎◌, ℕ, false, List,
 use Rattle.http_commands.specs.Given.{Gives}
 use Rattle.http_commands.specs.declared.fault.CommandFault.{CommandFault}
 use Rattle.http_commands.specs.declared.fault.CommandFault.TheVariants.{Memory}
-use Rattle.http_head.specs.Heads.{IsBadHead, is_past_limits}
-use Rattle.http_head.specs.declared.head.Head.{Head}
+use Rattle.http_request.specs.Head.Heads.{IsBadHead, is_past_limits}
+use Rattle.http_request.specs.declared.head.head.Head.{Head}
 use Rattle.http_request.specs.HeadTests.{Start, head_fault, start_at}
-use Rattle.http_route.specs.Routes.{Table}
-use Rattle.http_route.specs.Targets.{is_question, name_in, route_in}
-use Rattle.http_route.specs.declared.routes.Route.{Route}
-use Rattle.http_status.specs.declared.Status.{Status}
-use Rattle.http_status.specs.declared.Status.TheVariants.{BadRequest, FieldsTooLarge}
-use Rattle.http_whole.specs.Whole.{HoldsRequest, body_of}
+use Rattle.http_request.specs.Routing.Routes.{Table}
+use Rattle.http_request.specs.Routing.Targets.{is_question, name_in, route_in}
+use Rattle.http_request.specs.declared.routing.routes.Route.{Route}
+use Rattle.http_request.specs.declared.status.Status.{Status}
+use Rattle.http_request.specs.declared.status.Status.TheVariants.{BadRequest, FieldsTooLarge}
+use Rattle.http_request.specs.Whole.Whole.{HoldsRequest, body_of}
 use Rattle.office_events.specs.declared.commands.Command.{Command}
 use Rattle.http_answer.specs.Offices.{Office}
 use Rattle.http_answer.specs.Replies.{ask, command_reply, fault, reply_bytes, reply_of}

@@ -4,7 +4,7 @@ ghost use Rattle.point_list.specs.Faults.{fault_number};
 ghost use Rattle.http_commands.specs.Few.{AreFew};
 ghost use Rattle.http_answer.specs.Faults.{faults_text, more_rows};
 
-use http_reply::Text;
+use crate::sending::Text;
 use point_list::FaultyRow;
 
 // Puts a row behind what introduces it.

@@ -5,18 +5,15 @@ ghost use Rattle.http_commands.specs.declared.fault.CommandFault.TheVariants.{Me
 ghost use Rattle.http_request.specs.Asking.{TestsHead};
 ghost use Rattle.http_request.specs.HeadTests.{start_at};
 ghost use Rattle.http_request.specs.declared.ask.Ask.TheVariants.{Command as AskedCommand, Question};
-ghost use Rattle.http_route.specs.Targets.{name_of};
-ghost use Rattle.http_whole.specs.Whole.{Holds, IsWhole, TestsRequest, body_of};
+ghost use Rattle.http_request.specs.Routing.Targets.{name_of};
+ghost use Rattle.http_request.specs.Whole.Whole.{Holds, IsWhole, TestsRequest, body_of};
 ghost use Rattle.http_answer.specs.Offices.{Office};
 ghost use Rattle.http_answer.specs.Replies.{fault, question_reply, reply_bytes};
 ghost use Rattle.http_answer.specs.Requests.{name_asked};
 ghost use Rattle.http_answer.specs.Whole.{IsReply, reply_to_command};
 
 use http_commands::CommandFault;
-use http_head::{Head, Look};
-use http_request::Posted;
-use http_route::{Found, Route};
-use http_status::Status;
+use http_request::{Found, Head, Look, Posted, Route, Status};
 use matchit::Router;
 use office_events::Command;
 

@@ -1,12 +1,12 @@
 //! The lines of reports, put to an outlet. None takes memory.
 ghost use Rattle.interval_core.specs.Report.{day_line};
-ghost use Rattle.report_lines.specs.Lines.{end_line, share_line};
-ghost use Rattle.http_reply.specs.Sending.{Puts};
+ghost use Rattle.interval_core.specs.Lines.{end_line, share_line};
+ghost use Rattle.http_answer.specs.Sending.Sending.{Puts};
 
-use http_reply::Outlet;
+use crate::sending::Outlet;
 use interval_core::{DayTotal, Share};
 use mb_wire::Link;
-use row_text::{day_line, end_line, interval_line};
+use script_text::{day_line, end_line, interval_line};
 
 /// Puts the line of an interval row: the start of the interval, in seconds since 1970-01-01 UTC, and its energy in
 /// mWh.

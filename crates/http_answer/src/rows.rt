@@ -3,7 +3,7 @@ ghost use Rattle.std.specs.Prelude.{◌≡◌, ◌≤◌, ◌+◌, ◌++◌, len
 ghost use Rattle.std.specs.Fmt.{signed_decimal};
 ghost use Rattle.http_answer.specs.Rows.{bool_text, ending_of, meter_text, poll_text};
 
-use http_reply::Text;
+use crate::sending::Text;
 use office_events::{EndedPoll, Installation, PollRow};
 
 // The word of JSON.

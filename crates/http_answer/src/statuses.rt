@@ -2,7 +2,7 @@
 ghost use Rattle.std.specs.Prelude.{◌≡◌};
 ghost use Rattle.http_answer.specs.Statuses.{status_of};
 
-use http_status::Status;
+use http_request::Status;
 use office_events::Refusal;
 
 /// The status of the reply that tells a refusal.

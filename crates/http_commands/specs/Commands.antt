@@ -2,11 +2,11 @@
 -- void a meter; it is none where that is no name.
 use Rattle.std.specs.Prelude.{ℕ, List, Option, Some, None, Result, Ok, Err, codes}
 use Rattle.serde_json.specs.Data.{Data}
-use Rattle.http_json.specs.Tables.{close_members, device_members, exchange_members, fault_of, install_members, manual_members, register_fault, rescale_members, reset_members, void_members}
-use Rattle.http_json.specs.declared.body.BodyFault.{BodyFault}
-use Rattle.http_json.specs.declared.body.BodyFault.TheVariants.{Malformed}
-use Rattle.http_route.specs.declared.routes.Route.{Route}
-use Rattle.http_route.specs.declared.routes.Route.TheVariants as route
+use Rattle.http_commands.specs.Json.Tables.{close_members, device_members, exchange_members, fault_of, install_members, manual_members, register_fault, rescale_members, reset_members, void_members}
+use Rattle.http_commands.specs.declared.json.body.BodyFault.{BodyFault}
+use Rattle.http_commands.specs.declared.json.body.BodyFault.TheVariants.{Malformed}
+use Rattle.http_request.specs.declared.routing.routes.Route.{Route}
+use Rattle.http_request.specs.declared.routing.routes.Route.TheVariants as route
 use Rattle.office_events.specs.declared.commands.Command.{Command}
 use Rattle.office_events.specs.declared.commands.Command.TheVariants as command
 use Rattle.http_commands.specs.Values.{integer_in, name_in, natural_in, optional_in, or_full_range, scale_in}

@@ -2,10 +2,10 @@
 use Rattle.std.specs.Prelude.{◌≡◌, ◌⊎◌, ℕ, List, Option, Some, Result, Ok, Err, IsUtf8}
 use Rattle.serde_json.specs.Data.{Data}
 use Rattle.serde_json.specs.Read.{read}
-use Rattle.http_json.specs.declared.body.BodyFault.{BodyFault}
-use Rattle.http_json.specs.declared.body.BodyFault.TheVariants as body
-use Rattle.http_route.specs.declared.routes.Route.{Route}
-use Rattle.http_route.specs.declared.routes.Route.TheVariants as route
+use Rattle.http_commands.specs.declared.json.body.BodyFault.{BodyFault}
+use Rattle.http_commands.specs.declared.json.body.BodyFault.TheVariants as body
+use Rattle.http_request.specs.declared.routing.routes.Route.{Route}
+use Rattle.http_request.specs.declared.routing.routes.Route.TheVariants as route
 use Rattle.office_events.specs.declared.commands.Command.{Command}
 use Rattle.office_events.specs.declared.commands.Command.TheVariants.{PutList}
 use Rattle.read_plan.specs.PlannedLists.{IsPlanned, Planned}

@@ -3,3 +3,4 @@ pub mod Commands
 pub mod Given
 pub mod Seen
 pub mod Few
+pub mod Json

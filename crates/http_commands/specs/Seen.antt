@@ -1,6 +1,6 @@
 -- A scale as a body gives it.
-use Rattle.http_json.specs.declared.devices.Scale.{Scale}
-use Rattle.http_json.specs.declared.devices.Scale.TheVariants.{Fixed, At}
+use Rattle.http_commands.specs.declared.json.devices.Scale.{Scale}
+use Rattle.http_commands.specs.declared.json.devices.Scale.TheVariants.{Fixed, At}
 use Rattle.office_events.specs.declared.commands.GivenScale.{GivenScale}
 use Rattle.office_events.specs.declared.commands.GivenScale.TheVariants as given
 

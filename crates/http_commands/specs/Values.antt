@@ -3,7 +3,7 @@ use Rattle.std.specs.Prelude.{ℕ, ℤ, pos, negsuc, List, Option, Some, None, c
 use Rattle.energy_core.specs.declared.limits.TheConstants.{MAX_RANGE}
 use Rattle.serde_json.specs.Data.{Data}
 use Rattle.serde_json.specs.Find.{get}
-use Rattle.http_json.specs.Members.{text, whole}
+use Rattle.http_commands.specs.Json.Members.{text, whole}
 use Rattle.office_events.specs.Names.{named}
 use Rattle.office_events.specs.declared.commands.GivenScale.{GivenScale}
 use Rattle.office_events.specs.declared.commands.GivenScale.TheVariants.{Fixed, Register}

@@ -1,5 +1,5 @@
 //! Why a body asks for no command.
-use http_json::BodyFault;
+use crate::json::BodyFault;
 use point_list::FaultyRows;
 use std::error::Error;
 use std::fmt;

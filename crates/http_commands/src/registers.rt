@@ -1,11 +1,11 @@
 //! The commands that speak of the meter at a register.
 ghost use Rattle.std.specs.Prelude.{◌≡◌};
 ghost use Rattle.serde_json.specs.View.{view};
-ghost use Rattle.http_route.specs.declared.routes.Route.TheVariants as route;
+ghost use Rattle.http_request.specs.declared.routing.routes.Route.TheVariants as route;
 ghost use Rattle.http_commands.specs.Commands.{command_of};
 
 use crate::values::{name, or_full_range};
-use http_json::{
+use crate::json::{
     Body, BodyFault, close_in, exchange_in, install_in, manual_in, rescale_in, reset_in, void_in,
 };
 use office_events::{Close, Command, Exchange, Install, Manual, Name, Rescale, Reset, VoidEntry};

@@ -5,7 +5,7 @@ ghost use Rattle.http_commands.specs.Values.{or_full_range};
 ghost use Rattle.http_commands.specs.Seen.{scale_seen};
 
 use energy_core::MAX_RANGE;
-use http_json::Scale;
+use crate::json::Scale;
 use office_events::{GivenScale, Name};
 
 // The name that a text is, if it is one.

@@ -1,14 +1,14 @@
 -- What a head asks for.
 use Rattle.std.specs.Prelude.{◌≡◌, true, false, Some, None, Result, Ok, Err}
-use Rattle.http_route.specs.Routes.{Table}
-use Rattle.http_route.specs.Targets.{is_question, name_in, name_of, route_in}
-use Rattle.http_route.specs.declared.targets.Found.{Found}
+use Rattle.http_request.specs.Routing.Routes.{Table}
+use Rattle.http_request.specs.Routing.Targets.{is_question, name_in, name_of, route_in}
+use Rattle.http_request.specs.declared.routing.targets.Found.{Found}
 use Rattle.http_request.specs.HeadTests.{Start, head_fault}
 use Rattle.http_request.specs.Tests.{PostHeaders, caller_in, post_fault, post_headers_of, request_in, size_in}
 use Rattle.http_request.specs.declared.ask.Ask.{Ask}
 use Rattle.http_request.specs.declared.ask.Ask.TheVariants.{Question, Command}
 use Rattle.http_request.specs.declared.post.Posted.{Posted}
-use Rattle.http_status.specs.declared.Status.{Status}
+use Rattle.http_request.specs.declared.status.Status.{Status}
 
 -- the route of the target, and what its parameter took
 pub record LeadsTo (table : Table) (start : Start) (found : Found) : Type 0 where

@@ -3,13 +3,13 @@ use Rattle.std.specs.Prelude.{ℕ, Bool, false, not, if◌then◌else◌, List, 
 use Rattle.std.specs.Str.{bytes_eq}
 use Rattle.httparse.specs.Grammar.{RequestHead}
 use Rattle.httparse.specs.Spans.{header_bytes, name_and_value, span_bytes}
-use Rattle.http_head.specs.declared.head.Head.{Head}
-use Rattle.http_route.specs.Routes.{Table}
-use Rattle.http_route.specs.Targets.{is_question, method_of, route_in}
-use Rattle.http_route.specs.declared.routes.Route.{Route}
+use Rattle.http_request.specs.declared.head.head.Head.{Head}
+use Rattle.http_request.specs.Routing.Routes.{Table}
+use Rattle.http_request.specs.Routing.Targets.{is_question, method_of, route_in}
+use Rattle.http_request.specs.declared.routing.routes.Route.{Route}
 use Rattle.http_request.specs.Tests.{first_failed, post_headers_of, post_tests}
-use Rattle.http_status.specs.declared.Status.{Status}
-use Rattle.http_status.specs.declared.Status.TheVariants.{NotFound, MethodNotAllowed}
+use Rattle.http_request.specs.declared.status.Status.{Status}
+use Rattle.http_request.specs.declared.status.Status.TheVariants.{NotFound, MethodNotAllowed}
 
 -- what the tests read of a head: the method, the target, and each header's name and value
 pub record Start : Type 0 where

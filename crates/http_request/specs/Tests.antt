@@ -1,9 +1,9 @@
 -- The tests of a POST's headers: a table in which the first that fails answers.
 use Rattle.std.specs.Prelude.{ℕ, nat_lt, Bool, true, false, not, ◌||◌, if◌then◌else◌, List, [], ◌∷◌, codes, is_none, Option, Some, None, option_and_then}
-use Rattle.http_head.specs.Headers.{values_of}
+use Rattle.http_request.specs.Head.Headers.{values_of}
 use Rattle.http_request.specs.Values.{digits_in, is_name, number_in}
-use Rattle.http_status.specs.declared.Status.{Status}
-use Rattle.http_status.specs.declared.Status.TheVariants.{BadRequest, LengthRequired, ContentTooLarge}
+use Rattle.http_request.specs.declared.status.Status.{Status}
+use Rattle.http_request.specs.declared.status.Status.TheVariants.{BadRequest, LengthRequired, ContentTooLarge}
 
 -- the status of the first row whose test has failed
 abbrev pub first_failed : List (Bool × Status) → Option Status

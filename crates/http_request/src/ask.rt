@@ -1,14 +1,14 @@
 //! What a head asks for.
 ghost use Rattle.std.specs.Prelude.{◌≡◌, IsUtf8};
 ghost use Rattle.httparse.specs.Spans.{span_bytes};
-ghost use Rattle.http_head.specs.Heads.{IsPlaced};
+ghost use Rattle.http_request.specs.Head.Heads.{IsPlaced};
 ghost use Rattle.http_request.specs.HeadTests.{has_method, start_at};
 ghost use Rattle.http_request.specs.Asking.{TestsHead};
 
 use crate::post::{Posted, post_headers};
-use http_head::Head;
-use http_route::{Found, Route, route_of};
-use http_status::Status;
+use crate::head::Head;
+use crate::routing::{Found, Route, route_of};
+use crate::status::Status;
 use matchit::Router;
 
 /// What a head asks for.

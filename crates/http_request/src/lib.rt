@@ -2,9 +2,19 @@
 #![tactic(auto)]
 
 mod ask;
+mod head;
 mod numbers;
 mod post;
+mod reading;
+mod routing;
+mod status;
+mod whole;
 
 pub use ask::{Ask, ask_of};
 pub use numbers::{digits, is_name, number};
 pub use post::{MOST_BODY, Posted, post_headers};
+pub use head::{Given, Head, Look, MOST_BYTES, MOST_HEADERS, has_head_end, header_value, look_at};
+pub use reading::{Inbox, TakeFault, read_head};
+pub use routing::{Found, Route, router};
+pub use status::Status;
+pub use whole::{MOST_ROOM, a_look_finds_the_request, ask_in, body_in, no_request, one_head, read_request, requests_are_one};

@@ -6,8 +6,8 @@ ghost use Rattle.http_request.specs.Tests.{post_headers_of};
 ghost use Rattle.http_request.specs.Seen.{is_missing_given, is_repeated_given, seen_headers};
 
 use crate::numbers::{digits, is_name, number};
-use http_head::{Given, header_value};
-use http_status::Status;
+use crate::head::{Given, header_value};
+use crate::status::Status;
 use httparse::spans::HeaderSpan;
 
 /// The most bytes of a body.

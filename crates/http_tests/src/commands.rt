@@ -1,6 +1,6 @@
 //! The commands that bodies ask for.
 use http_commands::{CommandFault, command_in};
-use http_route::Route;
+use http_request::Route;
 use office_events::{
     AddDevice, AddRegister, Close, Command, Exchange, GivenScale, Install, Manual, Name, Rescale,
     Reset, VoidEntry,

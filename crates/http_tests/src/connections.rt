@@ -3,7 +3,7 @@ use crate::office::metered;
 use office_core::Office;
 use office_events::Name;
 use office_http::serve_on;
-use office_lists::ListBooks;
+use memory_books::ListBooks;
 use socket_link::ListedClock;
 use std::alloc::Global;
 use std::io::{Read, Write};

@@ -1,7 +1,6 @@
 //! What faults of requests say to a person.
-use http_commands::CommandFault;
-use http_json::BodyFault;
-use http_read::TakeFault;
+use http_commands::{BodyFault, CommandFault};
+use http_request::TakeFault;
 use point_list::{FaultyRow, FaultyRows, RowFault};
 use std::alloc::Global;
 use std::fmt::Display;

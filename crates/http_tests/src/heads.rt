@@ -1,5 +1,5 @@
 //! Heads: where one ends, its limits, and its headers by name.
-use http_head::{Given, Look, has_head_end, header_value, look_at};
+use http_request::{Given, Look, has_head_end, header_value, look_at};
 use std::alloc::{AllocError, Global};
 use std::test::Fail;
 

@@ -1,6 +1,5 @@
 //! The lines of reports.
-use http_answer::{put_day, put_end, put_share};
-use http_reply::Outlet;
+use http_answer::{Outlet, put_day, put_end, put_share};
 use interval_core::{DayTotal, Share};
 use jiff::civil::date;
 use mb_wire::MemoryLink;

@@ -1,8 +1,5 @@
 //! Requests that come from a link.
-use http_head::Look;
-use http_read::{Inbox, TakeFault};
-use http_route::{Route, router};
-use http_whole::{body_in, read_request};
+use http_request::{Inbox, Look, Route, TakeFault, body_in, read_request, router};
 use matchit::Router;
 use mb_wire::{Link, MemoryLink};
 use std::alloc::{AllocError, Global};

@@ -4,7 +4,7 @@ use interval_core::Zone;
 use mb_wire::ReadSpan;
 use office_core::Office;
 use office_events::{Command, Event, Name, Piece, StartPoll};
-use office_lists::ListBooks;
+use memory_books::ListBooks;
 use std::alloc::Global;
 use std::test::Fail;
 

@@ -4,7 +4,7 @@ use crate::office::polled;
 use crate::tables::{COMMANDS, QUESTIONS};
 use office_core::Office;
 use office_http::HandleFault;
-use office_lists::ListBooks;
+use memory_books::ListBooks;
 use std::alloc::Global;
 use std::process::Abort;
 use std::test::Fail;

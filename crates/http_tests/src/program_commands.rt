@@ -2,7 +2,7 @@
 use crate::office::metered;
 use command_io::Status;
 use office_events::Refusal;
-use office_lists::ListBooks;
+use memory_books::ListBooks;
 use office_program::{Polling, Serving, poll_books, report_books, serve_books};
 use office_rounds::RoundFault;
 use socket_link::ListedClock;

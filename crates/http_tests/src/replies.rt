@@ -1,6 +1,6 @@
 //! Replies that go to a link.
-use http_reply::{Outlet, put_json, put_text_head};
-use http_status::Status;
+use http_answer::{Outlet, put_json, put_text_head};
+use http_request::Status;
 use mb_wire::{Link, MemoryLink};
 use std::test::Fail;
 

@@ -4,7 +4,7 @@ use crate::office::{polled, unmetered};
 use command_io::Status;
 use office_core::Office;
 use office_events::Name;
-use office_lists::ListBooks;
+use memory_books::ListBooks;
 use office_program::report_days;
 use std::alloc::Global;
 use std::process::Abort;

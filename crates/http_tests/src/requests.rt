@@ -1,8 +1,5 @@
 //! The tests of a head, and what its body asks for.
-use http_head::{Look, look_at};
-use http_request::{Ask, ask_of};
-use http_route::{Route, router};
-use http_status::Status;
+use http_request::{Ask, Look, Route, Status, ask_of, look_at, router};
 use matchit::Router;
 use std::alloc::Global;
 use std::process::Abort;

@@ -6,3 +6,4 @@ pub mod Days
 pub mod Fold
 pub mod Faults
 pub mod Report
+pub mod Lines

@@ -7,3 +7,4 @@ pub mod Servings
 pub mod Exchanging
 pub mod Examples
 pub mod Adding
+pub mod StandInLemmas

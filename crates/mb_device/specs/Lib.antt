@@ -4,3 +4,4 @@ pub mod Device
 pub mod Tricks
 pub mod Server
 pub mod Exchanges
+pub mod StandIn

@@ -10,6 +10,7 @@ mod laws;
 mod packed_values;
 mod sender;
 mod server;
+mod stand_in;
 mod trick;
 
 pub use bank::Bank;
@@ -17,3 +18,4 @@ pub use kinds::{Area, BankFault, Kind};
 pub use laws::{no_trick_is_true, turns_compose};
 pub use server::{ServeFault, Server, Turned};
 pub use trick::Trick;
+pub use stand_in::{MOST_TURNS, answer_all, answer_one};

@@ -15,8 +15,8 @@ use Rattle.office_rules.specs.Facts.{openings_in}
 use Rattle.office_rules.specs.Intervals.{rows_of_opening}
 use Rattle.office_rules.specs.Meters.{opened, entries_of, installation_of}
 use Rattle.office_rules.specs.History.{History, facts_of}
-use Rattle.office_laws.specs.Laws.{IsKept}
-use Rattle.office_laws.specs.Lawfulness.{AreTrue}
+use Rattle.office_rules.specs.Laws.{IsKept}
+use Rattle.office_rules.specs.Lawfulness.{AreTrue}
 use Rattle.office_core.specs.Headline.{full_ranges, differences, AddsUp, HeadlineHolds}
 
 rolled : (x r s f : ℕ) (d : ℤ) → pos r -ℤ pos s ≡ pos f +ℤ d → pos (x + r) -ℤ pos s ≡ pos (x + f) +ℤ d

@@ -5,3 +5,4 @@ pub mod Summing
 pub mod Runs
 pub mod AddingUp
 mod Examples
+pub mod RefusingLemmas

@@ -5,12 +5,12 @@ use Rattle.std.specs.declared.vec.Vec.{Vec}
 use Rattle.office_events.specs.declared.refusals.Refusal.{Refusal}
 use Rattle.office_rules.specs.History.{History, Opened, facts_of}
 use Rattle.office_rules.specs.Refusals.{opening_refusal_of}
-use Rattle.office_laws.specs.Lawfulness.{IsPast}
-use Rattle.office_lines.specs.declared.slots.Slot.{Slot}
+use Rattle.office_rules.specs.Lawfulness.{IsPast}
+use Rattle.office_booking.specs.declared.sessions.slots.Slot.{Slot}
 use Rattle.office_books.specs.declared.faults.BooksFault.{BooksFault}
 use Rattle.office_books.specs.Faults.{as_refusal, faults_after}
 use Rattle.office_books.specs.Ledgers.{Ledger, OnlyReads}
-use Rattle.office_opening.specs.OpenedOffice.{MayOpen, Opens}
+use Rattle.office_booking.specs.Opening.OpenedOffice.{MayOpen, Opens}
 use Rattle.office_core.specs.Leaving.{BooksStand}
 use Rattle.office_core.specs.Reopening.{IsNotOpened, IsReopened}
 use Rattle.office_core.proofs.Left.{read_stand, moved_on, moved_not}

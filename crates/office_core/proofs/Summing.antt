@@ -18,7 +18,7 @@ use Rattle.interval_core.specs.declared.zone.Zone.{Zone}
 use Rattle.interval_core.specs.declared.totals.DayTotal.{DayTotal}
 use Rattle.office_events.specs.declared.refusals.Refusal.{Refusal}
 use Rattle.office_rules.specs.Intervals.{rows_of_register}
-use Rattle.office_laws.specs.Registers.{CanBeFolded, RegistersAreInTurn}
+use Rattle.office_rules.specs.Registers.{CanBeFolded, RegistersAreInTurn}
 use Rattle.office_books.specs.Ledgers.{Ledger, OnlyReads}
 use Rattle.office_books.specs.Rows.{TakesAll, HandsOn}
 use Rattle.office_core.specs.declared.day_sink.DaySink.{DaySink}

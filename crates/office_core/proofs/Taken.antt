@@ -10,14 +10,14 @@ use Rattle.office_events.specs.declared.refusals.Refusal.{Refusal}
 use Rattle.office_rules.specs.Sessions.{Slot, command_in}
 use Rattle.office_rules.specs.History.{History, Fed, facts_of, slots_of, next_poll}
 use Rattle.office_rules.specs.Refusals.{IsAccepted, refusal_of, unless_kept, unless_refused, decision_of, answer_of, is_start}
-use Rattle.office_laws.specs.Lawfulness.{IsPast, PutsPlanned}
+use Rattle.office_rules.specs.Lawfulness.{IsPast, PutsPlanned}
 use Rattle.office_books.specs.declared.faults.BooksFault.{BooksFault}
 use Rattle.office_books.specs.declared.faults.BooksFault.TheVariants.{Store, Memory}
 use Rattle.office_books.specs.declared.faults.StoreFault.TheVariants.{Refused, Damaged}
 use Rattle.office_books.specs.Faults.{as_refusal, faults_after}
 use Rattle.office_rules.specs.Refusals.{with_answer}
 use Rattle.office_rules.specs.Notes.{notes_of, outgoing_of, notes_after, outgoing_after}
-use Rattle.office_lines.specs.Keeping.{KeepsSlots}
+use Rattle.office_booking.specs.Sessions.Keeping.{KeepsSlots}
 use Rattle.office_books.specs.Ledgers.{Ledger, Moves}
 use Rattle.office_core.specs.declared.office.Office.{Office}
 use Rattle.office_core.specs.Events.{is_command}

@@ -7,11 +7,11 @@ use Rattle.office_events.specs.declared.refusals.Refusal.{Refusal}
 use Rattle.office_events.specs.declared.refusals.Refusal.TheVariants as refusal
 use Rattle.office_rules.specs.History.{History, facts_of, slots_of, latest_of}
 use Rattle.office_rules.specs.Refusals.{IsAccepted, refusal_of, decision_of}
-use Rattle.office_lines.specs.declared.slots.Slot.{Slot}
-use Rattle.office_lines.specs.Keeping.{KeepsSlots}
+use Rattle.office_booking.specs.declared.sessions.slots.Slot.{Slot}
+use Rattle.office_booking.specs.Sessions.Keeping.{KeepsSlots}
 use Rattle.office_books.specs.declared.faults.BooksFault.{BooksFault}
 use Rattle.office_books.specs.Ledgers.{Ledger}
-use Rattle.office_refusing.specs.Asking.{IsOfEvent}
+use Rattle.office_core.specs.Refusing.Asking.{IsOfEvent}
 use Rattle.office_core.specs.Failing.{is_failure}
 
 -- What is decided: `None` where the event is accepted, and else what it is answered.

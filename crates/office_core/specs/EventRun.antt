@@ -7,7 +7,7 @@ use Rattle.office_events.specs.declared.refusals.Refusal.{Refusal}
 use Rattle.office_events.specs.declared.refusals.Refusal.TheVariants as refusal
 use Rattle.office_rules.specs.History.{History, Opened, facts_of}
 use Rattle.office_rules.specs.Refusals.{with_answer}
-use Rattle.office_laws.specs.Lawfulness.{IsPast, AreTrue}
+use Rattle.office_rules.specs.Lawfulness.{IsPast, AreTrue}
 use Rattle.office_books.specs.Ledgers.{Ledger}
 use Rattle.office_core.specs.declared.office.Office.{Office}
 use Rattle.office_core.specs.declared.results.Run.{Run}

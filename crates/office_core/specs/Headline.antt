@@ -18,7 +18,7 @@ use Rattle.office_rules.specs.Facts.{polls_in, openings_in}
 use Rattle.office_rules.specs.Meters.{opened, entries_of}
 use Rattle.office_rules.specs.Intervals.{rows_of_opening}
 use Rattle.office_rules.specs.History.{History, facts_of}
-use Rattle.office_laws.specs.Endings.{EndsOnce}
+use Rattle.office_rules.specs.Endings.{EndsOnce}
 
 -- "booked energy over all intervals": the sum of the meter's interval rows
 abbrev pub energy_booked : List Fact → Opening → ℕ

@@ -2,7 +2,7 @@
 use Rattle.std.specs.Prelude.{◌≡◌, ◌⊎◌, List, ◌∷◌, All}
 use Rattle.office_events.specs.declared.facts.Fact.{Fact}
 use Rattle.office_rules.specs.History.{History, Accepted, facts_of}
-use Rattle.office_laws.specs.Lawfulness.{IsPast}
+use Rattle.office_rules.specs.Lawfulness.{IsPast}
 use Rattle.office_books.specs.Ledgers.{Ledger}
 
 -- The facts are those behind one event, or one opening, more. It may follow what was accepted, but for later events

@@ -9,3 +9,4 @@ pub mod Asking
 pub mod DaySums
 pub mod Headline
 pub mod EventRun
+pub mod Refusing

@@ -5,8 +5,8 @@ use Rattle.std.specs.declared.vec.Vec.{Vec}
 use Rattle.office_events.specs.declared.refusals.Refusal.{Refusal}
 use Rattle.office_rules.specs.History.{History, Opened, facts_of, slots_of}
 use Rattle.office_rules.specs.Refusals.{opening_refusal_of}
-use Rattle.office_lines.specs.declared.slots.Slot.{Slot}
-use Rattle.office_lines.specs.Keeping.{KeepsSlots}
+use Rattle.office_booking.specs.declared.sessions.slots.Slot.{Slot}
+use Rattle.office_booking.specs.Sessions.Keeping.{KeepsSlots}
 use Rattle.office_books.specs.Ledgers.{Ledger}
 use Rattle.office_core.specs.Failing.{CountsFailures, IsNotStopped, IsOutside, IsNotForWantOfDay}
 use Rattle.office_core.specs.Leaving.{BooksStand}

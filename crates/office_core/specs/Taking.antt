@@ -8,9 +8,9 @@ use Rattle.office_rules.specs.History.{History, facts_of, slots_of, next_poll}
 use Rattle.office_rules.specs.Refusals.{IsAccepted, decision_of, with_answer}
 use Rattle.office_rules.specs.Notes.{notes_after, outgoing_after}
 use Rattle.office_rules.specs.Sessions.{command_in}
-use Rattle.office_laws.specs.Lawfulness.{PutsPlanned}
+use Rattle.office_rules.specs.Lawfulness.{PutsPlanned}
 use Rattle.office_books.specs.Ledgers.{Ledger}
-use Rattle.office_settling.specs.Settling.{SettleNothing}
+use Rattle.office_booking.specs.Settling.Settling.{SettleNothing}
 use Rattle.office_core.specs.declared.office.Office.{Office}
 use Rattle.office_core.specs.Events.{is_command}
 use Rattle.office_core.specs.Failing.{Counts, FailsOutside, IsNotStopped, IsNotForWantOfDay, is_failure, stops}

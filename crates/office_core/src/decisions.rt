@@ -1,19 +1,18 @@
 //! How an event is decided before anything is done.
 ghost use Rattle.std.specs.Prelude.{◌≡◌, None, false, IfOk, IfSome};
 ghost use Rattle.office_rules.specs.Sessions.{command_in};
-ghost use Rattle.office_lines.specs.Places.{AsksOnSlot};
-ghost use Rattle.office_lines.specs.Ranges.{IsInRange};
-ghost use Rattle.office_laws.specs.Lawfulness.{PutsPlanned};
+ghost use Rattle.office_booking.specs.Sessions.Places.{AsksOnSlot};
+ghost use Rattle.office_booking.specs.Sessions.Ranges.{IsInRange};
+ghost use Rattle.office_rules.specs.Lawfulness.{PutsPlanned};
 ghost use Rattle.office_books.specs.Ledgers.{OnlyReads};
 ghost use Rattle.office_core.specs.Events as events;
 ghost use Rattle.office_core.specs.Failing as failing;
 ghost use Rattle.office_core.specs.Decisions.{Decided, DecidesAlone, IsNoChange};
 
 use office_books::{Books, BooksFault};
-use office_commands::puts_planned;
+use office_booking::{Slot, puts_planned};
 use office_events::{Answer, Event, Refusal};
-use office_lines::Slot;
-use office_refusing::{kept, refusal};
+use crate::refusing::{kept, refusal};
 
 /// Whether an event asks a command.
 pub fn is_command(event: &Event) -> bool

@@ -10,7 +10,7 @@ use crate::office::Office;
 use crate::results::Run;
 use office_books::Books;
 use office_events::{Event, Refusal};
-use office_laws::books_are_true;
+use office_rules::books_are_true;
 use std::alloc::Global;
 
 /// Opens an office over books and feeds it events, each at its moment. Whatever events come, each has its answer, what

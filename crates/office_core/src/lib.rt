@@ -6,6 +6,7 @@ mod decisions;
 mod event_run;
 mod office;
 mod questions;
+mod refusing;
 mod reopened_office;
 mod results;
 

@@ -8,8 +8,8 @@ ghost use Rattle.office_rules.specs.Meters.{meter_of};
 ghost use Rattle.office_rules.specs.Readings.{poll_row_of};
 ghost use Rattle.office_rules.specs.Refusals.{refusal_of, with_answer};
 ghost use Rattle.office_rules.specs.Sessions.{command_in};
-ghost use Rattle.office_lines.specs.Places.{AsksOnSlot};
-ghost use Rattle.office_lines.specs.Ranges.{AsksInRange};
+ghost use Rattle.office_booking.specs.Sessions.Places.{AsksOnSlot};
+ghost use Rattle.office_booking.specs.Sessions.Ranges.{AsksInRange};
 ghost use Rattle.office_core.specs.Asking.{OnlyAsks, TakesRows, intervals_of};
 ghost use Rattle.office_core.specs.Asking.{Tells, TellsDays, TellsRows};
 ghost use Rattle.office_core.specs.Events as events;
@@ -26,12 +26,9 @@ use crate::questions;
 use crate::reopened_office::reopen;
 use interval_core::{DayTotal, Share};
 use office_books::{Books, RowSink};
-use office_commands::carry_out;
+use office_booking::{Outgoing, Slot, carry_out, settle_event};
 use office_events::{Answer, Event, Installation, Name, Note, PollRow, Refusal};
-use office_laws::facts_are_lawful;
-use office_lines::Slot;
-use office_settling::settle_event;
-use office_starting::Outgoing;
+use office_rules::facts_are_lawful;
 use std::alloc::Global;
 
 /// An office: it takes events, polls devices, and books what their meters tell.

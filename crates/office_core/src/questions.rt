@@ -12,7 +12,7 @@ use crate::day_sink::DaySink;
 use interval_core::{DayTotal, Share};
 use office_books::{Books, BooksFault, RowSink};
 use office_events::{Installation, Name, PollRow, Refusal};
-use office_laws::registers_are_in_turn;
+use office_rules::registers_are_in_turn;
 use std::alloc::Global;
 
 /// What a look-up is answered as.

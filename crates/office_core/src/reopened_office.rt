@@ -5,8 +5,7 @@ ghost use Rattle.office_core.specs.Reopening.{Passed, Reopens};
 
 use office_books::Books;
 use office_events::Refusal;
-use office_lines::Slot;
-use office_opening::{book_opening, opening_refusal};
+use office_booking::{Slot, book_opening, opening_refusal};
 use std::alloc::Global;
 
 /// Books the opening of an office, where it is not refused, and answers the slots of its devices.

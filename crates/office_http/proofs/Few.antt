@@ -13,9 +13,9 @@ use Rattle.office_rules.specs.Facts.{latest_in, moment_limit, opening_of, openin
 use Rattle.office_rules.specs.Meters.{installed, journal_of}
 use Rattle.office_rules.specs.Intervals.{rows_of_opening}
 use Rattle.office_rules.specs.Lawful.{AreLawful}
-use Rattle.office_laws.proofs.InTurn.{last_at, last_is_recorded}
-use Rattle.office_laws.proofs.Journals.{IsInstalled, installed_fits, well}
-use Rattle.office_laws.proofs.Lookups.{find_passes, same_text}
+use Rattle.office_rules.proofs.InTurn.{last_at, last_is_recorded}
+use Rattle.office_rules.proofs.Journals.{IsInstalled, installed_fits, well}
+use Rattle.office_rules.proofs.Lookups.{find_passes, same_text}
 use Rattle.office_core.specs.Asking.{intervals_of, rows_in}
 
 -- what journals say of their interval rows

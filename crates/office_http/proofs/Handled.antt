@@ -7,19 +7,19 @@ use Rattle.std.proofs.lemmas.List.{append-nil}
 use Rattle.mb_wire.specs.Links.{risen}
 use Rattle.mb_wire.specs.declared.link.LastTake.{LastTake}
 use Rattle.mb_wire.specs.declared.link.LinkFailed.{LinkFailed}
-use Rattle.http_head.specs.Heads.{IsOpenHead, Looks}
-use Rattle.http_head.specs.declared.head.Look.{Look}
-use Rattle.http_head.specs.declared.head.Look.TheVariants.{Open, TooLarge, NoHead, Whole}
-use Rattle.http_read.specs.HeadAndBody.{ReadsHead, StopsAtOnce}
-use Rattle.http_read.specs.Taking.{Came, CountsTakes, bytes_in}
-use Rattle.http_read.specs.declared.inbox.TheConstants.{MOST_TAKES}
-use Rattle.http_read.specs.declared.inbox.Inbox.{Inbox}
-use Rattle.http_read.specs.declared.inbox.TakeFault.{TakeFault}
-use Rattle.http_read.specs.declared.inbox.TakeFault.TheVariants as take
-use Rattle.http_reply.specs.Giving.{Gives}
-use Rattle.http_reply.specs.Sending.{HasPut, OnlyGives, Outgoing}
-use Rattle.http_route.specs.Routes.{Table, routes}
-use Rattle.http_whole.specs.Whole.{GoesOn, Holds, ReadsRequest}
+use Rattle.http_request.specs.Head.Heads.{IsOpenHead, Looks}
+use Rattle.http_request.specs.declared.head.head.Look.{Look}
+use Rattle.http_request.specs.declared.head.head.Look.TheVariants.{Open, TooLarge, NoHead, Whole}
+use Rattle.http_request.specs.Reading.HeadAndBody.{ReadsHead, StopsAtOnce}
+use Rattle.http_request.specs.Reading.Taking.{Came, CountsTakes, bytes_in}
+use Rattle.http_request.specs.declared.reading.inbox.TheConstants.{MOST_TAKES}
+use Rattle.http_request.specs.declared.reading.inbox.Inbox.{Inbox}
+use Rattle.http_request.specs.declared.reading.inbox.TakeFault.{TakeFault}
+use Rattle.http_request.specs.declared.reading.inbox.TakeFault.TheVariants as take
+use Rattle.http_answer.specs.Sending.Giving.{Gives}
+use Rattle.http_answer.specs.Sending.Sending.{HasPut, OnlyGives, Outgoing}
+use Rattle.http_request.specs.Routing.Routes.{Table, routes}
+use Rattle.http_request.specs.Whole.Whole.{GoesOn, Holds, ReadsRequest}
 use Rattle.http_answer.specs.Replies.{refused, reply_bytes}
 use Rattle.office_events.specs.declared.refusals.Refusal.{Refusal}
 use Rattle.office_events.specs.declared.refusals.Refusal.TheVariants as refusal

@@ -2,12 +2,12 @@
 use Rattle.std.proofs.Common.{◌≡◌, ◌∙◌, ℕ, false, List, Option, Some, None, Result, inl, inr, refl, sym, ap, subst}
 use Rattle.http_commands.specs.declared.fault.CommandFault.{CommandFault}
 use Rattle.http_request.specs.HeadTests.{Start, head_fault}
-use Rattle.http_route.specs.Routes.{routes}
-use Rattle.http_route.specs.Targets.{is_question, name_in, route_in}
-use Rattle.http_route.specs.declared.routes.Route.{Route}
-use Rattle.http_route.specs.declared.routes.Route.TheVariants as route
-use Rattle.http_status.specs.declared.Status.{Status}
-use Rattle.http_whole.proofs.Unique.{one_request}
+use Rattle.http_request.specs.Routing.Routes.{routes}
+use Rattle.http_request.specs.Routing.Targets.{is_question, name_in, route_in}
+use Rattle.http_request.specs.declared.routing.routes.Route.{Route}
+use Rattle.http_request.specs.declared.routing.routes.Route.TheVariants as route
+use Rattle.http_request.specs.declared.status.Status.{Status}
+use Rattle.http_request.proofs.WholeLemmas.Unique.{one_request}
 use Rattle.office_events.specs.declared.commands.Command.{Command}
 use Rattle.http_answer.specs.Offices.{Office}
 use Rattle.http_answer.specs.Replies.{ask, command_reply, found_reply, reply_bytes, reply_of, route_reply, unless_failed}

@@ -18,12 +18,12 @@ use Rattle.office_core.specs.Failing.{IsOutside}
 use Rattle.office_core.specs.Standing.{Stands, books_in}
 use Rattle.office_core.specs.Taking.{failures_of}
 use Rattle.office_core.specs.declared.office.Office.{Office as Run}
-use Rattle.report_lines.specs.Lines.{days_text, end_line}
-use Rattle.http_reply.specs.Replies.{text_head}
-use Rattle.http_reply.specs.Sending as sending
-use Rattle.http_reply.specs.Sending.{OnlyGives, Outgoing}
-use Rattle.http_reply.proofs.Giving.{Puts-none, Puts-then}
-use Rattle.http_route.specs.Routes.{routes}
+use Rattle.interval_core.specs.Lines.{days_text, end_line}
+use Rattle.http_answer.specs.Sending.Replies.{text_head}
+use Rattle.http_answer.specs.Sending.Sending as sending
+use Rattle.http_answer.specs.Sending.Sending.{OnlyGives, Outgoing}
+use Rattle.http_answer.proofs.SendingLemmas.Giving.{Puts-none, Puts-then}
+use Rattle.http_request.specs.Routing.Routes.{routes}
 use Rattle.http_answer.specs.Offices.{Office}
 use Rattle.http_answer.specs.Replies.{lines_reply, refused, reply_bytes}
 use Rattle.http_answer.specs.Whole.{IsReply}

@@ -14,7 +14,7 @@ use Rattle.office_core.specs.Standing.{Stands, books_in, is_stopped}
 use Rattle.office_core.specs.Taking.{Ends, IsAnswer, failures_of}
 use Rattle.office_core.specs.declared.office.Office.{Office as Run}
 use Rattle.http_commands.specs.declared.fault.CommandFault.{CommandFault}
-use Rattle.http_route.specs.Routes.{routes}
+use Rattle.http_request.specs.Routing.Routes.{routes}
 use Rattle.http_answer.specs.Kinds.{done_text}
 use Rattle.http_answer.specs.Offices.{Office}
 use Rattle.http_answer.specs.Replies.{fault_said, refused, reply_bytes, row_reply}

@@ -10,15 +10,15 @@ use Rattle.office_rules.specs.History.{History}
 use Rattle.office_books.specs.Ledgers.{Ledger}
 use Rattle.office_core.specs.Standing.{After}
 use Rattle.office_core.specs.declared.office.Office.{Office}
-use Rattle.http_head.specs.Heads.{Looks, is_open}
-use Rattle.http_head.specs.declared.head.Look.{Look}
-use Rattle.http_read.specs.HeadAndBody.{TakesWhatLacks}
-use Rattle.http_read.specs.declared.inbox.TheConstants.{MOST_TAKES}
-use Rattle.http_read.specs.declared.inbox.TakeFault.{TakeFault}
-use Rattle.http_read.specs.declared.inbox.TakeFault.TheVariants as take
-use Rattle.http_reply.specs.Giving.{Gives}
-use Rattle.http_route.specs.Routes.{routes}
-use Rattle.http_whole.specs.Whole.{GoesOn}
+use Rattle.http_request.specs.Head.Heads.{Looks, is_open}
+use Rattle.http_request.specs.declared.head.head.Look.{Look}
+use Rattle.http_request.specs.Reading.HeadAndBody.{TakesWhatLacks}
+use Rattle.http_request.specs.declared.reading.inbox.TheConstants.{MOST_TAKES}
+use Rattle.http_request.specs.declared.reading.inbox.TakeFault.{TakeFault}
+use Rattle.http_request.specs.declared.reading.inbox.TakeFault.TheVariants as take
+use Rattle.http_answer.specs.Sending.Giving.{Gives}
+use Rattle.http_request.specs.Routing.Routes.{routes}
+use Rattle.http_request.specs.Whole.Whole.{GoesOn}
 use Rattle.http_answer.specs.Replies.{refused, reply_bytes}
 use Rattle.office_http.specs.Serving.{Serves}
 use Rattle.office_http.specs.declared.fault.HandleFault.{HandleFault}

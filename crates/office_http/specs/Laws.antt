@@ -1,6 +1,6 @@
 -- A request has one reply.
 use Rattle.std.specs.Prelude.{◌≡◌, ℕ, List}
-use Rattle.http_route.specs.Routes.{routes}
+use Rattle.http_request.specs.Routing.Routes.{routes}
 use Rattle.http_answer.specs.Offices.{Office}
 use Rattle.http_answer.specs.Whole.{IsReply}
 

@@ -11,10 +11,10 @@ use Rattle.office_core.specs.Failing.{IsOutside}
 use Rattle.office_core.specs.Standing.{After, Stands, books_in, is_stopped}
 use Rattle.office_core.specs.Taking.{failures_of}
 use Rattle.office_core.specs.declared.office.Office.{Office as Run}
-use Rattle.report_lines.specs.Lines.{days_text, end_line, intervals_text}
-use Rattle.http_reply.specs.Sending as sending
-use Rattle.http_reply.specs.Sending.{OnlyGives, Outgoing}
-use Rattle.http_route.specs.Routes.{routes}
+use Rattle.interval_core.specs.Lines.{days_text, end_line, intervals_text}
+use Rattle.http_answer.specs.Sending.Sending as sending
+use Rattle.http_answer.specs.Sending.Sending.{OnlyGives, Outgoing}
+use Rattle.http_request.specs.Routing.Routes.{routes}
 use Rattle.http_answer.specs.Offices.{Office}
 use Rattle.http_answer.specs.Replies.{lines_reply, poll_reply, refused, reply_bytes}
 use Rattle.http_answer.specs.Whole.{IsReply}

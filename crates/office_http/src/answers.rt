@@ -1,24 +1,20 @@
 //! What an office answers, put as the reply.
 ghost use Rattle.std.specs.Prelude.{◌≡◌};
-ghost use Rattle.http_route.specs.Routes.{routes};
+ghost use Rattle.http_request.specs.Routing.Routes.{routes};
 ghost use Rattle.office_http.specs.Wants.Wanting.{IsAskedFor, IsQuestion, Wants, HasFewFaults};
 ghost use Rattle.office_http.specs.Answering as answering;
 ghost use Rattle.office_http.specs.Serving.{AreDaysAsked, AreIntervalsAsked, IsPollAsked, PutsReply};
 
 use crate::rows::{Replied, RowLines};
 use crate::wants::Want;
-use http_answer::{
-    kind_answered, name_asked, number_asked, put_command_fault, put_done, put_fault, put_meter,
-    put_poll, put_refusal,
-};
-use http_reply::Outlet;
-use http_route::{Found, Route};
+use http_answer::{Outlet, kind_answered, name_asked, number_asked, put_command_fault, put_done, put_fault, put_meter, put_poll, put_refusal};
+use http_request::{Found, Route};
 use mb_wire::Link;
 use meter_journal::{interval_rows_are_accounts, rows_lie_within, voids_go_no_further};
 use office_books::Books;
 use office_core::Office;
 use office_events::{Answer, Asked, CommandKind, Event, Name, Refusal, StoreCause};
-use office_laws::facts_are_lawful;
+use office_rules::facts_are_lawful;
 
 // What a command is told of its answer. No command is answered that it is noted.
 fn told(answer: Result<Answer, Refusal>) -> Result<CommandKind, Refusal>

@@ -1,7 +1,7 @@
 //! Why a request was not served.
 ghost use Rattle.std.specs.Prelude.{◌≡◌};
 
-use http_read::TakeFault;
+use http_request::TakeFault;
 use std::error::Error;
 use std::fmt;
 use std::fmt::{Display, Formatter};

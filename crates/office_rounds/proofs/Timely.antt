@@ -13,7 +13,7 @@ use Rattle.office_rules.specs.Facts.{latest_in, moment_limit}
 use Rattle.office_rules.specs.History.{History, Opened, Fed, facts_of, latest_of}
 use Rattle.office_rules.specs.Refusals.{AreAccepted, refusal_of, unless_refused, with_answer}
 use Rattle.office_core.specs.Taking.{IsAnswer}
-use Rattle.office_laws.proofs.LawfulChanges.{not_refused}
+use Rattle.office_rules.proofs.LawfulChanges.{not_refused}
 use Rattle.office_rounds.specs.Course.{Connect, Does, IsTaken, Leave, Next, Over, StartFrom, Take}
 use Rattle.office_rounds.specs.Rounds.{gone_at}
 

@@ -1,126 +1,126 @@
--- Entries by hand, resets, rescales, closings and exchanges.
-use Rattle.std.proofs.Common.{◌≡◌, pos, true, false, [], ◌∷◌, Some, None, Ok, Err, refl}
-use Rattle.energy_core.specs.Value.{unit_of}
-use Rattle.energy_core.specs.declared.verdicts.Cause.TheVariants as cause
-use Rattle.mb_wire.specs.Frames.{frames, frames_in, rest, rest_in, is_garbled}
-use Rattle.poll_core.specs.Settling.{stream, next_id, frames_at, ending_at, settled_by, pending, outcomes_at}
-use Rattle.poll_core.specs.Standing.{is_over, is_closed}
-use Rattle.poll_core.specs.declared.outcome.Outcome.TheVariants as outcome
-use Rattle.office_events.specs.declared.commands.GivenScale.TheVariants as given
-use Rattle.office_events.specs.declared.refusals.Refusal.TheVariants as refusal
-use Rattle.office_events.specs.declared.answers.Answer.TheVariants as answer
-use Rattle.office_events.specs.declared.answers.CommandKind.TheVariants as done
-use Rattle.office_events.specs.declared.answers.Note.TheVariants as note
-use Rattle.office_rules.specs.History.{History, Opened, Fed, facts_of}
-use Rattle.office_rules.specs.Refusals.{decision_of}
-use Rattle.office_rules.specs.Intervals.{rows_of_meter}
-use Rattle.office_rules.proofs.Samples.{inv, main, m1, m2, device, register, full_range, three_words, start, reset, rescale, manual, close, exchange, reply, answered, told, meter, total}
+-- The facts after a closing, a reset and a rescaling that are not refused are lawful.
+use Rattle.std.proofs.Common.{◌≡◌, ℕ, ℤ, pos, negsuc, ◌≤◌, ◌≤ℤ◌, suc, int_lt, Bool, true, false, cond, ◌||◌, List, [], ◌∷◌, ◌++◌, reverse, refl, sym, subst, Option, Some, None, arith}
+use Rattle.std.specs.Prelude.{Contains}
+use Rattle.std.specs.List.{AllByRecursion, find}
+use Rattle.std.specs.Option.{option_and_then, option_to_list}
+use Rattle.std.proofs.lemmas.Int.{ints}
+use Rattle.energy_core.specs.declared.entries.Entry.{Entry}
+use Rattle.energy_core.specs.declared.entries.Entry.TheVariants as entry
+use Rattle.energy_core.specs.declared.admission.TermFault.TheVariants as fault
+use Rattle.energy_core.specs.Admission as entering
+use Rattle.meter_journal.specs.declared.lines.EntryKind.TheVariants as kind
+use Rattle.office_events.specs.declared.facts.Opening.{Opening}
+use Rattle.office_events.specs.declared.facts.Fact.{Fact}
+use Rattle.office_events.specs.declared.facts.Fact.TheVariants as fact
+use Rattle.office_events.specs.declared.questions.Installation.{Installation}
+use Rattle.office_events.specs.declared.commands.Close.{Close}
+use Rattle.office_events.specs.declared.commands.Reset.{Reset}
+use Rattle.office_events.specs.declared.commands.Rescale.{Rescale}
+use Rattle.office_events.specs.declared.commands.Command.{Command}
+use Rattle.office_events.specs.declared.commands.Command.TheVariants as command
+use Rattle.office_rules.specs.Facts.{moment_limit, same, openings_in, opening_of}
+use Rattle.office_rules.specs.Meters.{installation_of, open_at}
+use Rattle.office_rules.specs.History.{made_on}
+use Rattle.office_rules.specs.Refusals.{makes_fault, is_off_scale}
+use Rattle.office_rules.specs.Lawful.{AreLawful}
+use Rattle.office_rules.specs.Laws.{MetersAreKept}
+use Rattle.office_rules.proofs.LawfulReadings.{is_open, entered_fits}
 
-by_hand_too_little : decision_of answered 2000 (manual 5100 0 None) ≡ Err refusal.NegativeStep
-unfolding unit_of frames frames_in rest rest_in is_garbled is_over is_closed stream next_id frames_at ending_at settled_by pending outcomes_at
-by_hand_too_little = refl
+-- none of the faults of an entry is there at the open meter
+pub record IsFaultless (at : ℕ) (c : Command) (row : Option Installation) : Type 0 where
+  pub negative : makes_fault at fault.NegativeStep c row ≡ false
+  pub later : makes_fault at fault.NotLater c row ≡ false
+  pub long : makes_fault at fault.SpanTooLong c row ≡ false
+  pub full : makes_fault at fault.TotalFull c row ≡ false
+  pub below : makes_fault at fault.NotBelowRange c row ≡ false
 
-by_hand_too_early : decision_of answered 1900 (manual 5300 0 None) ≡ Err refusal.NotLater
-unfolding unit_of frames frames_in rest rest_in is_garbled is_over is_closed stream next_id frames_at ending_at settled_by pending outcomes_at
-by_hand_too_early = refl
+-- the facts after the entry that a command makes at the open meter
+abbrev entered : (at : ℕ) → Command → List Fact → Option Installation → List Fact
+entered at c facts row = reverse (option_to_list (option_and_then (made_on at c) row)) ++ facts
 
-by_hand_too_late : decision_of answered 2701801 (manual 5300 0 None) ≡ Err refusal.SpanTooLong
-unfolding unit_of frames frames_in rest rest_in is_garbled is_over is_closed stream next_id frames_at ending_at settled_by pending outcomes_at
-by_hand_too_late = refl
+abbrev HasNone : Installation → Entry → Type 0
+HasNone row e = AllByRecursion (λ why. entering.refuses row.opening.range row.total row.last e why ≡ false) entering.faults
 
-by_hand_just_in_time : decision_of answered 2701800 (manual 5300 0 None) ≡ Ok (answer.Done done.Manual)
-unfolding unit_of frames frames_in rest rest_in is_garbled is_over is_closed stream next_id frames_at ending_at settled_by pending outcomes_at
-by_hand_just_in_time = refl
+close_row : (facts : List Fact) (at : ℕ) (c : Close) (register : List ℕ) (row : Option Installation) → AreLawful facts → open_at facts register ≡ row
+    → at ≤ moment_limit → IsFaultless at (command.Close c) row → AreLawful (entered at (command.Close c) facts row)
+close_row facts at c register None h is timely none = h
+close_row facts at c register (Some row) h is timely none =
+    let open_there = is_open facts register row h is in
+    let o : Opening = open_there.opening in
+    let x : Entry = entry.Step at c.raw c.rolls in
+    let all : HasNone row x = (none.negative, (none.later, (none.long, (none.full, (refl, (none.below, tt)))))) in
+    let own : HasNone (installation_of facts o) x = subst (λ (y : Installation). HasNone y x) (sym open_there.row_is) all in
+    subst (λ (y : Installation). AreLawful (fact.Entry (record { meter = y.opening.meter; kind = kind.Closing; entry = x }) ∷ facts)) open_there.row_is
+    ((record { opening = o; there = open_there.installed; fits = (open_there.unended, entered_fits facts o x own) }, timely), h)
 
-past_the_moment : decision_of answered 2000 (manual 5300 0 (Some 2001)) ≡ Err refusal.Limit
-unfolding unit_of frames frames_in rest rest_in is_garbled is_over is_closed stream next_id frames_at ending_at settled_by pending outcomes_at
-past_the_moment = refl
+pub close_fits : (facts : List Fact) (at : ℕ) (c : Close) (register : Option (List ℕ)) → AreLawful facts → at ≤ moment_limit
+    → IsFaultless at (command.Close c) (option_and_then (open_at facts) register)
+    → AreLawful (entered at (command.Close c) facts (option_and_then (open_at facts) register))
+close_fits facts at c None h timely none = h
+close_fits facts at c (Some register) h timely none = close_row facts at c register (open_at facts register) h refl timely none
 
-a_great_number : decision_of answered 2000 (manual 4294967296 0 None) ≡ Err refusal.Limit
-unfolding unit_of frames frames_in rest rest_in is_garbled is_over is_closed stream next_id frames_at ending_at settled_by pending outcomes_at
-a_great_number = refl
+rescale_row : (facts : List Fact) (at : ℕ) (c : Rescale) (register : List ℕ) (row : Option Installation) → AreLawful facts → open_at facts register ≡ row
+    → at ≤ moment_limit → is_off_scale c.sf ≡ false → IsFaultless at (command.Rescale c) row → AreLawful (entered at (command.Rescale c) facts row)
+rescale_row facts at c register None h is timely scale none = h
+rescale_row facts at c register (Some row) h is timely scale none =
+    let open_there = is_open facts register row h is in
+    let o : Opening = open_there.opening in
+    let x : Entry = entry.Change at c.before c.after c.sf in
+    let all : HasNone row x = (none.negative, (none.later, (none.long, (none.full, (scale, (none.below, tt)))))) in
+    let own : HasNone (installation_of facts o) x = subst (λ (y : Installation). HasNone y x) (sym open_there.row_is) all in
+    subst (λ (y : Installation). AreLawful (fact.Entry (record { meter = y.opening.meter; kind = kind.Rescale; entry = x }) ∷ facts)) open_there.row_is
+    ((record { opening = o; there = open_there.installed; fits = (open_there.unended, entered_fits facts o x own) }, timely), h)
 
-a_too_great_number : decision_of answered 2000 (manual 5000000000000000 0 None) ≡ Err refusal.TotalFull
-unfolding unit_of frames frames_in rest rest_in is_garbled is_over is_closed stream next_id frames_at ending_at settled_by pending outcomes_at
-a_too_great_number = refl
+pub rescale_fits : (facts : List Fact) (at : ℕ) (c : Rescale) (register : Option (List ℕ)) → AreLawful facts → at ≤ moment_limit
+    → is_off_scale c.sf ≡ false → IsFaultless at (command.Rescale c) (option_and_then (open_at facts) register)
+    → AreLawful (entered at (command.Rescale c) facts (option_and_then (open_at facts) register))
+rescale_fits facts at c None h timely scale none = h
+rescale_fits facts at c (Some register) h timely scale none = rescale_row facts at c register (open_at facts register) h refl timely scale none
 
-a_gap : decision_of answered 5000000 (close 5300 0) ≡ Err refusal.SpanTooLong
-unfolding unit_of frames frames_in rest rest_in is_garbled is_over is_closed stream next_id frames_at ending_at settled_by pending outcomes_at
-a_gap = refl
+-- A reset keeps the scale, which is one that a register may have.
+neither : (a b : Bool) → a ≡ false → b ≡ false → (a || b) ≡ false
+neither true b h k = h
+neither false b h k = k
 
-a_gap_parted : decision_of (Fed 5000000 (manual 5300 0 (Some 2701800)) ∷ answered) 5000000 (close 5300 0) ≡ Ok (answer.Done done.Close)
-unfolding unit_of frames frames_in rest rest_in is_garbled is_over is_closed stream next_id frames_at ending_at settled_by pending outcomes_at
-a_gap_parted = refl
+on_scale : (sf : ℤ) → (negsuc 2 ≤ℤ sf) × (sf ≤ℤ pos 3) → is_off_scale sf ≡ false
+on_scale sf h =
+    let low : negsuc 2 ≤ℤ sf = h.0 in
+    let high : sf ≤ℤ pos 3 = h.1 in
+    neither (int_lt sf (negsuc 2)) (int_lt (pos 3) sf) (grind (arith, ints)) (grind (arith, ints))
 
-no_more_once_closed : decision_of (Fed 2000 (close 5200 0) ∷ answered) 2000 (manual 5300 0 None) ≡ Err refusal.Ended
-unfolding unit_of frames frames_in rest rest_in is_garbled is_over is_closed stream next_id frames_at ending_at settled_by pending outcomes_at
-no_more_once_closed = refl
+found_step : {X : Type 0} (b : Bool) (y x : X) (ys : List X) (o : Option X) → (o ≡ Some x → Contains ys x) → cond b (Some y) o ≡ Some x
+    → Contains (y ∷ ys) x
+found_step true y x ys o later h = (0, omega arith, cc)
+found_step false y x ys o later h = let rest = later h in let less = rest.1 in (suc rest.0, omega arith, rest.2)
 
-nothing_was_installed : decision_of (Fed 1000 (register (given.Register 40096)) ∷ Fed 1000 (device inv 1) ∷ Opened 0 ∷ []) 2000 (manual 5300 0 None) ≡ Err refusal.NotFound
-unfolding unit_of frames frames_in rest rest_in is_garbled is_over is_closed stream next_id frames_at ending_at settled_by pending outcomes_at
-nothing_was_installed = refl
+-- what is found is there
+found_there : {X : Type 0} (p : X → Bool) (xs : List X) (x : X) → find p xs ≡ Some x → Contains xs x
+found_there p [] x h = absurd (cc)
+found_there p (y ∷ ys) x h = found_step (p y) y x ys (find p ys) (found_there p ys x) h
 
-exchanged : decision_of answered 2800 (exchange 5300) ≡ Ok (answer.Done done.Exchange)
-unfolding unit_of frames frames_in rest rest_in is_garbled is_over is_closed stream next_id frames_at ending_at settled_by pending outcomes_at
-exchanged = refl
+last_on_scale : MetersAreKept → (facts : List Fact) (o : Opening) → AreLawful facts → opening_of facts o.meter ≡ Some o
+    → is_off_scale (installation_of facts o).last.sf ≡ false
+last_on_scale law facts o h there =
+    on_scale (installation_of facts o).last.sf
+    (law facts o h (found_there (λ (p : Opening). same p.meter o.meter) (openings_in facts) o there)).account.sound.scale
 
-the_old_meter : meter (Fed 2800 (exchange 5300) ∷ answered) m1 ≡ Some (record {
-  opening = record { meter = m1; register = main; ceiling = 100000; range = full_range; at = 1000; raw = 5000; sf = pos 0 };
-  last = record { at = 2800; raw = 5300; sf = pos 0 };
-  total = 300000;
-  ended = true;
-})
-unfolding unit_of frames frames_in rest rest_in is_garbled is_over is_closed stream next_id frames_at ending_at settled_by pending outcomes_at
-the_old_meter = refl
+reset_row : MetersAreKept → (facts : List Fact) (at : ℕ) (c : Reset) (register : List ℕ) (row : Option Installation) → AreLawful facts
+    → open_at facts register ≡ row → at ≤ moment_limit → IsFaultless at (command.Reset c) row → AreLawful (entered at (command.Reset c) facts row)
+reset_row law facts at c register None h is timely none = h
+reset_row law facts at c register (Some row) h is timely none =
+    let open_there = is_open facts register row h is in
+    let o : Opening = open_there.opening in
+    let x : Installation → Entry = λ y. entry.Change at c.before c.after y.last.sf in
+    let scale : is_off_scale row.last.sf ≡ false =
+    subst (λ (y : Installation). is_off_scale y.last.sf ≡ false) open_there.row_is (last_on_scale law facts o h open_there.installed) in
+    let all : HasNone row (x row) = (none.negative, (none.later, (none.long, (none.full, (scale, (none.below, tt)))))) in
+    let own : HasNone (installation_of facts o) (x (installation_of facts o)) =
+    subst (λ (y : Installation). HasNone y (x y)) (sym open_there.row_is) all in
+    subst (λ (y : Installation). AreLawful (fact.Entry (record { meter = y.opening.meter; kind = kind.Reset; entry = x y }) ∷ facts)) open_there.row_is
+    ((record { opening = o; there = open_there.installed; fits = (open_there.unended, (entered_fits facts o (x (installation_of facts o)) own, refl)) }, timely), h)
 
-the_new_meter : meter (Fed 2800 (exchange 5300) ∷ answered) m2 ≡ Some (record {
-  opening = record { meter = m2; register = main; ceiling = 100000; range = full_range; at = 2800; raw = 0; sf = pos 0 };
-  last = record { at = 2800; raw = 0; sf = pos 0 };
-  total = 0;
-  ended = false;
-})
-unfolding unit_of frames frames_in rest rest_in is_garbled is_over is_closed stream next_id frames_at ending_at settled_by pending outcomes_at
-the_new_meter = refl
-
-intervals_of_the_old : rows_of_meter (facts_of (Fed 2800 (exchange 5300) ∷ answered)) m1
-    ≡ record { start = 900; mwh = 177777 } ∷ record { start = 1800; mwh = 111111 } ∷ record { start = 2700; mwh = 11112 } ∷ []
-unfolding unit_of frames frames_in rest rest_in is_garbled is_over is_closed stream next_id frames_at ending_at settled_by pending outcomes_at
-intervals_of_the_old = refl
-
-intervals_of_the_new : rows_of_meter (facts_of (Fed 3700 (manual 45 0 None) ∷ Fed 2800 (exchange 5300) ∷ answered)) m2
-    ≡ record { start = 2700; mwh = 40000 } ∷ record { start = 3600; mwh = 5000 } ∷ []
-unfolding unit_of frames frames_in rest rest_in is_garbled is_over is_closed stream next_id frames_at ending_at settled_by pending outcomes_at
-intervals_of_the_new = refl
-
--- rescaled, and asked again
-abbrev rescaled : History
-rescaled = Fed 2800 (start three_words) ∷ Fed 2000 (rescale 5200 520 (pos 1)) ∷ answered
-
-at_the_new_scale : told rescaled 2800 (reply 1 2 9 1) ≡ note.Outcome 2 outcome.Answered ∷ note.Reading m1 521 0 10000 ∷ []
-unfolding unit_of frames frames_in rest rest_in is_garbled is_over is_closed stream next_id frames_at ending_at settled_by pending outcomes_at
-at_the_new_scale = refl
-
-its_total : total (Fed 2800 (reply 1 2 9 1) ∷ rescaled) m1 ≡ Some 210000
-unfolding unit_of frames frames_in rest rest_in is_garbled is_over is_closed stream next_id frames_at ending_at settled_by pending outcomes_at
-its_total = refl
-
-at_the_old_scale : told rescaled 2800 (reply 1 20 80 0) ≡ note.Outcome 2 outcome.Answered ∷ note.Held m1 5200 cause.ScaleChanged ∷ []
-unfolding unit_of frames frames_in rest rest_in is_garbled is_over is_closed stream next_id frames_at ending_at settled_by pending outcomes_at
-at_the_old_scale = refl
-
--- reset, and asked again
-abbrev set_to_0 : History
-set_to_0 = Fed 2800 (start three_words) ∷ Fed 2000 (reset 5250 0) ∷ answered
-
-a_counter_at_0 : told set_to_0 2800 (reply 1 0 0 0) ≡ note.Outcome 2 outcome.Answered ∷ note.Held m1 0 cause.NotAccumulated ∷ []
-unfolding unit_of frames frames_in rest rest_in is_garbled is_over is_closed stream next_id frames_at ending_at settled_by pending outcomes_at
-a_counter_at_0 = refl
-
-on_from_0 : told (Fed 3700 (start three_words) ∷ Fed 2800 (reply 1 0 0 0) ∷ set_to_0) 3700 (reply 2 0 30 0)
-    ≡ note.Outcome 3 outcome.Answered ∷ note.Reading m1 30 0 30000 ∷ []
-unfolding unit_of frames frames_in rest rest_in is_garbled is_over is_closed stream next_id frames_at ending_at settled_by pending outcomes_at
-on_from_0 = refl
-
-with_the_step_to_the_reset : total (Fed 3700 (reply 2 0 30 0) ∷ Fed 3700 (start three_words) ∷ Fed 2800 (reply 1 0 0 0) ∷ set_to_0) m1 ≡ Some 280000
-unfolding unit_of frames frames_in rest rest_in is_garbled is_over is_closed stream next_id frames_at ending_at settled_by pending outcomes_at
-with_the_step_to_the_reset = refl
+pub reset_fits : MetersAreKept → (facts : List Fact) (at : ℕ) (c : Reset) (register : Option (List ℕ)) → AreLawful facts → at ≤ moment_limit
+    → IsFaultless at (command.Reset c) (option_and_then (open_at facts) register)
+    → AreLawful (entered at (command.Reset c) facts (option_and_then (open_at facts) register))
+reset_fits law facts at c None h timely none = h
+reset_fits law facts at c (Some register) h timely none = reset_row law facts at c register (open_at facts register) h refl timely none

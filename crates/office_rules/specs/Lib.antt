@@ -8,3 +8,11 @@ pub mod Notes
 pub mod Lawful
 pub mod Intervals
 pub mod PollEndings
+pub mod Laws
+pub mod Ranges
+pub mod Registers
+pub mod Steps
+pub mod Voids
+pub mod Endings
+pub mod PollOrder
+pub mod Lawfulness

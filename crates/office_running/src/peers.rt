@@ -1,7 +1,6 @@
 //! The connections of peers.
 use crate::outbox::{MOST_CALLS, Outbox, Went, went_by};
-use http_head::MOST_BYTES;
-use http_whole::MOST_ROOM;
+use http_request::{MOST_BYTES, MOST_ROOM};
 use mio::net::TcpStream;
 use run_status::Asked;
 use std::alloc::Global;

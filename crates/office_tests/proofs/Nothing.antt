@@ -1,8 +1,8 @@
 -- Books that hold nothing stand after nothing.
 use Rattle.std.proofs.Common.{zero, suc, [], ◌∷◌, inl, refl, arith}
 use Rattle.std.specs.Prelude.{All}
-use Rattle.office_lists.specs.declared.list_books.ListBooks.{ListBooks}
-use Rattle.office_lists.specs.Listed.{AreListed, ledger_of}
+use Rattle.memory_books.specs.declared.list_books.ListBooks.{ListBooks}
+use Rattle.memory_books.specs.Listed.{AreListed, ledger_of}
 use Rattle.office_core.specs.Leaving.{MayBeLeft, BooksStand}
 
 nothing_left : All (MayBeLeft []) ([] ∷ [])

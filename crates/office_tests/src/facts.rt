@@ -8,7 +8,7 @@ use office_events::{
     BookedEntry, Device, EndedPoll, Fact, Name, Opening, Poll, Register, ScaleSource, Timeout,
     VoidedEntry, Window,
 };
-use office_lists::ListBooks;
+use memory_books::ListBooks;
 use std::alloc::Global;
 
 /// What is booked.

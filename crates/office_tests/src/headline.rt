@@ -4,7 +4,7 @@ use crate::runs::run_anew;
 use interval_core::Zone;
 use office_core::{Run, run};
 use office_events::{Answer, CommandKind, EndedPoll, Event, Name, Refusal};
-use office_lists::ListBooks;
+use memory_books::ListBooks;
 use poll_core::{LostCause, Outcome};
 use std::alloc::Global;
 

@@ -3,7 +3,7 @@ use crate::facts::{Booked, books_of, poll};
 use meter_journal::EntryKind;
 use office_books::Books;
 use office_events::{EndedPoll, EntryPlace, Installation, Name, PollRow};
-use office_lists::ListBooks;
+use memory_books::ListBooks;
 use poll_core::Outcome;
 
 const ENDED: EndedPoll = EndedPoll {

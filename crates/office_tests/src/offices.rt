@@ -3,7 +3,7 @@ use failing_books::FailingBooks;
 use interval_core::Zone;
 use office_core::Office;
 use office_events::{Command, Event, Name, PlannedList, PutList, Refusal, StartPoll, StoreCause};
-use office_lists::ListBooks;
+use memory_books::ListBooks;
 use point_list::read_list;
 use script_lines::{GivenStart, ScriptLine};
 use std::alloc::Global;

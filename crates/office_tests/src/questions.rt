@@ -2,8 +2,7 @@
 use crate::kept_rows::KeptRows;
 use crate::offices::Tried;
 use office_events::{Name, Refusal};
-use row_text::{write_day, write_end, write_interval};
-use script_text::{write_meter, write_poll, write_refusal};
+use script_text::{write_day, write_end, write_interval, write_meter, write_poll, write_refusal};
 use std::alloc::Global;
 use std::io;
 

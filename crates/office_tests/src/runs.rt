@@ -1,12 +1,12 @@
 //! Runs from nothing.
 ghost use Rattle.std.specs.Prelude.{[], IfOk};
-ghost use Rattle.office_lists.specs.Listed.{ledger_of};
+ghost use Rattle.memory_books.specs.Listed.{ledger_of};
 ghost use Rattle.office_core.specs.EventRun.{RecordsAccepted};
 
 use interval_core::Zone;
 use office_core::{Run, run};
 use office_events::{Event, Refusal};
-use office_lists::ListBooks;
+use memory_books::ListBooks;
 use std::alloc::Global;
 
 /// Over new books in memory the headline holds, whatever events come: no premise is left.

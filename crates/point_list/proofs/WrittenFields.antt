@@ -14,7 +14,7 @@ use Rattle.point_list.specs.declared.point.PointScale.TheVariants.{Unscaled, Fix
 use Rattle.mb_wire.specs.declared.span.ReadFunction.{ReadFunction}
 use Rattle.mb_wire.specs.declared.span.ReadFunction.TheVariants.{HoldingRegisters, InputRegisters}
 use Rattle.point_list.specs.Faults.{is_bad_scale}
-use Rattle.digits.specs.Digits.{digits_value}
+use Rattle.sun_points.specs.Numbers.Digits.{digits_value}
 use Rattle.point_list.specs.Fields.{fixed_scale_of, function_of, number_of, number_within, type_of}
 use Rattle.point_list.specs.Lists.{scale_spelled}
 use Rattle.point_list.specs.Names.{is_name}

@@ -4,7 +4,7 @@ use Rattle.std.specs.declared.option.Option.{Option}
 use Rattle.std.specs.List.{starts_with}
 use Rattle.std.specs.Option.{option_and_then, option_map}
 use Rattle.std.specs.Str.{bytes_eq}
-use Rattle.digits.specs.Digits.{number_of_digits}
+use Rattle.sun_points.specs.Numbers.Digits.{number_of_digits}
 use Rattle.sun_points.specs.declared.point_type.PointType.{PointType}
 use Rattle.sun_points.specs.declared.point_type.PointType.TheVariants as kind
 use Rattle.mb_wire.specs.declared.limits.TheConstants.{MAX_READ_REGISTERS}

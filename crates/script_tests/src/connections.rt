@@ -1,7 +1,6 @@
 //! A stand-in on a listener, and its peers in the same process.
-use mb_device::{Area, Bank, Kind, ServeFault, Trick};
+use mb_device::{Area, Bank, Kind, ServeFault, Trick, answer_all, answer_one};
 use mb_wire::MemoryLink;
-use stand_in::{answer_all, answer_one};
 use std::alloc::Global;
 use std::io::{self, Read, Write};
 use std::net::{Shutdown, TcpListener, TcpStream};

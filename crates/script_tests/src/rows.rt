@@ -1,6 +1,6 @@
 //! The lines of interval and day rows.
 use interval_core::{Day, DayTotal, Share};
-use row_text::{Line, write_day, write_end, write_interval};
+use script_text::{Line, write_day, write_end, write_interval};
 use std::alloc::Global;
 use std::io;
 use std::test::Fail;

@@ -8,7 +8,7 @@ use crate::parts::{write_named, write_text};
 use energy_core::Last;
 use office_events::{EndedPoll, Installation, PollRow, Refusal};
 use point_list::FaultyRow;
-use row_text::Line;
+use crate::row_lines::Line;
 use std::io::{self, Write};
 
 /// Writes `refused N`.

@@ -6,7 +6,7 @@ ghost use Rattle.script_text.specs.AnswerText as text;
 use crate::parts::{write_named, write_text};
 use office_events::Note;
 use poll_core::Outcome;
-use row_text::Line;
+use crate::row_lines::Line;
 use std::io::{self, Write};
 
 /// Writes `poll N OUTCOME`, `reading METER RAW rolls R step MWH` or `held METER RAW cause N`.

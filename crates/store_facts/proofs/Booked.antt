@@ -10,8 +10,8 @@ use Rattle.sqlite_keyed.proofs.ListLemmas.{map-map}
 use Rattle.interval_core.specs.declared.shares.Share.{Share}
 use Rattle.meter_journal.specs.Intervals as journal
 use Rattle.store_tables.specs.Content.{changed_where}
-use Rattle.store_intervals.specs.Rows.{Interval, is_of, is_at}
-use Rattle.store_intervals.specs.StepShares.{raised, with_share, with_shares}
+use Rattle.store_facts.specs.Intervals.Rows.{Interval, is_of, is_at}
+use Rattle.store_facts.specs.Intervals.StepShares.{raised, with_share, with_shares}
 use Rattle.store_facts.specs.Rows.{interval_of}
 use Rattle.store_facts.proofs.Passing.{map_agree, any_agree, filter_edited, filter_spared, any_filter, any_permutation, any_map}
 

@@ -16,11 +16,11 @@ use Rattle.office_rules.specs.Facts.{same, openings_in, opening_of}
 use Rattle.office_rules.specs.Intervals.{rows_of_opening, rows_of_installed, rows_of_meter}
 use Rattle.office_rules.specs.Lawful.{AreLawful}
 use Rattle.office_rules.specs.Meters.{installation_of}
-use Rattle.office_laws.specs.Laws.{IsRecorded, MetersAreKept}
-use Rattle.office_laws.specs.Ranges.{InstallationsAreInRange}
-use Rattle.store_meters.specs.Rows.{greatest_total}
-use Rattle.store_intervals.specs.Rows.{Interval, is_of}
-use Rattle.store_intervals.specs.StepShares.{AreSmall}
+use Rattle.office_rules.specs.Laws.{IsRecorded, MetersAreKept}
+use Rattle.office_rules.specs.Ranges.{InstallationsAreInRange}
+use Rattle.store_tables.specs.Meters.Rows.{greatest_total}
+use Rattle.store_facts.specs.Intervals.Rows.{Interval, is_of}
+use Rattle.store_facts.specs.Intervals.StepShares.{AreSmall}
 use Rattle.store_facts.specs.Rows.{interval_of}
 use Rattle.store_facts.proofs.Passing.{all_passing}
 use Rattle.store_facts.proofs.Booked.{AreApart, has_start, itself}

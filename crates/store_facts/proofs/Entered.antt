@@ -15,20 +15,20 @@ use Rattle.office_rules.specs.Facts.{same, openings_in, opening_of}
 use Rattle.office_rules.specs.Intervals.{rows_of_opening, rows_of_installed, rows_of_meter}
 use Rattle.office_rules.specs.Lawful.{AreLawful}
 use Rattle.office_rules.specs.Meters.{line_of, rows_of, installation_of}
-use Rattle.office_laws.specs.Laws.{MetersAreKept}
-use Rattle.office_laws.specs.Ranges.{InstallationsAreInRange}
-use Rattle.office_laws.specs.Steps.{Stays}
-use Rattle.office_laws.proofs.Lookups.{same_text, same_itself, same_turned, each_found}
-use Rattle.office_laws.proofs.Openings.{openings_apart}
-use Rattle.office_laws.proofs.Stepping.{named, installed_so}
+use Rattle.office_rules.specs.Laws.{MetersAreKept}
+use Rattle.office_rules.specs.Ranges.{InstallationsAreInRange}
+use Rattle.office_rules.specs.Steps.{Stays}
+use Rattle.office_rules.proofs.Lookups.{same_text, same_itself, same_turned, each_found}
+use Rattle.office_rules.proofs.Openings.{openings_apart}
+use Rattle.office_rules.proofs.Stepping.{named, installed_so}
 use Rattle.store_tables.specs.Content.{Content, HasRows, Edits, with_row, changed_where}
-use Rattle.store_meters.specs.Trees.{installations}
-use Rattle.store_meters.specs.Rows.{Installed, installed_columns, is_meter}
-use Rattle.store_entries.specs.Trees.{entries}
-use Rattle.store_entries.specs.Rows.{Entered, entry_columns, is_of as is_entry_of}
-use Rattle.store_intervals.specs.Trees.{intervals}
-use Rattle.store_intervals.specs.Rows.{Interval, interval_columns, is_of as is_interval_of}
-use Rattle.store_intervals.specs.StepShares.{with_shares, BooksShares}
+use Rattle.store_tables.specs.Meters.Trees.{installations}
+use Rattle.store_tables.specs.Meters.Rows.{Installed, installed_columns, is_meter}
+use Rattle.store_tables.specs.Entries.Trees.{entries}
+use Rattle.store_tables.specs.Entries.Rows.{Entered, entry_columns, is_of as is_entry_of}
+use Rattle.store_facts.specs.Intervals.Trees.{intervals}
+use Rattle.store_facts.specs.Intervals.Rows.{Interval, interval_columns, is_of as is_interval_of}
+use Rattle.store_facts.specs.Intervals.StepShares.{with_shares, BooksShares}
 use Rattle.sqlite_keyed.proofs.ListLemmas.{all_weaker}
 use Rattle.store_facts.specs.Rows.{placed, installed_as, installed_row, entered_rows, entries_at, entries_of, interval_of}
 use Rattle.store_facts.specs.Tables.{AreEntries, AreIntervals}

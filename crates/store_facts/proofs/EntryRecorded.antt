@@ -13,22 +13,22 @@ use Rattle.office_events.specs.declared.facts.Fact.TheVariants as fact
 use Rattle.office_rules.specs.Facts.{same, devices_in, registers_in, openings_in, opening_of, holds_in, voids_in, replies_in, polls_in, ended_in}
 use Rattle.office_rules.specs.Lawful.{AreLawful}
 use Rattle.office_rules.specs.Meters.{rows_of, installation_of}
-use Rattle.office_laws.specs.Laws.{MetersAreKept}
-use Rattle.office_laws.specs.Ranges.{InstallationsAreInRange}
-use Rattle.office_laws.specs.Steps.{OtherMetersStay, EntriesMoveOn, step_from}
-use Rattle.office_laws.proofs.Stepping.{named}
+use Rattle.office_rules.specs.Laws.{MetersAreKept}
+use Rattle.office_rules.specs.Ranges.{InstallationsAreInRange}
+use Rattle.office_rules.specs.Steps.{OtherMetersStay, EntriesMoveOn, step_from}
+use Rattle.office_rules.proofs.Stepping.{named}
 use Rattle.store_tables.specs.Answer.{IsLast}
 use Rattle.store_tables.specs.Content.{Content, HasRows, Edits, with_row, changed_where}
-use Rattle.store_lists.specs.Trees as list_tree
-use Rattle.store_lists.specs.Rows.{device_columns, register_columns}
-use Rattle.store_meters.specs.Trees as meter_tree
-use Rattle.store_meters.specs.Rows.{Installed, installed_columns, ranged_columns, is_meter}
-use Rattle.store_entries.specs.Trees as entry_tree
-use Rattle.store_entries.specs.Rows.{Entered, entry_columns, entry_place, voided_columns}
-use Rattle.store_intervals.specs.Trees as interval_tree
-use Rattle.store_intervals.specs.StepShares.{BooksShares}
-use Rattle.store_polls.specs.Trees as poll_tree
-use Rattle.store_polls.specs.Rows.{poll_columns, outcome_columns, hold_columns, reply_columns}
+use Rattle.store_devices.specs.Devices.Trees as list_tree
+use Rattle.store_devices.specs.Devices.Rows.{device_columns, register_columns}
+use Rattle.store_tables.specs.Meters.Trees as meter_tree
+use Rattle.store_tables.specs.Meters.Rows.{Installed, installed_columns, ranged_columns, is_meter}
+use Rattle.store_tables.specs.Entries.Trees as entry_tree
+use Rattle.store_tables.specs.Entries.Rows.{Entered, entry_columns, entry_place, voided_columns}
+use Rattle.store_facts.specs.Intervals.Trees as interval_tree
+use Rattle.store_facts.specs.Intervals.StepShares.{BooksShares}
+use Rattle.store_devices.specs.Polls.Trees as poll_tree
+use Rattle.store_devices.specs.Polls.Rows.{poll_columns, outcome_columns, hold_columns, reply_columns}
 use Rattle.store_facts.specs.Rows.{placed, added, registered, installed_row, ranged, voided, started, outcome_row, held_row, kept, entered, entry_row, opening_row, scale_behind, entered_rows}
 use Rattle.store_facts.specs.Tables.{meta_tree, meta_columns, AreOf}
 use Rattle.store_facts.specs.Recording.{next_place}

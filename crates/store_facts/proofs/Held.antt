@@ -6,18 +6,18 @@ use Rattle.office_events.specs.declared.facts.Fact.{Fact}
 use Rattle.office_events.specs.declared.facts.Fact.TheVariants as fact
 use Rattle.office_rules.specs.Facts.{devices_in, registers_in, openings_in, opening_of, holds_in, voids_in, replies_in, polls_in, ended_in}
 use Rattle.office_rules.specs.Intervals.{rows_of_installed, rows_of_meter}
-use Rattle.office_laws.specs.Steps.{Stays, HoldsChangeNothing}
+use Rattle.office_rules.specs.Steps.{Stays, HoldsChangeNothing}
 use Rattle.store_tables.specs.Answer.{every}
 use Rattle.store_tables.specs.Content.{Content, HasRows, Edits, with_row}
-use Rattle.store_lists.specs.Trees as list_tree
-use Rattle.store_lists.specs.Rows.{device_columns, register_columns}
-use Rattle.store_meters.specs.Trees as meter_tree
-use Rattle.store_meters.specs.Rows.{installed_columns, ranged_columns}
-use Rattle.store_entries.specs.Trees as entry_tree
-use Rattle.store_entries.specs.Rows.{voided_columns}
-use Rattle.store_intervals.specs.Trees as interval_tree
-use Rattle.store_polls.specs.Trees as poll_tree
-use Rattle.store_polls.specs.Rows.{Held, poll_columns, outcome_columns, hold_columns, hold_place, reply_columns}
+use Rattle.store_devices.specs.Devices.Trees as list_tree
+use Rattle.store_devices.specs.Devices.Rows.{device_columns, register_columns}
+use Rattle.store_tables.specs.Meters.Trees as meter_tree
+use Rattle.store_tables.specs.Meters.Rows.{installed_columns, ranged_columns}
+use Rattle.store_tables.specs.Entries.Trees as entry_tree
+use Rattle.store_tables.specs.Entries.Rows.{voided_columns}
+use Rattle.store_facts.specs.Intervals.Trees as interval_tree
+use Rattle.store_devices.specs.Polls.Trees as poll_tree
+use Rattle.store_devices.specs.Polls.Rows.{Held, poll_columns, outcome_columns, hold_columns, hold_place, reply_columns}
 use Rattle.store_facts.specs.Rows.{placed, added, registered, installed_as, installed_row, ranged, voided, started, outcome_row, held_row, kept, entered_rows, entries_at, entries_of}
 use Rattle.store_facts.specs.Tables.{meta_tree, meta_columns, AreOf}
 use Rattle.store_facts.specs.Recording.{Records, IsBehind}

@@ -13,3 +13,4 @@ pub mod ListPoints
 pub mod Standing
 pub mod Following
 pub mod Committed
+pub mod IntervalsLemmas

@@ -2,8 +2,8 @@
 use Rattle.std.proofs.Common.{◌≡◌, ℕ, ◌+◌, ◌<◌, List, [], ◌∷◌, ◌++◌, map, take, length, get_or, refl, sym, ap, ap₂, ◌∙◌, arith}
 use Rattle.std.proofs.lemmas.List.{map-append, take_more, length-take}
 use Rattle.point_list.specs.declared.point.ListedPoint.{ListedPoint}
-use Rattle.store_lists.specs.declared.rows.Point.{Point}
-use Rattle.store_lists.specs.Rows.{Listed, listed_at}
+use Rattle.store_devices.specs.declared.devices.rows.Point.{Point}
+use Rattle.store_devices.specs.Devices.Rows.{Listed, listed_at}
 use Rattle.store_facts.specs.Rows.{placed_on, listed}
 
 -- one more at the end

@@ -9,17 +9,17 @@ use Rattle.office_events.specs.declared.facts.DeviceList.{DeviceList}
 use Rattle.office_events.specs.declared.facts.Fact.{Fact}
 use Rattle.office_events.specs.declared.facts.Fact.TheVariants as fact
 use Rattle.office_rules.specs.Facts.{same, lists_in, devices_in, registers_in, openings_in, holds_in, voids_in, replies_in, polls_in, ended_in}
-use Rattle.office_laws.proofs.Lookups.{same_text, same_itself, same_turned}
+use Rattle.office_rules.proofs.Lookups.{same_text, same_itself, same_turned}
 use Rattle.store_tables.specs.Content.{Content, Edits, without_where}
-use Rattle.store_lists.specs.Trees as list_tree
-use Rattle.store_lists.specs.declared.rows.Point.{Point}
-use Rattle.store_lists.specs.Rows.{Listed, device_columns, register_columns, point_columns, is_point_of, listed_at, with_list}
-use Rattle.store_meters.specs.Trees as meter_tree
-use Rattle.store_meters.specs.Rows.{installed_columns, ranged_columns}
-use Rattle.store_entries.specs.Trees as entry_tree
-use Rattle.store_entries.specs.Rows.{voided_columns}
-use Rattle.store_polls.specs.Trees as poll_tree
-use Rattle.store_polls.specs.Rows.{poll_columns, outcome_columns, hold_columns, reply_columns}
+use Rattle.store_devices.specs.Devices.Trees as list_tree
+use Rattle.store_devices.specs.declared.devices.rows.Point.{Point}
+use Rattle.store_devices.specs.Devices.Rows.{Listed, device_columns, register_columns, point_columns, is_point_of, listed_at, with_list}
+use Rattle.store_tables.specs.Meters.Trees as meter_tree
+use Rattle.store_tables.specs.Meters.Rows.{installed_columns, ranged_columns}
+use Rattle.store_tables.specs.Entries.Trees as entry_tree
+use Rattle.store_tables.specs.Entries.Rows.{voided_columns}
+use Rattle.store_devices.specs.Polls.Trees as poll_tree
+use Rattle.store_devices.specs.Polls.Rows.{poll_columns, outcome_columns, hold_columns, reply_columns}
 use Rattle.store_facts.specs.Rows.{placed, placed_on, added, listed, points_put, points_of, registered, installed_row, ranged, voided, started, outcome_row, held_row, kept}
 use Rattle.store_facts.specs.Tables.{meta_tree, meta_columns, ArePoints}
 use Rattle.store_facts.specs.Recording.{Records}

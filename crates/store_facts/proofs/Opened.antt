@@ -9,20 +9,20 @@ use Rattle.office_events.specs.declared.facts.Fact.TheVariants as fact
 use Rattle.office_rules.specs.Facts.{same, devices_in, registers_in, openings_in, opening_of, holds_in, voids_in, replies_in, polls_in, ended_in}
 use Rattle.office_rules.specs.Intervals.{rows_of_installed, rows_of_meter}
 use Rattle.office_rules.specs.Lawful.{AreLawful}
-use Rattle.office_laws.specs.Steps.{Begins, OpeningsBegin}
-use Rattle.office_laws.proofs.Lookups.{same_text, same_itself}
+use Rattle.office_rules.specs.Steps.{Begins, OpeningsBegin}
+use Rattle.office_rules.proofs.Lookups.{same_text, same_itself}
 use Rattle.store_tables.specs.Answer.{every}
 use Rattle.store_tables.specs.Content.{Content, HasRows, Edits, with_row}
-use Rattle.store_lists.specs.Trees as list_tree
-use Rattle.store_lists.specs.Rows.{device_columns, register_columns}
-use Rattle.store_meters.specs.Trees as meter_tree
-use Rattle.store_meters.specs.Rows.{Installed, installed_columns, installed_place, ranged_columns}
-use Rattle.store_entries.specs.Trees as entry_tree
-use Rattle.store_entries.specs.Rows.{Entered, entry_columns, voided_columns, is_of as is_entry_of}
-use Rattle.store_intervals.specs.Trees as interval_tree
-use Rattle.store_intervals.specs.Rows.{Interval, is_of as is_interval_of}
-use Rattle.store_polls.specs.Trees as poll_tree
-use Rattle.store_polls.specs.Rows.{poll_columns, outcome_columns, hold_columns, reply_columns}
+use Rattle.store_devices.specs.Devices.Trees as list_tree
+use Rattle.store_devices.specs.Devices.Rows.{device_columns, register_columns}
+use Rattle.store_tables.specs.Meters.Trees as meter_tree
+use Rattle.store_tables.specs.Meters.Rows.{Installed, installed_columns, installed_place, ranged_columns}
+use Rattle.store_tables.specs.Entries.Trees as entry_tree
+use Rattle.store_tables.specs.Entries.Rows.{Entered, entry_columns, voided_columns, is_of as is_entry_of}
+use Rattle.store_facts.specs.Intervals.Trees as interval_tree
+use Rattle.store_facts.specs.Intervals.Rows.{Interval, is_of as is_interval_of}
+use Rattle.store_devices.specs.Polls.Trees as poll_tree
+use Rattle.store_devices.specs.Polls.Rows.{poll_columns, outcome_columns, hold_columns, reply_columns}
 use Rattle.store_facts.specs.Rows.{begun, placed, added, registered, installed_as, installed_row, ranged, voided, started, outcome_row, held_row, kept, entered, opening_row, entered_rows, entries_at, entries_of, interval_of}
 use Rattle.store_facts.specs.Tables.{meta_tree, meta_columns, AreEntries, AreIntervals, AreOf}
 use Rattle.store_facts.specs.Recording.{IsBehind}

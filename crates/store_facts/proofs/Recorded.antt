@@ -12,16 +12,16 @@ use Rattle.office_rules.specs.Facts.{devices_in, registers_in, openings_in, hold
 use Rattle.office_rules.specs.Intervals.{rows_of_meter}
 use Rattle.store_tables.specs.Answer.{every}
 use Rattle.store_tables.specs.Content.{Content, HasRows, Edits, with_row}
-use Rattle.store_lists.specs.Trees as list_tree
-use Rattle.store_lists.specs.Rows.{point_columns, is_point_of, Added, Registered, device_columns, register_columns, device_place, register_place}
-use Rattle.store_meters.specs.Trees as meter_tree
-use Rattle.store_meters.specs.Rows.{installed_columns, ranged_columns}
-use Rattle.store_entries.specs.Trees as entry_tree
-use Rattle.store_entries.specs.Rows.{voided_columns, entry_columns, is_of as is_entry_of}
-use Rattle.store_intervals.specs.Trees as interval_tree
-use Rattle.store_intervals.specs.Rows.{interval_columns, is_of as is_interval_of}
-use Rattle.store_polls.specs.Trees as poll_tree
-use Rattle.store_polls.specs.Rows.{poll_columns, outcome_columns, hold_columns, reply_columns}
+use Rattle.store_devices.specs.Devices.Trees as list_tree
+use Rattle.store_devices.specs.Devices.Rows.{point_columns, is_point_of, Added, Registered, device_columns, register_columns, device_place, register_place}
+use Rattle.store_tables.specs.Meters.Trees as meter_tree
+use Rattle.store_tables.specs.Meters.Rows.{installed_columns, ranged_columns}
+use Rattle.store_tables.specs.Entries.Trees as entry_tree
+use Rattle.store_tables.specs.Entries.Rows.{voided_columns, entry_columns, is_of as is_entry_of}
+use Rattle.store_facts.specs.Intervals.Trees as interval_tree
+use Rattle.store_facts.specs.Intervals.Rows.{interval_columns, is_of as is_interval_of}
+use Rattle.store_devices.specs.Polls.Trees as poll_tree
+use Rattle.store_devices.specs.Polls.Rows.{poll_columns, outcome_columns, hold_columns, reply_columns}
 use Rattle.store_facts.specs.Rows.{placed, placed_on, listed, interval_of, added, registered, installed_row, ranged, voided, started, outcome_row, held_row, kept, points_of, entries_of}
 use Rattle.store_facts.specs.Tables.{meta_tree, meta_columns, ArePoints, AreEntries, AreIntervals, AreOf}
 use Rattle.store_facts.specs.Recording.{Records, IsBehind}

@@ -10,10 +10,10 @@ use Rattle.office_events.specs.declared.facts.Fact.{Fact}
 use Rattle.office_rules.specs.Facts.{openings_in, opening_of}
 use Rattle.office_rules.specs.Lawful.{AreLawful}
 use Rattle.office_rules.specs.Meters.{installation_of}
-use Rattle.office_laws.proofs.Lookups.{same_text, each_found}
-use Rattle.office_laws.proofs.Openings.{openings_apart}
+use Rattle.office_rules.proofs.Lookups.{same_text, each_found}
+use Rattle.office_rules.proofs.Openings.{openings_apart}
 use Rattle.store_tables.specs.Answer.{IsFound}
-use Rattle.store_meters.specs.Rows.{Installed, Ranged, is_meter, is_range_of}
+use Rattle.store_tables.specs.Meters.Rows.{Installed, Ranged, is_meter, is_range_of}
 use Rattle.store_facts.specs.Rows.{placed, installed_row, last_row, ranged}
 
 passing_step : {X : Type 0} (b : Bool) (p : X → Bool) (Q : X → Type 0) (x : X) (xs : List X) → p x ≡ b → (p x ≡ true → Q x) → AllByRecursion Q xs

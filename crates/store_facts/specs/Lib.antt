@@ -3,3 +3,4 @@ pub mod Tables
 pub mod Holding
 pub mod Going
 pub mod Recording
+pub mod Intervals

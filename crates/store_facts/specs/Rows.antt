@@ -31,22 +31,22 @@ use Rattle.office_rules.specs.Facts.{same, lists_in, opening_of}
 use Rattle.office_rules.specs.Meters.{opened, rows_of, installation_of}
 use Rattle.store_tables.specs.Columns.{is_within}
 use Rattle.store_tables.specs.Limits.{latest_moment}
-use Rattle.store_lists.specs.declared.rows.RegisterScale.{RegisterScale}
-use Rattle.store_lists.specs.declared.rows.RegisterScale.TheVariants as scale
-use Rattle.store_lists.specs.declared.rows.Point.{Point}
-use Rattle.store_lists.specs.declared.rows.PointRow.{PointRow}
-use Rattle.store_lists.specs.Rows.{Added, Listed, Registered, listed_at}
-use Rattle.store_meters.specs.declared.rows.LastRow.{LastRow}
-use Rattle.store_meters.specs.Rows.{Installed, Ranged, IsRange, greatest_ceiling}
-use Rattle.store_entries.specs.declared.rows.EntryRow.{EntryRow}
-use Rattle.store_entries.specs.declared.rows.EntryKind.{EntryKind}
-use Rattle.store_entries.specs.declared.rows.EntryKind.TheVariants as kind
-use Rattle.store_entries.specs.Rows.{Entered, Voided}
-use Rattle.store_intervals.specs.Rows.{Interval}
-use Rattle.store_polls.specs.declared.rows.OutcomeRow.{OutcomeRow}
-use Rattle.store_polls.specs.declared.rows.ReplyKind.{ReplyKind}
-use Rattle.store_polls.specs.declared.rows.ReplyKind.TheVariants as reply
-use Rattle.store_polls.specs.Rows.{Started, Held, Kept}
+use Rattle.store_devices.specs.declared.devices.rows.RegisterScale.{RegisterScale}
+use Rattle.store_devices.specs.declared.devices.rows.RegisterScale.TheVariants as scale
+use Rattle.store_devices.specs.declared.devices.rows.Point.{Point}
+use Rattle.store_devices.specs.declared.devices.rows.PointRow.{PointRow}
+use Rattle.store_devices.specs.Devices.Rows.{Added, Listed, Registered, listed_at}
+use Rattle.store_tables.specs.declared.meters.rows.LastRow.{LastRow}
+use Rattle.store_tables.specs.Meters.Rows.{Installed, Ranged, IsRange, greatest_ceiling}
+use Rattle.store_tables.specs.declared.entries.rows.EntryRow.{EntryRow}
+use Rattle.store_tables.specs.declared.entries.rows.EntryKind.{EntryKind}
+use Rattle.store_tables.specs.declared.entries.rows.EntryKind.TheVariants as kind
+use Rattle.store_tables.specs.Entries.Rows.{Entered, Voided}
+use Rattle.store_facts.specs.Intervals.Rows.{Interval}
+use Rattle.store_devices.specs.declared.polls.rows.OutcomeRow.{OutcomeRow}
+use Rattle.store_devices.specs.declared.polls.rows.ReplyKind.{ReplyKind}
+use Rattle.store_devices.specs.declared.polls.rows.ReplyKind.TheVariants as reply
+use Rattle.store_devices.specs.Polls.Rows.{Started, Held, Kept}
 
 -- Of a list, the latest first, each has its place, which counts from 1.
 abbrev pub placed : {X Y : Type 0} → (row : ℕ → X → Y) → List X → List Y

@@ -9,16 +9,16 @@ use Rattle.office_rules.specs.Facts.{devices_in, registers_in, openings_in, hold
 use Rattle.office_rules.specs.Intervals.{rows_of_meter}
 use Rattle.office_rules.specs.Lawful.{AreLawful}
 use Rattle.store_tables.specs.Content.{Content, HasRows}
-use Rattle.store_lists.specs.Trees as list_tree
-use Rattle.store_lists.specs.Rows.{Listed, device_columns, point_columns, register_columns, is_point_of}
-use Rattle.store_meters.specs.Trees as meter_tree
-use Rattle.store_meters.specs.Rows.{installed_columns, ranged_columns}
-use Rattle.store_entries.specs.Trees as entry_tree
-use Rattle.store_entries.specs.Rows.{Entered, entry_columns, voided_columns, is_of as is_entry_of}
-use Rattle.store_intervals.specs.Trees as interval_tree
-use Rattle.store_intervals.specs.Rows.{Interval, interval_columns, is_of as is_interval_of}
-use Rattle.store_polls.specs.Trees as poll_tree
-use Rattle.store_polls.specs.Rows.{poll_columns, outcome_columns, hold_columns, reply_columns}
+use Rattle.store_devices.specs.Devices.Trees as list_tree
+use Rattle.store_devices.specs.Devices.Rows.{Listed, device_columns, point_columns, register_columns, is_point_of}
+use Rattle.store_tables.specs.Meters.Trees as meter_tree
+use Rattle.store_tables.specs.Meters.Rows.{installed_columns, ranged_columns}
+use Rattle.store_tables.specs.Entries.Trees as entry_tree
+use Rattle.store_tables.specs.Entries.Rows.{Entered, entry_columns, voided_columns, is_of as is_entry_of}
+use Rattle.store_facts.specs.Intervals.Trees as interval_tree
+use Rattle.store_facts.specs.Intervals.Rows.{Interval, interval_columns, is_of as is_interval_of}
+use Rattle.store_devices.specs.Polls.Trees as poll_tree
+use Rattle.store_devices.specs.Polls.Rows.{poll_columns, outcome_columns, hold_columns, reply_columns}
 use Rattle.store_facts.specs.Rows.{placed, placed_on, added, listed, points_of, registered, installed_row, ranged, entries_of, voided, interval_of, started, outcome_row, held_row, kept}
 
 -- the table `meta` has one row: the version of the tables, and the zone of the civil days

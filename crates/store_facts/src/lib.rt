@@ -1,6 +1,7 @@
 //! The facts of the office in the tables of the books: which rows stand for which facts.
 #![tactic(auto)]
 
+pub mod intervals;
 mod names;
 mod points;
 mod rows;
@@ -11,3 +12,4 @@ pub use rows::{
     begun_row, device_row, entry_row, hold_row, is_sound_opening, last_row, opening_row,
     outcome_row, poll_row, register_row, reply_kind,
 };
+pub use intervals::{book_step, meter_intervals, register_intervals, replace_shares};

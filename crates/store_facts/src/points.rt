@@ -4,7 +4,7 @@ ghost use Rattle.std.specs.Fmt.{signed_decimal};
 ghost use Rattle.std.specs.String.{string_bytes};
 ghost use Rattle.point_list.specs.RowTexts as written;
 ghost use Rattle.store_tables.specs.Limits.{IsPlace};
-ghost use Rattle.store_lists.specs.Rows.{IsSoundPoint};
+ghost use Rattle.store_devices.specs.Devices.Rows.{IsSoundPoint};
 ghost use Rattle.store_facts.specs.Rows.{IsPlacedPoint, ArePlacedPoints, point_row};
 
 use mb_wire::ReadFunction;
@@ -12,7 +12,7 @@ use point_list::{ListedPoint, PointName, PointScale, type_text};
 use sqlite::Error;
 use std::alloc::Global;
 use std::str;
-use store_lists::{Point, PointRow};
+use store_devices::{Point, PointRow};
 use store_tables::{GREATEST_PLACE, RowFault};
 use sun_points::PointType;
 

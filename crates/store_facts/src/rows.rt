@@ -3,10 +3,10 @@ ghost use Rattle.std.specs.Prelude.{◌≡◌, ◌≤◌, true, IsTrue};
 ghost use Rattle.energy_core.specs.Account.{moment_of};
 ghost use Rattle.store_tables.specs.Columns.{is_within};
 ghost use Rattle.store_tables.specs.Limits.{IsPlace, latest_moment};
-ghost use Rattle.store_lists.specs.Rows.{IsSoundDevice, IsSoundRegister, IsSoundScale};
-ghost use Rattle.store_meters.specs.Rows.{IsSoundInstallation};
-ghost use Rattle.store_entries.specs.Rows.{IsSoundEntry};
-ghost use Rattle.store_polls.specs.Rows.{IsSoundPoll};
+ghost use Rattle.store_devices.specs.Devices.Rows.{IsSoundDevice, IsSoundRegister, IsSoundScale};
+ghost use Rattle.store_tables.specs.Meters.Rows.{IsSoundInstallation};
+ghost use Rattle.store_tables.specs.Entries.Rows.{IsSoundEntry};
+ghost use Rattle.store_devices.specs.Polls.Rows.{IsSoundPoll};
 ghost use Rattle.store_facts.specs.Rows.{IsSoundOpening};
 ghost use Rattle.store_facts.specs.Rows as rows;
 
@@ -15,11 +15,8 @@ use meter_journal::EntryKind;
 use office_events::{
     CommandKind, Device, EndedPoll, HeldReading, LAST_COUNTER, Opening, Poll, Register, ScaleSource,
 };
-use store_entries::EntryRow;
-use store_lists::{DeviceRow, RegisterRow, RegisterScale};
-use store_meters::{InstallationRow, LastRow};
-use store_polls::{HoldRow, OutcomeRow, PollRow, ReplyKind};
-use store_tables::LATEST_MOMENT;
+use store_tables::{EntryRow, InstallationRow, LATEST_MOMENT, LastRow};
+use store_devices::{DeviceRow, HoldRow, OutcomeRow, PollRow, RegisterRow, RegisterScale, ReplyKind};
 
 /// A device at a place.
 pub fn device_row(device: Device, place: u64) -> DeviceRow
@@ -69,15 +66,15 @@ pub fn last_row(last: Last, total: u64) -> LastRow
     }
 }
 
-fn kind(kind: EntryKind) -> store_entries::EntryKind
+fn kind(kind: EntryKind) -> store_tables::EntryKind
     ensures { result ≡ rows.kind_as kind }
 {
     match kind {
-        EntryKind::Reading => store_entries::EntryKind::Reading,
-        EntryKind::Manual => store_entries::EntryKind::Manual,
-        EntryKind::Closing => store_entries::EntryKind::Closing,
-        EntryKind::Reset => store_entries::EntryKind::Reset,
-        EntryKind::Rescale => store_entries::EntryKind::Rescale,
+        EntryKind::Reading => store_tables::EntryKind::Reading,
+        EntryKind::Manual => store_tables::EntryKind::Manual,
+        EntryKind::Closing => store_tables::EntryKind::Closing,
+        EntryKind::Reset => store_tables::EntryKind::Reset,
+        EntryKind::Rescale => store_tables::EntryKind::Rescale,
     }
 }
 
@@ -155,7 +152,7 @@ pub fn opening_row(opening: &Opening) -> EntryRow
     let opening = *opening;
     EntryRow {
         place: 1,
-        kind: store_entries::EntryKind::Opening,
+        kind: store_tables::EntryKind::Opening,
         moment: opening.at,
         raw: opening.raw,
         rolls: 0,

@@ -11,7 +11,7 @@ use Rattle.store_tables.specs.Answer.{every}
 use Rattle.store_tables.specs.Steps.{StepsTo, Turns, TransactsTo}
 use Rattle.store_tables.proofs.Frames.{with_here, with_others}
 use Rattle.store_tables.proofs.StepLemmas.{goes_then, kept_then, on_ok}
-use Rattle.store_meters.specs.Rows.{Installed, ranged_columns}
+use Rattle.store_tables.specs.Meters.Rows.{Installed, ranged_columns}
 use Rattle.store_files.specs.declared.layouts.Layout.{Layout}
 use Rattle.store_files.specs.declared.layouts.Layout.TheVariants.{Third}
 use Rattle.store_files.specs.Layouts.{first_tables}

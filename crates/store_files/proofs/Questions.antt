@@ -8,8 +8,8 @@ use Rattle.sqlite.proofs.Callers.{reads_as, one_permutation}
 use Rattle.store_tables.specs.Content.{Content, HasTree, HasRows, AreTablesIn, told}
 use Rattle.store_tables.proofs.Laid.{Numbered, lay, laid_from}
 use Rattle.store_tables.proofs.Scans.{asked, passes, shows}
-use Rattle.store_meters.specs.Rows.{Installed, installed_columns}
-use Rattle.store_meters.specs.Trees.{installations}
+use Rattle.store_tables.specs.Meters.Rows.{Installed, installed_columns}
+use Rattle.store_tables.specs.Meters.Trees.{installations}
 use Rattle.store_files.specs.declared.layouts.Layout.{Layout}
 use Rattle.store_files.specs.declared.layouts.Layout.TheVariants.{First, Second, Third}
 use Rattle.store_files.specs.Layouts.{schema_of}

@@ -10,8 +10,8 @@ use Rattle.sqlite.specs.State.{State}
 use Rattle.store_tables.specs.Content.{Content, Edits, with_row}
 use Rattle.store_tables.specs.Steps.{Steps, Turns}
 use Rattle.store_tables.proofs.StepLemmas.{steps_then, no_steps, answered, weaker}
-use Rattle.store_meters.specs.Rows.{Ranged, ranged_columns}
-use Rattle.store_meters.specs.Trees.{ranges}
+use Rattle.store_tables.specs.Meters.Rows.{Ranged, ranged_columns}
+use Rattle.store_tables.specs.Meters.Trees.{ranges}
 use Rattle.store_files.specs.Upgrade.{text_in, range_in, with_ranges, GivesRanges}
 
 one_behind : (shown : List Row) (row : Row) (rs : List Ranged) → IsPermutation (with_ranges (shown ++ row ∷ []) rs) (range_in row ∷ with_ranges shown rs)

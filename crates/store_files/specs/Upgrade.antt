@@ -7,8 +7,8 @@ use Rattle.sqlite.specs.Order.{Row, column}
 use Rattle.sqlite.specs.Effect.{Database}
 use Rattle.sqlite.specs.State.{State, KeepsCommit, Survives, IsUnchanged}
 use Rattle.store_tables.specs.Content.{Content, Edits, HasRows, AreTables, AreTablesIn}
-use Rattle.store_meters.specs.Rows.{Installed, installed_columns, Ranged, ranged_columns}
-use Rattle.store_meters.specs.Trees.{installations, ranges}
+use Rattle.store_tables.specs.Meters.Rows.{Installed, installed_columns, Ranged, ranged_columns}
+use Rattle.store_tables.specs.Meters.Trees.{installations, ranges}
 use Rattle.store_files.specs.declared.layouts.Layout.{Layout}
 use Rattle.store_files.specs.declared.layouts.Layout.TheVariants.{First, Second, Third}
 use Rattle.store_files.specs.Layouts.{version_of, schema_of}

@@ -15,7 +15,7 @@ use crate::layouts::Layout;
 use crate::meta::set_version;
 use crate::tables::{create_last, create_voids};
 use sqlite::{Alter, Connection, Error, Row, Transaction};
-use store_meters::insert_range;
+use store_tables::insert_range;
 
 /// The meters of a file of version 1.
 fn meter_rows<S: Alter>(conn: &mut Connection<S>) -> Result<Vec<Row>, Error>

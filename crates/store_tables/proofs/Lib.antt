@@ -13,3 +13,5 @@ pub mod StepLemmas
 pub mod LookUps
 pub mod ReadLemmas
 mod Creates
+pub mod MetersLemmas
+pub mod EntriesLemmas

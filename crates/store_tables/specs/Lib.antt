@@ -5,3 +5,5 @@ pub mod Answer
 pub mod Columns
 pub mod Asking
 pub mod Limits
+pub mod Meters
+pub mod Entries

@@ -2,8 +2,10 @@
 #![tactic(auto)]
 
 mod columns;
+mod entries;
 mod faults;
 mod limits;
+mod meters;
 mod numbers;
 mod probe;
 
@@ -12,3 +14,5 @@ pub use faults::RowFault;
 pub use limits::{GREATEST_PLACE, LATEST_MOMENT};
 pub use numbers::{number, signed};
 pub use probe::touch;
+pub use entries::{EntryKind, EntryRow, entry_at, entry_rows, entry_rows_inside, insert_entry, insert_void, last_entry_rows, latest_entry, latest_void, read_entry, read_void, roll_entry, void_rows, void_rows_inside};
+pub use meters::{Installation, InstallationRow, LastRow, end_installation, insert_installation, insert_range, installation_at, installation_of, installation_rows, last_installation, last_installation_rows, move_installation, range_of, range_rows, read_installation, read_range};

@@ -6,7 +6,7 @@ use mb_wire::ReadFunction;
 use sqlite::{Connection, Error, MemStore, Transaction};
 use std::alloc::{AllocError, Global};
 use std::test::Fail;
-use store_lists::{
+use store_devices::{
     Device, DeviceRow, Point, PointRow, RegisterRow, RegisterScale, device_rows, insert_device,
     insert_register, point_rows, read_device, read_point, read_register, register_count,
     register_of, register_rows, replace_points,

@@ -4,7 +4,7 @@ use crate::stories::{at_register, booked, of_meter};
 use sqlite::{Connection, Error, MemStore};
 use std::alloc::Global;
 use std::test::Fail;
-use store_intervals::meter_intervals;
+use store_facts::meter_intervals;
 use store_tables::RowFault;
 
 #[test]

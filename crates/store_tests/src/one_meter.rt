@@ -2,8 +2,7 @@
 use crate::new_books::changed;
 use sqlite::{Connection, Error, MemStore, Transaction};
 use std::alloc::Global;
-use store_entries::{EntryKind, EntryRow, insert_entry};
-use store_meters::{InstallationRow, LastRow, insert_installation, insert_range};
+use store_tables::{EntryKind, EntryRow, InstallationRow, LastRow, insert_entry, insert_installation, insert_range};
 
 /// A device and its register.
 const DEVICE: &str = "INSERT INTO devices VALUES (1, 'inv', 1, 5, 1);

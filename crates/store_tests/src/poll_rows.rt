@@ -6,7 +6,7 @@ use poll_core::{LostCause, Outcome};
 use sqlite::{Connection, Error, MemStore, Row, Transaction};
 use std::alloc::Global;
 use std::test::Fail;
-use store_polls::{
+use store_devices::{
     HoldRow, OutcomeRow, Poll, PollRow, Repeat, ReplyKind, insert_hold, insert_outcome,
     insert_poll, insert_reply, last_hold_rows, last_poll, outcome_of, pending_rows, poll_at,
     read_poll, repeat_of,

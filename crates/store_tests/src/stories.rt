@@ -4,7 +4,7 @@ use crate::shares::Seen;
 use energy_core::Step;
 use sqlite::{Connection, Error, MemStore, Transaction};
 use std::alloc::Global;
-use store_intervals::{book_step, meter_intervals, register_intervals};
+use store_facts::{book_step, meter_intervals, register_intervals};
 use store_tables::RowFault;
 
 const METERS: &str = "INSERT INTO devices VALUES (1, 'inv', 1, 5, 1);

@@ -2,7 +2,7 @@
 use Rattle.std.proofs.Common.{ℕ, List}
 use Rattle.sqlite.specs.Store.{Ghosts}
 use Rattle.office_rules.specs.History.{History, facts_of}
-use Rattle.office_laws.specs.Lawfulness.{IsPast}
+use Rattle.office_rules.specs.Lawfulness.{IsPast}
 use Rattle.office_core.specs.Leaving.{BooksStand}
 use Rattle.office_store.specs.Database.{HoldsAlone}
 use Rattle.office_store.specs.declared.books.SqlBooks.{SqlBooks}

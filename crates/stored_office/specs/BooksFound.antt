@@ -4,7 +4,7 @@ use Rattle.sqlite.specs.Store.{Ghosts}
 use Rattle.sqlite.specs.Held.{Held}
 use Rattle.command_io.specs.declared.status.Status.{Status}
 use Rattle.office_rules.specs.History.{History, facts_of}
-use Rattle.office_laws.specs.Lawfulness.{IsPast}
+use Rattle.office_rules.specs.Lawfulness.{IsPast}
 use Rattle.office_books.specs.Ledgers.{Ledger}
 use Rattle.office_store.specs.Stored.{ledger_of}
 use Rattle.office_store.specs.Database.{HasFile, HoldsAlone}

@@ -6,3 +6,4 @@ pub mod Counters
 pub mod Decimal
 pub mod Text
 pub mod Writing
+pub mod Numbers

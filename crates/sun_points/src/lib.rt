@@ -4,6 +4,7 @@
 mod counters;
 mod decimal;
 mod digits;
+mod numbers;
 mod point;
 mod point_text;
 mod point_type;
@@ -18,3 +19,4 @@ pub use point_type::{PointType, TextLength};
 pub use scale::Scale;
 pub use sink::Sink;
 pub use text::Text;
+pub use numbers::number_of_digits;

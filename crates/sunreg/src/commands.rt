@@ -5,7 +5,7 @@ use command_io::{Buffered, Status};
 use command_words::CommandLine;
 use interval_core::Zone;
 use script_run::{Loopback, SetupParts, loop_text, replay, set_up};
-use stand_in::answer_all;
+use mb_device::answer_all;
 use std::io;
 use std::io::Write;
 use std::net::TcpListener;

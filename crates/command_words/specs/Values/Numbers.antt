@@ -1,6 +1,6 @@
 -- Numbers in words.
 use Rattle.std.specs.Prelude.{ℕ, ◌&&◌, List, Option, Some, None, nat_le, if◌then◌else◌}
-use Rattle.digits.specs.Digits.{number_of_digits}
+use Rattle.sun_points.specs.Numbers.Digits.{number_of_digits}
 use Rattle.command_words.specs.declared.values.numbers.TheConstants.{MOST_DIGITS}
 
 abbrev pub from_one_to : ℕ → Option ℕ → Option ℕ

@@ -2,7 +2,7 @@
 ghost use Rattle.std.specs.Prelude.{◌≡◌, ◌≤◌, IfSome};
 ghost use Rattle.command_words.specs.Values.Numbers.{number_up_to};
 
-use digits::number_of_digits;
+use sun_points::number_of_digits;
 
 /// The most digits that a number has.
 pub const MOST_DIGITS: usize = 10;

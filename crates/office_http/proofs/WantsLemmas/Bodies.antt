@@ -6,8 +6,8 @@ use Rattle.http_commands.specs.Commands.{command_of}
 use Rattle.http_commands.specs.Given.{Gives, GivesJson, GivesList, IsBody, IsJson, IsListBody, IsNoJson, told}
 use Rattle.http_commands.specs.declared.fault.CommandFault.{CommandFault}
 use Rattle.http_commands.specs.declared.fault.CommandFault.TheVariants.{Malformed, Negative, Faulty, Memory}
-use Rattle.http_route.specs.declared.routes.Route.{Route}
-use Rattle.http_route.specs.declared.routes.Route.TheVariants as route
+use Rattle.http_request.specs.declared.routing.routes.Route.{Route}
+use Rattle.http_request.specs.declared.routing.routes.Route.TheVariants as route
 use Rattle.office_events.specs.declared.commands.Command.{Command}
 use Rattle.office_events.specs.declared.commands.Command.TheVariants.{PutList}
 use Rattle.read_plan.specs.PlannedLists.{ListsArePlannedOnce}

@@ -3,21 +3,21 @@ use Rattle.std.proofs.Common.{◌≡◌, ◌∙◌, ◌≢◌, ℕ, true, false,
 use Rattle.http_commands.specs.Given.{Gives}
 use Rattle.http_commands.specs.declared.fault.CommandFault.{CommandFault}
 use Rattle.http_commands.specs.declared.fault.CommandFault.TheVariants.{Memory}
-use Rattle.http_head.specs.Heads.{IsBadHead}
-use Rattle.http_head.specs.declared.head.Head.{Head}
-use Rattle.http_head.specs.declared.head.Look.{Look}
-use Rattle.http_head.specs.declared.head.Look.TheVariants as look
+use Rattle.http_request.specs.Head.Heads.{IsBadHead}
+use Rattle.http_request.specs.declared.head.head.Head.{Head}
+use Rattle.http_request.specs.declared.head.head.Look.{Look}
+use Rattle.http_request.specs.declared.head.head.Look.TheVariants as look
 use Rattle.http_request.specs.Asking.{TestsHead}
 use Rattle.http_request.specs.HeadTests.{Start, head_fault, start_at}
 use Rattle.http_request.specs.declared.ask.Ask.TheVariants.{Command as AskedCommand, Question}
 use Rattle.http_request.specs.declared.post.Posted.{Posted}
-use Rattle.http_route.specs.Routes.{Table}
-use Rattle.http_route.specs.Targets.{is_question, name_in, name_of, route_in}
-use Rattle.http_route.specs.declared.routes.Route.{Route}
-use Rattle.http_route.specs.declared.targets.Found.{Found}
-use Rattle.http_status.specs.declared.Status.{Status}
-use Rattle.http_whole.proofs.Unique.{request_of_whole, one_request}
-use Rattle.http_whole.specs.Whole.{Holds, HoldsRequest, IsWhole, TestsRequest, body_of}
+use Rattle.http_request.specs.Routing.Routes.{Table}
+use Rattle.http_request.specs.Routing.Targets.{is_question, name_in, name_of, route_in}
+use Rattle.http_request.specs.declared.routing.routes.Route.{Route}
+use Rattle.http_request.specs.declared.routing.targets.Found.{Found}
+use Rattle.http_request.specs.declared.status.Status.{Status}
+use Rattle.http_request.proofs.WholeLemmas.Unique.{request_of_whole, one_request}
+use Rattle.http_request.specs.Whole.Whole.{Holds, HoldsRequest, IsWhole, TestsRequest, body_of}
 use Rattle.office_events.specs.declared.commands.Command.{Command}
 use Rattle.office_events.specs.declared.events.Asked.{Asked}
 use Rattle.http_answer.specs.Replies.{asked_of}

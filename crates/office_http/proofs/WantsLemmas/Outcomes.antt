@@ -3,15 +3,15 @@ use Rattle.std.proofs.Common.{◌≡◌, ◌∙◌, ◌≢◌, ℕ, List, Option
 use Rattle.http_commands.specs.Given.{Gives}
 use Rattle.http_commands.specs.declared.fault.CommandFault.{CommandFault}
 use Rattle.http_commands.specs.declared.fault.CommandFault.TheVariants.{Memory}
-use Rattle.http_head.specs.declared.head.Head.{Head}
+use Rattle.http_request.specs.declared.head.head.Head.{Head}
 use Rattle.http_request.specs.Asking.{TestsHead}
 use Rattle.http_request.specs.HeadTests.{start_at}
 use Rattle.http_request.specs.declared.ask.Ask.TheVariants.{Command as AskedCommand}
 use Rattle.http_request.specs.declared.post.Posted.{Posted}
-use Rattle.http_route.specs.Routes.{Table}
-use Rattle.http_route.specs.Targets.{name_of}
-use Rattle.http_route.specs.declared.targets.Found.{Found}
-use Rattle.http_whole.specs.Whole.{IsWhole, body_of}
+use Rattle.http_request.specs.Routing.Routes.{Table}
+use Rattle.http_request.specs.Routing.Targets.{name_of}
+use Rattle.http_request.specs.declared.routing.targets.Found.{Found}
+use Rattle.http_request.specs.Whole.Whole.{IsWhole, body_of}
 use Rattle.office_events.specs.declared.commands.Command.{Command}
 use Rattle.office_events.specs.declared.events.Asked.{Asked}
 use Rattle.http_answer.specs.Kinds.{done_text}

@@ -1,9 +1,9 @@
 -- A report that is put to an outlet row by row.
 use Rattle.std.specs.Prelude.{◌≡◌, ◌<◌, ◌+◌, ◌++◌, ◌==◌, ℕ, min, if◌then◌else◌, List, [], ◌∷◌, flat_map, Option, Some, None, Result, Ok, Err}
-use Rattle.http_reply.specs.Replies.{text_head}
-use Rattle.http_reply.specs.Sending.{Outgoing, Puts}
+use Rattle.http_answer.specs.Sending.Replies.{text_head}
+use Rattle.http_answer.specs.Sending.Sending.{Outgoing, Puts}
 use Rattle.office_events.specs.declared.refusals.Refusal.{Refusal}
-use Rattle.report_lines.specs.Lines.{end_line}
+use Rattle.interval_core.specs.Lines.{end_line}
 use Rattle.http_answer.specs.Replies.{refused, reply_bytes}
 
 -- What a contract sees of a report: the outlet to which it is put, and how many rows were put.

@@ -3,7 +3,7 @@ use Rattle.std.specs.Prelude.{◌≡◌, ◌≢◌, ℕ, List, Option, Result, E
 use Rattle.http_commands.specs.Given.{Gives}
 use Rattle.http_commands.specs.declared.fault.CommandFault.{CommandFault}
 use Rattle.http_commands.specs.declared.fault.CommandFault.TheVariants.{Memory}
-use Rattle.http_route.specs.declared.routes.Route.{Route}
+use Rattle.http_request.specs.declared.routing.routes.Route.{Route}
 use Rattle.office_events.specs.declared.commands.Command.{Command}
 
 -- Where memory is not wanting, the body of a route's request gives one command, or one fault.

@@ -5,12 +5,12 @@ use Rattle.http_commands.specs.Few.{HasFewRows}
 use Rattle.http_commands.specs.declared.fault.CommandFault.{CommandFault}
 use Rattle.http_commands.specs.declared.fault.CommandFault.TheVariants.{Memory}
 use Rattle.http_request.specs.HeadTests.{Start}
-use Rattle.http_route.specs.Routes.{Table}
-use Rattle.http_route.specs.Targets.{is_question, name_in, name_of}
-use Rattle.http_route.specs.declared.routes.Route.{Route}
-use Rattle.http_route.specs.declared.targets.Found.{Found}
-use Rattle.http_status.specs.declared.Status.{Status}
-use Rattle.http_whole.specs.Whole.{HoldsRequest}
+use Rattle.http_request.specs.Routing.Routes.{Table}
+use Rattle.http_request.specs.Routing.Targets.{is_question, name_in, name_of}
+use Rattle.http_request.specs.declared.routing.routes.Route.{Route}
+use Rattle.http_request.specs.declared.routing.targets.Found.{Found}
+use Rattle.http_request.specs.declared.status.Status.{Status}
+use Rattle.http_request.specs.Whole.Whole.{HoldsRequest}
 use Rattle.office_events.specs.declared.commands.Command.{Command}
 use Rattle.office_events.specs.declared.events.Asked.{Asked}
 use Rattle.http_answer.specs.Kinds.{done_text}

@@ -1,12 +1,11 @@
 //! Rows that are put to an outlet as lines.
 ghost use Rattle.std.specs.Prelude.{◌≡◌};
-ghost use Rattle.http_reply.specs.Sending.{Puts};
-ghost use Rattle.report_lines.specs.Lines.{share_line};
+ghost use Rattle.http_answer.specs.Sending.Sending.{Puts};
+ghost use Rattle.interval_core.specs.Lines.{share_line};
 ghost use Rattle.interval_core.specs.Report.{day_line};
 ghost use Rattle.office_http.specs.Rows.Reports.{EndsReport, PutsLine, Report, head_before};
 
-use http_answer::{put_day, put_end, put_refusal, put_share};
-use http_reply::{Outlet, put_text_head};
+use http_answer::{Outlet, put_day, put_end, put_refusal, put_share, put_text_head};
 use interval_core::{DayTotal, Share};
 use mb_wire::Link;
 use office_books::RowSink;

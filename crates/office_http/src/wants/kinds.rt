@@ -1,7 +1,6 @@
 //! What a request wants.
 use http_commands::CommandFault;
-use http_route::Found;
-use http_status::Status;
+use http_request::{Found, Status};
 use office_events::Asked;
 
 /// What a request wants.

@@ -3,7 +3,7 @@ ghost use Rattle.std.specs.Prelude.{◌≡◌, ◌⊎◌, Ok, Err};
 ghost use Rattle.http_request.specs.Asking.{TestsHead};
 ghost use Rattle.http_request.specs.HeadTests.{start_at};
 ghost use Rattle.http_request.specs.declared.ask.Ask.TheVariants.{Command as AskedCommand};
-ghost use Rattle.http_whole.specs.Whole.{Holds, IsWhole};
+ghost use Rattle.http_request.specs.Whole.Whole.{Holds, IsWhole};
 ghost use Rattle.office_http.specs.Wants.Wanting.{HasFewFaults, Wants};
 
 use crate::wants::kinds::Want;
@@ -13,10 +13,7 @@ use http_answer::{
     questions_are_replied_to,
 };
 use http_commands::{CommandFault, command_in};
-use http_head::{Head, Look};
-use http_request::{Ask, Posted};
-use http_route::{Found, Route};
-use http_whole::{ask_in, body_in};
+use http_request::{Ask, Found, Head, Look, Posted, Route, ask_in, body_in};
 use matchit::Router;
 use std::alloc::Global;
 

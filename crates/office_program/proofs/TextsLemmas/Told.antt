@@ -11,7 +11,7 @@ use Rattle.office_events.specs.declared.refusals.Refusal.{Refusal}
 use Rattle.office_rules.specs.History.{History, facts_of}
 use Rattle.office_program.specs.Texts.Lines.{counted}
 use Rattle.office_program.specs.Texts.Reports.{IsReport, last_line}
-use Rattle.report_lines.specs.Lines.{day_line, end_line}
+use Rattle.interval_core.specs.Lines.{day_line, end_line}
 
 -- a number of 64 bits counts them all
 counts : (n : ℕ) → n < 2 ^ 64 → counted n ≡ n

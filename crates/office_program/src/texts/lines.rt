@@ -3,7 +3,7 @@ ghost use Rattle.std.specs.Prelude.{◌≡◌};
 
 use interval_core::DayTotal;
 use office_books::RowSink;
-use row_text::write_day;
+use script_text::write_day;
 use std::io::Write;
 
 /// Writes a line for each day, and counts them. It keeps that a write failed, and drops the days that come after it.
@@ -33,7 +33,7 @@ impl<'o, W: Write> DayLines<'o, W> {
 }
 
 impl<'o, W: Write> RowSink<DayTotal> for DayLines<'o, W> {
-    ghost use Rattle.row_text.specs.Rows.{day_line};
+    ghost use Rattle.script_text.specs.RowLines.Rows.{day_line};
     ghost use Rattle.office_program.specs.Texts.Lines.{WritesLine};
 
     ghost takes = { λ old row new. WritesLine W.contents (day_line row) old new };

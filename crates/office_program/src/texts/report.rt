@@ -8,7 +8,7 @@ use command_io::Status;
 use office_books::Books;
 use office_core::Office;
 use office_events::{Name, Refusal};
-use row_text::write_end;
+use script_text::write_end;
 use std::io::Write;
 
 // How many days there were, or why there are none.

@@ -2,15 +2,15 @@
 use Rattle.std.proofs.Common.{◌≡◌, ℕ, List, subst}
 use Rattle.office_events.specs.declared.facts.Opening.{Opening}
 use Rattle.office_events.specs.declared.facts.Fact.TheVariants as fact
-use Rattle.office_laws.specs.Steps.{OpeningsBegin}
+use Rattle.office_rules.specs.Steps.{OpeningsBegin}
 use Rattle.store_tables.specs.Answer.{every}
 use Rattle.store_tables.specs.Content.{Content, Edits, with_row}
-use Rattle.store_meters.specs.Trees as meter_tree
-use Rattle.store_meters.specs.declared.rows.InstallationRow.{InstallationRow}
-use Rattle.store_meters.specs.Rows.{Installed, Ranged, installed_columns, installed_place, ranged_columns}
-use Rattle.store_entries.specs.Trees as entry_tree
-use Rattle.store_entries.specs.declared.rows.EntryRow.{EntryRow}
-use Rattle.store_entries.specs.Rows.{Entered, entry_columns}
+use Rattle.store_tables.specs.Meters.Trees as meter_tree
+use Rattle.store_tables.specs.declared.meters.rows.InstallationRow.{InstallationRow}
+use Rattle.store_tables.specs.Meters.Rows.{Installed, Ranged, installed_columns, installed_place, ranged_columns}
+use Rattle.store_tables.specs.Entries.Trees as entry_tree
+use Rattle.store_tables.specs.declared.entries.rows.EntryRow.{EntryRow}
+use Rattle.store_tables.specs.Entries.Rows.{Entered, entry_columns}
 use Rattle.store_facts.specs.Rows.{begun, installed_as, ranged, entered, opening_row}
 use Rattle.store_facts.specs.Recording.{Records, IsNext}
 use Rattle.store_facts.proofs.Opened.{opening_recorded}

@@ -28,22 +28,22 @@ use Rattle.office_rules.specs.Facts.{same, devices_in, registers_in, openings_in
 use Rattle.office_rules.specs.Intervals.{rows_of_installed, rows_of_meter}
 use Rattle.office_rules.specs.Lawful.{AreLawful}
 use Rattle.office_rules.specs.Meters.{opened, installed, journal_of, rows_of}
-use Rattle.office_laws.specs.Steps.{OtherMetersStay}
-use Rattle.office_laws.proofs.Journals.{installed_fits, well}
-use Rattle.office_laws.proofs.Lookups.{same_text, same_itself}
-use Rattle.office_laws.proofs.Stepping.{installation_by, named, own_line, installed_so, line_behind}
+use Rattle.office_rules.specs.Steps.{OtherMetersStay}
+use Rattle.office_rules.proofs.Journals.{installed_fits, well}
+use Rattle.office_rules.proofs.Lookups.{same_text, same_itself}
+use Rattle.office_rules.proofs.Stepping.{installation_by, named, own_line, installed_so, line_behind}
 use Rattle.store_tables.specs.Content.{Content, HasRows, Edits, without_where, changed_where}
-use Rattle.store_lists.specs.Trees as list_tree
-use Rattle.store_lists.specs.Rows.{device_columns, register_columns}
-use Rattle.store_meters.specs.Trees as meter_tree
-use Rattle.store_meters.specs.declared.rows.LastRow.{LastRow}
-use Rattle.store_meters.specs.Rows.{installed_columns, ranged_columns}
-use Rattle.store_entries.specs.Trees as entry_tree
-use Rattle.store_entries.specs.Rows.{Entered, entry_columns, voided_columns, is_entry, is_of as is_entry_of, rolled as with_rollovers}
-use Rattle.store_intervals.specs.Rows.{Interval, is_of as is_interval_of}
-use Rattle.store_intervals.specs.Replacement.{row_of, with_all, ReplacesShares}
-use Rattle.store_polls.specs.Trees as poll_tree
-use Rattle.store_polls.specs.Rows.{poll_columns, outcome_columns, hold_columns, reply_columns}
+use Rattle.store_devices.specs.Devices.Trees as list_tree
+use Rattle.store_devices.specs.Devices.Rows.{device_columns, register_columns}
+use Rattle.store_tables.specs.Meters.Trees as meter_tree
+use Rattle.store_tables.specs.declared.meters.rows.LastRow.{LastRow}
+use Rattle.store_tables.specs.Meters.Rows.{installed_columns, ranged_columns}
+use Rattle.store_tables.specs.Entries.Trees as entry_tree
+use Rattle.store_tables.specs.Entries.Rows.{Entered, entry_columns, voided_columns, is_entry, is_of as is_entry_of, rolled as with_rollovers}
+use Rattle.store_facts.specs.Intervals.Rows.{Interval, is_of as is_interval_of}
+use Rattle.store_facts.specs.Intervals.Replacement.{row_of, with_all, ReplacesShares}
+use Rattle.store_devices.specs.Polls.Trees as poll_tree
+use Rattle.store_devices.specs.Polls.Rows.{poll_columns, outcome_columns, hold_columns, reply_columns}
 use Rattle.store_facts.specs.Rows.{placed, added, registered, installed_as, installed_row, ranged, voided, interval_of, started, outcome_row, held_row, kept, rolls_of, entered_rows, entries_at, entries_of}
 use Rattle.store_facts.specs.Tables.{meta_tree, meta_columns, AreEntries, AreIntervals, AreOf}
 use Rattle.store_facts.specs.Recording.{Records}

@@ -16,17 +16,17 @@ use Rattle.office_events.specs.declared.facts.Fact.{Fact}
 use Rattle.office_events.specs.declared.facts.Fact.TheVariants as fact
 use Rattle.office_rules.specs.Facts.{same, openings_in, opening_of}
 use Rattle.office_rules.specs.Meters.{installed, journal_of, rows_of, installation_of}
-use Rattle.office_laws.specs.Laws.{MetersAreKept, VoidsLeaveNoTrace}
-use Rattle.office_laws.specs.Ranges.{InstallationsAreInRange}
-use Rattle.office_laws.specs.Steps.{OtherMetersStay, EntriesMoveOn, MovesOn, moved_by, step_from}
+use Rattle.office_rules.specs.Laws.{MetersAreKept, VoidsLeaveNoTrace}
+use Rattle.office_rules.specs.Ranges.{InstallationsAreInRange}
+use Rattle.office_rules.specs.Steps.{OtherMetersStay, EntriesMoveOn, MovesOn, moved_by, step_from}
 use Rattle.store_tables.specs.Content.{Content, HasRows, Edits, with_row, changed_where}
-use Rattle.store_meters.specs.Trees as meter_tree
-use Rattle.store_meters.specs.declared.rows.LastRow.{LastRow}
-use Rattle.store_meters.specs.Rows.{installed_columns, ranged_columns, is_meter, is_range_of, moved, ended, HasRange}
-use Rattle.store_entries.specs.Trees as entry_tree
-use Rattle.store_entries.specs.declared.rows.EntryRow.{EntryRow}
-use Rattle.store_entries.specs.Rows.{Entered, entry_columns, entry_place, is_of}
-use Rattle.store_intervals.specs.StepShares.{BooksShares}
+use Rattle.store_tables.specs.Meters.Trees as meter_tree
+use Rattle.store_tables.specs.declared.meters.rows.LastRow.{LastRow}
+use Rattle.store_tables.specs.Meters.Rows.{installed_columns, ranged_columns, is_meter, is_range_of, moved, ended, HasRange}
+use Rattle.store_tables.specs.Entries.Trees as entry_tree
+use Rattle.store_tables.specs.declared.entries.rows.EntryRow.{EntryRow}
+use Rattle.store_tables.specs.Entries.Rows.{Entered, entry_columns, entry_place, is_of}
+use Rattle.store_facts.specs.Intervals.StepShares.{BooksShares}
 use Rattle.store_facts.specs.Rows.{placed, installed_as, installed_row, last_row, ranged, entered, entry_row, scale_behind, entered_rows, entries_at}
 use Rattle.store_facts.specs.Recording.{Records, IsNext}
 use Rattle.store_facts.proofs.Energy.{found_recorded}

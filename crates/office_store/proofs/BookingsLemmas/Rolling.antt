@@ -18,8 +18,8 @@ use Rattle.meter_journal.specs.Voids.{changed_by, is_next}
 use Rattle.meter_journal.proofs.Keeping.{entries_standing, entries_struck}
 use Rattle.office_events.specs.declared.facts.Opening.{Opening}
 use Rattle.office_rules.specs.Meters.{opened}
-use Rattle.office_laws.proofs.Lookups.{same_itself}
-use Rattle.store_entries.specs.Rows.{Entered, is_entry, rolled as with_rollovers}
+use Rattle.office_rules.proofs.Lookups.{same_itself}
+use Rattle.store_tables.specs.Entries.Rows.{Entered, is_entry, rolled as with_rollovers}
 use Rattle.store_facts.specs.Rows.{rolls_of, entry_row, entered, opening_row, scale_behind, entered_rows}
 use Rattle.store_queries.proofs.MeteringLemmas.Shapes.{IsBelow, below, FoundThere, found_rest, found_there}
 

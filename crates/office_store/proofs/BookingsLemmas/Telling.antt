@@ -12,15 +12,15 @@ use Rattle.office_events.specs.declared.facts.Opening.{Opening}
 use Rattle.office_events.specs.declared.facts.Fact.{Fact}
 use Rattle.office_rules.specs.Facts.{openings_in}
 use Rattle.office_rules.specs.Meters.{rows_of}
-use Rattle.office_laws.specs.Laws.{JournalsFit}
-use Rattle.office_laws.proofs.Lists.{reverse_cons}
+use Rattle.office_rules.specs.Laws.{JournalsFit}
+use Rattle.office_rules.proofs.Lists.{reverse_cons}
 use Rattle.store_tables.specs.declared.faults.RowFault.{RowFault}
 use Rattle.store_tables.specs.Asking.{AsksInside, Tells, ReadsRow}
 use Rattle.store_tables.specs.Content.{Content, HasRows}
-use Rattle.store_meters.specs.Trees as meter_tree
-use Rattle.store_meters.specs.Rows.{ranged_columns, is_range_of, HasRange}
-use Rattle.store_entries.specs.declared.rows.EntryRow as stored
-use Rattle.store_entries.specs.Rows.{Entered, entry_shown, IsRow, IsSoundEntered}
+use Rattle.store_tables.specs.Meters.Trees as meter_tree
+use Rattle.store_tables.specs.Meters.Rows.{ranged_columns, is_range_of, HasRange}
+use Rattle.store_tables.specs.declared.entries.rows.EntryRow as stored
+use Rattle.store_tables.specs.Entries.Rows.{Entered, entry_shown, IsRow, IsSoundEntered}
 use Rattle.store_facts.specs.Going.{Goes, Told}
 use Rattle.store_facts.specs.Rows.{ranged, entered, entry_row, opening_row, scale_behind, entered_rows}
 use Rattle.store_facts.specs.Tables.{AreOf}

@@ -13,8 +13,8 @@ use Rattle.meter_journal.specs.Intervals.{rows_of_steps}
 use Rattle.store_tables.specs.declared.faults.RowFault.{RowFault}
 use Rattle.store_tables.specs.Content.{Edits, changed_where}
 use Rattle.store_tables.specs.Steps.{Steps}
-use Rattle.store_entries.specs.Trees.{entries}
-use Rattle.store_entries.specs.Rows.{entry_columns, is_entry, rolled}
+use Rattle.store_tables.specs.Entries.Trees.{entries}
+use Rattle.store_tables.specs.Entries.Rows.{entry_columns, is_entry, rolled}
 use Rattle.store_facts.specs.Going.{Goes}
 use Rattle.store_facts.specs.Rows.{rolls_of}
 use Rattle.store_facts.proofs.GoingLemmas.{nothing_done}

@@ -13,16 +13,16 @@ use Rattle.office_events.specs.declared.facts.Fact.{Fact}
 use Rattle.office_rules.specs.Facts.{devices_in, registers_in, openings_in, holds_in, voids_in, replies_in, polls_in, ended_in}
 use Rattle.store_tables.specs.Content.{Content, HasRows, HasTree}
 use Rattle.store_tables.specs.Schema.{books_schema}
-use Rattle.store_lists.specs.Trees as list_tree
-use Rattle.store_lists.specs.Rows.{device_columns, point_columns, register_columns}
-use Rattle.store_meters.specs.Trees as meter_tree
-use Rattle.store_meters.specs.Rows.{installed_columns, ranged_columns}
-use Rattle.store_entries.specs.Trees as entry_tree
-use Rattle.store_entries.specs.Rows.{entry_columns, voided_columns}
-use Rattle.store_intervals.specs.Trees as interval_tree
-use Rattle.store_intervals.specs.Rows.{interval_columns}
-use Rattle.store_polls.specs.Trees as poll_tree
-use Rattle.store_polls.specs.Rows.{poll_columns, outcome_columns, hold_columns, reply_columns}
+use Rattle.store_devices.specs.Devices.Trees as list_tree
+use Rattle.store_devices.specs.Devices.Rows.{device_columns, point_columns, register_columns}
+use Rattle.store_tables.specs.Meters.Trees as meter_tree
+use Rattle.store_tables.specs.Meters.Rows.{installed_columns, ranged_columns}
+use Rattle.store_tables.specs.Entries.Trees as entry_tree
+use Rattle.store_tables.specs.Entries.Rows.{entry_columns, voided_columns}
+use Rattle.store_facts.specs.Intervals.Trees as interval_tree
+use Rattle.store_facts.specs.Intervals.Rows.{interval_columns}
+use Rattle.store_devices.specs.Polls.Trees as poll_tree
+use Rattle.store_devices.specs.Polls.Rows.{poll_columns, outcome_columns, hold_columns, reply_columns}
 use Rattle.store_files.specs.declared.layouts.Layout.{Layout}
 use Rattle.store_files.specs.declared.layouts.Layout.TheVariants.{First, Second, Third}
 use Rattle.store_files.specs.Layouts.{first_tables, schema_of}

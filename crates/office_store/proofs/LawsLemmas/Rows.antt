@@ -10,10 +10,10 @@ use Rattle.office_events.specs.declared.facts.Register.{Register}
 use Rattle.office_events.specs.declared.facts.ScaleSource.{ScaleSource}
 use Rattle.office_events.specs.declared.facts.ScaleSource.TheVariants as source
 use Rattle.office_events.specs.declared.facts.HeldReading.{HeldReading}
-use Rattle.store_lists.specs.declared.rows.RegisterScale.{RegisterScale}
-use Rattle.store_lists.specs.declared.rows.RegisterScale.TheVariants as scale
-use Rattle.store_polls.specs.declared.rows.ReplyKind.{ReplyKind}
-use Rattle.store_polls.specs.declared.rows.ReplyKind.TheVariants as reply
+use Rattle.store_devices.specs.declared.devices.rows.RegisterScale.{RegisterScale}
+use Rattle.store_devices.specs.declared.devices.rows.RegisterScale.TheVariants as scale
+use Rattle.store_devices.specs.declared.polls.rows.ReplyKind.{ReplyKind}
+use Rattle.store_devices.specs.declared.polls.rows.ReplyKind.TheVariants as reply
 use Rattle.store_facts.specs.Rows.{added, scale_as, registered, voided, started, outcome_row, held_row, reply_kind, kept}
 use Rattle.office_store.proofs.LawsLemmas.Lists.{IsInjective, undone}
 

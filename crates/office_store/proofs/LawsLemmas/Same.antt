@@ -12,14 +12,14 @@ use Rattle.office_rules.specs.Facts.{devices_in, registers_in, openings_in, open
 use Rattle.office_rules.specs.Meters.{journal_of, rows_of}
 use Rattle.office_books.specs.Same.{AreSame}
 use Rattle.store_tables.specs.Content.{Content}
-use Rattle.store_lists.specs.Trees as list_tree
-use Rattle.store_lists.specs.Rows.{device_columns, point_columns, register_columns, device_place, register_place, is_point_of}
-use Rattle.store_meters.specs.Trees as meter_tree
-use Rattle.store_meters.specs.Rows.{installed_columns, installed_place, ranged_columns}
-use Rattle.store_entries.specs.Trees as entry_tree
-use Rattle.store_entries.specs.Rows.{entry_columns, entry_place, voided_columns, is_of}
-use Rattle.store_polls.specs.Trees as poll_tree
-use Rattle.store_polls.specs.Rows.{poll_columns, outcome_columns, hold_columns, hold_place, reply_columns}
+use Rattle.store_devices.specs.Devices.Trees as list_tree
+use Rattle.store_devices.specs.Devices.Rows.{device_columns, point_columns, register_columns, device_place, register_place, is_point_of}
+use Rattle.store_tables.specs.Meters.Trees as meter_tree
+use Rattle.store_tables.specs.Meters.Rows.{installed_columns, installed_place, ranged_columns}
+use Rattle.store_tables.specs.Entries.Trees as entry_tree
+use Rattle.store_tables.specs.Entries.Rows.{entry_columns, entry_place, voided_columns, is_of}
+use Rattle.store_devices.specs.Polls.Trees as poll_tree
+use Rattle.store_devices.specs.Polls.Rows.{poll_columns, outcome_columns, hold_columns, hold_place, reply_columns}
 use Rattle.store_facts.specs.Rows.{placed, added, registered, installed_row, ranged, entered, opening_row, entered_rows, entries_at, entries_of, voided, started, outcome_row, held_row, kept}
 use Rattle.store_facts.specs.Tables.{meta_tree, meta_columns, AreOf}
 use Rattle.office_store.specs.Laws.Laws.{TablesTellTheirFacts}

@@ -7,13 +7,13 @@ use Rattle.energy_core.specs.Admission.{entered as entered_behind}
 use Rattle.interval_core.specs.Share.{shares_of}
 use Rattle.store_tables.specs.Answer.{IsFound}
 use Rattle.store_tables.specs.Content.{Content, HasRows, Edits, with_row, changed_where}
-use Rattle.store_meters.specs.declared.rows.LastRow.{LastRow}
-use Rattle.store_meters.specs.Trees as meter_tree
-use Rattle.store_meters.specs.Rows.{Installed, Ranged, installed_columns, ranged_columns, is_meter, is_range_of, HasRange}
-use Rattle.store_entries.specs.Trees as entry_tree
-use Rattle.store_entries.specs.declared.rows.EntryRow.{EntryRow}
-use Rattle.store_entries.specs.Rows.{entry_columns, entry_place, is_of}
-use Rattle.store_intervals.specs.StepShares.{BooksShares}
+use Rattle.store_tables.specs.declared.meters.rows.LastRow.{LastRow}
+use Rattle.store_tables.specs.Meters.Trees as meter_tree
+use Rattle.store_tables.specs.Meters.Rows.{Installed, Ranged, installed_columns, ranged_columns, is_meter, is_range_of, HasRange}
+use Rattle.store_tables.specs.Entries.Trees as entry_tree
+use Rattle.store_tables.specs.declared.entries.rows.EntryRow.{EntryRow}
+use Rattle.store_tables.specs.Entries.Rows.{entry_columns, entry_place, is_of}
+use Rattle.store_facts.specs.Intervals.StepShares.{BooksShares}
 use Rattle.store_facts.specs.Rows.{entered}
 use Rattle.store_facts.specs.Recording.{IsBehind}
 use Rattle.office_store.specs.declared.bookings.meter_state.Standing.{Standing}

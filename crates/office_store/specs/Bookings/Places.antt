@@ -8,8 +8,8 @@ use Rattle.store_tables.specs.Columns.{whole_in, or_damaged, and_then}
 use Rattle.store_tables.specs.Answer.{IsFound}
 use Rattle.store_tables.specs.Content.{Content, HasRows}
 use Rattle.store_tables.specs.Limits.{greatest_place}
-use Rattle.store_meters.specs.declared.rows.LastRow.{LastRow}
-use Rattle.store_meters.specs.Rows.{Installed}
+use Rattle.store_tables.specs.declared.meters.rows.LastRow.{LastRow}
+use Rattle.store_tables.specs.Meters.Rows.{Installed}
 
 -- one place on, unless it is the last that there is
 abbrev pub one_on : ℕ → Result ℕ RowFault

@@ -14,9 +14,9 @@ use Rattle.office_events.specs.declared.facts.Fact.{Fact}
 use Rattle.office_rules.specs.Facts.{opening_of}
 use Rattle.office_rules.specs.Meters.{opened, rows_of}
 use Rattle.store_tables.specs.Content.{Content, Edits, with_row, changed_where}
-use Rattle.store_entries.specs.Trees.{entries, voids}
-use Rattle.store_entries.specs.Rows.{Entered, entry_columns, entry_shown, is_entry, rolled, voided_columns}
-use Rattle.store_intervals.specs.Replacement.{ReplacesShares}
+use Rattle.store_tables.specs.Entries.Trees.{entries, voids}
+use Rattle.store_tables.specs.Entries.Rows.{Entered, entry_columns, entry_shown, is_entry, rolled, voided_columns}
+use Rattle.store_facts.specs.Intervals.Replacement.{ReplacesShares}
 use Rattle.store_facts.specs.Rows.{rolls_of}
 use Rattle.store_facts.specs.Tables.{AreOf}
 use Rattle.office_store.specs.declared.bookings.corrections.Account.{Account}

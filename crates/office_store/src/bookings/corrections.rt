@@ -5,8 +5,8 @@ ghost use Rattle.meter_journal.specs.Intervals.{rows_of_steps};
 ghost use Rattle.meter_journal.specs.Journal.{with_rolls, entries_in};
 ghost use Rattle.meter_journal.specs.Lists.{AreNumbered, latest_first};
 ghost use Rattle.store_tables.specs.Limits.{greatest_place};
-ghost use Rattle.store_meters.specs.Rows.{IsSoundLast};
-ghost use Rattle.store_intervals.specs.Rows.{IsSoundShare};
+ghost use Rattle.store_tables.specs.Meters.Rows.{IsSoundLast};
+ghost use Rattle.store_facts.specs.Intervals.Rows.{IsSoundShare};
 ghost use Rattle.store_facts.specs.Rows.{rolls_of};
 ghost use Rattle.office_store.specs.Bookings.Voids.{IsNextOf, IsAccountOf, Corrects};
 
@@ -18,9 +18,8 @@ use meter_journal::{EntryRow, Installed, find_row, interval_rows, last_behind, s
 use sqlite::Error;
 use std::alloc::Global;
 use store_facts::last_row;
-use store_meters::LastRow;
+use store_tables::{GREATEST_PLACE, LATEST_MOMENT, LastRow, RowFault};
 use store_queries::{are_numbered, tally};
-use store_tables::{GREATEST_PLACE, LATEST_MOMENT, RowFault};
 
 /// How many times the counter went past its range before the entry at a place.
 #[derive(Clone, Copy, Debug, PartialEq, Eq)]

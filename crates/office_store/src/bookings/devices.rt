@@ -9,7 +9,7 @@ use crate::bookings::places::next_device;
 use office_events::Device;
 use sqlite::{Alter, Transaction};
 use store_facts::{device_row, text};
-use store_lists::insert_device;
+use store_devices::insert_device;
 use store_tables::RowFault;
 
 /// Enters a device, at the place behind the last.

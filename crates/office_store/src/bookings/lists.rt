@@ -9,7 +9,7 @@ use office_events::DeviceList;
 use sqlite::{Alter, Transaction};
 use std::alloc::Global;
 use store_facts::{points_at, text};
-use store_lists::replace_points;
+use store_devices::replace_points;
 use store_tables::RowFault;
 
 /// Enters a list in the place of the one that its device has.

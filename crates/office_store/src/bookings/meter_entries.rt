@@ -6,8 +6,8 @@ ghost use Rattle.meter_journal.specs.Journal as journal;
 ghost use Rattle.office_events.specs.declared.facts.Fact.TheVariants as fact;
 ghost use Rattle.store_tables.specs.Columns.{is_within};
 ghost use Rattle.store_tables.specs.Limits.{latest_moment};
-ghost use Rattle.store_meters.specs.Rows.{IsSoundLast, greatest_total};
-ghost use Rattle.store_entries.specs.Rows.{IsSoundEntry};
+ghost use Rattle.store_tables.specs.Meters.Rows.{IsSoundLast, greatest_total};
+ghost use Rattle.store_tables.specs.Entries.Rows.{IsSoundEntry};
 ghost use Rattle.store_facts.specs.Going.{Goes};
 ghost use Rattle.store_facts.specs.Recording.{Records};
 ghost use Rattle.office_store.specs.Bookings.MeterState.{Advances, EntersEntry, Settles};
@@ -17,16 +17,13 @@ use crate::bookings::registers::is_scale;
 use energy_core::{Entry, Last, MAX_INTERVALS, Ranged, Step, Terms};
 use meter_journal::EntryKind;
 use office_events::BookedEntry;
-use office_laws::{
+use office_rules::{
     entries_move_on, installations_are_in_range, meters_are_kept, other_meters_stay,
     voids_leave_no_trace,
 };
 use sqlite::{Alter, Transaction};
-use store_entries::{EntryRow, insert_entry};
-use store_facts::{entry_row, last_row, text};
-use store_intervals::book_step;
-use store_meters::{LastRow, end_installation, move_installation};
-use store_tables::{LATEST_MOMENT, RowFault};
+use store_tables::{EntryRow, LATEST_MOMENT, LastRow, RowFault, end_installation, insert_entry, move_installation};
+use store_facts::{book_step, entry_row, last_row, text};
 
 /// Where a meter stands after one more entry, and the step up to there.
 #[derive(Clone, Copy, Debug, PartialEq, Eq)]

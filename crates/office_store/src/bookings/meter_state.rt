@@ -1,9 +1,9 @@
 //! Where a meter stands, as the tables have it.
 ghost use Rattle.std.specs.Prelude.{◌≡◌, IfOk};
 ghost use Rattle.sqlite.specs.Held.{state};
-ghost use Rattle.store_meters.specs.Rows.{installed_columns, ranged_columns, is_meter};
-ghost use Rattle.store_meters.specs.Rows.{is_range_of, HasRange, IsRange, IsSoundLast};
-ghost use Rattle.store_meters.specs.Trees as meter_tree;
+ghost use Rattle.store_tables.specs.Meters.Rows.{installed_columns, ranged_columns, is_meter};
+ghost use Rattle.store_tables.specs.Meters.Rows.{is_range_of, HasRange, IsRange, IsSoundLast};
+ghost use Rattle.store_tables.specs.Meters.Trees as meter_tree;
 ghost use Rattle.store_tables.specs.Limits.{IsPlace};
 ghost use Rattle.store_facts.specs.Going.{Goes};
 ghost use Rattle.office_store.specs.Bookings.Places.{Answered, IsSeenIn, StandsThere};
@@ -11,8 +11,7 @@ ghost use Rattle.office_store.specs.Bookings.MeterState.{IsStanding};
 
 use crate::bookings::places::next_entry;
 use sqlite::{Alter, Transaction};
-use store_meters::{LastRow, installation_rows, range_rows, read_installation, read_range};
-use store_tables::RowFault;
+use store_tables::{LastRow, RowFault, installation_rows, range_rows, read_installation, read_range};
 
 /// The place of a meter's next entry, where the meter stands, and how many counts its counter has.
 #[derive(Clone, Copy, Debug, PartialEq, Eq)]

@@ -7,12 +7,10 @@ ghost use Rattle.store_facts.specs.Recording.{Records};
 
 use crate::bookings::places::next_installation;
 use office_events::Opening;
-use office_laws::openings_begin;
+use office_rules::openings_begin;
 use sqlite::{Alter, Transaction};
-use store_entries::insert_entry;
+use store_tables::{RowFault, insert_entry, insert_installation, insert_range};
 use store_facts::{begun_row, is_sound_opening, opening_row, text};
-use store_meters::{insert_installation, insert_range};
-use store_tables::RowFault;
 
 /// Enters a meter that was installed, at the place behind the last.
 pub fn enter_opening<S: Alter>(

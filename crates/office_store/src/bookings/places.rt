@@ -3,25 +3,22 @@ ghost use Rattle.std.specs.Prelude.{◌≡◌, IfOk};
 ghost use Rattle.sqlite.specs.Held.{state};
 ghost use Rattle.store_tables.specs.Answer.{every};
 ghost use Rattle.store_tables.specs.Limits.{IsPlace};
-ghost use Rattle.store_entries.specs.Rows.{entry_columns, entry_place, is_of};
-ghost use Rattle.store_entries.specs.Trees as entry_tree;
-ghost use Rattle.store_lists.specs.Rows.{device_columns, device_place, register_columns};
-ghost use Rattle.store_lists.specs.Rows.{register_place};
-ghost use Rattle.store_lists.specs.Trees as list_tree;
-ghost use Rattle.store_meters.specs.Rows.{installed_columns, installed_place};
-ghost use Rattle.store_meters.specs.Trees as meter_tree;
-ghost use Rattle.store_polls.specs.Rows.{hold_columns, hold_place};
-ghost use Rattle.store_polls.specs.Trees as poll_tree;
+ghost use Rattle.store_tables.specs.Entries.Rows.{entry_columns, entry_place, is_of};
+ghost use Rattle.store_tables.specs.Entries.Trees as entry_tree;
+ghost use Rattle.store_devices.specs.Devices.Rows.{device_columns, device_place, register_columns};
+ghost use Rattle.store_devices.specs.Devices.Rows.{register_place};
+ghost use Rattle.store_devices.specs.Devices.Trees as list_tree;
+ghost use Rattle.store_tables.specs.Meters.Rows.{installed_columns, installed_place};
+ghost use Rattle.store_tables.specs.Meters.Trees as meter_tree;
+ghost use Rattle.store_devices.specs.Polls.Rows.{hold_columns, hold_place};
+ghost use Rattle.store_devices.specs.Polls.Trees as poll_tree;
 ghost use Rattle.store_facts.specs.Going.{Goes};
 ghost use Rattle.store_facts.specs.Recording.{IsNext};
 ghost use Rattle.office_store.specs.Bookings.Places.{place_behind, next_in, Answered};
 
 use sqlite::{Alter, Row, Transaction};
-use store_entries::last_entry_rows;
-use store_lists::{last_device_rows, last_register_rows};
-use store_meters::last_installation_rows;
-use store_polls::last_hold_rows;
-use store_tables::{GREATEST_PLACE, RowFault, whole};
+use store_tables::{GREATEST_PLACE, RowFault, last_entry_rows, last_installation_rows, whole};
+use store_devices::{last_device_rows, last_hold_rows, last_register_rows};
 
 /// The place behind the one that a row shows.
 fn behind(row: &Row) -> Result<u64, RowFault>

@@ -7,10 +7,10 @@ ghost use Rattle.store_facts.specs.Recording.{Records};
 
 use crate::bookings::places::next_hold;
 use office_events::{EndedPoll, HeldReading, MAX_REQUEST, Poll, Reply};
-use office_laws::holds_change_nothing;
+use office_rules::holds_change_nothing;
 use sqlite::{Alter, Transaction};
 use store_facts::{hold_row, outcome_row, poll_row, reply_kind, text};
-use store_polls::{insert_hold, insert_outcome, insert_poll, insert_reply};
+use store_devices::{insert_hold, insert_outcome, insert_poll, insert_reply};
 use store_tables::{GREATEST_PLACE, LATEST_MOMENT, RowFault};
 
 /// Enters a poll that was started.

@@ -3,7 +3,7 @@ ghost use Rattle.std.specs.Prelude.{◌≡◌, true};
 ghost use Rattle.sqlite.specs.Held.{state};
 ghost use Rattle.office_events.specs.declared.facts.Fact.TheVariants as fact;
 ghost use Rattle.store_tables.specs.Columns.{is_within};
-ghost use Rattle.store_lists.specs.Rows.{IsSoundScale};
+ghost use Rattle.store_devices.specs.Devices.Rows.{IsSoundScale};
 ghost use Rattle.store_facts.specs.Going.{Goes};
 ghost use Rattle.store_facts.specs.Recording.{Records};
 ghost use Rattle.store_facts.specs.Rows.{scale_as};
@@ -12,7 +12,7 @@ use crate::bookings::places::next_register;
 use office_events::{LAST_COUNTER, Register, ScaleSource};
 use sqlite::{Alter, Transaction};
 use store_facts::{register_row, text};
-use store_lists::insert_register;
+use store_devices::insert_register;
 use store_tables::RowFault;
 
 /// Whether a scale factor is one that a register may have.

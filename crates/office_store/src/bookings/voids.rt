@@ -3,8 +3,8 @@ ghost use Rattle.std.specs.Prelude.{◌≡◌, ◌≤◌, All, IfSome};
 ghost use Rattle.sqlite.specs.Held.{state};
 ghost use Rattle.office_events.specs.declared.facts.Fact.TheVariants as fact;
 ghost use Rattle.store_tables.specs.Limits.{IsPlace, greatest_place, latest_moment};
-ghost use Rattle.store_meters.specs.Rows.{IsSoundLast};
-ghost use Rattle.store_intervals.specs.Rows.{IsSoundShare};
+ghost use Rattle.store_tables.specs.Meters.Rows.{IsSoundLast};
+ghost use Rattle.store_facts.specs.Intervals.Rows.{IsSoundShare};
 ghost use Rattle.store_facts.specs.Going.{Goes};
 ghost use Rattle.store_facts.specs.Recording.{Records};
 ghost use Rattle.office_store.specs.Bookings.Voids.{RollsNext, EntersVoid, KeepsAccount};
@@ -14,13 +14,11 @@ use crate::bookings::journals::journal_of;
 use crate::bookings::meter_entries::settle;
 use meter_journal::{rows_stand, voids_change_two_rows};
 use office_events::VoidedEntry;
-use office_laws::{journals_fit, other_meters_stay};
+use office_rules::{journals_fit, other_meters_stay};
 use sqlite::{Alter, Transaction};
 use std::alloc::Global;
-use store_entries::{insert_void, roll_entry};
-use store_facts::text;
-use store_intervals::replace_shares;
-use store_tables::{GREATEST_PLACE, LATEST_MOMENT, RowFault};
+use store_tables::{GREATEST_PLACE, LATEST_MOMENT, RowFault, insert_void, roll_entry};
+use store_facts::{replace_shares, text};
 
 /// Says how many times the counter went past its range before the next entry.
 fn roll_next<S: Alter>(

@@ -2,9 +2,9 @@
 use Rattle.std.specs.Prelude.{◌≡◌, ℕ, if◌then◌else◌, Option, Some, None, List, [], ◌++◌, length, codes, decimal}
 use Rattle.std.specs.Str.{bytes_eq}
 use Rattle.httparse.specs.Spans.{span_bytes}
-use Rattle.http_head.specs.Heads.{Looks}
-use Rattle.http_head.specs.declared.head.Look.{Look}
-use Rattle.http_head.specs.declared.head.Look.TheVariants.{Open, TooLarge, NoHead, Whole}
+use Rattle.http_request.specs.Head.Heads.{Looks}
+use Rattle.http_request.specs.declared.head.head.Look.{Look}
+use Rattle.http_request.specs.declared.head.head.Look.TheVariants.{Open, TooLarge, NoHead, Whole}
 use Rattle.run_status.specs.Status.StatusText.{with_status}
 use Rattle.run_status.specs.Status.MetricsText.{with_metrics}
 use Rattle.run_status.specs.declared.status.counts.Counts.{Counts}

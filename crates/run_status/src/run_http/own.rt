@@ -3,7 +3,7 @@ ghost use Rattle.std.specs.Prelude.{◌≡◌, OnOk};
 ghost use Rattle.run_status.specs.RunHttp.Own as texts;
 
 use crate::status::{Counts, DeviceState, put, put_metrics, put_number, put_status, put_word};
-use http_head::{Look, look_at};
+use http_request::{Look, look_at};
 use std::alloc::{AllocError, Global};
 
 /// Which of the two routes is asked for.

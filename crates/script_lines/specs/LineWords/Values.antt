@@ -2,7 +2,7 @@
 use Rattle.std.specs.Prelude.{◌≡◌, ℕ, ℤ, Vec, pos, neg_ℤ, [], ◌∷◌, option_and_then, option_map, ◌%◌, ◌==◌, nat_le, Bool, ◌&&◌, if◌then◌else◌, List, length, Some, None}
 use Rattle.std.specs.declared.option.Option.{Option}
 use Rattle.std.specs.List.{list_all}
-use Rattle.digits.specs.Digits.{number_of_digits}
+use Rattle.sun_points.specs.Numbers.Digits.{number_of_digits}
 use Rattle.std.specs.Result.{result_ok}
 use Rattle.office_events.specs.Names.{named}
 use Rattle.office_events.specs.declared.commands.GivenScale.{GivenScale}

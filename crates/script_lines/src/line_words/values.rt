@@ -4,7 +4,7 @@ ghost use Rattle.std.specs.List.{list_all};
 ghost use Rattle.hex.specs.Hex.{is_hex_digit};
 ghost use Rattle.script_lines.specs.LineWords.Values.{SpellsBytes, bytes_of, is_paired, number_of};
 
-use digits::number_of_digits;
+use sun_points::number_of_digits;
 use std::alloc::{AllocError, Global};
 
 /// The greatest number that a word spells.

@@ -5,8 +5,8 @@ use Rattle.std.specs.Io.KnownBytes.{Appends}
 use Rattle.std.specs.declared.io.Error.{Error}
 use Rattle.office_core.specs.Standing.{Stands}
 use Rattle.office_core.specs.declared.office.Office.{Office}
-use Rattle.office_lists.specs.Listed.{ledger_of}
-use Rattle.office_lists.specs.declared.list_books.ListBooks.{ListBooks}
+use Rattle.memory_books.specs.Listed.{ledger_of}
+use Rattle.memory_books.specs.declared.list_books.ListBooks.{ListBooks}
 use Rattle.office_rules.specs.History.{History}
 use Rattle.mb_device.specs.Maps.{Maps}
 use Rattle.office_events.specs.declared.events.Event.{Event}

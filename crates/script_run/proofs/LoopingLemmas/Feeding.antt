@@ -11,8 +11,8 @@ use Rattle.office_core.specs.declared.office.Office.{Office}
 use Rattle.office_events.specs.declared.answers.Answer.{Answer}
 use Rattle.office_events.specs.declared.events.Event.{Event}
 use Rattle.office_events.specs.declared.refusals.Refusal.{Refusal}
-use Rattle.office_lists.specs.Listed.{ledger_of}
-use Rattle.office_lists.specs.declared.list_books.ListBooks.{ListBooks}
+use Rattle.memory_books.specs.Listed.{ledger_of}
+use Rattle.memory_books.specs.declared.list_books.ListBooks.{ListBooks}
 use Rattle.office_rules.specs.History.{History}
 use Rattle.office_rules.specs.Refusals.{with_answer}
 use Rattle.script_run.proofs.ReplayingLemmas.Replies.{right_or_fails, same_stage}
@@ -20,7 +20,7 @@ use Rattle.script_run.specs.Replaying.Events.{EventPrints, IsReply, reply_text}
 use Rattle.script_run.specs.Replaying.TextRun.{stage_of}
 use Rattle.script_run.specs.Replaying.Stages.{Stage, after_reply}
 use Rattle.script_run.specs.Looping.Answers.{AnswersPrint, FedAll, FedPrints, fed, fed_text, most_takes}
-use Rattle.stand_in.specs.Exchanges.{Exchanged}
+use Rattle.mb_device.specs.StandIn.Exchanges.{Exchanged}
 use Rattle.script_run.specs.Looping.Lines.{StartsPrint}
 use Rattle.script_run.specs.Looping.Standings.{Carried, Carries, CarriedOut, CarriesOut, desk}
 use Rattle.script_run.specs.declared.looping.answers.Came.{Came}

@@ -8,14 +8,14 @@ use Rattle.command_io.specs.declared.status.Status.{Status}
 use Rattle.command_io.specs.declared.status.Status.TheVariants.{Fine, Refused, Failed}
 use Rattle.interval_core.specs.declared.zone.Zone.{Zone}
 use Rattle.office_core.specs.Standing.{Stands}
-use Rattle.office_lists.specs.Listed.{ledger_of}
+use Rattle.memory_books.specs.Listed.{ledger_of}
 use Rattle.office_rules.specs.History.{History}
 use Rattle.script_run.specs.Bank.Settings.{AreUnset}
 use Rattle.mb_device.specs.Maps.{Maps}
 use Rattle.office_core.specs.declared.office.Office.{Office}
 use Rattle.office_events.specs.declared.refusals.Refusal.{Refusal}
 use Rattle.office_events.specs.declared.refusals.Refusal.TheVariants as refusal
-use Rattle.office_lists.specs.declared.list_books.ListBooks.{ListBooks}
+use Rattle.memory_books.specs.declared.list_books.ListBooks.{ListBooks}
 use Rattle.script_run.specs.Replaying.TextRun.{stage_of}
 use Rattle.script_run.specs.Replaying.Stages.{Stage, beginning}
 use Rattle.script_text.specs.AnswerText.{bad_line, refused_line}

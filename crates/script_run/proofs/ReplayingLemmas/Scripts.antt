@@ -8,8 +8,8 @@ use Rattle.command_io.specs.declared.status.Status.TheVariants.{Fine, Refused, F
 use Rattle.interval_core.specs.declared.zone.Zone.{Zone}
 use Rattle.office_events.specs.declared.refusals.Refusal.{Refusal}
 use Rattle.office_events.specs.declared.refusals.Refusal.TheVariants as refusal
-use Rattle.office_lists.specs.Listed.{AreListed, ledger_of}
-use Rattle.office_lists.specs.declared.list_books.ListBooks.{ListBooks}
+use Rattle.memory_books.specs.Listed.{AreListed, ledger_of}
+use Rattle.memory_books.specs.declared.list_books.ListBooks.{ListBooks}
 use Rattle.office_rules.specs.History.{History, Opened, facts_of}
 use Rattle.office_rules.specs.Refusals.{opening_refusal_of}
 use Rattle.office_core.specs.Failing.{IsNotStopped, IsOutside}

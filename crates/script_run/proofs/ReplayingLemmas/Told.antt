@@ -5,8 +5,8 @@ use Rattle.std.specs.Prelude.{Result, Ok, Err, OnOk}
 use Rattle.std.proofs.lemmas.List.{take_all}
 use Rattle.std.specs.declared.io.Error.{Error}
 use Rattle.office_events.specs.declared.refusals.Refusal.{Refusal}
-use Rattle.office_lists.specs.Listed.{ledger_of}
-use Rattle.office_lists.specs.declared.list_books.ListBooks.{ListBooks}
+use Rattle.memory_books.specs.Listed.{ledger_of}
+use Rattle.memory_books.specs.declared.list_books.ListBooks.{ListBooks}
 use Rattle.office_rules.specs.History.{History, facts_of}
 use Rattle.office_core.specs.Asking.{HandsDays, HandsRows, IsFound, OnlyAsks, rows_in}
 use Rattle.office_books.specs.Rows.{TakesAll}

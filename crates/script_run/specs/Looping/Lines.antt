@@ -23,7 +23,7 @@ use Rattle.script_run.specs.Replaying.Lines.{LinePrints}
 use Rattle.script_run.specs.Replaying.Stages.{after_reply}
 use Rattle.script_text.specs.AnswerText.{refused_line}
 use Rattle.script_run.specs.Looping.Answers.{AnswersPrint}
-use Rattle.stand_in.specs.Exchanges.{Exchanged}
+use Rattle.mb_device.specs.StandIn.Exchanges.{Exchanged}
 use Rattle.script_run.specs.Looping.Standings.{LoopStage}
 
 -- An area and a trick stand before the first line that connects.

@@ -4,8 +4,8 @@ use Rattle.std.specs.Io.KnownBytes.{Appends}
 use Rattle.mb_device.specs.Maps.{Maps}
 use Rattle.office_core.specs.Standing.{Stands}
 use Rattle.office_core.specs.declared.office.Office.{Office}
-use Rattle.office_lists.specs.Listed.{ledger_of}
-use Rattle.office_lists.specs.declared.list_books.ListBooks.{ListBooks}
+use Rattle.memory_books.specs.Listed.{ledger_of}
+use Rattle.memory_books.specs.declared.list_books.ListBooks.{ListBooks}
 use Rattle.office_rules.specs.History.{History}
 use Rattle.script_run.specs.Replaying.TextRun.{stage_of}
 use Rattle.script_run.specs.Replaying.Stages.{Stage}

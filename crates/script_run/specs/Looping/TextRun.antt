@@ -6,7 +6,7 @@ use Rattle.command_io.specs.Lines.{speaking_lines}
 use Rattle.command_io.specs.declared.status.Status.{Status}
 use Rattle.command_io.specs.declared.status.Status.TheVariants.{Fine, Refused, Failed}
 use Rattle.interval_core.specs.declared.zone.Zone.{Zone}
-use Rattle.office_lists.specs.Listed.{ledger_of}
+use Rattle.memory_books.specs.Listed.{ledger_of}
 use Rattle.office_rules.specs.History.{History}
 use Rattle.office_core.specs.Standing.{Stands}
 use Rattle.script_run.specs.Looping.Loops.{InputPrints, LoopPrints, TextPrints}

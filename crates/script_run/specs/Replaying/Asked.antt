@@ -11,7 +11,7 @@ use Rattle.office_rules.specs.History.{facts_of}
 use Rattle.office_rules.specs.Meters.{meter_of}
 use Rattle.office_rules.specs.Readings.{poll_row_of}
 use Rattle.office_core.specs.Asking.{AreDaysNamed, intervals_of, is_there, or_not_found, rows_in}
-use Rattle.row_text.specs.Rows.{day_line, end_line, share_line}
+use Rattle.script_text.specs.RowLines.Rows.{day_line, end_line, share_line}
 use Rattle.script_run.specs.Replaying.Stages.{Stage, Fails, TellsStop}
 use Rattle.script_text.specs.AnswerText.{meter_line, poll_line, refused_line}
 

@@ -6,8 +6,8 @@ use Rattle.command_io.specs.Lines.{Line}
 use Rattle.command_io.specs.declared.status.Status.{Status}
 use Rattle.command_io.specs.declared.status.Status.TheVariants.{Fine, Refused, Failed}
 use Rattle.interval_core.specs.declared.zone.Zone.{Zone}
-use Rattle.office_lists.specs.Listed.{ledger_of}
-use Rattle.office_lists.specs.declared.list_books.ListBooks.{ListBooks}
+use Rattle.memory_books.specs.Listed.{ledger_of}
+use Rattle.memory_books.specs.declared.list_books.ListBooks.{ListBooks}
 use Rattle.office_rules.specs.History.{History}
 use Rattle.office_core.specs.Standing.{Stands, books_in, is_stopped}
 use Rattle.office_core.specs.declared.office.Office.{Office}

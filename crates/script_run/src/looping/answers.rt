@@ -8,7 +8,7 @@ use crate::looping::wires::MOST_TAKES;
 use mb_wire::{Link, MAX_ADU, Took};
 use office_core::Office;
 use office_events::{Event, Name, Piece};
-use office_lists::ListBooks;
+use memory_books::ListBooks;
 use poll_core::Closing;
 use script_text::{write_notes, write_refusal};
 use std::alloc::{AllocError, Global};

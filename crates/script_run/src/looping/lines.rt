@@ -17,7 +17,7 @@ use mb_device::Bank;
 use mb_wire::Link;
 use office_core::Office;
 use office_events::{Command, Event, Name, Refusal, StartPoll};
-use office_lists::ListBooks;
+use memory_books::ListBooks;
 use script_lines::{BankLine, GivenStart, LineFault, ScriptLine};
 use script_text::write_refusal;
 use std::alloc::Global;

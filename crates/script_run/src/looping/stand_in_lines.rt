@@ -12,7 +12,7 @@ use mb_device::Bank;
 use mb_wire::Link;
 use office_core::Office;
 use office_events::{Answer, Event, Name};
-use office_lists::ListBooks;
+use memory_books::ListBooks;
 use script_text::{write_accepted, write_refusal};
 use std::alloc::Global;
 use std::io::{self, Write};

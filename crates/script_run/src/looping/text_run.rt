@@ -13,7 +13,7 @@ use interval_core::Zone;
 use mb_device::{Bank, Trick};
 use office_core::Office;
 use office_events::{Event, Refusal};
-use office_lists::ListBooks;
+use memory_books::ListBooks;
 use script_lines::{BankLine, LineFault, ScriptLine};
 use script_text::{write_bad_line, write_refusal};
 use std::alloc::{AllocError, Global};

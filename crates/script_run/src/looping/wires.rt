@@ -1,6 +1,6 @@
 //! Connections of devices to the stand-in.
 ghost use Rattle.std.specs.Prelude.{◌<◌, ◌≤◌, IfSome, length};
-ghost use Rattle.stand_in.specs.Exchanges.{Exchanged};
+ghost use Rattle.mb_device.specs.StandIn.Exchanges.{Exchanged};
 
 use mb_device::{Bank, Server, Trick};
 use mb_wire::{Link, LinkFailed};

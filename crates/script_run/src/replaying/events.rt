@@ -1,7 +1,7 @@
 //! Events.
 ghost use Rattle.std.specs.Prelude.{◌++◌, flat_map};
 ghost use Rattle.office_events.specs.declared.refusals.Refusal.TheVariants as refusal;
-ghost use Rattle.office_lists.specs.Listed.{ledger_of};
+ghost use Rattle.memory_books.specs.Listed.{ledger_of};
 ghost use Rattle.office_rules.specs.History.{History};
 ghost use Rattle.office_core.specs.Standing.{Stands};
 ghost use Rattle.script_run.specs.Replaying.Events.{EventPrints, ListPrints, StartPrints};
@@ -11,7 +11,7 @@ ghost use Rattle.sun_points.specs.Writing.{GotText};
 
 use office_core::Office;
 use office_events::{Command, Event, PlannedList, PutList, Refusal, StartPoll};
-use office_lists::ListBooks;
+use memory_books::ListBooks;
 use point_list::{FaultyRow, ListFault, read_list};
 use script_lines::{GivenList, GivenStart};
 use script_text::{write_accepted, write_faults, write_refusal};

@@ -1,5 +1,5 @@
 //! A line of a script, carried out.
-ghost use Rattle.office_lists.specs.Listed.{ledger_of};
+ghost use Rattle.memory_books.specs.Listed.{ledger_of};
 ghost use Rattle.office_rules.specs.History.{History};
 ghost use Rattle.office_core.specs.Standing.{Stands};
 ghost use Rattle.script_run.specs.Replaying.Lines.{LinePrints};
@@ -9,7 +9,7 @@ use crate::replaying::events::{feed, feed_list, feed_start};
 use crate::replaying::questions::{tell_days, tell_intervals, tell_meter, tell_poll};
 use command_io::Status;
 use office_core::Office;
-use office_lists::ListBooks;
+use memory_books::ListBooks;
 use script_lines::{LineFault, ScriptLine};
 use script_text::write_bad_line;
 use std::alloc::Global;

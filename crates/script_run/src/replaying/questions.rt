@@ -7,9 +7,8 @@ ghost use Rattle.sun_points.specs.Writing.{GotText};
 use crate::replaying::rows::Rows;
 use office_core::Office;
 use office_events::{Name, Refusal};
-use office_lists::ListBooks;
-use row_text::write_end;
-use script_text::{write_meter, write_poll, write_refusal};
+use memory_books::ListBooks;
+use script_text::{write_end, write_meter, write_poll, write_refusal};
 use std::io::{self, ErrorKind, Write};
 
 /// Where a meter stands.

@@ -3,7 +3,7 @@ ghost use Rattle.std.specs.Prelude.{◌≡◌};
 
 use interval_core::{DayTotal, Share};
 use office_books::RowSink;
-use row_text::{write_day, write_interval};
+use script_text::{write_day, write_interval};
 use std::io::Write;
 
 /// Writes a line for each row, and counts them. It keeps that a write failed, and drops the rows that come
@@ -34,7 +34,7 @@ impl<'o, W: Write> Rows<'o, W> {
 }
 
 impl<'o, W: Write> RowSink<Share> for Rows<'o, W> {
-    ghost use Rattle.row_text.specs.Rows.{share_line};
+    ghost use Rattle.script_text.specs.RowLines.Rows.{share_line};
     ghost use Rattle.script_run.specs.Replaying.Rows.{WritesRow};
 
     ghost takes = { λ old row new. WritesRow W.contents (share_line row) old new };
@@ -51,7 +51,7 @@ impl<'o, W: Write> RowSink<Share> for Rows<'o, W> {
 }
 
 impl<'o, W: Write> RowSink<DayTotal> for Rows<'o, W> {
-    ghost use Rattle.row_text.specs.Rows.{day_line};
+    ghost use Rattle.script_text.specs.RowLines.Rows.{day_line};
     ghost use Rattle.script_run.specs.Replaying.Rows.{WritesRow};
 
     ghost takes = { λ old row new. WritesRow W.contents (day_line row) old new };

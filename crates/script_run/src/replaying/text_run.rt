@@ -6,7 +6,7 @@ use crate::replaying::lines::run_line;
 use command_io::{InputLines, Status, read_input};
 use interval_core::Zone;
 use office_core::Office;
-use office_lists::ListBooks;
+use memory_books::ListBooks;
 use script_text::write_refusal;
 use std::alloc::Global;
 use std::io::{Read, Write};

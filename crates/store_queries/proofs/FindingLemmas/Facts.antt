@@ -21,19 +21,19 @@ use Rattle.office_rules.specs.Facts.{same, devices_in, registers_in, register_of
 use Rattle.office_rules.specs.PollEndings.{AreNumbered}
 use Rattle.office_rules.specs.Lawful.{AreLawful, RegisterFits, PollFits, EndFits}
 use Rattle.office_rules.specs.Readings.{poll_row, poll_row_of}
-use Rattle.office_laws.proofs.Lookups.{same_text, find_none, find_passes}
-use Rattle.office_laws.proofs.Lists.{filter_reverse, map_reverse}
+use Rattle.office_rules.proofs.Lookups.{same_text, find_none, find_passes}
+use Rattle.office_rules.proofs.Lists.{filter_reverse, map_reverse}
 use Rattle.store_tables.specs.Answer.{AreFound, IsFound, IsLast, FirstFirst, every}
 use Rattle.store_tables.specs.declared.faults.RowFault.{RowFault}
 use Rattle.store_tables.specs.declared.faults.RowFault.TheVariants.{Damaged}
 use Rattle.store_tables.specs.Asking.{Shows}
 use Rattle.store_tables.specs.Limits.{greatest_place}
-use Rattle.store_lists.specs.declared.rows.Register as list_register
-use Rattle.store_polls.specs.declared.rows.Poll as store_poll
-use Rattle.store_lists.specs.Rows.{Added, Registered, device_place, device_shown, register_place, register_shown, is_register, is_register_of, IsRegister}
-use Rattle.store_polls.specs.declared.rows.OutcomeRow.{OutcomeRow}
-use Rattle.store_polls.specs.Rows.{Started, poll_shown, poll_number, is_poll, IsStarted, is_outcome_of, IsOutcome, HasNumber}
-use Rattle.store_polls.specs.Pending.{is_pending}
+use Rattle.store_devices.specs.declared.devices.rows.Register as list_register
+use Rattle.store_devices.specs.declared.polls.rows.Poll as store_poll
+use Rattle.store_devices.specs.Devices.Rows.{Added, Registered, device_place, device_shown, register_place, register_shown, is_register, is_register_of, IsRegister}
+use Rattle.store_devices.specs.declared.polls.rows.OutcomeRow.{OutcomeRow}
+use Rattle.store_devices.specs.Polls.Rows.{Started, poll_shown, poll_number, is_poll, IsStarted, is_outcome_of, IsOutcome, HasNumber}
+use Rattle.store_devices.specs.Polls.Pending.{is_pending}
 use Rattle.store_facts.specs.Rows.{placed, added, registered, started, outcome_row}
 use Rattle.store_facts.specs.Recording.{next_place}
 use Rattle.store_facts.proofs.Passing.{any_map}

@@ -5,11 +5,11 @@ use Rattle.office_events.specs.declared.facts.HeldReading.{HeldReading}
 use Rattle.office_rules.specs.Facts.{voids_in, holds_in, polls_in, ended_in, replies_in}
 use Rattle.store_tables.specs.Answer.{IsLast, every}
 use Rattle.store_tables.specs.Content.{Content}
-use Rattle.store_entries.specs.Trees.{entries, voids}
-use Rattle.store_entries.specs.Rows.{entry_columns, voided_columns, IsSoundEntered, is_of}
-use Rattle.store_entries.specs.Latest.{entry_moment, HasEntryMoment, void_moment, HasVoidMoment, IsTimelyVoid}
-use Rattle.store_polls.specs.Trees.{polls, outcomes, holds, replies}
-use Rattle.store_polls.specs.Rows.{poll_columns, start_of, HasStart, IsSoundStarted, outcome_columns, outcome_moment, HasOutcomeMoment, IsSoundOutcome, hold_columns, hold_moment, HasHoldMoment, IsSoundHeld, reply_columns, reply_moment, HasReplyMoment, IsSoundKept}
+use Rattle.store_tables.specs.Entries.Trees.{entries, voids}
+use Rattle.store_tables.specs.Entries.Rows.{entry_columns, voided_columns, IsSoundEntered, is_of}
+use Rattle.store_tables.specs.Entries.Latest.{entry_moment, HasEntryMoment, void_moment, HasVoidMoment, IsTimelyVoid}
+use Rattle.store_devices.specs.Polls.Trees.{polls, outcomes, holds, replies}
+use Rattle.store_devices.specs.Polls.Rows.{poll_columns, start_of, HasStart, IsSoundStarted, outcome_columns, outcome_moment, HasOutcomeMoment, IsSoundOutcome, hold_columns, hold_moment, HasHoldMoment, IsSoundHeld, reply_columns, reply_moment, HasReplyMoment, IsSoundKept}
 use Rattle.store_facts.specs.Rows.{placed, entries_of, voided, held_row, started, outcome_row, kept}
 use Rattle.store_facts.specs.Tables.{AreOf}
 use Rattle.std.proofs.lemmas.List.Sorted.{IsPermutation-sym}

@@ -31,9 +31,9 @@ use Rattle.store_tables.specs.Answer.{FirstFirst}
 use Rattle.store_tables.specs.Asking.{Shows}
 use Rattle.store_tables.specs.Content.{Content, HasRows}
 use Rattle.store_tables.proofs.ReadLemmas.{IsFair, fair_then, fair_some}
-use Rattle.store_lists.specs.declared.rows.Point as list_point
-use Rattle.store_lists.specs.declared.rows.PointRow.{PointRow}
-use Rattle.store_lists.specs.Rows.{Listed, IsPoint, is_point_of, point_place, point_shown}
+use Rattle.store_devices.specs.declared.devices.rows.Point as list_point
+use Rattle.store_devices.specs.declared.devices.rows.PointRow.{PointRow}
+use Rattle.store_devices.specs.Devices.Rows.{Listed, IsPoint, is_point_of, point_place, point_shown}
 use Rattle.store_facts.specs.Rows.{placed_on, listed, points_of, points_put}
 use Rattle.store_facts.specs.Tables.{ArePoints}
 use Rattle.store_queries.specs.Finding.Each.{AreEach}

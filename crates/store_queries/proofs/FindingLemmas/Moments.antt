@@ -20,12 +20,12 @@ use Rattle.office_rules.specs.Facts.{same, openings_in, opening_of}
 use Rattle.office_rules.specs.Lawful.{AreLawful}
 use Rattle.office_rules.specs.Meters.{opened, held_line, journal_of}
 use Rattle.office_rules.specs.Meters as meters
-use Rattle.office_laws.proofs.Lookups.{same_itself, each_found}
-use Rattle.office_laws.proofs.Openings.{openings_apart}
-use Rattle.office_laws.proofs.Stepping.{named}
-use Rattle.store_entries.specs.Rows as entries
-use Rattle.store_entries.specs.Rows.{is_of}
-use Rattle.store_entries.specs.Latest.{entry_moment}
+use Rattle.office_rules.proofs.Lookups.{same_itself, each_found}
+use Rattle.office_rules.proofs.Openings.{openings_apart}
+use Rattle.office_rules.proofs.Stepping.{named}
+use Rattle.store_tables.specs.Entries.Rows as entries
+use Rattle.store_tables.specs.Entries.Rows.{is_of}
+use Rattle.store_tables.specs.Entries.Latest.{entry_moment}
 use Rattle.store_facts.specs.Rows.{entered_rows, entries_at, entries_of}
 use Rattle.store_facts.proofs.Passing.{all_passing}
 use Rattle.store_queries.specs.Finding.Latest.{greatest, latest_entered}

@@ -18,14 +18,14 @@ use Rattle.store_tables.specs.declared.faults.RowFault.TheVariants.{Sql, Damaged
 use Rattle.store_tables.specs.Columns.{or_damaged, and_then}
 use Rattle.store_tables.specs.Asking.{ReadsRow}
 use Rattle.store_tables.proofs.ReadLemmas.{IsFair, fair_then, both}
-use Rattle.store_lists.specs.declared.rows.Device as list_device
-use Rattle.store_lists.specs.declared.rows.Register as list_register
-use Rattle.store_lists.specs.declared.rows.DeviceRow.{DeviceRow}
-use Rattle.store_lists.specs.declared.rows.RegisterRow.{RegisterRow}
-use Rattle.store_lists.specs.Rows.{Added, Registered, IsDevice, IsRegister}
-use Rattle.store_polls.specs.declared.rows.Poll as store_poll
-use Rattle.store_polls.specs.declared.rows.PollRow.{PollRow}
-use Rattle.store_polls.specs.Rows.{Started, IsStarted}
+use Rattle.store_devices.specs.declared.devices.rows.Device as list_device
+use Rattle.store_devices.specs.declared.devices.rows.Register as list_register
+use Rattle.store_devices.specs.declared.devices.rows.DeviceRow.{DeviceRow}
+use Rattle.store_devices.specs.declared.devices.rows.RegisterRow.{RegisterRow}
+use Rattle.store_devices.specs.Devices.Rows.{Added, Registered, IsDevice, IsRegister}
+use Rattle.store_devices.specs.declared.polls.rows.Poll as store_poll
+use Rattle.store_devices.specs.declared.polls.rows.PollRow.{PollRow}
+use Rattle.store_devices.specs.Polls.Rows.{Started, IsStarted}
 use Rattle.store_facts.specs.Rows.{added, registered, started, scale_as}
 use Rattle.store_queries.specs.Finding.Each.{AreEach}
 use Rattle.store_queries.specs.Finding.Finding.{ReadsAll}

@@ -12,10 +12,10 @@ use Rattle.office_books.specs.declared.books.Repeat.TheVariants.{Same, Other}
 use Rattle.office_books.specs.Repeats.{as_repeat, repeat_of}
 use Rattle.office_rules.specs.Facts.{same, replies_in, reply_of, request_limit}
 use Rattle.office_rules.specs.Lawful.{AreLawful}
-use Rattle.office_laws.proofs.Lookups.{same_text}
+use Rattle.office_rules.proofs.Lookups.{same_text}
 use Rattle.store_tables.specs.Answer.{IsFound}
-use Rattle.store_polls.specs.declared.rows.Repeat as kept_repeat
-use Rattle.store_polls.specs.Rows.{Kept, is_reply, IsRepeat, repeat_as}
+use Rattle.store_devices.specs.declared.polls.rows.Repeat as kept_repeat
+use Rattle.store_devices.specs.Polls.Rows.{Kept, is_reply, IsRepeat, repeat_as}
 use Rattle.store_facts.specs.Rows.{kept, reply_kind}
 use Rattle.store_queries.specs.Finding.Finding.{OfLawful}
 use Rattle.store_queries.specs.Finding.Reading.{kind_from, repeat_from}

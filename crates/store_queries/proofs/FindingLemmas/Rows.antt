@@ -6,7 +6,7 @@ use Rattle.std.proofs.lemmas.List.Sorted.{length_permutation, All-permutation, I
 use Rattle.std.proofs.lemmas.List.Elements.{All-from_recursion, recursion_from_All}
 use Rattle.sqlite.specs.Tree.{IsAscending}
 use Rattle.sqlite_keyed.proofs.ListLemmas.{all_weaker, all-filter, ascending-append, slice_get-filter}
-use Rattle.office_laws.proofs.Lists.{reverse_cons}
+use Rattle.office_rules.proofs.Lists.{reverse_cons}
 use Rattle.store_facts.specs.Rows.{placed}
 use Rattle.store_tables.specs.Answer.{IsFound}
 use Rattle.store_queries.specs.Finding.Each.{AreEach}

@@ -17,12 +17,12 @@ use Rattle.office_events.specs.declared.questions.EntryPlace.{EntryPlace}
 use Rattle.office_rules.specs.Facts.{same, openings_in, opening_of, voids_in}
 use Rattle.office_rules.specs.Lawful.{AreLawful}
 use Rattle.office_rules.specs.Meters.{rows_of, installation_of, meter_of, entry_at, place_in, standing, is_ended}
-use Rattle.office_laws.specs.Laws.{JournalsFit}
-use Rattle.office_laws.proofs.Lookups.{same_text, find_passes}
+use Rattle.office_rules.specs.Laws.{JournalsFit}
+use Rattle.office_rules.proofs.Lookups.{same_text, find_passes}
 use Rattle.store_tables.specs.declared.faults.RowFault.{RowFault}
 use Rattle.store_tables.specs.Answer.{FirstFirst}
 use Rattle.store_tables.specs.Asking.{Shows}
-use Rattle.store_entries.specs.Rows.{Entered, Voided, is_of, is_void_of, entry_place, entry_shown, voided_shown, voided_place}
+use Rattle.store_tables.specs.Entries.Rows.{Entered, Voided, is_of, is_void_of, entry_place, entry_shown, voided_shown, voided_place}
 use Rattle.store_facts.specs.Rows.{entered_rows, entries_of, voided}
 use Rattle.store_facts.proofs.Energy.{found_recorded}
 use Rattle.store_queries.specs.Metering.Entries.{AreJournal, ShowsEntries, ShowsVoids, FindsJournal, row_among}

@@ -14,14 +14,14 @@ use Rattle.office_events.specs.declared.questions.Installation.{Installation}
 use Rattle.office_rules.specs.Facts.{same, openings_in, opening_of, installed_at}
 use Rattle.office_rules.specs.Lawful.{AreLawful}
 use Rattle.office_rules.specs.Meters.{rows_of, installation_of}
-use Rattle.office_laws.specs.Laws.{VoidsLeaveNoTrace}
-use Rattle.office_laws.proofs.Lookups.{same_text, each_found}
-use Rattle.office_laws.proofs.Openings.{openings_apart, found_installed}
+use Rattle.office_rules.specs.Laws.{VoidsLeaveNoTrace}
+use Rattle.office_rules.proofs.Lookups.{same_text, each_found}
+use Rattle.office_rules.proofs.Openings.{openings_apart, found_installed}
 use Rattle.store_tables.specs.Answer.{IsFound, IsLast, every}
-use Rattle.store_meters.specs.declared.rows.Installation as stored
-use Rattle.store_meters.specs.Rows.{Installed, IsInstalled, is_meter, is_at, installed_place, HasInstalledPlace, is_range_of, HasRange}
-use Rattle.store_entries.specs.declared.rows.EntryRow.{EntryRow}
-use Rattle.store_entries.specs.Rows.{Entered, is_of, is_entry, IsRow}
+use Rattle.store_tables.specs.declared.meters.rows.Installation as stored
+use Rattle.store_tables.specs.Meters.Rows.{Installed, IsInstalled, is_meter, is_at, installed_place, HasInstalledPlace, is_range_of, HasRange}
+use Rattle.store_tables.specs.declared.entries.rows.EntryRow.{EntryRow}
+use Rattle.store_tables.specs.Entries.Rows.{Entered, is_of, is_entry, IsRow}
 use Rattle.store_facts.specs.Rows.{placed, installed_row, ranged, opening_row, entered_rows, entries_at, entries_of}
 use Rattle.store_facts.proofs.Energy.{found_recorded}
 use Rattle.store_facts.proofs.Placed.{last_counts}

@@ -9,7 +9,7 @@ use Rattle.office_events.specs.declared.facts.Fact.{Fact}
 use Rattle.store_tables.specs.declared.faults.RowFault.{RowFault}
 use Rattle.store_tables.specs.Content.{Content}
 use Rattle.store_tables.proofs.StepLemmas.{on_ok}
-use Rattle.store_intervals.specs.Handing as tables
+use Rattle.store_facts.specs.Intervals.Handing as tables
 use Rattle.store_facts.specs.Holding.{OnlyLooks}
 use Rattle.store_facts.specs.Tables.{AreOf}
 use Rattle.store_queries.specs.Metering.Looking.{HandsOn}

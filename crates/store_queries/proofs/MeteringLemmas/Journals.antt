@@ -26,12 +26,12 @@ use Rattle.office_events.specs.declared.facts.Fact.TheVariants as fact
 use Rattle.office_rules.specs.Facts.{same, openings_in, opening_of, voids_in}
 use Rattle.office_rules.specs.Lawful.{AreLawful}
 use Rattle.office_rules.specs.Meters.{opened, installed, journal_of, rows_of}
-use Rattle.office_laws.specs.Laws.{IsRecorded, JournalsFit}
-use Rattle.office_laws.proofs.Journals.{found, well}
-use Rattle.office_laws.proofs.Lists.{reverse_cons}
+use Rattle.office_rules.specs.Laws.{IsRecorded, JournalsFit}
+use Rattle.office_rules.proofs.Journals.{found, well}
+use Rattle.office_rules.proofs.Lists.{reverse_cons}
 use Rattle.store_tables.specs.Answer.{AreFound, FirstFirst}
-use Rattle.store_entries.specs.declared.rows.EntryRow as stored
-use Rattle.store_entries.specs.Rows.{Entered, Voided, is_of, is_void_of, entry_place}
+use Rattle.store_tables.specs.declared.entries.rows.EntryRow as stored
+use Rattle.store_tables.specs.Entries.Rows.{Entered, Voided, is_of, is_void_of, entry_place}
 use Rattle.store_facts.specs.Rows.{entered, entry_row, opening_row, scale_behind, entered_rows, entries_at, entries_of, voided}
 use Rattle.store_facts.proofs.Energy.{found_recorded}
 use Rattle.store_facts.proofs.Passing.{any_permutation}

@@ -17,12 +17,12 @@ use Rattle.office_events.specs.declared.facts.Fact.{Fact}
 use Rattle.office_rules.specs.Facts.{same, openings_in, opening_of}
 use Rattle.office_rules.specs.Intervals.{rows_of_opening, rows_of_installed, rows_of_meter, installations_at, rows_of_register}
 use Rattle.office_rules.specs.Lawful.{AreLawful}
-use Rattle.office_laws.specs.Laws.{IsRecorded, MetersAreKept}
-use Rattle.office_laws.proofs.Lists.{reverse_cons}
+use Rattle.office_rules.specs.Laws.{IsRecorded, MetersAreKept}
+use Rattle.office_rules.proofs.Lists.{reverse_cons}
 use Rattle.store_tables.specs.Answer.{AreFound, FirstFirst}
-use Rattle.store_meters.specs.Rows.{Installed, installed_place, is_at}
-use Rattle.store_intervals.specs.Rows.{Interval, is_of, start_of}
-use Rattle.store_intervals.specs.Handing.{AreSharesOfMeter, Lying, lies_at, ComesAfter, AreSharesAt}
+use Rattle.store_tables.specs.Meters.Rows.{Installed, installed_place, is_at}
+use Rattle.store_facts.specs.Intervals.Rows.{Interval, is_of, start_of}
+use Rattle.store_facts.specs.Intervals.Handing.{AreSharesOfMeter, Lying, lies_at, ComesAfter, AreSharesAt}
 use Rattle.store_facts.specs.Rows.{placed, installed_row, interval_of}
 use Rattle.store_facts.proofs.Energy.{found_recorded}
 use Rattle.store_queries.proofs.MeteringLemmas.Orders.{one_order}

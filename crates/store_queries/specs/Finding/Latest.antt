@@ -4,9 +4,9 @@ use Rattle.std.specs.List.{AllByRecursion}
 use Rattle.energy_core.specs.Account.{moment_of}
 use Rattle.office_events.specs.declared.facts.Fact.{Fact}
 use Rattle.office_rules.specs.Facts.{openings_in, entries_in, voids_in, holds_in, polls_in, ended_in, replies_in}
-use Rattle.store_entries.specs.Rows.{IsSoundEntered}
-use Rattle.store_entries.specs.Latest.{IsTimelyVoid}
-use Rattle.store_polls.specs.Rows.{IsSoundStarted, IsSoundOutcome, IsSoundHeld, IsSoundKept}
+use Rattle.store_tables.specs.Entries.Rows.{IsSoundEntered}
+use Rattle.store_tables.specs.Entries.Latest.{IsTimelyVoid}
+use Rattle.store_devices.specs.Polls.Rows.{IsSoundStarted, IsSoundOutcome, IsSoundHeld, IsSoundKept}
 use Rattle.store_facts.specs.Rows.{placed, entries_of, voided, held_row, started, outcome_row, kept}
 
 -- 0 of none

@@ -11,8 +11,8 @@ use Rattle.point_list.specs.RowTexts.{type_text, scale_text}
 use Rattle.office_events.specs.declared.facts.Fact.{Fact}
 use Rattle.store_tables.specs.declared.faults.RowFault.{RowFault}
 use Rattle.store_tables.specs.Columns.{or_damaged, and_then}
-use Rattle.store_lists.specs.declared.rows.PointRow.{PointRow}
-use Rattle.store_lists.specs.Rows.{Listed, IsSoundListed}
+use Rattle.store_devices.specs.declared.devices.rows.PointRow.{PointRow}
+use Rattle.store_devices.specs.Devices.Rows.{Listed, IsSoundListed}
 use Rattle.store_facts.specs.Rows.{placed_on, listed, points_of}
 
 -- the point of these texts and numbers, or damage

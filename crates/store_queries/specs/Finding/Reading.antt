@@ -12,18 +12,18 @@ use Rattle.office_events.specs.declared.facts.Poll.{Poll}
 use Rattle.office_events.specs.declared.facts.EndedPoll.{EndedPoll}
 use Rattle.store_tables.specs.declared.faults.RowFault.{RowFault}
 use Rattle.store_tables.specs.Columns.{or_damaged, and_then}
-use Rattle.store_lists.specs.declared.rows.DeviceRow.{DeviceRow}
-use Rattle.store_lists.specs.declared.rows.RegisterRow.{RegisterRow}
-use Rattle.store_lists.specs.declared.rows.RegisterScale.{RegisterScale}
-use Rattle.store_lists.specs.declared.rows.RegisterScale.TheVariants as scale
-use Rattle.store_lists.specs.Rows.{Added, Registered}
-use Rattle.store_polls.specs.declared.rows.PollRow.{PollRow}
-use Rattle.store_polls.specs.declared.rows.OutcomeRow.{OutcomeRow}
-use Rattle.store_polls.specs.Rows.{Started}
-use Rattle.store_polls.specs.declared.rows.ReplyKind.{ReplyKind}
-use Rattle.store_polls.specs.declared.rows.ReplyKind.TheVariants as reply
-use Rattle.store_polls.specs.declared.rows.Repeat as kept
-use Rattle.store_polls.specs.declared.rows.Repeat.TheVariants as kept_as
+use Rattle.store_devices.specs.declared.devices.rows.DeviceRow.{DeviceRow}
+use Rattle.store_devices.specs.declared.devices.rows.RegisterRow.{RegisterRow}
+use Rattle.store_devices.specs.declared.devices.rows.RegisterScale.{RegisterScale}
+use Rattle.store_devices.specs.declared.devices.rows.RegisterScale.TheVariants as scale
+use Rattle.store_devices.specs.Devices.Rows.{Added, Registered}
+use Rattle.store_devices.specs.declared.polls.rows.PollRow.{PollRow}
+use Rattle.store_devices.specs.declared.polls.rows.OutcomeRow.{OutcomeRow}
+use Rattle.store_devices.specs.Polls.Rows.{Started}
+use Rattle.store_devices.specs.declared.polls.rows.ReplyKind.{ReplyKind}
+use Rattle.store_devices.specs.declared.polls.rows.ReplyKind.TheVariants as reply
+use Rattle.store_devices.specs.declared.polls.rows.Repeat as kept
+use Rattle.store_devices.specs.declared.polls.rows.Repeat.TheVariants as kept_as
 use Rattle.office_books.specs.declared.books.Repeat.{Repeat}
 use Rattle.office_books.specs.declared.books.Repeat.TheVariants.{Same, Other}
 use Rattle.store_facts.specs.Rows.{added, registered, started, outcome_row}

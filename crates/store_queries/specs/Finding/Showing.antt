@@ -4,11 +4,11 @@ use Rattle.sqlite.specs.Order.{Row}
 use Rattle.office_events.specs.declared.facts.Fact.{Fact}
 use Rattle.office_rules.specs.Facts.{devices_in, registers_in, polls_in, pending_in, replies_in}
 use Rattle.store_tables.specs.Answer.{IsFound}
-use Rattle.store_lists.specs.declared.rows.Register.{Register}
-use Rattle.store_lists.specs.Rows.{device_shown, point_shown, register_shown, is_register, is_register_of, IsRegister}
-use Rattle.store_polls.specs.declared.rows.Poll.{Poll}
-use Rattle.store_polls.specs.declared.rows.Repeat.{Repeat}
-use Rattle.store_polls.specs.Rows.{poll_shown, is_poll, IsStarted, is_reply, IsRepeat}
+use Rattle.store_devices.specs.declared.devices.rows.Register.{Register}
+use Rattle.store_devices.specs.Devices.Rows.{device_shown, point_shown, register_shown, is_register, is_register_of, IsRegister}
+use Rattle.store_devices.specs.declared.polls.rows.Poll.{Poll}
+use Rattle.store_devices.specs.declared.polls.rows.Repeat.{Repeat}
+use Rattle.store_devices.specs.Polls.Rows.{poll_shown, is_poll, IsStarted, is_reply, IsRepeat}
 use Rattle.store_facts.specs.Rows.{placed, placed_on, added, listed, points_of, registered, started, kept}
 
 -- the devices, in the order in which they were added

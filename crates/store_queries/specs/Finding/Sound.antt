@@ -4,8 +4,8 @@ use Rattle.std.specs.List.{AllByRecursion}
 use Rattle.office_events.specs.declared.facts.Fact.{Fact}
 use Rattle.office_events.specs.Names.{is_name}
 use Rattle.office_rules.specs.Facts.{devices_in, registers_in, polls_in, ended_in, replies_in}
-use Rattle.store_lists.specs.Rows.{Added, Registered, IsSoundAdded, IsSoundRegistered}
-use Rattle.store_polls.specs.Rows.{Started, IsSoundStarted, IsSoundOutcome, IsSoundKept}
+use Rattle.store_devices.specs.Devices.Rows.{Added, Registered, IsSoundAdded, IsSoundRegistered}
+use Rattle.store_devices.specs.Polls.Rows.{Started, IsSoundStarted, IsSoundOutcome, IsSoundKept}
 use Rattle.store_facts.specs.Rows.{placed, added, registered, started, outcome_row, kept}
 
 pub record IsReadableDevice (d : Added) : Type 0 where

@@ -14,10 +14,10 @@ use Rattle.office_events.specs.declared.facts.Fact.{Fact}
 use Rattle.office_rules.specs.Facts.{opening_of, voids_in}
 use Rattle.office_rules.specs.Lawful.{AreLawful}
 use Rattle.office_rules.specs.Meters.{rows_of}
-use Rattle.store_entries.specs.declared.rows.EntryRow.{EntryRow}
-use Rattle.store_entries.specs.declared.rows.EntryKind.{EntryKind}
-use Rattle.store_entries.specs.declared.rows.EntryKind.TheVariants as kind
-use Rattle.store_entries.specs.Rows.{Entered, Voided, entry_shown, voided_shown, is_void_of}
+use Rattle.store_tables.specs.declared.entries.rows.EntryRow.{EntryRow}
+use Rattle.store_tables.specs.declared.entries.rows.EntryKind.{EntryKind}
+use Rattle.store_tables.specs.declared.entries.rows.EntryKind.TheVariants as kind
+use Rattle.store_tables.specs.Entries.Rows.{Entered, Voided, entry_shown, voided_shown, is_void_of}
 use Rattle.store_facts.specs.Rows.{entered_rows, voided}
 
 abbrev pub step_row : journal_kind.EntryKind → EntryRow → (stands : Bool) → journal.EntryRow

@@ -5,10 +5,10 @@ use Rattle.office_events.specs.declared.facts.Fact.{Fact}
 use Rattle.office_events.specs.declared.questions.Installation.{Installation}
 use Rattle.office_rules.specs.Facts.{openings_in, opening_of}
 use Rattle.office_rules.specs.Meters.{installation_of}
-use Rattle.store_meters.specs.Rows.{IsInstalled}
-use Rattle.store_meters.specs.declared.rows.InstallationRow.{InstallationRow}
-use Rattle.store_meters.specs.declared.rows.Installation as stored
-use Rattle.store_entries.specs.declared.rows.EntryRow.{EntryRow}
+use Rattle.store_tables.specs.Meters.Rows.{IsInstalled}
+use Rattle.store_tables.specs.declared.meters.rows.InstallationRow.{InstallationRow}
+use Rattle.store_tables.specs.declared.meters.rows.Installation as stored
+use Rattle.store_tables.specs.declared.entries.rows.EntryRow.{EntryRow}
 use Rattle.store_facts.specs.Rows.{installed_row, opening_row}
 
 -- the row is that of an opening, which is the only one of its meter

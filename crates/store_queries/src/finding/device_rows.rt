@@ -4,7 +4,7 @@ ghost use Rattle.std.specs.Prelude.{string_bytes};
 ghost use Rattle.office_rules.specs.Facts as facts_of;
 ghost use Rattle.store_tables.specs.Asking.{ReadsRow};
 ghost use Rattle.store_tables.specs.Columns.{or_damaged};
-ghost use Rattle.store_lists.specs.Rows.{device_shown};
+ghost use Rattle.store_devices.specs.Devices.Rows.{device_shown};
 ghost use Rattle.store_queries.specs.Finding.Finding.{Finds, ReadsAll};
 ghost use Rattle.store_queries.specs.Finding.Reading.{device_with, IsDeviceOf};
 ghost use Rattle.store_queries.specs.Finding.Showing.{ShowsDevices};
@@ -15,7 +15,7 @@ use office_events::{Device, Timeout, Window};
 use poll_core::{MAX_TIMEOUT, MAX_WINDOW};
 use sqlite::{Alter, Connection, Row};
 use store_facts::name;
-use store_lists::{device_rows, read_device};
+use store_devices::{device_rows, read_device};
 use store_tables::{RowFault, touch};
 
 fn timeout(seconds: u8) -> Result<Timeout, RowFault>
@@ -39,7 +39,7 @@ fn window(polls: u8) -> Result<Window, RowFault>
 }
 
 /// The device of a row.
-fn device_from(row: &store_lists::Device) -> Result<Device, RowFault>
+fn device_from(row: &store_devices::Device) -> Result<Device, RowFault>
     ensures { result ≡ device_with (string_bytes row.now.name) row.now.row }
 {
     let name = name(row.name.as_str())?;

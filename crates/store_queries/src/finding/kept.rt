@@ -1,7 +1,7 @@
 //! Replies that are kept.
 ghost use Rattle.std.specs.Prelude.{◌≡◌, false, IsUtf8};
 ghost use Rattle.office_books.specs.Repeats.{repeat_of};
-ghost use Rattle.store_polls.specs.Rows.{IsCallNumber};
+ghost use Rattle.store_devices.specs.Polls.Rows.{IsCallNumber};
 ghost use Rattle.store_queries.specs.Finding.Finding.{Finds, OfLawful};
 ghost use Rattle.store_queries.specs.Finding.Reading.{kind_from, repeat_from};
 ghost use Rattle.store_queries.specs.Finding.Showing.{FindsRepeat};
@@ -11,7 +11,7 @@ use office_books::Repeat;
 use office_events::{CommandKind, MAX_REQUEST, Name};
 use sqlite::{Alter, Connection};
 use store_facts::text;
-use store_polls::ReplyKind;
+use store_devices::ReplyKind;
 use store_tables::{RowFault, touch};
 
 fn command(kind: ReplyKind) -> CommandKind
@@ -32,12 +32,12 @@ fn command(kind: ReplyKind) -> CommandKind
     }
 }
 
-fn told(repeat: store_polls::Repeat) -> Repeat
+fn told(repeat: store_devices::Repeat) -> Repeat
     ensures { result ≡ repeat_from repeat }
 {
     match repeat {
-        store_polls::Repeat::Same(kind) => Repeat::Same(command(kind)),
-        store_polls::Repeat::Other => Repeat::Other,
+        store_devices::Repeat::Same(kind) => Repeat::Same(command(kind)),
+        store_devices::Repeat::Other => Repeat::Other,
     }
 }
 
@@ -47,14 +47,14 @@ fn row_of<S: Alter>(
     caller: &str,
     number: u64,
     request: &[u8],
-) -> Result<Option<store_polls::Repeat>, RowFault>
+) -> Result<Option<store_devices::Repeat>, RowFault>
     requires idle { conn.old.in_transaction ≡ false }
     requires number { IsCallNumber number }
     ensures { Finds S.Store conn.old conn.new result
         (OfLawful (FindsRepeat caller.now number request.now)) HasReadableReplies }
 {
     touch(conn)?;
-    store_polls::repeat_of(conn, caller, number, request)
+    store_devices::repeat_of(conn, caller, number, request)
 }
 
 /// What a request is to the one that is kept under its caller and number, if one is.

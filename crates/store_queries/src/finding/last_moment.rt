@@ -8,9 +8,8 @@ ghost use Rattle.store_queries.specs.Finding.Latest.{latest_started, latest_ende
 ghost use Rattle.store_queries.specs.Finding.Latest.{latest_asked, HasReadableMoments};
 
 use sqlite::{Alter, Connection};
-use store_entries::{latest_entry, latest_void};
-use store_polls::{latest_hold, latest_outcome, latest_reply, latest_start};
-use store_tables::{RowFault, touch};
+use store_tables::{RowFault, latest_entry, latest_void, touch};
+use store_devices::{latest_hold, latest_outcome, latest_reply, latest_start};
 
 /// The latest of the openings and entries.
 fn entered<S: Alter>(conn: &mut Connection<S>) -> Result<u64, RowFault>

@@ -4,7 +4,7 @@ ghost use Rattle.store_tables.specs.Asking.{ReadsRow};
 ghost use Rattle.store_tables.specs.Columns.{or_damaged};
 ghost use Rattle.point_list.specs.Fields.{type_of};
 ghost use Rattle.point_list.specs.Lists.{scale_spelled, name_spelled};
-ghost use Rattle.store_lists.specs.Rows.{point_shown};
+ghost use Rattle.store_devices.specs.Devices.Rows.{point_shown};
 ghost use Rattle.store_queries.specs.Finding.Finding.{Finds, OfLawful, ReadsAll};
 ghost use Rattle.store_queries.specs.Finding.Points.{point_with, IsPointOf, IsReadablePoint};
 ghost use Rattle.store_queries.specs.Finding.Points.{HasReadablePoints};
@@ -13,7 +13,7 @@ ghost use Rattle.store_queries.specs.Finding.Showing.{ShowsPoints};
 use crate::finding::memory::put;
 use point_list::{ListedPoint, PointName, PointScale, fixed_scale, point_type};
 use sqlite::{Alter, Connection, Row};
-use store_lists::{point_rows, read_point};
+use store_devices::{point_rows, read_point};
 use store_tables::{RowFault, touch};
 use sun_points::PointType;
 
@@ -48,7 +48,7 @@ fn scale(text: String) -> Result<PointScale, RowFault>
 }
 
 /// The point of a row.
-fn point_from(row: store_lists::Point) -> Result<ListedPoint, RowFault>
+fn point_from(row: store_devices::Point) -> Result<ListedPoint, RowFault>
     ensures { result ≡ point_with (string_bytes row.name) (string_bytes row.kind)
         (string_bytes row.scale) row.row }
 {

@@ -6,7 +6,7 @@ ghost use Rattle.office_rules.specs.Facts as facts_of;
 ghost use Rattle.office_rules.specs.Readings.{poll_row_of};
 ghost use Rattle.store_tables.specs.Asking.{ReadsRow};
 ghost use Rattle.store_tables.specs.Limits.{greatest_place};
-ghost use Rattle.store_polls.specs.Rows.{poll_shown, IsSoundPoll};
+ghost use Rattle.store_devices.specs.Polls.Rows.{poll_shown, IsSoundPoll};
 ghost use Rattle.store_queries.specs.Finding.Finding.{Finds, OfLawful, ReadsAll};
 ghost use Rattle.store_queries.specs.Finding.Reading.{HasNumbers, IsPollOf, ended_from};
 ghost use Rattle.store_queries.specs.Finding.Showing.{ShowsPendingPolls, FindsPoll};
@@ -17,11 +17,11 @@ use mb_wire::ReadSpan;
 use office_events::{EndedPoll, Poll, PollRow};
 use sqlite::{Alter, Connection, Row};
 use store_facts::name;
-use store_polls::{OutcomeRow, last_poll, outcome_of, pending_rows, poll_at, read_poll};
+use store_devices::{OutcomeRow, last_poll, outcome_of, pending_rows, poll_at, read_poll};
 use store_tables::{GREATEST_PLACE, RowFault, touch};
 
 /// The registers that a poll asks for.
-fn span_from(row: store_polls::PollRow) -> ReadSpan
+fn span_from(row: store_devices::PollRow) -> ReadSpan
     requires { IsSoundPoll row }
     ensures function { result.function ≡ row.function }
     ensures address { result.address ≡ row.address }
@@ -35,7 +35,7 @@ fn span_from(row: store_polls::PollRow) -> ReadSpan
 }
 
 /// The poll of a row.
-fn poll_from(row: &store_polls::Poll) -> Result<Poll, RowFault>
+fn poll_from(row: &store_devices::Poll) -> Result<Poll, RowFault>
     requires { IsSoundPoll row.now.row }
     ensures numbers { IfOk result (HasNumbers (string_bytes row.now.device) row.now.row) }
     ensures fault { is_name (string_bytes row.now.device) ≡ true → IfErr result (λ _. ⊥) }
@@ -75,7 +75,7 @@ fn polls_in(rows: &Vec<Row>) -> Result<Vec<Poll>, RowFault>
 fn row_at<S: Alter>(
     conn: &mut Connection<S>,
     number: u64,
-) -> Result<Option<store_polls::Poll>, RowFault>
+) -> Result<Option<store_devices::Poll>, RowFault>
     requires idle { conn.old.in_transaction ≡ false }
     requires place { number ≤ greatest_place }
     ensures finds { Finds S.Store conn.old conn.new result

@@ -2,7 +2,7 @@
 ghost use Rattle.std.specs.Prelude.{◌≡◌, false, length, string_bytes, IsUtf8};
 ghost use Rattle.office_rules.specs.Facts as facts_of;
 ghost use Rattle.store_tables.specs.Asking.{ReadsRow};
-ghost use Rattle.store_lists.specs.Rows.{register_shown};
+ghost use Rattle.store_devices.specs.Devices.Rows.{register_shown};
 ghost use Rattle.store_queries.specs.Finding.Finding.{Finds, OfLawful, ReadsAll};
 ghost use Rattle.store_queries.specs.Finding.Reading.{register_with, source_from, IsRegisterOf};
 ghost use Rattle.store_queries.specs.Finding.Showing.{ShowsRegisters, FindsRegister};
@@ -12,7 +12,7 @@ use crate::finding::memory::put;
 use office_events::{Name, Register, ScaleSource};
 use sqlite::{Alter, Connection, Row};
 use store_facts::{name, text};
-use store_lists::{RegisterScale, read_register, register_of, register_rows};
+use store_devices::{RegisterScale, read_register, register_of, register_rows};
 use store_tables::{RowFault, touch};
 
 fn source(scale: RegisterScale) -> ScaleSource
@@ -25,7 +25,7 @@ fn source(scale: RegisterScale) -> ScaleSource
 }
 
 /// The register of a row.
-fn register_from(row: &store_lists::Register) -> Result<Register, RowFault>
+fn register_from(row: &store_devices::Register) -> Result<Register, RowFault>
     ensures { result ≡
         register_with (string_bytes row.now.name) (string_bytes row.now.device) row.now.row }
 {
@@ -65,7 +65,7 @@ fn registers_in(rows: &Vec<Row>) -> Result<Vec<Register>, RowFault>
 fn row_of<S: Alter>(
     conn: &mut Connection<S>,
     name: &str,
-) -> Result<Option<store_lists::Register>, RowFault>
+) -> Result<Option<store_devices::Register>, RowFault>
     requires { conn.old.in_transaction ≡ false }
     ensures { Finds S.Store conn.old conn.new result
         (OfLawful (FindsRegister name.now)) HasReadableRegisters }
@@ -125,5 +125,5 @@ pub fn register_count<S: Alter>(conn: &mut Connection<S>, device: &Name) -> Resu
 {
     let device = text(device)?;
     touch(conn)?;
-    Ok(store_lists::register_count(conn, device)?)
+    Ok(store_devices::register_count(conn, device)?)
 }

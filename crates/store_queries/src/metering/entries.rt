@@ -10,12 +10,11 @@ use crate::metering::meters::meter;
 use crate::metering::places::placed;
 use meter_journal::{EntryRow, rows_stand, voids_change_two_rows};
 use office_events::{EntryPlace, Name};
-use office_laws::journals_fit;
+use office_rules::journals_fit;
 use sqlite::{Alter, Connection, Row};
 use std::alloc::Global;
-use store_entries::{entry_rows, void_rows};
+use store_tables::{RowFault, entry_rows, touch, void_rows};
 use store_facts::text;
-use store_tables::{RowFault, touch};
 
 /// The entries of a meter, in order of place.
 fn entries<S: Alter>(conn: &mut Connection<S>, meter: &str) -> Result<Vec<Row>, RowFault>

@@ -8,9 +8,7 @@ use crate::metering::rows::{first_entry, range};
 use energy_core::{Last, MAX_CEILING, MAX_RANGE, MAX_TOTAL, MIN_RANGE};
 use office_events::{Installation, Name, Opening};
 use sqlite::{Alter, Connection};
-use store_entries::EntryRow;
-use store_meters::InstallationRow;
-use store_tables::RowFault;
+use store_tables::{EntryRow, InstallationRow, RowFault};
 
 /// The name that a text is.
 fn name(text: &str) -> Result<Name, RowFault>
@@ -24,7 +22,7 @@ fn name(text: &str) -> Result<Name, RowFault>
 
 /// The opening of a meter.
 fn opening(
-    row: &store_meters::Installation,
+    row: &store_tables::Installation,
     range: u64,
     first: EntryRow,
 ) -> Result<Opening, RowFault>
@@ -79,7 +77,7 @@ fn installed(opening: Opening, row: InstallationRow) -> Result<Installation, Row
 /// The installation of a row that was found.
 pub(crate) fn standing<S: Alter>(
     conn: &mut Connection<S>,
-    row: &store_meters::Installation,
+    row: &store_tables::Installation,
 ) -> Result<Installation, RowFault>
     requires { conn.old.in_transaction ≡ false }
     ensures finds { Finds S.Store conn.old conn.new result (IsStanding row.now) }

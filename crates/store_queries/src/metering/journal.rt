@@ -8,11 +8,10 @@ use energy_core::Entry;
 use meter_journal::EntryRow;
 use sqlite::{Error, ErrorCode, Row};
 use std::alloc::Global;
-use store_entries::{EntryKind, read_entry, read_void};
-use store_tables::RowFault;
+use store_tables::{EntryKind, RowFault, read_entry, read_void};
 
 /// The row of a step.
-fn step(kind: meter_journal::EntryKind, row: store_entries::EntryRow, stands: bool) -> EntryRow
+fn step(kind: meter_journal::EntryKind, row: store_tables::EntryRow, stands: bool) -> EntryRow
     ensures { result ≡ step_row kind row stands }
 {
     EntryRow {
@@ -28,7 +27,7 @@ fn step(kind: meter_journal::EntryKind, row: store_entries::EntryRow, stands: bo
 }
 
 /// The row of a change.
-fn change(kind: meter_journal::EntryKind, row: store_entries::EntryRow, stands: bool) -> EntryRow
+fn change(kind: meter_journal::EntryKind, row: store_tables::EntryRow, stands: bool) -> EntryRow
     ensures { result ≡ change_row kind row stands }
 {
     EntryRow {
@@ -45,7 +44,7 @@ fn change(kind: meter_journal::EntryKind, row: store_entries::EntryRow, stands: 
 }
 
 /// The row of an entry. The opening has none.
-fn entry_row(row: store_entries::EntryRow, stands: bool) -> Option<EntryRow>
+fn entry_row(row: store_tables::EntryRow, stands: bool) -> Option<EntryRow>
     ensures { result ≡ row_from row stands }
 {
     match row.kind {

@@ -11,8 +11,7 @@ use crate::metering::rows::{row_at, row_of};
 use office_events::{Installation, Name};
 use sqlite::{Alter, Connection};
 use store_facts::text;
-use store_meters::last_installation;
-use store_tables::{RowFault, touch};
+use store_tables::{RowFault, last_installation, touch};
 
 /// The installation of a meter, as it stands.
 pub fn meter<S: Alter>(

@@ -4,11 +4,9 @@ ghost use Rattle.office_rules.specs.Facts.{opening_of, installed_at};
 ghost use Rattle.store_queries.specs.Metering.Looking.{Finds};
 ghost use Rattle.store_queries.specs.Metering.Meters.{FindsRow, FindsRange, FindsFirst};
 
-use office_laws::voids_leave_no_trace;
+use office_rules::voids_leave_no_trace;
 use sqlite::{Alter, Connection};
-use store_entries::{EntryRow, entry_at};
-use store_meters::{Installation, installation_at, installation_of, range_of};
-use store_tables::{RowFault, touch};
+use store_tables::{EntryRow, Installation, RowFault, entry_at, installation_at, installation_of, range_of, touch};
 
 /// The row of a meter.
 pub(crate) fn row_of<S: Alter>(

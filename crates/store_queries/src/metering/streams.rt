@@ -6,10 +6,9 @@ ghost use Rattle.store_queries.specs.Metering.Looking.{HandsOn};
 use interval_core::Share;
 use office_books::RowSink;
 use office_events::Name;
-use office_laws::meters_are_kept;
+use office_rules::meters_are_kept;
 use sqlite::{Alter, Connection};
-use store_facts::text;
-use store_intervals as tables;
+use store_facts::{intervals as tables, text};
 use store_tables::{RowFault, touch};
 
 /// Hands on the energy of a meter by quarter hours, in order of their starts.

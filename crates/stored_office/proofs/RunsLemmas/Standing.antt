@@ -5,7 +5,7 @@ use Rattle.sqlite.specs.Store.{Ghosts}
 use Rattle.sqlite.specs.Held.{Held}
 use Rattle.interval_core.specs.declared.zone.Zone.{Zone}
 use Rattle.office_rules.specs.History.{History, facts_of}
-use Rattle.office_laws.specs.Lawfulness.{IsPast}
+use Rattle.office_rules.specs.Lawfulness.{IsPast}
 use Rattle.office_core.specs.Leaving.{MayBeLeft, BooksStand}
 use Rattle.office_store.specs.Stored.{ledger_of}
 use Rattle.office_store.specs.Database.{HoldsAlone}

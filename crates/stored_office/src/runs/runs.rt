@@ -1,7 +1,7 @@
 //! Runs over books in a database.
 ghost use Rattle.std.specs.Prelude.{ℕ, List, [], IfOk, IfSome};
 ghost use Rattle.office_core.specs.EventRun.{IsCleanOnlyIfWas, RecordsIfClean};
-ghost use Rattle.office_laws.specs.Lawfulness.{IsPast};
+ghost use Rattle.office_rules.specs.Lawfulness.{IsPast};
 ghost use Rattle.office_rules.specs.History.{History, facts_of};
 ghost use Rattle.office_store.specs.Database.{HoldsAlone};
 

@@ -1,7 +1,7 @@
 use Rattle.std.proofs.Common.{subst, map}
 use Rattle.httparse.specs.Spans.{header_bytes}
 use Rattle.http_request.specs.Asking.{TestsPost}
-use Rattle.http_request.proofs.Found.{headers_are}
+use Rattle.http_request.proofs.FoundHeaders.{headers_are}
 use Rattle.http_request.proofs.post.post_headers.Goals as goal
 
 pub returns : goal.returns

@@ -1,10 +1,10 @@
 use Rattle.std.proofs.Common.{ap, subst}
-use Rattle.http_route.specs.Routes.{routes}
-use Rattle.http_reply.specs.Sending.{OnlyGives, Outgoing}
+use Rattle.http_request.specs.Routing.Routes.{routes}
+use Rattle.http_answer.specs.Sending.Sending.{OnlyGives, Outgoing}
 use Rattle.office_http.specs.Rows.Reports.{Report}
 use Rattle.http_answer.specs.Replies.{lines_reply, reply_bytes}
 use Rattle.http_answer.specs.Whole.{IsReply}
-use Rattle.report_lines.specs.Lines.{intervals_text, share_line}
+use Rattle.interval_core.specs.Lines.{intervals_text, share_line}
 use Rattle.office_rules.specs.History.{facts_of}
 use Rattle.office_core.specs.Asking.{intervals_of}
 use Rattle.office_http.specs.Serving.{Puts}

@@ -1,5 +1,5 @@
 use Rattle.std.proofs.Common.{refl, subst}
-use Rattle.http_route.specs.Routes.{routes}
+use Rattle.http_request.specs.Routing.Routes.{routes}
 use Rattle.http_answer.specs.Replies.{poll_reply, refused, reply_bytes, row_reply}
 use Rattle.http_answer.specs.Rows.{poll_text}
 use Rattle.http_answer.specs.Whole.{IsReply}

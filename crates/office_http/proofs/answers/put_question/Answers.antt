@@ -1,12 +1,12 @@
 use Rattle.std.proofs.Common.{sym, subst}
 use Rattle.std.specs.Option.{option_and_then}
-use Rattle.http_route.specs.Routes.{routes}
-use Rattle.http_route.specs.Targets.{name_of}
-use Rattle.http_route.specs.declared.routes.Route.{Route}
+use Rattle.http_request.specs.Routing.Routes.{routes}
+use Rattle.http_request.specs.Routing.Targets.{name_of}
+use Rattle.http_request.specs.declared.routing.routes.Route.{Route}
 use Rattle.http_answer.specs.Replies.{lines_reply, poll_reply, question_reply, reply_bytes, row_reply}
 use Rattle.http_answer.specs.Rows.{meter_text}
 use Rattle.http_answer.specs.Whole.{IsReply}
-use Rattle.report_lines.specs.Lines.{days_text, intervals_text}
+use Rattle.interval_core.specs.Lines.{days_text, intervals_text}
 use Rattle.office_rules.specs.History.{facts_of}
 use Rattle.office_rules.specs.Meters.{meter_of}
 use Rattle.office_http.proofs.Served.{lasts_asked, row_told}

@@ -1,5 +1,5 @@
 use Rattle.std.proofs.Common.{refl, subst}
-use Rattle.http_route.specs.Routes.{routes}
+use Rattle.http_request.specs.Routing.Routes.{routes}
 use Rattle.http_answer.specs.Replies.{fault, fault_said, reply_bytes}
 use Rattle.office_http.specs.Wants.Wanting.{IsNoCommand, IsToldOff, Wants}
 use Rattle.office_http.proofs.Served.{lasts_same, no_command_told, told_off}

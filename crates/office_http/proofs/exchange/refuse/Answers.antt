@@ -1,7 +1,7 @@
 use Rattle.std.proofs.Common.{◌≡◌, ◌≤◌, ◌+◌, ◌-◌, ◌^◌, min, [], rules, sym, subst}
 use Rattle.std.proofs.KnownBytes.{Keeps-refl}
-use Rattle.http_read.specs.declared.inbox.TheConstants.{MOST_TAKES}
-use Rattle.http_reply.specs.Giving.{Gives}
+use Rattle.http_request.specs.declared.reading.inbox.TheConstants.{MOST_TAKES}
+use Rattle.http_answer.specs.Sending.Giving.{Gives}
 use Rattle.http_answer.specs.Replies.{refused, reply_bytes}
 use Rattle.office_events.specs.declared.refusals.Refusal.TheVariants as refusal
 use Rattle.office_http.proofs.Handled.{IsFinished, bare_replied, few_takes, finished_last, finished_remaining, finished_takes, put_first}

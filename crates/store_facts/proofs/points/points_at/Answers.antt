@@ -1,8 +1,8 @@
 use Rattle.std.proofs.Common.{◌≡◌, ◌∷◌, ◌++◌, [], List, subst, sym, arith}
 use Rattle.std.specs.List.{All}
 use Rattle.std.proofs.lemmas.List.Elements.{All-append, All-cons, All-nil}
-use Rattle.store_lists.specs.declared.rows.Point.{Point}
-use Rattle.store_lists.specs.Rows.{IsSoundPoint}
+use Rattle.store_devices.specs.declared.devices.rows.Point.{Point}
+use Rattle.store_devices.specs.Devices.Rows.{IsSoundPoint}
 use Rattle.store_facts.proofs.ListPoints.{one_more}
 use Rattle.store_facts.proofs.points.points_at.Goals as goal
 

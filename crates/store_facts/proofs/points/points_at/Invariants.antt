@@ -1,6 +1,6 @@
 use Rattle.std.proofs.Common.{◌≡◌, ℕ, List, map, take}
 use Rattle.std.specs.List.{All}
-use Rattle.store_lists.specs.Rows.{IsSoundPoint, listed_at}
+use Rattle.store_devices.specs.Devices.Rows.{IsSoundPoint, listed_at}
 use Rattle.store_facts.specs.Rows.{placed_on, listed}
 use Rattle.store_facts.proofs.points.points_at.Given as goal
 

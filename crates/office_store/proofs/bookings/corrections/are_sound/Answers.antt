@@ -2,7 +2,7 @@ use Rattle.std.proofs.Common.{List, All, subst, arith}
 use Rattle.std.proofs.lemmas.List.{take_all}
 use Rattle.std.proofs.lemmas.List.Elements.{All-more}
 use Rattle.interval_core.specs.declared.shares.Share.{Share}
-use Rattle.store_intervals.specs.Rows.{IsSoundShare}
+use Rattle.store_facts.specs.Intervals.Rows.{IsSoundShare}
 use Rattle.office_store.proofs.bookings.corrections.are_sound.Goals as goal
 
 pub loop-share-preserved : goal.loop-share-preserved

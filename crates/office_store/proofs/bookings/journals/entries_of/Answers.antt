@@ -1,7 +1,7 @@
 use Rattle.store_tables.specs.Answer.{FirstFirst}
 use Rattle.store_tables.specs.Asking.{Shows}
-use Rattle.store_entries.specs.Trees as tree
-use Rattle.store_entries.specs.Rows.{entry_columns, entry_shown, entry_place, is_of}
+use Rattle.store_tables.specs.Entries.Trees as tree
+use Rattle.store_tables.specs.Entries.Rows.{entry_columns, entry_shown, entry_place, is_of}
 use Rattle.store_queries.specs.Metering.Entries.{ShowsEntries}
 use Rattle.store_queries.proofs.MeteringLemmas.Entering.{shows_entries}
 use Rattle.office_store.proofs.BookingsLemmas.Leaving.{no_answer}

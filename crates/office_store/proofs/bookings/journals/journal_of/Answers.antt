@@ -1,7 +1,7 @@
 use Rattle.std.proofs.Common.{Ok}
 use Rattle.sqlite.specs.Held.{state}
-use Rattle.store_meters.specs.Trees as meter_tree
-use Rattle.store_meters.specs.Rows.{ranged_columns, is_range_of, HasRange}
+use Rattle.store_tables.specs.Meters.Trees as meter_tree
+use Rattle.store_tables.specs.Meters.Rows.{ranged_columns, is_range_of, HasRange}
 use Rattle.store_queries.specs.Metering.Entries.{ShowsEntries, ShowsVoids}
 use Rattle.store_facts.proofs.GoingLemmas.{goes_then, told_less}
 use Rattle.office_store.specs.Bookings.Places.{IsSeenIn}

@@ -1,7 +1,7 @@
 use Rattle.std.proofs.Common.{ap, map, ◌∙◌}
 use Rattle.sqlite.specs.Held.{state}
 use Rattle.office_events.specs.declared.facts.Fact.TheVariants as fact
-use Rattle.store_lists.specs.Rows.{listed_at}
+use Rattle.store_devices.specs.Devices.Rows.{listed_at}
 use Rattle.store_facts.specs.Rows.{placed_on, listed}
 use Rattle.store_facts.specs.Recording.{Records}
 use Rattle.office_store.proofs.BookingsLemmas.Leaving.{completed_alone}

@@ -3,8 +3,8 @@ use Rattle.sqlite.specs.declared.error.Error.{Error}
 use Rattle.sqlite.specs.Held.{state}
 use Rattle.store_tables.specs.declared.faults.RowFault.{RowFault}
 use Rattle.store_tables.specs.Content.{Edits, changed_where}
-use Rattle.store_meters.specs.Trees as meter_tree
-use Rattle.store_meters.specs.Rows.{installed_columns, is_meter, moved, ended}
+use Rattle.store_tables.specs.Meters.Trees as meter_tree
+use Rattle.store_tables.specs.Meters.Rows.{installed_columns, is_meter, moved, ended}
 use Rattle.store_facts.specs.Going.{Goes}
 use Rattle.store_facts.proofs.GoingLemmas.{of_steps}
 use Rattle.office_store.specs.Bookings.MeterState.{Settles}

@@ -1,8 +1,8 @@
 use Rattle.std.proofs.Common.{sym, ◌∙◌, ap, slice_get}
 use Rattle.std.specs.Option.{option_copied}
 use Rattle.store_tables.specs.declared.faults.RowFault.TheVariants.{Damaged}
-use Rattle.store_meters.specs.Rows.{IsInstalled, IsSoundInstalled, installed_columns, installed_shown, is_meter}
-use Rattle.store_meters.specs.Trees as tree
+use Rattle.store_tables.specs.Meters.Rows.{IsInstalled, IsSoundInstalled, installed_columns, installed_shown, is_meter}
+use Rattle.store_tables.specs.Meters.Trees as tree
 use Rattle.office_store.specs.Bookings.Places.{StandsThere}
 use Rattle.office_store.proofs.BookingsLemmas.Leaving.{no_answer}
 use Rattle.office_store.proofs.BookingsLemmas.Seen.{asked_refused, asked_stopped, seen_told}

@@ -1,8 +1,8 @@
 use Rattle.std.proofs.Common.{sym, ◌∙◌, ap, slice_get}
 use Rattle.std.specs.Option.{option_copied}
 use Rattle.store_tables.specs.declared.faults.RowFault.TheVariants.{Damaged}
-use Rattle.store_meters.specs.Rows.{HasRange, IsSoundRanged, ranged_columns, range_shown, is_range_of}
-use Rattle.store_meters.specs.Trees as tree
+use Rattle.store_tables.specs.Meters.Rows.{HasRange, IsSoundRanged, ranged_columns, range_shown, is_range_of}
+use Rattle.store_tables.specs.Meters.Trees as tree
 use Rattle.office_store.proofs.BookingsLemmas.Leaving.{no_answer}
 use Rattle.office_store.proofs.BookingsLemmas.Seen.{asked_refused, read_told}
 use Rattle.office_store.proofs.bookings.meter_state.range_of.Goals as goal

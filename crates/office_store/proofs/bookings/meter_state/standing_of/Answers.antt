@@ -1,9 +1,9 @@
 use Rattle.std.proofs.Common.{Ok}
 use Rattle.sqlite.specs.Held.{state}
-use Rattle.store_entries.specs.Trees as entry_tree
-use Rattle.store_entries.specs.Rows.{entry_columns, entry_place, is_of}
-use Rattle.store_meters.specs.Trees as meter_tree
-use Rattle.store_meters.specs.Rows.{installed_columns, ranged_columns, is_meter, is_range_of, HasRange}
+use Rattle.store_tables.specs.Entries.Trees as entry_tree
+use Rattle.store_tables.specs.Entries.Rows.{entry_columns, entry_place, is_of}
+use Rattle.store_tables.specs.Meters.Trees as meter_tree
+use Rattle.store_tables.specs.Meters.Rows.{installed_columns, ranged_columns, is_meter, is_range_of, HasRange}
 use Rattle.store_facts.specs.Recording.{IsNext}
 use Rattle.office_store.specs.Bookings.Places.{IsSeenIn, StandsThere}
 use Rattle.office_store.specs.Bookings.MeterState.{IsStanding}

@@ -1,6 +1,6 @@
 use Rattle.std.proofs.Common.{ap, ◌∙◌}
-use Rattle.store_entries.specs.Rows.{entry_columns, entry_place, is_of}
-use Rattle.store_entries.specs.Trees as tree
+use Rattle.store_tables.specs.Entries.Rows.{entry_columns, entry_place, is_of}
+use Rattle.store_tables.specs.Entries.Trees as tree
 use Rattle.office_store.specs.Bookings.Places.{next_in}
 use Rattle.office_store.proofs.BookingsLemmas.Leaving.{no_answer}
 use Rattle.office_store.proofs.BookingsLemmas.Behind.{next_told}

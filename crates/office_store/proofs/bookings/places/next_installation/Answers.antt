@@ -1,7 +1,7 @@
 use Rattle.std.proofs.Common.{ap, ◌∙◌}
 use Rattle.store_tables.specs.Answer.{every}
-use Rattle.store_meters.specs.Rows.{installed_columns, installed_place}
-use Rattle.store_meters.specs.Trees as tree
+use Rattle.store_tables.specs.Meters.Rows.{installed_columns, installed_place}
+use Rattle.store_tables.specs.Meters.Trees as tree
 use Rattle.office_store.specs.Bookings.Places.{next_in}
 use Rattle.office_store.proofs.BookingsLemmas.Leaving.{no_answer}
 use Rattle.office_store.proofs.BookingsLemmas.Behind.{next_told}

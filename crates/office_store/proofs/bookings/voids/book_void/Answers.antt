@@ -2,8 +2,8 @@ use Rattle.std.proofs.Common.{Ok}
 use Rattle.sqlite.specs.declared.error.Error.{Error}
 use Rattle.sqlite.specs.Held.{state}
 use Rattle.store_tables.specs.Content.{Edits, with_row}
-use Rattle.store_entries.specs.Trees.{voids}
-use Rattle.store_entries.specs.Rows.{Voided, voided_columns}
+use Rattle.store_tables.specs.Entries.Trees.{voids}
+use Rattle.store_tables.specs.Entries.Rows.{Voided, voided_columns}
 use Rattle.store_facts.proofs.GoingLemmas.{goes_then, of_steps}
 use Rattle.office_store.specs.Bookings.Voids.{RollsNext, KeepsAccount, EntersVoid}
 use Rattle.office_store.proofs.BookingsLemmas.Leaving.{Then, broken}

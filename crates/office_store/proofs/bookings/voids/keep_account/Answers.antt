@@ -2,7 +2,7 @@ use Rattle.std.proofs.Common.{Ok, false}
 use Rattle.sqlite.specs.declared.error.Error.{Error}
 use Rattle.sqlite.specs.Held.{state}
 use Rattle.store_facts.proofs.GoingLemmas.{goes_then, of_steps}
-use Rattle.store_intervals.specs.Replacement.{ReplacesShares}
+use Rattle.store_facts.specs.Intervals.Replacement.{ReplacesShares}
 use Rattle.office_store.specs.Bookings.MeterState.{Settles}
 use Rattle.office_store.specs.Bookings.Voids.{KeepsAccount}
 use Rattle.office_store.proofs.bookings.voids.keep_account.Goals as goal

@@ -1,7 +1,7 @@
 use Rattle.std.proofs.Common.{length}
 use Rattle.command_io.specs.Lines.{speaking_lines}
 use Rattle.office_core.specs.Standing.{Stands}
-use Rattle.office_lists.specs.Listed.{ledger_of}
+use Rattle.memory_books.specs.Listed.{ledger_of}
 use Rattle.office_rules.specs.History.{History}
 use Rattle.script_run.specs.Looping.Standings.{desk, stage_on}
 use Rattle.script_run.proofs.LoopingLemmas.Loops.{Ran}

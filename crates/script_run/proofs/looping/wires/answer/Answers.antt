@@ -1,5 +1,5 @@
 use Rattle.std.proofs.Common.{refl}
-use Rattle.stand_in.proofs.Exchanging.{both_done, nothing_done}
+use Rattle.mb_device.proofs.StandInLemmas.Exchanging.{both_done, nothing_done}
 use Rattle.script_run.proofs.looping.wires.answer.Goals as goal
 
 pub loop-turn-init : goal.loop-turn-init

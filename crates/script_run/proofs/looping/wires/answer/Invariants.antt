@@ -1,4 +1,4 @@
-use Rattle.stand_in.specs.Exchanges.{Exchanged}
+use Rattle.mb_device.specs.StandIn.Exchanges.{Exchanged}
 use Rattle.script_run.proofs.looping.wires.answer.Given as goal
 
 abbrev pub invariant-loop-turn : goal.invariant-loop-turn

@@ -1,4 +1,4 @@
-use Rattle.stand_in.proofs.Exchanging.{turned}
+use Rattle.mb_device.proofs.StandInLemmas.Exchanging.{turned}
 use Rattle.script_run.proofs.looping.wires.answer_turn.Goals as goal
 
 pub returns-in-Ok-clause-carried_out : goal.returns-in-Ok-clause-carried_out

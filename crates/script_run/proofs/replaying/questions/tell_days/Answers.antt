@@ -5,7 +5,7 @@ use Rattle.std.specs.Option.{option_and_then}
 use Rattle.office_rules.specs.Facts.{register_of}
 use Rattle.office_core.specs.Asking.{is_there}
 use Rattle.script_run.specs.Replaying.TextRun.{stage_of}
-use Rattle.row_text.specs.Rows.{day_line}
+use Rattle.script_text.specs.RowLines.Rows.{day_line}
 use Rattle.script_run.specs.Replaying.Asked.{AreDaysTold, last_line}
 use Rattle.script_run.proofs.ReplayingLemmas.Told.{handed_days, rows_told}
 use Rattle.script_run.proofs.ReplayingLemmas.Written.{got_all, got_part, same_output}

@@ -2,7 +2,7 @@ use Rattle.std.proofs.Common.{◌≡◌, rules}
 use Rattle.std.specs.declared.io.Error.{Error}
 use Rattle.office_rules.specs.History.{facts_of}
 use Rattle.office_core.specs.Asking.{intervals_of, is_there}
-use Rattle.row_text.specs.Rows.{share_line}
+use Rattle.script_text.specs.RowLines.Rows.{share_line}
 use Rattle.script_run.specs.Replaying.Asked.{AreIntervals, last_line}
 use Rattle.script_run.proofs.ReplayingLemmas.Told.{handed, rows_told}
 use Rattle.script_run.proofs.ReplayingLemmas.Written.{got_all, got_part, same_output}

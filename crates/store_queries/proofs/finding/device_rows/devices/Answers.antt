@@ -1,7 +1,7 @@
 use Rattle.std.proofs.Common.{reverse}
 use Rattle.office_rules.specs.Facts.{devices_in}
 use Rattle.store_facts.specs.Rows.{placed, added}
-use Rattle.store_lists.specs.Rows.{device_shown}
+use Rattle.store_devices.specs.Devices.Rows.{device_shown}
 use Rattle.store_queries.specs.Finding.Reading.{IsDeviceOf}
 use Rattle.store_queries.specs.Finding.Sound.{IsReadableDevice}
 use Rattle.store_queries.proofs.FindingLemmas.Rows.{all_reverse}

@@ -1,5 +1,5 @@
 use Rattle.std.proofs.Common.{◌≡◌, ◌+◌, ◌<◌, sym, subst, length, get_or, arith}
-use Rattle.store_lists.specs.Rows.{device_shown}
+use Rattle.store_devices.specs.Devices.Rows.{device_shown}
 use Rattle.store_queries.specs.Finding.Reading.{IsDeviceOf}
 use Rattle.store_queries.specs.Finding.Sound.{IsReadableDevice}
 use Rattle.store_queries.proofs.FindingLemmas.ReadRows.{HasReadSome, read_more, unreadable, read_all}

@@ -1,4 +1,4 @@
-use Rattle.store_lists.specs.Rows.{device_shown}
+use Rattle.store_devices.specs.Devices.Rows.{device_shown}
 use Rattle.store_queries.specs.Finding.Reading.{IsDeviceOf}
 use Rattle.store_queries.proofs.FindingLemmas.ReadRows.{HasReadSome}
 use Rattle.store_queries.proofs.finding.device_rows.devices_in.Given as goal

@@ -1,8 +1,8 @@
 use Rattle.std.proofs.Common.{map}
 use Rattle.office_rules.specs.Facts.{replies_in}
 use Rattle.store_facts.specs.Rows.{kept}
-use Rattle.store_polls.specs.Trees.{replies}
-use Rattle.store_polls.specs.Rows.{reply_columns, IsSoundKept}
+use Rattle.store_devices.specs.Polls.Trees.{replies}
+use Rattle.store_devices.specs.Polls.Rows.{reply_columns, IsSoundKept}
 use Rattle.store_queries.proofs.FindingLemmas.Looking.{looked_up}
 use Rattle.store_queries.proofs.finding.kept.row_of.Goals as goal
 

@@ -1,7 +1,7 @@
 use Rattle.std.proofs.Common.{Ok, Err, ◌∙◌}
 use Rattle.store_tables.specs.Answer.{IsLast, every}
-use Rattle.store_polls.specs.Trees.{outcomes}
-use Rattle.store_polls.specs.Rows.{outcome_columns, outcome_moment, HasOutcomeMoment, IsSoundOutcome}
+use Rattle.store_devices.specs.Polls.Trees.{outcomes}
+use Rattle.store_devices.specs.Polls.Rows.{outcome_columns, outcome_moment, HasOutcomeMoment, IsSoundOutcome}
 use Rattle.store_queries.specs.Finding.Latest.{latest_ended, HasReadableMoments}
 use Rattle.store_queries.proofs.FindingLemmas.Looking.{told_of}
 use Rattle.store_queries.proofs.FindingLemmas.Found.{answered, passed_on}

@@ -1,8 +1,8 @@
 use Rattle.std.proofs.Common.{Ok, Err, ◌∙◌}
 use Rattle.store_tables.specs.Answer.{IsLast, every}
-use Rattle.store_entries.specs.Trees.{entries}
-use Rattle.store_entries.specs.Rows.{entry_columns, IsSoundEntered}
-use Rattle.store_entries.specs.Latest.{entry_moment, HasEntryMoment}
+use Rattle.store_tables.specs.Entries.Trees.{entries}
+use Rattle.store_tables.specs.Entries.Rows.{entry_columns, IsSoundEntered}
+use Rattle.store_tables.specs.Entries.Latest.{entry_moment, HasEntryMoment}
 use Rattle.store_queries.specs.Finding.Latest.{latest_entered, HasReadableMoments}
 use Rattle.store_queries.proofs.FindingLemmas.Looking.{told_of}
 use Rattle.store_queries.proofs.FindingLemmas.Found.{answered, passed_on}

@@ -1,7 +1,7 @@
 use Rattle.std.proofs.Common.{Ok, Err, ◌∙◌}
 use Rattle.store_tables.specs.Answer.{IsLast, every}
-use Rattle.store_polls.specs.Trees.{holds}
-use Rattle.store_polls.specs.Rows.{hold_columns, hold_moment, HasHoldMoment, IsSoundHeld}
+use Rattle.store_devices.specs.Polls.Trees.{holds}
+use Rattle.store_devices.specs.Polls.Rows.{hold_columns, hold_moment, HasHoldMoment, IsSoundHeld}
 use Rattle.store_queries.specs.Finding.Latest.{latest_held, HasReadableMoments}
 use Rattle.store_queries.proofs.FindingLemmas.Looking.{told_of}
 use Rattle.store_queries.proofs.FindingLemmas.Found.{answered, passed_on}

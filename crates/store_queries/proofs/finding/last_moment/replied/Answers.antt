@@ -1,7 +1,7 @@
 use Rattle.std.proofs.Common.{Ok, Err, ◌∙◌}
 use Rattle.store_tables.specs.Answer.{IsLast, every}
-use Rattle.store_polls.specs.Trees.{replies}
-use Rattle.store_polls.specs.Rows.{reply_columns, reply_moment, HasReplyMoment, IsSoundKept}
+use Rattle.store_devices.specs.Polls.Trees.{replies}
+use Rattle.store_devices.specs.Polls.Rows.{reply_columns, reply_moment, HasReplyMoment, IsSoundKept}
 use Rattle.store_queries.specs.Finding.Latest.{latest_replied, HasReadableMoments}
 use Rattle.store_queries.proofs.FindingLemmas.Looking.{told_of}
 use Rattle.store_queries.proofs.FindingLemmas.Found.{answered, passed_on}

@@ -1,7 +1,7 @@
 use Rattle.std.proofs.Common.{Ok, Err, ◌∙◌}
 use Rattle.store_tables.specs.Answer.{IsLast, every}
-use Rattle.store_polls.specs.Trees.{polls}
-use Rattle.store_polls.specs.Rows.{poll_columns, start_of, HasStart, IsSoundStarted}
+use Rattle.store_devices.specs.Polls.Trees.{polls}
+use Rattle.store_devices.specs.Polls.Rows.{poll_columns, start_of, HasStart, IsSoundStarted}
 use Rattle.store_queries.specs.Finding.Latest.{latest_started, HasReadableMoments}
 use Rattle.store_queries.proofs.FindingLemmas.Looking.{told_of}
 use Rattle.store_queries.proofs.FindingLemmas.Found.{answered, passed_on}

@@ -1,8 +1,8 @@
 use Rattle.std.proofs.Common.{Ok, Err, ◌∙◌}
 use Rattle.store_tables.specs.Answer.{IsLast, every}
-use Rattle.store_entries.specs.Trees.{voids}
-use Rattle.store_entries.specs.Rows.{voided_columns}
-use Rattle.store_entries.specs.Latest.{void_moment, HasVoidMoment, IsTimelyVoid}
+use Rattle.store_tables.specs.Entries.Trees.{voids}
+use Rattle.store_tables.specs.Entries.Rows.{voided_columns}
+use Rattle.store_tables.specs.Entries.Latest.{void_moment, HasVoidMoment, IsTimelyVoid}
 use Rattle.store_queries.specs.Finding.Latest.{latest_voided, HasReadableMoments}
 use Rattle.store_queries.proofs.FindingLemmas.Looking.{told_of}
 use Rattle.store_queries.proofs.FindingLemmas.Found.{answered, passed_on}

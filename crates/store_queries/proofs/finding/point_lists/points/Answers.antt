@@ -1,5 +1,5 @@
 use Rattle.store_facts.specs.Rows.{placed_on, listed, points_of}
-use Rattle.store_lists.specs.Rows.{point_shown}
+use Rattle.store_devices.specs.Devices.Rows.{point_shown}
 use Rattle.store_queries.specs.Finding.Points.{IsPointOf, IsReadablePoint}
 use Rattle.store_queries.proofs.FindingLemmas.Found.{rows_read}
 use Rattle.store_queries.proofs.FindingLemmas.Lists.{points_read}

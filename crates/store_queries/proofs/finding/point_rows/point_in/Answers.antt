@@ -1,4 +1,4 @@
-use Rattle.store_lists.specs.Rows.{point_shown, IsPoint, IsSoundListed}
+use Rattle.store_devices.specs.Devices.Rows.{point_shown, IsPoint, IsSoundListed}
 use Rattle.store_queries.specs.Finding.Points.{IsPointOf, IsReadablePoint}
 use Rattle.store_queries.proofs.FindingLemmas.ReadRows.{reads_then}
 use Rattle.store_queries.proofs.FindingLemmas.Lists.{point_found}

@@ -1,5 +1,5 @@
 use Rattle.std.proofs.Common.{◌≡◌, ◌+◌, ◌<◌, sym, subst, length, get_or, arith}
-use Rattle.store_lists.specs.Rows.{point_shown}
+use Rattle.store_devices.specs.Devices.Rows.{point_shown}
 use Rattle.store_queries.specs.Finding.Points.{IsPointOf, IsReadablePoint}
 use Rattle.store_queries.proofs.FindingLemmas.ReadRows.{HasReadSome, read_more, unreadable, read_all}
 use Rattle.store_queries.proofs.finding.point_rows.points_in.Goals as goal

@@ -1,4 +1,4 @@
-use Rattle.store_lists.specs.Rows.{point_shown}
+use Rattle.store_devices.specs.Devices.Rows.{point_shown}
 use Rattle.store_queries.specs.Finding.Points.{IsPointOf}
 use Rattle.store_queries.proofs.FindingLemmas.ReadRows.{HasReadSome}
 use Rattle.store_queries.proofs.finding.point_rows.points_in.Given as goal

@@ -1,8 +1,8 @@
 use Rattle.std.proofs.Common.{Some, None, Ok, Err, map, ap, ◌∙◌}
 use Rattle.office_rules.specs.Facts.{ended_in}
 use Rattle.store_facts.specs.Rows.{outcome_row}
-use Rattle.store_polls.specs.Trees.{outcomes}
-use Rattle.store_polls.specs.Rows.{outcome_columns, IsSoundOutcome}
+use Rattle.store_devices.specs.Polls.Trees.{outcomes}
+use Rattle.store_devices.specs.Polls.Rows.{outcome_columns, IsSoundOutcome}
 use Rattle.store_queries.proofs.FindingLemmas.Looking.{looked_up}
 use Rattle.store_queries.proofs.FindingLemmas.Found.{answered, become, passed_on}
 use Rattle.store_queries.proofs.FindingLemmas.Facts.{no_end, this_end}

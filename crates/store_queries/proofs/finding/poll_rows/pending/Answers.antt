@@ -1,7 +1,7 @@
 use Rattle.std.proofs.Common.{map}
 use Rattle.office_rules.specs.Facts.{pending_in}
 use Rattle.store_facts.specs.Rows.{started}
-use Rattle.store_polls.specs.Rows.{poll_shown}
+use Rattle.store_devices.specs.Polls.Rows.{poll_shown}
 use Rattle.store_queries.specs.Finding.Reading.{IsPollOf}
 use Rattle.store_queries.specs.Finding.Sound.{IsReadablePoll}
 use Rattle.store_queries.proofs.FindingLemmas.Found.{rows_read}

@@ -1,4 +1,4 @@
-use Rattle.store_polls.specs.Rows.{poll_shown, IsStarted, IsSoundStarted}
+use Rattle.store_devices.specs.Polls.Rows.{poll_shown, IsStarted, IsSoundStarted}
 use Rattle.store_queries.specs.Finding.Reading.{IsPollOf}
 use Rattle.store_queries.specs.Finding.Sound.{IsReadablePoll}
 use Rattle.store_queries.proofs.FindingLemmas.ReadRows.{reads_then, poll_found}

@@ -1,5 +1,5 @@
 use Rattle.std.proofs.Common.{◌≡◌, ◌+◌, ◌<◌, sym, subst, length, get_or, arith}
-use Rattle.store_polls.specs.Rows.{poll_shown}
+use Rattle.store_devices.specs.Polls.Rows.{poll_shown}
 use Rattle.store_queries.specs.Finding.Reading.{IsPollOf}
 use Rattle.store_queries.specs.Finding.Sound.{IsReadablePoll}
 use Rattle.store_queries.proofs.FindingLemmas.ReadRows.{HasReadSome, read_more, unreadable, read_all}

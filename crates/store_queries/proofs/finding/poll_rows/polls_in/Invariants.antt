@@ -1,4 +1,4 @@
-use Rattle.store_polls.specs.Rows.{poll_shown}
+use Rattle.store_devices.specs.Polls.Rows.{poll_shown}
 use Rattle.store_queries.specs.Finding.Reading.{IsPollOf}
 use Rattle.store_queries.proofs.FindingLemmas.ReadRows.{HasReadSome}
 use Rattle.store_queries.proofs.finding.poll_rows.polls_in.Given as goal

@@ -2,8 +2,8 @@ use Rattle.std.proofs.Common.{map}
 use Rattle.office_rules.specs.Facts.{polls_in}
 use Rattle.sqlite_keyed.proofs.ListLemmas.{all_weaker}
 use Rattle.store_facts.specs.Rows.{started}
-use Rattle.store_polls.specs.Trees.{polls}
-use Rattle.store_polls.specs.Rows.{poll_columns, IsSoundStarted}
+use Rattle.store_devices.specs.Polls.Trees.{polls}
+use Rattle.store_devices.specs.Polls.Rows.{poll_columns, IsSoundStarted}
 use Rattle.store_queries.specs.Finding.Sound.{IsReadablePoll}
 use Rattle.store_queries.proofs.FindingLemmas.Looking.{looked_up}
 use Rattle.store_queries.proofs.FindingLemmas.Found.{less_told}

@@ -2,7 +2,7 @@ use Rattle.std.proofs.Common.{reverse, filter, ap, ◌∙◌}
 use Rattle.sqlite_keyed.proofs.ListLemmas.{all-filter}
 use Rattle.office_rules.specs.Facts.{registers_in, registers_of}
 use Rattle.store_facts.specs.Rows.{placed, registered}
-use Rattle.store_lists.specs.Rows.{register_shown, is_register_of}
+use Rattle.store_devices.specs.Devices.Rows.{register_shown, is_register_of}
 use Rattle.store_queries.specs.Finding.Reading.{IsRegisterOf}
 use Rattle.store_queries.specs.Finding.Sound.{IsReadableRegister}
 use Rattle.store_queries.proofs.FindingLemmas.Rows.{all_reverse}

@@ -1,5 +1,5 @@
 use Rattle.std.proofs.Common.{◌≡◌, ◌+◌, ◌<◌, sym, subst, length, get_or, arith}
-use Rattle.store_lists.specs.Rows.{register_shown}
+use Rattle.store_devices.specs.Devices.Rows.{register_shown}
 use Rattle.store_queries.specs.Finding.Reading.{IsRegisterOf}
 use Rattle.store_queries.specs.Finding.Sound.{IsReadableRegister}
 use Rattle.store_queries.proofs.FindingLemmas.ReadRows.{HasReadSome, read_more, unreadable, read_all}

@@ -1,4 +1,4 @@
-use Rattle.store_lists.specs.Rows.{register_shown}
+use Rattle.store_devices.specs.Devices.Rows.{register_shown}
 use Rattle.store_queries.specs.Finding.Reading.{IsRegisterOf}
 use Rattle.store_queries.proofs.FindingLemmas.ReadRows.{HasReadSome}
 use Rattle.store_queries.proofs.finding.register_rows.registers_in.Given as goal

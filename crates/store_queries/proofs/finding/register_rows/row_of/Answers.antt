@@ -1,8 +1,8 @@
 use Rattle.office_rules.specs.Facts.{registers_in}
 use Rattle.sqlite_keyed.proofs.ListLemmas.{all_weaker}
 use Rattle.store_facts.specs.Rows.{placed, registered}
-use Rattle.store_lists.specs.Trees.{registers}
-use Rattle.store_lists.specs.Rows.{register_columns, IsSoundRegistered}
+use Rattle.store_devices.specs.Devices.Trees.{registers}
+use Rattle.store_devices.specs.Devices.Rows.{register_columns, IsSoundRegistered}
 use Rattle.store_queries.specs.Finding.Sound.{IsReadableRegister}
 use Rattle.store_queries.proofs.FindingLemmas.Looking.{looked_up}
 use Rattle.store_queries.proofs.FindingLemmas.Found.{less_told}

@@ -2,8 +2,8 @@ use Rattle.std.proofs.Common.{map}
 use Rattle.office_rules.specs.Facts.{voids_in}
 use Rattle.store_tables.specs.Answer.{FirstFirst}
 use Rattle.store_tables.specs.Asking.{Shows}
-use Rattle.store_entries.specs.Trees as tree
-use Rattle.store_entries.specs.Rows.{voided_columns, voided_shown, voided_place, is_void_of}
+use Rattle.store_tables.specs.Entries.Trees as tree
+use Rattle.store_tables.specs.Entries.Rows.{voided_columns, voided_shown, voided_place, is_void_of}
 use Rattle.store_facts.specs.Rows.{voided}
 use Rattle.store_queries.specs.Metering.Entries.{ShowsVoids}
 use Rattle.store_queries.proofs.MeteringLemmas.Entering.{shows_voids}

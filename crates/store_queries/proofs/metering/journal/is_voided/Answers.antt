@@ -1,5 +1,5 @@
 use Rattle.std.proofs.Common.{◌≡◌, sym, ◌∙◌, eq-eqb, ne_eqb}
-use Rattle.store_entries.specs.Rows.{voided_shown}
+use Rattle.store_tables.specs.Entries.Rows.{voided_shown}
 use Rattle.store_queries.specs.Metering.Entries.{names}
 use Rattle.store_queries.proofs.MeteringLemmas.Marked.{next_shown, not_yet, here}
 use Rattle.store_queries.proofs.metering.journal.is_voided.Goals as goal

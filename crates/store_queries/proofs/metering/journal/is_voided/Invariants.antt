@@ -1,6 +1,6 @@
 use Rattle.std.proofs.Common.{◌≡◌, false, List, map, take}
 use Rattle.std.specs.List.{list_any}
-use Rattle.store_entries.specs.Rows.{Voided, voided_shown}
+use Rattle.store_tables.specs.Entries.Rows.{Voided, voided_shown}
 use Rattle.store_queries.specs.Metering.Entries.{names}
 use Rattle.store_queries.proofs.metering.journal.is_voided.Given as goal
 

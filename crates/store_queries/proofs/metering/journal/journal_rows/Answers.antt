@@ -1,7 +1,7 @@
 use Rattle.std.proofs.Common.{◌≤◌, ap, ◌∙◌, length, take_all, arith}
 use Rattle.std.specs.List.{filter_map}
 use Rattle.std.proofs.lemmas.List.{length-map}
-use Rattle.store_entries.specs.Rows.{entry_shown}
+use Rattle.store_tables.specs.Entries.Rows.{entry_shown}
 use Rattle.store_queries.specs.Metering.Entries.{row_among}
 use Rattle.store_queries.proofs.MeteringLemmas.Journals.{one_more}
 use Rattle.store_queries.proofs.MeteringLemmas.Marked.{next_shown}

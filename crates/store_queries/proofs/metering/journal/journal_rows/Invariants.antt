@@ -1,6 +1,6 @@
 use Rattle.std.proofs.Common.{◌≡◌, List, map, take}
 use Rattle.std.specs.List.{filter_map}
-use Rattle.store_entries.specs.Rows.{Entered, Voided, entry_shown, voided_shown}
+use Rattle.store_tables.specs.Entries.Rows.{Entered, Voided, entry_shown, voided_shown}
 use Rattle.store_queries.specs.Metering.Entries.{row_among}
 use Rattle.store_queries.proofs.metering.journal.journal_rows.Given as goal
 

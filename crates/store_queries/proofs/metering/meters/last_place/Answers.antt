@@ -1,7 +1,7 @@
 use Rattle.office_rules.specs.Facts.{openings_in}
 use Rattle.store_tables.specs.Answer.{IsLast, every}
-use Rattle.store_meters.specs.Trees.{installations}
-use Rattle.store_meters.specs.Rows.{installed_columns, installed_place, HasInstalledPlace, IsSoundInstalled}
+use Rattle.store_tables.specs.Meters.Trees.{installations}
+use Rattle.store_tables.specs.Meters.Rows.{installed_columns, installed_place, HasInstalledPlace, IsSoundInstalled}
 use Rattle.store_facts.specs.Rows.{placed, installed_row}
 use Rattle.store_queries.specs.Metering.Meters.{CountsOpenings}
 use Rattle.store_queries.proofs.MeteringLemmas.Found.{counted}

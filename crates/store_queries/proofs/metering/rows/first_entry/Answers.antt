@@ -1,6 +1,6 @@
 use Rattle.store_tables.specs.Answer.{IsFound}
-use Rattle.store_entries.specs.Trees.{entries}
-use Rattle.store_entries.specs.Rows.{entry_columns, is_entry, IsRow, IsSoundEntered}
+use Rattle.store_tables.specs.Entries.Trees.{entries}
+use Rattle.store_tables.specs.Entries.Rows.{entry_columns, is_entry, IsRow, IsSoundEntered}
 use Rattle.store_queries.specs.Metering.Meters.{FindsFirst}
 use Rattle.store_queries.proofs.MeteringLemmas.Found.{first_found}
 use Rattle.store_queries.proofs.MeteringLemmas.Looked.{touched, not_asked, looked}

@@ -1,8 +1,8 @@
 use Rattle.std.proofs.Common.{map}
 use Rattle.office_rules.specs.Facts.{openings_in}
 use Rattle.store_tables.specs.Answer.{IsFound}
-use Rattle.store_meters.specs.Trees.{ranges}
-use Rattle.store_meters.specs.Rows.{ranged_columns, is_range_of, HasRange, IsSoundRanged}
+use Rattle.store_tables.specs.Meters.Trees.{ranges}
+use Rattle.store_tables.specs.Meters.Rows.{ranged_columns, is_range_of, HasRange, IsSoundRanged}
 use Rattle.store_facts.specs.Rows.{ranged}
 use Rattle.store_queries.specs.Metering.Meters.{FindsRange}
 use Rattle.store_queries.proofs.MeteringLemmas.Found.{range_found}

@@ -1,7 +1,7 @@
 use Rattle.office_rules.specs.Facts.{openings_in, installed_at}
 use Rattle.store_tables.specs.Answer.{IsLast}
-use Rattle.store_meters.specs.Trees.{installations}
-use Rattle.store_meters.specs.Rows.{installed_columns, installed_place, is_at, IsInstalled, IsSoundInstalled}
+use Rattle.store_tables.specs.Meters.Trees.{installations}
+use Rattle.store_tables.specs.Meters.Rows.{installed_columns, installed_place, is_at, IsInstalled, IsSoundInstalled}
 use Rattle.store_facts.specs.Rows.{placed, installed_row}
 use Rattle.store_queries.specs.Metering.Meters.{FindsRow}
 use Rattle.store_queries.proofs.MeteringLemmas.Found.{row_found_at}

@@ -1,5 +1,5 @@
 use Rattle.office_rules.specs.Intervals.{rows_of_meter}
-use Rattle.store_intervals.specs.Handing.{HaveIntervals, AreSharesOfMeter, AreSoundIntervals}
+use Rattle.store_facts.specs.Intervals.Handing.{HaveIntervals, AreSharesOfMeter, AreSoundIntervals}
 use Rattle.store_queries.proofs.MeteringLemmas.Shared.{of_meter}
 use Rattle.store_queries.proofs.MeteringLemmas.Looked.{no_look, touched}
 use Rattle.store_queries.proofs.MeteringLemmas.Handed.{not_asked, handed}

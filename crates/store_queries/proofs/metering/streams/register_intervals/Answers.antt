@@ -1,6 +1,6 @@
 use Rattle.office_rules.specs.Intervals.{rows_of_register}
 use Rattle.office_rules.specs.Facts.{openings_in}
-use Rattle.store_intervals.specs.Handing.{HaveLying, AreSharesAt, AreSoundLying}
+use Rattle.store_facts.specs.Intervals.Handing.{HaveLying, AreSharesAt, AreSoundLying}
 use Rattle.store_facts.specs.Rows.{placed, installed_row}
 use Rattle.store_queries.proofs.MeteringLemmas.Shared.{at_register}
 use Rattle.store_queries.proofs.MeteringLemmas.Looked.{no_look, touched}

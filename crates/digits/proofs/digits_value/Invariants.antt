@@ -1,6 +1,0 @@
-use Rattle.std.proofs.Common.{◌≡◌, ◌<◌, ◌^◌, take}
-use Rattle.digits.specs.Digits.{digits_value}
-use Rattle.digits.proofs.digits_value.Given as goal
-
-abbrev pub invariant-loop-digit : goal.invariant-loop-digit
-invariant-loop-digit l = (l.value ≡ digits_value (take l.digit-index l.digits)) × (l.value < 10 ^ l.digit-index)

@@ -1,0 +1,10 @@
+-- The bodies of replies that tell a number.
+use Rattle.std.specs.Prelude.{ℕ, List, ◌++◌, codes, decimal}
+use Rattle.http_request.specs.Status.Statuses.{number_of_status}
+use Rattle.http_request.specs.declared.status.Status.{Status}
+
+abbrev pub refused_text : ℕ → List ℕ
+refused_text number = codes "{\"refused\":" ++ decimal number ++ codes "}"
+
+abbrev pub fault_text : Status → List ℕ
+fault_text status = codes "{\"fault\":" ++ decimal (number_of_status status) ++ codes "}"

@@ -1,0 +1,24 @@
+-- The text of a reply.
+use Rattle.std.specs.Prelude.{ℕ, List, ◌++◌, length, codes, decimal}
+use Rattle.http_request.specs.Status.Statuses.{number_of_status, reason_of_status}
+use Rattle.http_request.specs.declared.status.Status.{Status}
+use Rattle.http_request.specs.declared.status.Status.TheVariants.{Fine}
+
+abbrev pub status_line : Status → List ℕ
+status_line status =
+    codes "HTTP/1.1 " ++ decimal (number_of_status status) ++ codes " " ++ reason_of_status status
+    ++ codes "\r\n"
+
+-- the head of a reply of JSON whose body has so many bytes
+abbrev pub json_head : Status → ℕ → List ℕ
+json_head status size =
+    status_line status ++ codes "Content-Type: application/json\r\nContent-Length: " ++ decimal size
+    ++ codes "\r\nConnection: close\r\n\r\n"
+
+-- a reply of JSON
+abbrev pub json_reply : Status → List ℕ → List ℕ
+json_reply status body = json_head status (length body) ++ body
+
+-- the head of a reply of text
+abbrev pub text_head : List ℕ
+text_head = status_line Fine ++ codes "Content-Type: text/plain\r\nConnection: close\r\n\r\n"

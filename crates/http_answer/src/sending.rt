@@ -1,0 +1,10 @@
+//! The text of a reply, and what brings it to a link. No call takes memory.
+
+mod bodies;
+mod outbox;
+mod outlet;
+mod reply;
+
+pub use bodies::{Text, fault_body, refused_body};
+pub use outlet::Outlet;
+pub use reply::{put_json, put_text_head};

@@ -1,0 +1,28 @@
+//! The bodies of replies that tell a number.
+ghost use Rattle.std.specs.Prelude.{◌≡◌};
+ghost use Rattle.http_answer.specs.Sending.Bodies.{fault_text, refused_text};
+
+use http_request::Status;
+
+/// A text of at most 8,192 bytes: the body of a reply.
+pub type Text = script_text::Text<8192>;
+
+/// The body for a refusal, by its number.
+pub fn refused_body(number: u8) -> Text
+    ensures { result ≡ refused_text number }
+{
+    let mut text = Text::new();
+    text.push_number(b"{\"refused\":", number);
+    text.push(b"}");
+    text
+}
+
+/// The body for any other fault.
+pub fn fault_body(status: Status) -> Text
+    ensures { result ≡ fault_text status }
+{
+    let mut text = Text::new();
+    text.push_number(b"{\"fault\":", status.number());
+    text.push(b"}");
+    text
+}

@@ -1,0 +1,147 @@
+//! Bytes that are buffered until there are enough of them to give.
+ghost use Rattle.std.specs.Prelude.{◌≡◌, ◌≤◌, ◌<◌, ◌+◌, ◌++◌, [], length};
+ghost use Rattle.std.specs.Prelude.{true, false, is_err, not, ◌&&◌};
+ghost use Rattle.std.specs.Io.KnownBytes.{Keeps};
+ghost use Rattle.mb_wire.specs.Links.{risen};
+ghost use Rattle.http_answer.specs.Sending.Giving.{Gives};
+
+use mb_wire::{Link, LinkFailed};
+
+// How many bytes are buffered at most.
+const ROOM: usize = 512;
+
+// Bytes on their way to a link. It keeps the first give that failed, and drops what is put after it.
+#[derive(Drop)]
+pub(crate) struct Outbox {
+    pub(crate) buffered: [u8; 512],
+    pub(crate) filled: usize,
+    pub(crate) failed: bool,
+    ghost room: { filled ≤ length buffered },
+}
+
+// Gives all of the bytes, in as many gives as it takes.
+fn give_all<L: Link>(link: &mut L, bytes: &[u8]) -> Result<(), LinkFailed>
+    ensures given { Gives result (L.given link.old) (L.given link.new) bytes.now }
+    ensures remaining { Keeps (L.remaining link.old) (L.remaining link.new) }
+    ensures failures { L.failed link.new ≡ risen (is_err result) (L.failed link.old) }
+    ensures takes { L.taken link.new ≡ L.taken link.old }
+    ensures last { L.last link.new ≡ L.last link.old }
+{
+    if bytes.is_empty() {
+        return Ok(());
+    }
+    let count = link.give(bytes)?;
+    if count == 0 {
+        return Err(LinkFailed);
+    }
+    give_all(link, &bytes[count..])
+}
+
+impl Outbox {
+    ghost use Rattle.http_answer.specs.Sending.Sending.{PutsBehind, PutsNothing};
+    ghost use Rattle.http_answer.specs.Sending.Holding.{buffered_in, progress};
+
+    // Holds nothing.
+    pub(crate) fn new() -> Outbox
+        ensures works { result.failed ≡ false }
+        ensures empty { buffered_in result ≡ [] }
+    {
+        Outbox {
+            buffered: [0; 512],
+            filled: 0,
+            failed: false,
+        }
+    }
+
+    // Whether a give failed.
+    pub(crate) fn has_failed(&self) -> bool
+        ensures { result ≡ self.now.failed }
+    {
+        self.failed
+    }
+
+    // Gives what is buffered.
+    pub(crate) fn flush<L: Link>(&mut self, link: &mut L)
+        ensures sends { PutsNothing (progress (L.given link.old) self.old)
+            (progress (L.given link.new) self.new) }
+        ensures empty { self.new.failed ≡ false → buffered_in self.new ≡ [] }
+        ensures stays { self.old.failed ≡ true → self.new.failed ≡ true }
+        ensures failures { L.failed link.new
+            ≡ risen (self.new.failed && not self.old.failed) (L.failed link.old) }
+        ensures remaining { Keeps (L.remaining link.old) (L.remaining link.new) }
+        ensures takes { L.taken link.new ≡ L.taken link.old }
+        ensures last { L.last link.new ≡ L.last link.old }
+    {
+        if self.failed {
+            return;
+        }
+        let whole = give_all(link, &self.buffered[..self.filled]);
+        self.failed = whole.is_err();
+        self.filled = 0;
+    }
+
+    // Gives what is buffered, where there is no room for so many bytes more.
+    fn make_room<L: Link>(&mut self, link: &mut L, count: usize)
+        ensures sends { PutsNothing (progress (L.given link.old) self.old)
+            (progress (L.given link.new) self.new) }
+        ensures room { self.new.failed ≡ false → 512 < self.new.filled + count
+            → buffered_in self.new ≡ [] }
+        ensures stays { self.old.failed ≡ true → self.new.failed ≡ true }
+        ensures failures { L.failed link.new
+            ≡ risen (self.new.failed && not self.old.failed) (L.failed link.old) }
+        ensures remaining { Keeps (L.remaining link.old) (L.remaining link.new) }
+        ensures takes { L.taken link.new ≡ L.taken link.old }
+        ensures last { L.last link.new ≡ L.last link.old }
+    {
+        if count > ROOM - self.filled {
+            self.flush(link);
+        }
+    }
+
+    // Holds bytes back, for which there is room.
+    fn hold(&mut self, bytes: &[u8])
+        requires { self.old.filled + length bytes.now ≤ 512 }
+        ensures buffered { buffered_in self.new ≡ buffered_in self.old ++ bytes.now }
+        ensures failed { self.new.failed ≡ self.old.failed }
+    {
+        let end = self.filled + bytes.len();
+        self.buffered[self.filled..end].copy_from_slice(bytes);
+        self.filled = end;
+    }
+
+    // Gives bytes at once, where nothing is buffered.
+    fn pass<L: Link>(&mut self, link: &mut L, bytes: &[u8])
+        requires works { self.old.failed ≡ false }
+        requires empty { buffered_in self.old ≡ [] }
+        ensures sends { PutsBehind (progress (L.given link.old) self.old)
+            (progress (L.given link.new) self.new) bytes.now }
+        ensures failures { L.failed link.new ≡ risen self.new.failed (L.failed link.old) }
+        ensures remaining { Keeps (L.remaining link.old) (L.remaining link.new) }
+        ensures takes { L.taken link.new ≡ L.taken link.old }
+        ensures last { L.last link.new ≡ L.last link.old }
+    {
+        self.failed = give_all(link, bytes).is_err();
+    }
+
+    // Puts bytes behind those put before.
+    pub(crate) fn put<L: Link>(&mut self, link: &mut L, bytes: &[u8])
+        ensures sends { PutsBehind (progress (L.given link.old) self.old)
+            (progress (L.given link.new) self.new) bytes.now }
+        ensures stays { self.old.failed ≡ true → self.new.failed ≡ true }
+        ensures failures { L.failed link.new
+            ≡ risen (self.new.failed && not self.old.failed) (L.failed link.old) }
+        ensures remaining { Keeps (L.remaining link.old) (L.remaining link.new) }
+        ensures takes { L.taken link.new ≡ L.taken link.old }
+        ensures last { L.last link.new ≡ L.last link.old }
+    {
+        self.make_room(link, bytes.len());
+        if self.failed {
+            return;
+        }
+        if bytes.len() > ROOM - self.filled {
+            self.pass(link, bytes);
+        } else {
+            self.hold(bytes);
+        }
+    }
+}

@@ -1,0 +1,51 @@
+-- What was read when reading ends.
+use Rattle.std.specs.Prelude.{◌≡◌, ◌<◌, ◌≤◌, ℕ, false, ◌⊎◌, List, ◌++◌, length, Option, Result, Ok, Err}
+use Rattle.std.specs.Io.KnownBytes.{IsAtEnd}
+use Rattle.http_request.specs.Head.Heads.{IsOpenHead, Looks, is_open}
+use Rattle.http_request.specs.declared.head.head.Look.{Look}
+use Rattle.http_request.specs.Reading.Taking.{Came, brought, bytes_in}
+use Rattle.mb_wire.specs.declared.link.LastTake.{LastTake}
+use Rattle.http_request.specs.declared.reading.inbox.Inbox.{Inbox}
+use Rattle.http_request.specs.declared.reading.inbox.TakeFault.{TakeFault}
+use Rattle.http_request.specs.declared.reading.inbox.TakeFault.TheVariants.{Read, Short, TurnsUsed}
+
+-- after Short no byte is left
+abbrev pub EndsAt : TakeFault → Option (List ℕ) → Type 0
+EndsAt Read after = Unit {0}
+EndsAt Short after = IsAtEnd after
+EndsAt TurnsUsed after = Unit {0}
+
+-- A head or a bad one was read; or taking failed, and what was read until then goes on.
+abbrev pub ReadsHead : Result Look TakeFault → List ℕ → List ℕ → Option (List ℕ) → Option (List ℕ)
+    → Type 0
+ReadsHead (Ok look) old new before after =
+    Came old new before after × Looks new look × (is_open look ≡ false)
+ReadsHead (Err fault) old new before after =
+    Came old new before after × IsOpenHead new × EndsAt fault after
+
+-- So many bytes were read in all; or taking failed, and there are fewer.
+abbrev pub ReadsUpTo : ℕ → {X : Type 0} → Result X TakeFault → List ℕ → List ℕ → Option (List ℕ)
+    → Option (List ℕ) → Type 0
+ReadsUpTo count (Ok x) old new before after = Came old new before after × (count ≤ length new)
+ReadsUpTo count (Err fault) old new before after =
+    Came old new before after × (length new < count) × EndsAt fault after
+
+-- no take was made
+pub record TakesNothing (old new : Inbox) (was now : Option LastTake) : Type 0 where
+  pub takes : new.takes ≡ old.takes
+  pub bytes : bytes_in new ≡ bytes_in old
+  pub last : now ≡ was
+
+-- what was read before the last take goes on
+pub record TakesWhatLacks (GoesOn : List ℕ → Type 0) (old new : List ℕ) (now : Option LastTake) :
+    Type 0 where
+  pub earlier : List ℕ
+  pub chunk : List ℕ
+  pub goes_on : GoesOn (old ++ earlier)
+  pub bytes : new ≡ (old ++ earlier) ++ chunk
+  pub size : length chunk ≡ brought now
+
+-- Reading stops at once: no take was made, or what was read before the last one goes on.
+abbrev pub StopsAtOnce : (List ℕ → Type 0) → Inbox → Inbox → (was now : Option LastTake) → Type 0
+StopsAtOnce GoesOn old new was now =
+    TakesNothing old new was now ⊎ TakesWhatLacks GoesOn (bytes_in old) (bytes_in new) now

@@ -1,0 +1,57 @@
+-- The table of routes.
+use Rattle.std.specs.Prelude.{◌≡◌, ℕ, List, [], ◌∷◌, Option, Some, None, Result, Ok, Err, codes}
+use Rattle.matchit.specs.Params.{walk}
+use Rattle.matchit.specs.Order.{placed}
+use Rattle.matchit.specs.Route.{Scan, parse_route}
+use Rattle.matchit.specs.Router.{RouteOf, nearest, route_from}
+use Rattle.matchit.specs.Rows.{RowsOf}
+use Rattle.matchit.specs.declared.error.InsertError.{InsertError}
+use Rattle.http_request.specs.declared.routing.routes.Route.{Route}
+use Rattle.http_request.specs.declared.routing.routes.Route.TheVariants.{Devices, List as ListRoute, Registers, Install, Exchange, Reset, Rescale, Manual, Close, Void, Days, Meter, Intervals, Poll}
+
+-- the rows of a router of these routes
+abbrev pub Table : Type 0
+Table = RowsOf (RouteOf Route)
+
+-- rows with one more route
+abbrev pub with_route : Result Scan InsertError → Route → Table → Table
+with_route (Ok s) value rows = placed (s.pattern, route_from s value) rows
+with_route (Err e) value rows = rows
+
+-- rows with one more route, by its text
+abbrev pub add : List ℕ → Route → Table → Table
+add text value rows = with_route (parse_route text) value rows
+
+-- a route's text reads well, and conflicts with none of the rows
+abbrev pub FitsRead : Result Scan InsertError → Table → Type 0
+FitsRead (Ok s) rows = nearest s.pattern rows ≡ None
+FitsRead (Err e) rows = ⊥
+
+abbrev pub Fits : List ℕ → Table → Type 0
+Fits text rows = FitsRead (parse_route text) rows
+
+-- the routes, each with what it asks for
+abbrev pub routes : Table
+routes =
+    add (codes "/polls/{number}") Poll (
+    add (codes "/meters/{name}/void") Void (
+    add (codes "/meters/{name}/intervals") Intervals (
+    add (codes "/meters/{name}") Meter (
+    add (codes "/registers/{name}/days") Days (
+    add (codes "/registers/{name}/close") Close (
+    add (codes "/registers/{name}/manual") Manual (
+    add (codes "/registers/{name}/rescale") Rescale (
+    add (codes "/registers/{name}/reset") Reset (
+    add (codes "/registers/{name}/exchange") Exchange (
+    add (codes "/registers/{name}/install") Install (
+    add (codes "/registers") Registers (
+    add (codes "/devices/{name}/list") ListRoute (
+    add (codes "/devices") Devices [])))))))))))))
+
+-- what a route's first parameter took of a path, if the route has one
+abbrev pub head_value : List (List ℕ × List ℕ) → Option (List ℕ)
+head_value [] = None
+head_value (p ∷ rest) = Some p.1
+
+abbrev pub param_of : RouteOf Route → List ℕ → Option (List ℕ)
+param_of r path = head_value (walk r.pattern r.text path r.names 0 0)

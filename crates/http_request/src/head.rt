@@ -1,0 +1,9 @@
+//! The head of a request: when one has come, and what its headers say.
+
+mod head;
+mod headers;
+mod lines;
+
+pub use head::{Head, Look, MOST_BYTES, MOST_HEADERS, look_at};
+pub use headers::{Given, header_value};
+pub use lines::has_head_end;

@@ -1,0 +1,45 @@
+//! The headers of a head, by name.
+ghost use Rattle.std.specs.Prelude.{◌≡◌, ℕ, List, [], ◌∷◌, ◌++◌, length, map, All};
+ghost use Rattle.httparse.specs.Spans.{IsHeaderWithin, header_bytes};
+ghost use Rattle.http_request.specs.Head.Headers.{same_name, values_of, Gives};
+
+use httparse::spans::HeaderSpan;
+
+/// How often a header is given.
+#[derive(Clone, Copy, Debug, PartialEq, Eq)]
+pub enum Given<'b> {
+    Never,
+    Once(&'b [u8]),
+    Often,
+}
+
+fn same_name(one: &[u8], other: &[u8]) -> bool
+    ensures { result ≡ same_name one.now other.now }
+{
+    one.eq_ignore_ascii_case(other)
+}
+
+// What was found, and one value more.
+fn one_more<'b>(found: Given<'b>, value: &'b [u8]) -> Given<'b>
+    ensures { (values : List (List ℕ)) → Gives found.entry values
+        → Gives result (values ++ value.now ∷ []) }
+{
+    match found {
+        Given::Never => Given::Once(value),
+        Given::Once(_) | Given::Often => Given::Often,
+    }
+}
+
+/// The value of the header of this name, in whatever case it is written.
+pub fn header_value<'b>(bytes: &'b [u8], headers: &[HeaderSpan], name: &[u8]) -> Given<'b>
+    requires within { All (IsHeaderWithin (length bytes.now)) headers.now }
+    ensures { Gives result (values_of name.now (map (header_bytes bytes.now) headers.now)) }
+{
+    let mut found = Given::Never;
+    for header in headers {
+        if same_name(header.name.of(bytes), name) {
+            found = one_more(found, header.value.of(bytes));
+        }
+    }
+    found
+}

@@ -1,0 +1,64 @@
+//! Lines, and the empty line that ends a head.
+ghost use Rattle.std.specs.Prelude.{◌≡◌, length};
+ghost use Rattle.http_request.specs.Head.Lines.{has_head_end, is_empty_line, lines_of_head};
+
+// Whether a line that a line feed ended is empty: no byte, or a carriage return alone.
+fn is_empty_line(line: &[u8]) -> bool
+    ensures { result ≡ is_empty_line line.now }
+{
+    match line {
+        [] => true,
+        [byte] => *byte == b'\r',
+        _ => false,
+    }
+}
+
+// What a scan for the end of a head found.
+#[derive(Clone, Copy)]
+struct LineScan {
+    // How many lines the head has: those before the empty line that ends it.
+    lines: usize,
+    // Whether that empty line has come.
+    ended: bool,
+}
+
+// Scans the bytes for an empty line after one that is not empty.
+fn scan(bytes: &[u8]) -> LineScan
+    ensures lines { result.lines ≡ length (lines_of_head bytes.now) }
+    ensures ended { result.ended ≡ has_head_end bytes.now }
+{
+    let mut text_seen = false;
+    let mut lines = 0;
+    let mut start = 0;
+    for (i, byte) in bytes.iter().enumerate() {
+        if *byte == b'\n' {
+            if is_empty_line(&bytes[start..i]) {
+                if text_seen {
+                    return LineScan { lines, ended: true };
+                }
+            } else {
+                text_seen = true;
+                lines += 1;
+            }
+            start = i + 1;
+        }
+    }
+    LineScan {
+        lines,
+        ended: false,
+    }
+}
+
+/// Whether the bytes hold an empty line after one that is not empty.
+pub fn has_head_end(bytes: &[u8]) -> bool
+    ensures { result ≡ has_head_end bytes.now }
+{
+    scan(bytes).ended
+}
+
+/// How many lines a head has: those before the empty line that ends it.
+pub fn head_line_count(bytes: &[u8]) -> usize
+    ensures { result ≡ length (lines_of_head bytes.now) }
+{
+    scan(bytes).lines
+}

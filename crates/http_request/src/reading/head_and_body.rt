@@ -1,0 +1,56 @@
+//! Reads on until a head has come, or a bad one, and until a body has come.
+ghost use Rattle.std.specs.Prelude.{◌≡◌, ◌≤◌, ◌<◌, OnOk, length};
+ghost use Rattle.std.specs.Io.KnownBytes.{Keeps};
+ghost use Rattle.mb_wire.specs.Links.{risen};
+ghost use Rattle.http_request.specs.Reading.Taking.{CountsTakes, EndedBy, bytes_in, is_read_fault, room_of};
+ghost use Rattle.http_request.specs.Reading.HeadAndBody.{ReadsHead, ReadsUpTo, StopsAtOnce};
+ghost use Rattle.http_request.specs.Head.Heads.{IsOpenHead};
+
+use crate::reading::inbox::{Inbox, TakeFault};
+use crate::head::{Look, look_at};
+use mb_wire::Link;
+
+/// Takes until what was taken holds a head, or a bad one. The look that it answers is not Open.
+pub fn read_head<L: Link>(inbox: &mut Inbox<'_>, link: &mut L) -> Result<Look, TakeFault>
+    requires { 8192 ≤ room_of inbox.old }
+    ensures reads { ReadsHead result (bytes_in inbox.old) (bytes_in inbox.new)
+        (L.remaining link.old) (L.remaining link.new) }
+    ensures takes { CountsTakes result inbox.old inbox.new (L.taken link.old) (L.taken link.new) }
+    ensures last { EndedBy result (L.last link.new) }
+    ensures stops { OnOk result
+        (StopsAtOnce IsOpenHead inbox.old inbox.new (L.last link.old) (L.last link.new)) }
+    ensures given { Keeps (L.given link.old) (L.given link.new) }
+    ensures failures { L.failed link.new ≡ risen (is_read_fault result) (L.failed link.old) }
+{
+    'takes: loop {
+        let look = look_at(inbox.bytes());
+        if !look.is_open() {
+            return Ok(look);
+        }
+        inbox.take_more(link)?;
+    }
+}
+
+/// Takes until there are so many bytes.
+pub fn read_body<L: Link>(
+    inbox: &mut Inbox<'_>,
+    link: &mut L,
+    count: usize,
+) -> Result<(), TakeFault>
+    requires { count ≤ room_of inbox.old }
+    ensures reads { ReadsUpTo count result (bytes_in inbox.old) (bytes_in inbox.new)
+        (L.remaining link.old) (L.remaining link.new) }
+    ensures takes { CountsTakes result inbox.old inbox.new (L.taken link.old) (L.taken link.new) }
+    ensures last { EndedBy result (L.last link.new) }
+    ensures stops { OnOk result (StopsAtOnce (λ bytes. length bytes < count)
+        inbox.old inbox.new (L.last link.old) (L.last link.new)) }
+    ensures given { Keeps (L.given link.old) (L.given link.new) }
+    ensures failures { L.failed link.new ≡ risen (is_read_fault result) (L.failed link.old) }
+{
+    'takes: loop {
+        if inbox.bytes().len() >= count {
+            return Ok(());
+        }
+        inbox.take_more(link)?;
+    }
+}

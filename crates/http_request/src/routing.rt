@@ -1,0 +1,7 @@
+//! Where the target of a request leads: the table of routes, sought by `matchit`.
+
+mod routes;
+mod targets;
+
+pub use routes::{Route, router};
+pub use targets::{Found, route_of};

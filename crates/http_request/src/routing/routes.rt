@@ -1,0 +1,83 @@
+//! The routes, and their router.
+ghost use Rattle.std.specs.Prelude.{◌≡◌, IfOk, OnOk};
+ghost use Rattle.http_request.specs.Routing.Routes.{Fits, add, routes};
+
+use matchit::{InsertError, Router};
+use std::alloc::{AllocError, Global};
+
+/// What a target asks for.
+#[derive(Clone, Copy, Debug, PartialEq, Eq, Drop)]
+pub enum Route {
+    Devices,
+    List,
+    Registers,
+    Install,
+    Exchange,
+    Reset,
+    Rescale,
+    Manual,
+    Close,
+    Void,
+    Days,
+    Meter,
+    Intervals,
+    Poll,
+}
+
+impl Route {
+    ghost use Rattle.http_request.specs.Routing.Targets.{is_question, method_of};
+
+    /// Whether it asks for something; the others are commands, which change something.
+    pub fn is_question(self) -> bool
+        ensures { result ≡ is_question self }
+    {
+        matches!(
+            self,
+            Route::Days | Route::Meter | Route::Intervals | Route::Poll
+        )
+    }
+
+    /// The method of its requests.
+    pub fn method(self) -> &'static [u8]
+        ensures { result.now ≡ method_of self }
+    {
+        if self.is_question() { b"GET" } else { b"POST" }
+    }
+}
+
+// Adds a route whose text reads well, and which fits those before it.
+fn add(router: &mut Router<Route>, text: &str, route: Route) -> Result<(), AllocError>
+    requires { Fits text.now router.old }
+    ensures { OnOk result (router.new ≡ add text.now route router.old) }
+{
+    match router.insert(text, route) {
+        Ok(()) => Ok(()),
+        Err(InsertError::OutOfMemory) => Err(AllocError),
+        Err(InsertError::Conflict { .. }) => unreachable!(),
+        Err(InsertError::InvalidParamSegment) => unreachable!(),
+        Err(InsertError::InvalidParam) => unreachable!(),
+        Err(InsertError::InvalidCatchAll) => unreachable!(),
+    }
+}
+
+/// The router of the table.
+pub fn router(alloc: Global) -> Result<Router<Route>, AllocError>
+    ensures { IfOk result (λ r. r ≡ routes) }
+{
+    let mut router = Router::new(alloc);
+    add(&mut router, "/devices", Route::Devices)?;
+    add(&mut router, "/devices/{name}/list", Route::List)?;
+    add(&mut router, "/registers", Route::Registers)?;
+    add(&mut router, "/registers/{name}/install", Route::Install)?;
+    add(&mut router, "/registers/{name}/exchange", Route::Exchange)?;
+    add(&mut router, "/registers/{name}/reset", Route::Reset)?;
+    add(&mut router, "/registers/{name}/rescale", Route::Rescale)?;
+    add(&mut router, "/registers/{name}/manual", Route::Manual)?;
+    add(&mut router, "/registers/{name}/close", Route::Close)?;
+    add(&mut router, "/registers/{name}/days", Route::Days)?;
+    add(&mut router, "/meters/{name}", Route::Meter)?;
+    add(&mut router, "/meters/{name}/intervals", Route::Intervals)?;
+    add(&mut router, "/meters/{name}/void", Route::Void)?;
+    add(&mut router, "/polls/{number}", Route::Poll)?;
+    Ok(router)
+}

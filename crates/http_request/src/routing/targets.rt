@@ -1,0 +1,85 @@
+//! Where the target of a request leads.
+ghost use Rattle.std.specs.Prelude.{◌≡◌, IfSome, IsUtf8, None, option_map};
+ghost use Rattle.std.specs.Str.{IsAscii};
+ghost use Rattle.matchit.specs.Params.{walk};
+ghost use Rattle.http_request.specs.Routing.Routes.{head_value};
+ghost use Rattle.http_request.specs.Routing.Targets.{first_name, first_route, has_query, name_in, name_of, route_in};
+
+use crate::routing::routes::Route;
+use matchit::{Params, Router};
+use std::str::from_utf8;
+
+/// Where a target leads: its route, and what the route's parameter took of it.
+#[derive(Clone, Copy, Debug, PartialEq, Eq, Drop)]
+pub struct Found<'v> {
+    pub route: Route,
+    pub name: Option<&'v str>,
+}
+
+// What the first parameter took.
+fn first_value<'v>(params: &Params<'_, 'v>) -> Option<&'v str>
+    requires { IsAscii params.now.path.now }
+    ensures { let p = params.now in option_map (λ s. s.now) result
+        ≡ head_value (walk p.pattern.now p.text.now p.path.now p.names.now 0 0) }
+{
+    let mut values = params.iter();
+    match values.next() {
+        Some((_, value)) => Some(value),
+        None => None,
+    }
+}
+
+// The route of a target of ASCII bytes.
+fn found_at<'v>(router: &Router<Route>, target: &'v str) -> Option<Found<'v>>
+    requires { IsAscii target.now }
+    ensures route { option_map (λ f. f.route) result ≡ first_route router.now target.now }
+    ensures name { IfSome result (λ f. name_of f ≡ first_name router.now target.now) }
+{
+    match router.at(target) {
+        Ok(found) => Some(Found {
+            route: *found.value,
+            name: first_value(&found.params),
+        }),
+        Err(_) => None,
+    }
+}
+
+fn has_query(target: &[u8]) -> bool
+    ensures { result ≡ has_query target.now }
+{
+    target.iter().any(|byte| *byte == b'?')
+}
+
+// The route of a text with a byte past ASCII: its parameter is not read, since no name has such a byte.
+fn bare_route<'v>(router: &Router<Route>, target: &'v str) -> Option<Found<'v>>
+    ensures route { option_map (λ f. f.route) result ≡ first_route router.now target.now }
+    ensures name { IfSome result (λ f. name_of f ≡ None) }
+{
+    match router.at(target) {
+        Ok(found) => Some(Found {
+            route: *found.value,
+            name: None,
+        }),
+        Err(_) => None,
+    }
+}
+
+/// The route of a target, and what its parameter took. The table is the router's: `router` makes it.
+#[tactic(auto, using(crate::proofs::RoutingLemmas::Plain::all_ascii, crate::proofs::RoutingLemmas::Plain::not_ascii))]
+pub fn route_of<'v>(router: &Router<Route>, target: &'v [u8]) -> Option<Found<'v>>
+    requires { IsUtf8 target.now }
+    ensures route { option_map (λ f. f.route) result ≡ route_in router.now target.now }
+    ensures name { IfSome result (λ f. name_of f ≡ name_in router.now target.now) }
+{
+    if has_query(target) {
+        return None;
+    }
+    let Ok(text) = from_utf8(target) else {
+        return None;
+    };
+    if text.is_ascii() {
+        found_at(router, text)
+    } else {
+        bare_route(router, text)
+    }
+}

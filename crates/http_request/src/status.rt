@@ -1,0 +1,57 @@
+//! The statuses of replies.
+
+ghost use Rattle.std.specs.Prelude.{◌≡◌};
+ghost use Rattle.http_request.specs.Status.Statuses.{number_of_status, reason_of_status};
+
+/// The status of a reply.
+#[derive(Clone, Copy, Debug, PartialEq, Eq)]
+pub enum Status {
+    Fine,
+    BadRequest,
+    NotFound,
+    MethodNotAllowed,
+    Conflict,
+    LengthRequired,
+    ContentTooLarge,
+    Unprocessable,
+    FieldsTooLarge,
+    Unavailable,
+}
+
+impl Status {
+    /// The number that a reply gives.
+    pub fn number(self) -> u16
+        ensures { result ≡ number_of_status self }
+    {
+        match self {
+            Status::Fine => 200,
+            Status::BadRequest => 400,
+            Status::NotFound => 404,
+            Status::MethodNotAllowed => 405,
+            Status::Conflict => 409,
+            Status::LengthRequired => 411,
+            Status::ContentTooLarge => 413,
+            Status::Unprocessable => 422,
+            Status::FieldsTooLarge => 431,
+            Status::Unavailable => 503,
+        }
+    }
+
+    /// The words behind the number.
+    pub fn reason(self) -> &'static [u8]
+        ensures { result.now ≡ reason_of_status self }
+    {
+        match self {
+            Status::Fine => b"OK",
+            Status::BadRequest => b"Bad Request",
+            Status::NotFound => b"Not Found",
+            Status::MethodNotAllowed => b"Method Not Allowed",
+            Status::Conflict => b"Conflict",
+            Status::LengthRequired => b"Length Required",
+            Status::ContentTooLarge => b"Content Too Large",
+            Status::Unprocessable => b"Unprocessable Content",
+            Status::FieldsTooLarge => b"Request Header Fields Too Large",
+            Status::Unavailable => b"Service Unavailable",
+        }
+    }
+}

@@ -1,0 +1,107 @@
+//! A whole request, read from a link: its head, and the body that belongs to it.
+
+ghost use Rattle.std.specs.Prelude.{◌≡◌, ◌≤◌, IsUtf8, OnOk};
+ghost use Rattle.std.specs.Io.KnownBytes.{Keeps};
+ghost use Rattle.httparse.specs.Spans.{span_bytes};
+ghost use Rattle.mb_wire.specs.Links.{risen};
+ghost use Rattle.http_request.specs.Head.Heads.{IsHeadAt, IsPlaced};
+ghost use Rattle.http_request.specs.HeadTests.{start_at};
+ghost use Rattle.http_request.specs.Reading.HeadAndBody.{StopsAtOnce};
+ghost use Rattle.http_request.specs.Reading.Taking.{CountsTakes, EndedBy, bytes_in, is_read_fault, room_of};
+ghost use Rattle.http_request.specs.Whole.Whole.{GoesOn, Holds, HoldsRequest, IsWhole, ReadsRequest, RequestsAreOne, TestsRequest, body_of, body_size};
+
+use crate::head::{Head, Look, MOST_BYTES};
+use crate::reading::{Inbox, TakeFault, read_body, read_head};
+use crate::{Ask, MOST_BODY, ask_of};
+use crate::routing::Route;
+use crate::status::Status;
+use matchit::Router;
+use mb_wire::Link;
+
+/// How many bytes of room a request needs at most.
+pub const MOST_ROOM: usize = MOST_BYTES + MOST_BODY;
+
+// How many bytes of a body a head wants.
+fn body_size(router: &Router<Route>, bytes: &[u8], head: &Head) -> usize
+    requires text { IsUtf8 (span_bytes bytes.now head.now.target) }
+    requires placed { IsPlaced bytes.now head.now }
+    ensures size { result ≡ body_size router.now (start_at bytes.now head.now) }
+    ensures most { result ≤ 65536 }
+{
+    match ask_of(router, bytes, head) {
+        Ok(Ask::Command(_, posted)) => posted.size as usize,
+        Ok(Ask::Question(_)) | Err(_) => 0,
+    }
+}
+
+/// Takes until what was taken holds a whole request, or a bad head. The look that it answers is not Open.
+pub fn read_request<L: Link>(
+    router: &Router<Route>,
+    inbox: &mut Inbox<'_>,
+    link: &mut L,
+) -> Result<Look, TakeFault>
+    requires { 73728 ≤ room_of inbox.old }
+    ensures reads { ReadsRequest router.now result (bytes_in inbox.old) (bytes_in inbox.new)
+        (L.remaining link.old) (L.remaining link.new) }
+    ensures takes { CountsTakes result inbox.old inbox.new (L.taken link.old) (L.taken link.new) }
+    ensures last { EndedBy result (L.last link.new) }
+    ensures stops { OnOk result (StopsAtOnce (GoesOn router.now)
+        inbox.old inbox.new (L.last link.old) (L.last link.new)) }
+    ensures given { Keeps (L.given link.old) (L.given link.new) }
+    ensures failures { L.failed link.new ≡ risen (is_read_fault result) (L.failed link.old) }
+{
+    let look = read_head(inbox, link)?;
+    if let Look::Whole(head) = &look {
+        let size = body_size(router, inbox.bytes(), head);
+        read_body(inbox, link, head.len + size)?;
+    }
+    Ok(look)
+}
+
+/// What a whole request asks for, or the status that answers it.
+pub fn ask_in<'b>(router: &Router<Route>, bytes: &'b [u8], look: &Look) -> Result<Ask<'b>, Status>
+    requires { Holds router.now bytes.now look.now }
+    ensures { TestsRequest router.now bytes.now look.now result }
+{
+    match look {
+        Look::TooLarge => Err(Status::FieldsTooLarge),
+        Look::NoHead => Err(Status::BadRequest),
+        Look::Whole(head) => ask_of(router, bytes, head),
+        Look::Open => unreachable!(),
+    }
+}
+
+/// The body of a whole request: empty unless it is a command that passes the tests of its head.
+pub fn body_in<'b>(router: &Router<Route>, bytes: &'b [u8], head: &Head) -> &'b [u8]
+    requires { IsWhole router.now bytes.now head.now }
+    ensures { result.now ≡ body_of router.now bytes.now head.now }
+{
+    let size = body_size(router, bytes, head);
+    &bytes[head.len..head.len + size]
+}
+
+/// A law: the heads that two looks at the same bytes find say the same.
+pub fn one_head(bytes: &[u8], one: &Head, other: &Head)
+    requires one { IsHeadAt bytes.now one.now }
+    requires other { IsHeadAt bytes.now other.now }
+    ensures start { start_at bytes.now one.now ≡ start_at bytes.now other.now }
+    ensures len { one.now.len ≡ other.now.len }
+{}
+
+/// A law: bytes that go on, or lack a part of the body, hold no whole request.
+pub fn no_request(router: &Router<Route>, bytes: &[u8], head: &Head)
+    requires { GoesOn router.now bytes.now }
+    ensures { IsWhole router.now bytes.now head.now → ⊥ }
+{}
+
+/// A law: a look at a whole request finds the request that the bytes hold.
+pub fn a_look_finds_the_request(router: &Router<Route>, bytes: &[u8], head: &Head)
+    requires { IsWhole router.now bytes.now head.now }
+    ensures { HoldsRequest router.now bytes.now (start_at bytes.now head.now)
+        (body_of router.now bytes.now head.now) }
+{}
+
+/// A law: bytes hold one request at most.
+pub fn requests_are_one()
+    ensures { RequestsAreOne }
+{}

@@ -1,8 +1,0 @@
-//! Where the target of a request leads: the table of routes, sought by `matchit`.
-#![tactic(auto)]
-
-mod routes;
-mod targets;
-
-pub use routes::{Route, router};
-pub use targets::{Found, route_of};

@@ -1,0 +1,6 @@
+-- How long a connection is served, as a number.
+use Rattle.std.proofs.Common.{◌≡◌, refl}
+use Rattle.mb_device.specs.declared.stand_in.connections.TheConstants.{MOST_TURNS}
+
+most_turns : MOST_TURNS ≡ 100000
+most_turns = refl

@@ -1,0 +1,5 @@
+//! A stand-in for a device, which answers on a listener.
+
+mod connections;
+
+pub use connections::{MOST_TURNS, answer_all, answer_one};

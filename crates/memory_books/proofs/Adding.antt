@@ -1,0 +1,85 @@
+-- Facts that are added behind the others.
+use Rattle.std.proofs.Common.{◌≡◌, true, false, List, [], ◌∷◌, ◌++◌, reverse, inl, inr, refl, sym, ap, subst, ◌∙◌, Ok, Err}
+use Rattle.std.proofs.lemmas.List.{append-nil, reverse-append, reverse-reverse}
+use Rattle.office_events.specs.declared.facts.Fact.{Fact}
+use Rattle.office_rules.specs.Lawful.{AreLawful}
+use Rattle.memory_books.specs.declared.tables.tables.Tables.{Tables}
+use Rattle.memory_books.specs.Tables.Whole.{HaveCome}
+use Rattle.memory_books.proofs.TablesLemmas.Wholes.{have_come_with}
+use Rattle.office_books.specs.declared.faults.BooksFault.{BooksFault}
+use Rattle.office_books.specs.declared.faults.BooksFault.TheVariants.{Store, Memory}
+use Rattle.office_books.specs.Ledgers.{KeepsFacts, Books, with_facts}
+use Rattle.memory_books.specs.declared.list_books.ListBooks.{ListBooks}
+use Rattle.memory_books.specs.declared.figures.Figures.{Figures}
+use Rattle.memory_books.specs.Figures.{AreFigures}
+use Rattle.memory_books.specs.Listed.{AreListed, GoOn, HasOne, ledger_of}
+
+behind : (known facts : List Fact) → reverse known ++ facts ≡ reverse (with_facts facts known)
+behind known facts = sym (reverse-append (reverse facts) known ∙ ap (λ (xs : List Fact). reverse known ++ xs) (reverse-reverse facts))
+
+listed_on : (old new : ListBooks) (known facts : List Fact) → new.facts.items ≡ old.facts.items ++ facts → new.tables ≡ old.tables → GoOn facts old new
+    → AreListed old known → AreLawful (with_facts facts known) → AreListed new (with_facts facts known)
+listed_on old new known facts is tables figures listed lawful = record {
+  lawful = lawful;
+  facts = is ∙ ap (λ (xs : List Fact). xs ++ facts) listed.facts ∙ behind known facts;
+  tables = subst (λ (t : Tables). HaveCome t new.facts.items) (sym tables)
+      (subst (HaveCome old.tables) (sym is) (have_come_with old.tables old.facts.items facts listed.tables));
+  figures = figures known listed.facts listed.figures;
+}
+
+listed_still : (old new : ListBooks) (known : List Fact) → new.facts.items ≡ old.facts.items → new.tables ≡ old.tables → AreFigures new.figures known
+    → AreListed old known → AreListed new known
+listed_still old new known same tables figures listed = record {
+  lawful = listed.lawful;
+  facts = same ∙ listed.facts;
+  tables = subst (λ (t : Tables). HaveCome t new.facts.items) (sym tables) (subst (HaveCome old.tables) (sym same) listed.tables);
+  figures = figures;
+}
+
+-- books that hold what others held
+pub one_still : (old new : ListBooks) → ((known : List Fact) → AreListed old known → AreListed new known) → (left : List (List Fact)) → HasOne old left → HasOne new left
+one_still old new still [] may = may
+one_still old new still (known ∷ left) (inl listed) = inl (still known listed)
+one_still old new still (known ∷ left) (inr may) = inr (one_still old new still left may)
+
+one_among : (books : ListBooks) (left more : List (List Fact)) → HasOne books left → HasOne books (left ++ more)
+one_among books [] more may = absurd may
+one_among books (known ∷ left) more (inl listed) = inl listed
+one_among books (known ∷ left) more (inr may) = inr (one_among books left more may)
+
+-- figures after no facts
+figures_after_none : (old new : ListBooks) (facts known : List Fact) → facts ≡ [] → GoOn facts old new → AreListed old known → AreFigures new.figures known
+figures_after_none old new facts known none figures listed =
+    subst (λ (fs : List Fact). AreFigures new.figures (with_facts fs known)) none (figures known listed.facts listed.figures)
+
+-- the facts were added, and the tables came further
+pub added : (old mid new : ListBooks) (facts : List Fact) → mid.facts.items ≡ old.facts.items ++ facts → mid.zone ≡ old.zone → mid.tables ≡ old.tables
+    → GoOn facts old mid → KeepsFacts (ledger_of mid) (ledger_of new) → new.zone ≡ mid.zone → Books (ledger_of old) (ledger_of new) facts (Ok tt)
+added old mid new facts is zone tables figures keeps still_zone = record {
+  booked = λ known listed lawful. keeps.facts (with_facts facts known) (listed_on old mid known facts is tables figures listed lawful);
+  settled = λ some known listed lawful. inl (keeps.facts (with_facts facts known) (listed_on old mid known facts is tables figures listed lawful));
+  refused = λ known listed. tt;
+  under_way = λ known left listed lawful may. tt;
+  nothing = λ none.
+      let same : mid.facts.items ≡ old.facts.items = is ∙ ap (λ (xs : List Fact). old.facts.items ++ xs) none ∙ append-nil old.facts.items in
+      let still : (known : List Fact) → AreListed old known → AreListed mid known =
+      λ known listed. listed_still old mid known same tables (figures_after_none old mid facts known none figures listed) listed in
+      (refl, record { facts = λ known listed. keeps.facts known (still known listed); left = λ left may. keeps.left left (one_still old mid still left may) });
+  goes = record { clean = λ c. c; faults = refl; zone = still_zone ∙ zone };
+}
+
+-- there was no room for them
+pub not_added : (old new : ListBooks) (facts : List Fact) (why : BooksFault) → why ≡ Memory → new.facts.items ≡ old.facts.items → new.zone ≡ old.zone
+    → new.tables ≡ old.tables → new.figures ≡ old.figures → (facts ≡ [] → false ≡ true) → Books (ledger_of old) (ledger_of new) facts (Err why)
+not_added old new facts (Store fault) memory same zone tables figures some = absurd (cc)
+not_added old new facts Memory memory same zone tables figures some =
+    let still : (known : List Fact) → AreListed old known → AreListed new known =
+    λ known listed. listed_still old new known same tables (subst (λ (f : Figures). AreFigures f known) (sym figures) listed.figures) listed in
+    record {
+      booked = λ known listed lawful. tt;
+      settled = λ some known listed lawful. tt;
+      refused = still;
+      under_way = λ known left listed lawful may. one_among new left _ (one_still old new still left may);
+      nothing = λ none. absurd (let never : false ≡ true = some none in cc);
+      goes = record { clean = λ c. c; faults = refl; zone = zone };
+    }

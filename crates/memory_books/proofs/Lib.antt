@@ -1,0 +1,5 @@
+pub mod TablesLemmas
+pub mod Adding
+pub mod Counting
+pub mod Handed
+pub mod Reading

@@ -1,0 +1,4 @@
+pub mod Tables
+pub mod Figures
+pub mod Looking
+pub mod Listed

@@ -1,0 +1,47 @@
+-- The meters, by name.
+use Rattle.std.specs.Prelude.{◌≡◌, ℕ, false, List, Option, Some, None}
+use Rattle.std.specs.BTreeMap.{get}
+use Rattle.meter_journal.specs.Lists as lists
+use Rattle.office_events.specs.declared.facts.Opening.{Opening}
+use Rattle.office_events.specs.declared.facts.Fact.{Fact}
+use Rattle.office_rules.specs.Facts.{same, opening_of}
+use Rattle.office_rules.specs.Meters.{rows_of, installation_of}
+use Rattle.memory_books.specs.declared.tables.meter.Meter.{Meter}
+use Rattle.memory_books.specs.declared.tables.meters.Meters.{Meters}
+use Rattle.memory_books.specs.Tables.Keys.{key_cmp, named}
+use Rattle.memory_books.specs.Tables.Moving.{HasBegun}
+
+-- the meter of a name
+abbrev pub meter_at : Meters → List ℕ → Option Meter
+meter_at meters name = get key_cmp meters.meters (named name)
+
+-- the meter stands as the facts say of an installation that was found
+pub record Stands (known : List Fact) (meter : Meter) (found : Option Opening) : Type 0 where
+  pub opening : Opening
+  pub there : found ≡ Some opening
+  pub row : meter.row ≡ installation_of known opening
+  pub rows : lists.latest_first meter.rows.items ≡ rows_of known opening
+
+abbrev pub IsMeter : List Fact → Option Meter → Option Opening → Type 0
+IsMeter known None found = found ≡ None
+IsMeter known (Some meter) found = Stands known meter found
+
+-- Each meter that was installed is there under its name, and stands as the facts say.
+abbrev pub AreMeters : Meters → List Fact → Type 0
+AreMeters meters known =
+    (name : List ℕ) → IsMeter known (meter_at meters name) (opening_of known name)
+
+-- this became of the meter of a name, and the others are as they were
+pub record Changes (meter : List ℕ) (became : Option Meter → Option Meter → Type 0)
+    (old new : Meters) : Type 0 where
+  pub own : became (meter_at old meter) (meter_at new meter)
+  pub others : (name : List ℕ) → same meter name ≡ false → meter_at new name ≡ meter_at old name
+
+-- it is there, and has begun
+abbrev pub Begins : Opening → Option Meter → Option Meter → Type 0
+Begins opening old new = (meter : Meter) × (new ≡ Some meter) × HasBegun opening meter
+
+-- if there is one, this became of it
+abbrev pub IfThere : (Meter → Meter → Type 0) → Option Meter → Option Meter → Type 0
+IfThere became None new = new ≡ None
+IfThere became (Some old) new = (meter : Meter) × (new ≡ Some meter) × became old meter

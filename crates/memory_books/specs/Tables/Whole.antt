@@ -1,0 +1,45 @@
+-- All tables of some facts.
+use Rattle.std.specs.Prelude.{◌≡◌, List, reverse}
+use Rattle.office_events.specs.declared.facts.Fact.{Fact}
+use Rattle.office_rules.specs.Lawful.{AreLawful}
+use Rattle.memory_books.specs.declared.tables.places.Kind.{Kind}
+use Rattle.memory_books.specs.declared.tables.places.Kind.TheVariants.{DeviceLists, Registers, DeviceRegisters, RegisterOpenings, Replies}
+use Rattle.memory_books.specs.declared.tables.places.Places.{Places}
+use Rattle.memory_books.specs.declared.tables.table.Kept.{Kept}
+use Rattle.memory_books.specs.declared.tables.tables.Tables.{Tables}
+use Rattle.memory_books.specs.Tables.Growing.{HasCome}
+use Rattle.memory_books.specs.Tables.Meters.{AreMeters}
+use Rattle.memory_books.specs.Tables.Places.{ArePlaces, ArePlacesOf}
+use Rattle.memory_books.specs.Tables.Polls.{ArePolls, ArePending}
+
+-- a table of places of a kind
+pub record HasPlaces (kind : Kind) (kept : Kept Places) (facts : List Fact) : Type 0 where
+  pub come : HasCome ArePlaces kept facts
+  pub kind_is : kept.table.kind ≡ kind
+
+-- Each table says what the first of these facts say, as many as it has.
+pub record HaveCome (tables : Tables) (facts : List Fact) : Type 0 where
+  pub polls : HasCome ArePolls tables.polls facts
+  pub pending : HasCome ArePending tables.pending facts
+  pub lists : HasPlaces DeviceLists tables.lists facts
+  pub registers : HasPlaces Registers tables.registers facts
+  pub device_registers : HasPlaces DeviceRegisters tables.device_registers facts
+  pub openings : HasPlaces RegisterOpenings tables.openings facts
+  pub replies : HasPlaces Replies tables.replies facts
+  pub meters : HasCome AreMeters tables.meters facts
+
+-- Each says what all of these say, the latest first.
+pub record AreWhole (tables : Tables) (known : List Fact) : Type 0 where
+  pub polls : ArePolls tables.polls.table known
+  pub pending : ArePending tables.pending.table known
+  pub lists : ArePlacesOf DeviceLists tables.lists.table known
+  pub registers : ArePlacesOf Registers tables.registers.table known
+  pub device_registers : ArePlacesOf DeviceRegisters tables.device_registers.table known
+  pub openings : ArePlacesOf RegisterOpenings tables.openings.table known
+  pub replies : ArePlacesOf Replies tables.replies.table known
+  pub meters : AreMeters tables.meters.table known
+
+-- so it is by lawful facts, in the order in which they came, of which the tables are whole
+abbrev pub WhereWhole : Tables → (facts : List Fact) → (List Fact → Type 0) → Type 0
+WhereWhole tables facts so =
+    (known : List Fact) → facts ≡ reverse known → AreLawful known → AreWhole tables known → so known

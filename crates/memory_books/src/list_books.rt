@@ -1,0 +1,198 @@
+//! Books in memory.
+ghost use Rattle.std.specs.Prelude.{◌≡◌, List, [], ◌++◌, OnOk, OnErr, IfErr, IsOk};
+ghost use Rattle.office_books.specs.declared.faults.BooksFault.TheVariants.{Memory};
+ghost use Rattle.office_events.specs.declared.facts.Fact.{Fact};
+ghost use Rattle.memory_books.specs.Tables.Whole.{AreWhole};
+ghost use Rattle.memory_books.specs.Listed.{AreListed};
+
+use crate::figures::Figures;
+use crate::lookups;
+use interval_core::{Share, Zone};
+use crate::tables::Tables;
+use office_books::{Books, BooksFault, Repeat, RowSink};
+use office_events::{
+    Device, EntryPlace, Fact, Installation, Name, PlannedList, Poll, PollRow, Register,
+};
+use std::alloc::Global;
+
+/// Books in memory: a list of the facts, in the order in which they came, tables of what they say, and figures. They have no
+/// store, and so never answer `BooksFault::Store`: a call fails only for want of memory, and then changes nothing.
+#[derive(Drop)]
+pub struct ListBooks {
+    facts: Vec<Fact>,
+    zone: Zone,
+    tables: Tables,
+    figures: Figures,
+}
+
+impl ListBooks {
+    ghost use Rattle.office_books.specs.Ledgers.{KeepsFacts};
+    ghost use Rattle.memory_books.specs.Listed.{ledger_of, GoOn};
+
+    /// Books that hold nothing yet.
+    pub fn new(alloc: Global, zone: Zone) -> ListBooks
+        ensures empty { AreListed result [] }
+        ensures zone { result.zone ≡ zone }
+    {
+        ListBooks {
+            facts: Vec::new(alloc),
+            zone,
+            tables: Tables::new(alloc),
+            figures: Figures::new(),
+        }
+    }
+
+    /// Adds to the tables what they lack. For want of memory they lack some yet.
+    fn catch_up(&mut self) -> Result<(), BooksFault>
+        ensures keeps { KeepsFacts (ledger_of self.old) (ledger_of self.new) }
+        ensures whole { (known : List Fact) → AreListed self.old known
+            → OnOk result (AreWhole self.new.tables known) }
+        ensures facts { self.new.facts ≡ self.old.facts }
+        ensures figures { self.new.figures ≡ self.old.figures }
+        ensures zone { self.new.zone ≡ self.old.zone }
+        ensures memory { IfErr result (λ e. e ≡ Memory) }
+    {
+        self.tables.catch_up(&self.facts)?;
+        Ok(())
+    }
+
+    /// Adds facts behind the others: all of them or, where memory is wanting, none.
+    fn add(&mut self, facts: Vec<Fact>) -> Result<(), BooksFault>
+        ensures ok { OnOk result (self.new.facts.items ≡ self.old.facts.items ++ facts.items) }
+        ensures figures { OnOk result (GoOn facts.items self.old self.new) }
+        ensures err { OnErr result (self.new.facts.items ≡ self.old.facts.items) }
+        ensures same_figures { OnErr result (self.new.figures ≡ self.old.figures) }
+        ensures zone { self.new.zone ≡ self.old.zone }
+        ensures tables { self.new.tables ≡ self.old.tables }
+        ensures memory { IfErr result (λ e. e ≡ Memory) }
+        ensures nothing { facts.items ≡ [] → IsOk result }
+    {
+        let figures = self.figures.after_all(&facts);
+        let mut more = facts;
+        self.facts.append(&mut more)?;
+        self.figures = figures;
+        Ok(())
+    }
+}
+
+impl Books for ListBooks {
+    ghost use Rattle.memory_books.specs.Listed.{ledger_of};
+
+    ghost ledger = { ledger_of };
+
+    fn faults(&self) -> u64 {
+        0
+    }
+
+    fn zone(&self) -> Zone {
+        self.zone
+    }
+
+    fn tables_are_known(&self) {}
+
+    fn devices(&mut self) -> Result<Vec<Device>, BooksFault> {
+        let alloc = *self.facts.allocator();
+        Ok(lookups::devices(alloc, &self.facts)?)
+    }
+
+    fn list(&mut self, device: &Name) -> Result<Option<PlannedList>, BooksFault> {
+        self.catch_up()?;
+        Ok(self.tables.list(&self.facts, device)?)
+    }
+
+    fn register(&mut self, name: &Name) -> Result<Option<Register>, BooksFault> {
+        self.catch_up()?;
+        Ok(self.tables.register(&self.facts, name))
+    }
+
+    fn registers(&mut self, device: &Name) -> Result<Vec<Register>, BooksFault> {
+        self.catch_up()?;
+        let alloc = *self.facts.allocator();
+        Ok(self.tables.registers(alloc, &self.facts, device)?)
+    }
+
+    fn register_count(&mut self, device: &Name) -> Result<usize, BooksFault> {
+        self.catch_up()?;
+        Ok(self.tables.register_count(device))
+    }
+
+    fn meter(&mut self, name: &Name) -> Result<Option<Installation>, BooksFault> {
+        self.catch_up()?;
+        Ok(self.tables.meter(name))
+    }
+
+    fn installation(&mut self, register: &Name) -> Result<Option<Installation>, BooksFault> {
+        self.catch_up()?;
+        Ok(self.tables.installation(&self.facts, register))
+    }
+
+    fn installation_count(&mut self) -> Result<usize, BooksFault> {
+        Ok(self.figures.installations)
+    }
+
+    fn entry(&mut self, meter: &Name, place: u64) -> Result<Option<EntryPlace>, BooksFault> {
+        self.catch_up()?;
+        Ok(self.tables.entry(meter, place))
+    }
+
+    fn poll(&mut self, number: u64) -> Result<Option<PollRow>, BooksFault> {
+        self.catch_up()?;
+        Ok(self.tables.poll(number))
+    }
+
+    fn poll_count(&mut self) -> Result<u64, BooksFault> {
+        self.catch_up()?;
+        Ok(self.tables.poll_count())
+    }
+
+    fn pending(&mut self) -> Result<Vec<Poll>, BooksFault> {
+        self.catch_up()?;
+        let alloc = *self.facts.allocator();
+        Ok(self.tables.pending(alloc)?)
+    }
+
+    fn latest(&mut self) -> Result<u64, BooksFault> {
+        Ok(self.figures.latest)
+    }
+
+    fn repeat(
+        &mut self,
+        caller: &Name,
+        number: u64,
+        request: &[u8],
+    ) -> Result<Option<Repeat>, BooksFault> {
+        self.catch_up()?;
+        Ok(self.tables.repeat(&self.facts, caller, number, request))
+    }
+
+    fn intervals<K: RowSink<Share>>(
+        &mut self,
+        meter: &Name,
+        sink: &mut K,
+    ) -> Result<(), BooksFault> {
+        self.catch_up()?;
+        self.tables.intervals(meter, sink);
+        Ok(())
+    }
+
+    fn register_intervals<K: RowSink<Share>>(
+        &mut self,
+        register: &Name,
+        sink: &mut K,
+    ) -> Result<(), BooksFault> {
+        self.catch_up()?;
+        self.tables.register_intervals(&self.facts, register, sink);
+        Ok(())
+    }
+
+    fn book(&mut self, facts: Vec<Fact>) -> Result<(), BooksFault> {
+        match self.add(facts) {
+            Ok(()) => {
+                // Where room is wanting for the tables, the look-ups ask for it again.
+                let _ = self.catch_up();
+                Ok(())
+            }
+            Err(fault) => Err(fault),
+        }
+    }
+}

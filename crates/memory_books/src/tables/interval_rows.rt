@@ -1,0 +1,83 @@
+//! The energy of entries by quarter hours, handed on row by row.
+ghost use Rattle.std.specs.Prelude.{◌+◌, ◌^◌, ◌≤◌, ◌<◌, ◌∷◌, []};
+ghost use Rattle.std.specs.Option.{ForSome, option_to_list};
+ghost use Rattle.interval_core.specs.Account.{energy_of};
+ghost use Rattle.energy_core.specs.Account.{intervals_touched};
+ghost use Rattle.interval_core.specs.Share.{shares_of};
+ghost use Rattle.meter_journal.specs.Books as books;
+ghost use Rattle.memory_books.specs.Tables.IntervalRows.{Passes, TakesRowsOf, TakesSome};
+
+use energy_core::{
+    MAX_INTERVALS, MAX_RANGE, MAX_TOTAL, MIN_RANGE, Ranged, Step, Terms, accounts_are_sound, enter,
+    entered_is_booked,
+};
+use interval_core::{Share, Shares, shares_add_up};
+use meter_journal::{EntryRow, Installed, Tally, join};
+use office_books::RowSink;
+
+/// Takes one more share behind the row that waits, and hands that on where it is done.
+fn hand_share<K: RowSink<Share>>(waits: &mut Option<Share>, share: Share, sink: &mut K)
+    requires { ForSome waits.old (λ row. row.mwh + share.mwh < 2 ^ 64) }
+    ensures passes { Passes K.takes sink.old sink.new waits.old waits.new (share ∷ []) }
+    ensures energy { energy_of (option_to_list waits.new)
+        ≤ energy_of (option_to_list waits.old) + share.mwh }
+{
+    if let Some(row) = join(waits, share) {
+        sink.put(row);
+    }
+}
+
+/// Takes the shares of one more step.
+fn hand_step<K: RowSink<Share>>(waits: &mut Option<Share>, step: &Step, sink: &mut K)
+    requires forward { step.now.from < step.now.till }
+    requires intervals { intervals_touched step.now.from step.now.till ≤ MAX_INTERVALS }
+    requires energy { energy_of (option_to_list waits.old) + step.now.mwh ≤ MAX_TOTAL }
+    ensures passes { Passes K.takes sink.old sink.new waits.old waits.new (shares_of step.now) }
+    ensures energy { energy_of (option_to_list waits.new)
+        ≤ energy_of (option_to_list waits.old) + step.now.mwh }
+{
+    shares_add_up();
+    let mut shares = Shares::of(step);
+    while let Some(share) = shares.next() {
+        hand_share(waits, share, sink);
+    }
+}
+
+/// Hands on the interval rows of the entries that stand, in order. Where they have no account, these are some rows or none.
+pub(crate) fn hand_rows<K: RowSink<Share>>(meter: &Installed, rows: &[EntryRow], sink: &mut K)
+    requires range_low { MIN_RANGE ≤ meter.now.range }
+    requires range_high { meter.now.range ≤ MAX_RANGE }
+    requires installed { books.IsWellInstalled meter.now }
+    ensures whole { TakesRowsOf K.takes sink.old meter.now rows.now sink.new }
+    ensures some { TakesSome K.takes sink.old sink.new }
+{
+    accounts_are_sound();
+    entered_is_booked();
+    let Some(counter) = Ranged::new(meter.range) else {
+        unreachable!()
+    };
+    let mut tally = Tally {
+        last: meter.opening,
+        total: 0,
+    };
+    let mut waits = None;
+    for row in rows {
+        if row.stands {
+            let terms = Terms {
+                ceiling: meter.ceiling,
+                total: tally.total,
+            };
+            match enter(&counter, &terms, &tally.last, &row.entry) {
+                Ok((last, step)) => {
+                    hand_step(&mut waits, &step, sink);
+                    let total = tally.total + step.mwh;
+                    tally = Tally { last, total };
+                }
+                Err(_) => return,
+            }
+        }
+    }
+    if let Some(row) = waits {
+        sink.put(row);
+    }
+}

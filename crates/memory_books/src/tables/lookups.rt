@@ -1,0 +1,108 @@
+//! What stands at places of facts.
+ghost use Rattle.std.specs.Prelude.{◌≡◌, IfOk};
+ghost use Rattle.std.specs.List.{filter_map};
+ghost use Rattle.office_rules.specs.Facts as kinds;
+ghost use Rattle.office_books.specs.Repeats as repeats;
+ghost use Rattle.memory_books.specs.Tables.Lookups as spots;
+
+use office_books::Repeat;
+use office_events::{Fact, Opening, PlannedList, Register, Reply};
+use std::alloc::{AllocError, Global};
+
+fn as_register(fact: &Fact) -> Option<Register>
+    ensures { result ≡ kinds.as_register fact.now }
+{
+    match fact {
+        Fact::Register(register) => Some(*register),
+        _ => None,
+    }
+}
+
+fn as_opening(fact: &Fact) -> Option<Opening>
+    ensures { result ≡ kinds.as_opening fact.now }
+{
+    match fact {
+        Fact::Opening(opening) => Some(*opening),
+        _ => None,
+    }
+}
+
+/// The register at a place.
+pub(crate) fn register_at(facts: &[Fact], place: usize) -> Option<Register>
+    ensures { result ≡ spots.register_at facts.now place }
+{
+    as_register(facts.get(place)?)
+}
+
+/// The opening at a place.
+pub(crate) fn opening_at(facts: &[Fact], place: usize) -> Option<Opening>
+    ensures { result ≡ spots.opening_at facts.now place }
+{
+    as_opening(facts.get(place)?)
+}
+
+/// The registers at places.
+pub(crate) fn registers_at(
+    alloc: Global,
+    facts: &[Fact],
+    places: &[usize],
+) -> Result<Vec<Register>, AllocError>
+    ensures { IfOk result (λ v. v.items ≡ filter_map (spots.register_at facts.now) places.now) }
+{
+    places
+        .iter()
+        .filter_map(|place| register_at(facts, *place))
+        .collect(alloc)
+}
+
+/// The point list that a fact puts.
+fn as_list(fact: &Fact) -> Result<Option<PlannedList>, AllocError>
+    ensures { IfOk result (λ list. list ≡ spots.listed fact.now) }
+{
+    match fact {
+        Fact::List(put) => {
+            if put.list.points().is_empty() {
+                return Ok(None);
+            }
+            Ok(Some(put.list.clone()?))
+        }
+        _ => Ok(None),
+    }
+}
+
+/// The point list that is put at a place.
+pub(crate) fn list_at(facts: &[Fact], place: usize) -> Result<Option<PlannedList>, AllocError>
+    ensures { IfOk result (λ list. list ≡ spots.list_at facts.now place) }
+{
+    if place >= facts.len() {
+        return Ok(None);
+    }
+    as_list(&facts[place])
+}
+
+/// What a request is to one that is kept.
+fn repeat_by(reply: &Reply, request: &[u8]) -> Repeat
+    ensures { result ≡ repeats.as_repeat request.now reply.now }
+{
+    if reply.request.as_slice() == request {
+        Repeat::Same(reply.kind)
+    } else {
+        Repeat::Other
+    }
+}
+
+fn as_repeat(fact: &Fact, request: &[u8]) -> Option<Repeat>
+    ensures { result ≡ spots.repeated request.now fact.now }
+{
+    match fact {
+        Fact::Reply(reply) => Some(repeat_by(reply, request)),
+        _ => None,
+    }
+}
+
+/// What a request is to the one that is kept at a place.
+pub(crate) fn repeat_at(facts: &[Fact], place: usize, request: &[u8]) -> Option<Repeat>
+    ensures { result ≡ spots.repeat_at request.now facts.now place }
+{
+    as_repeat(facts.get(place)?, request)
+}

@@ -1,0 +1,179 @@
+//! A meter as it stands.
+ghost use Rattle.std.specs.Prelude.{◌≡◌, take, IsTrue, OnOk, OnErr, IfSome};
+ghost use Rattle.std.specs.Option.{option_map};
+ghost use Rattle.meter_journal.specs.Journal as journal;
+ghost use Rattle.meter_journal.specs.Journal.{row_at};
+ghost use Rattle.meter_journal.specs.Lists as lists;
+ghost use Rattle.office_books.specs.Rows.{TakesAll};
+ghost use Rattle.office_books.specs.Sound.{IsSound};
+ghost use Rattle.office_rules.specs.Steps.{moved_by};
+ghost use Rattle.office_rules.specs.Intervals.{rows_of_opening};
+ghost use Rattle.office_rules.specs.Meters.{place_in, rows_of};
+ghost use Rattle.memory_books.specs.Tables.IntervalRows.{TakesSome};
+ghost use Rattle.memory_books.specs.Tables.Moving.{MayEnter, VoidsAt};
+
+use crate::tables::accounts::{begun, hand_on, opened, standing};
+use energy_core::Last;
+use interval_core::Share;
+use meter_journal::{
+    EntryKind, EntryRow, find_row, journals_are_kept, places_were_kept, row_behind, strike,
+};
+use office_books::{RowSink, enter, is_sound};
+use office_events::{BookedEntry, EntryPlace, Installation, Opening};
+use office_rules::{installations_are_in_range, journals_fit};
+use std::alloc::{AllocError, Global};
+
+/// Whether entries of a kind close their meter.
+fn is_closing(kind: EntryKind) -> bool
+    ensures { result ≡ journal.is_closing kind }
+{
+    match kind {
+        EntryKind::Closing => true,
+        EntryKind::Reading | EntryKind::Manual | EntryKind::Reset | EntryKind::Rescale => false,
+    }
+}
+
+/// An installation after one more entry.
+fn moved(row: &Installation, booked: &BookedEntry) -> Installation
+    ensures { IsSound row.now → MayEnter row.now booked.now.entry
+        → result ≡ moved_by booked.now.kind booked.now.entry row.now }
+{
+    if !is_sound(row) {
+        return *row;
+    }
+    let entered = enter(row, &booked.entry);
+    Installation {
+        opening: entered.opening,
+        last: entered.last,
+        total: entered.total,
+        ended: is_closing(booked.kind) || entered.ended,
+    }
+}
+
+/// Whether each row has its place.
+pub(crate) fn are_numbered(rows: &[EntryRow]) -> bool
+    ensures so { IsTrue result → lists.AreNumbered (lists.latest_first rows.now) }
+    ensures if_so { lists.AreNumbered (lists.latest_first rows.now) → IsTrue result }
+{
+    for (index, row) in rows.iter().enumerate() {
+        if row.place != index as u64 + 2 {
+            return false;
+        }
+    }
+    true
+}
+
+/// Voids the entry at a place, if there is one.
+fn strike_among(last: &Last, rows: &mut [EntryRow], place: u64)
+    ensures { VoidsAt last.now place (lists.latest_first rows.old) (lists.latest_first rows.new) }
+{
+    if place >= 2 && place - 2 < rows.len() as u64 && are_numbered(rows) {
+        strike(last, rows, place);
+    }
+}
+
+/// Voids the entry at a place, if there is one.
+fn strike_there(last: &Last, rows: &mut Vec<EntryRow>, place: u64)
+    ensures { VoidsAt last.now place (lists.latest_first rows.old.items)
+        (lists.latest_first rows.new.items) }
+{
+    strike_among(last, rows, place);
+}
+
+/// The first so many of these rows, or all.
+fn first(rows: &[EntryRow], count: usize) -> &[EntryRow]
+    ensures { result.now ≡ take count rows.now }
+{
+    if count < rows.len() {
+        &rows[..count]
+    } else {
+        rows
+    }
+}
+
+/// An installation, and the rows of its meter, the oldest first.
+#[derive(Drop)]
+pub(crate) struct Meter {
+    pub(crate) row: Installation,
+    pub(crate) rows: Vec<EntryRow>,
+}
+
+impl Meter {
+    ghost use Rattle.memory_books.specs.Tables.Moving.{HasBegun, HasEntered, IsSame, HasStruck, WhereSaid};
+
+    /// A meter that was just installed.
+    pub(crate) fn begin(alloc: Global, opening: &Opening) -> Meter
+        ensures { HasBegun opening.now result }
+    {
+        Meter {
+            row: begun(opening),
+            rows: Vec::new(alloc),
+        }
+    }
+
+    /// One more entry.
+    pub(crate) fn go_on(&mut self, booked: &BookedEntry) -> Result<(), AllocError>
+        ensures ok { OnOk result (HasEntered booked.now self.old self.new) }
+        ensures err { OnErr result (IsSame self.old self.new) }
+    {
+        let row = row_behind(&self.rows, booked.kind, booked.entry);
+        self.rows.push(row)?;
+        self.row = moved(&self.row, booked);
+        Ok(())
+    }
+
+    /// An entry was voided.
+    pub(crate) fn strike(&mut self, place: u64)
+        ensures { HasStruck place self.old self.new }
+    {
+        let opening = self.row.opening;
+        let ended = self.row.ended;
+        let last = opened(&opening);
+        strike_there(&last, &mut self.rows, place);
+        if let Some(row) = standing(&opening, &self.rows, ended) {
+            self.row = row;
+        }
+    }
+
+    /// Where the meter stood before its entry at a place, and the next that stands.
+    pub(crate) fn placed(&self, place: u64) -> Option<EntryPlace>
+        ensures found { WhereSaid self.now (λ known opening.
+            result ≡ option_map (place_in known opening) (row_at place (rows_of known opening))) }
+        ensures sound { IfSome result (λ found. IsSound found.before) }
+    {
+        journals_fit();
+        journals_are_kept();
+        installations_are_in_range();
+        places_were_kept();
+        if !are_numbered(&self.rows) {
+            return None;
+        }
+        let Some(found) = find_row(&self.rows, place) else {
+            return None;
+        };
+        let Some(before) = standing(
+            &self.row.opening,
+            first(&self.rows, found.index),
+            self.row.ended,
+        ) else {
+            return None;
+        };
+        Some(EntryPlace {
+            before,
+            row: found.row,
+            next: found.next,
+        })
+    }
+
+    /// Hands on its energy by quarter hours.
+    pub(crate) fn hand_on<K: RowSink<Share>>(&self, sink: &mut K)
+        ensures whole { WhereSaid self.now (λ known opening.
+            TakesAll K.takes sink.old (rows_of_opening known opening) sink.new) }
+        ensures some { TakesSome K.takes sink.old sink.new }
+    {
+        journals_fit();
+        journals_are_kept();
+        installations_are_in_range();
+        hand_on(&self.row.opening, &self.rows, sink);
+    }
+}

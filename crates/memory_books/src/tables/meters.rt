@@ -1,0 +1,157 @@
+//! The meters, by name.
+ghost use Rattle.std.specs.Prelude.{◌≡◌, List, [], OnOk, OnErr, IfSome};
+ghost use Rattle.office_events.specs.declared.facts.Fact.{Fact};
+ghost use Rattle.office_books.specs.Rows.{TakesAll};
+ghost use Rattle.office_books.specs.Sound.{IsSound};
+ghost use Rattle.office_rules.specs.Intervals.{rows_of_meter};
+ghost use Rattle.office_rules.specs.Lawful.{AreLawful};
+ghost use Rattle.office_rules.specs.Meters.{meter_of, entry_at};
+ghost use Rattle.memory_books.specs.Tables.IntervalRows.{TakesSome};
+ghost use Rattle.memory_books.specs.Tables.Moving.{HasEntered, IsSame, HasStruck};
+
+use crate::tables::keys::Key;
+use crate::tables::meter::Meter;
+use crate::tables::places::named;
+use crate::tables::table::Table;
+use interval_core::Share;
+use meter_journal::journals_are_kept;
+use office_books::{RowSink, is_sound};
+use office_events::{BookedEntry, EntryPlace, Fact, Installation, Name, Opening, VoidedEntry};
+use office_rules::{
+    entries_move_on, holds_change_nothing, installations_are_in_range, journals_fit,
+    openings_begin, other_meters_stay,
+};
+use std::alloc::{AllocError, Global};
+use std::collections::BTreeMap;
+
+/// Each meter as it stands.
+#[derive(Drop)]
+pub(crate) struct Meters {
+    alloc: Global,
+    meters: BTreeMap<Key, Meter>,
+}
+
+impl Meters {
+    ghost use Rattle.memory_books.specs.Tables.Meters.{AreMeters, Changes, Begins, IfThere};
+
+    /// No meters.
+    pub(crate) fn new(alloc: Global) -> Meters
+        ensures { AreMeters result [] }
+    {
+        Meters {
+            alloc,
+            meters: BTreeMap::new(alloc),
+        }
+    }
+
+    fn open(&mut self, opening: &Opening) -> Result<(), AllocError>
+        ensures ok { OnOk result (Changes opening.now.meter (Begins opening.now)
+            self.old self.new) }
+        ensures err { OnErr result (Changes opening.now.meter (IfThere IsSame) self.old self.new) }
+    {
+        let key = named(&opening.meter);
+        let meter = Meter::begin(self.alloc, opening);
+        self.meters.insert(key, meter)?;
+        Ok(())
+    }
+
+    fn enter(&mut self, booked: &BookedEntry) -> Result<(), AllocError>
+        ensures ok { OnOk result (Changes booked.now.meter (IfThere (HasEntered booked.now))
+            self.old self.new) }
+        ensures err { OnErr result (Changes booked.now.meter (IfThere IsSame) self.old self.new) }
+    {
+        let key = named(&booked.meter);
+        match self.meters.get_mut(&key) {
+            Some(meter) => meter.go_on(booked),
+            None => Ok(()),
+        }
+    }
+
+    fn strike(&mut self, voided: &VoidedEntry)
+        ensures { Changes voided.now.meter (IfThere (HasStruck voided.now.place))
+            self.old self.new }
+    {
+        let key = named(&voided.meter);
+        if let Some(meter) = self.meters.get_mut(&key) {
+            meter.strike(voided.place);
+        }
+    }
+
+    /// The installation of a meter, as it stands.
+    pub(crate) fn row(&self, name: &Name) -> Option<Installation>
+        ensures found { (known : List Fact) → AreLawful known → AreMeters self.now known
+            → result ≡ meter_of known name.now }
+        ensures sound { IfSome result IsSound }
+    {
+        installations_are_in_range();
+        let key = named(name);
+        let Some(meter) = self.meters.get(&key) else {
+            return None;
+        };
+        if is_sound(&meter.row) {
+            Some(meter.row)
+        } else {
+            None
+        }
+    }
+
+    /// Where a meter stood before its entry at a place, and the next that stands.
+    pub(crate) fn entry(&self, name: &Name, place: u64) -> Option<EntryPlace>
+        ensures found { (known : List Fact) → AreLawful known → AreMeters self.now known
+            → result ≡ entry_at known name.now place }
+        ensures sound { IfSome result (λ found. IsSound found.before) }
+    {
+        let key = named(name);
+        let Some(meter) = self.meters.get(&key) else {
+            return None;
+        };
+        meter.placed(place)
+    }
+
+    /// Hands on the energy of a meter by quarter hours.
+    pub(crate) fn hand_on<K: RowSink<Share>>(&self, name: &Name, sink: &mut K)
+        ensures whole { (known : List Fact) → AreLawful known → AreMeters self.now known
+            → TakesAll K.takes sink.old (rows_of_meter known name.now) sink.new }
+        ensures some { TakesSome K.takes sink.old sink.new }
+    {
+        let key = named(name);
+        let Some(meter) = self.meters.get(&key) else {
+            return;
+        };
+        meter.hand_on(sink);
+    }
+}
+
+impl Table for Meters {
+    ghost use Rattle.std.specs.Prelude.{None};
+    ghost use Rattle.memory_books.specs.Tables.Meters.{AreMeters};
+
+    ghost kind = { λ _. None };
+
+    ghost says = { AreMeters };
+
+    fn put(&mut self, _place: usize, fact: &Fact) -> Result<(), AllocError> {
+        entries_move_on();
+        openings_begin();
+        other_meters_stay();
+        holds_change_nothing();
+        journals_fit();
+        journals_are_kept();
+        installations_are_in_range();
+        match fact {
+            Fact::Opening(opening) => self.open(opening),
+            Fact::Entry(booked) => self.enter(booked),
+            Fact::Void(voided) => {
+                self.strike(voided);
+                Ok(())
+            }
+            Fact::Hold(_reading) => Ok(()),
+            Fact::Device(_)
+            | Fact::List(_)
+            | Fact::Register(_)
+            | Fact::Poll(_)
+            | Fact::Outcome(_)
+            | Fact::Reply(_) => Ok(()),
+        }
+    }
+}

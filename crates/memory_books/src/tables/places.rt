@@ -1,0 +1,172 @@
+//! Where facts of a kind stand, by name.
+ghost use Rattle.std.specs.Prelude.{◌≡◌, List, [], reverse, OnOk, OnErr};
+ghost use Rattle.office_events.specs.declared.facts.Fact.{Fact};
+ghost use Rattle.memory_books.specs.Tables.Keys as keys;
+ghost use Rattle.memory_books.specs.Tables.Places as places;
+
+use crate::tables::keys::Key;
+use crate::tables::table::Table;
+use office_events::{DeviceList, Fact, Name, Opening, Register, Reply};
+use std::alloc::{AllocError, Global};
+use std::collections::BTreeMap;
+
+/// What facts are looked up, and by what.
+#[derive(Clone, Copy)]
+pub(crate) enum Kind {
+    /// Point lists by their device.
+    DeviceLists,
+    /// Registers by their own name.
+    Registers,
+    /// Registers by their device.
+    DeviceRegisters,
+    /// Openings by their register.
+    RegisterOpenings,
+    /// Kept answers by caller and number.
+    Replies,
+}
+
+/// The key of a name alone.
+pub(crate) fn named(name: &Name) -> Key
+    ensures { result ≡ keys.named name.now }
+{
+    Key {
+        name: *name,
+        number: 0,
+    }
+}
+
+fn list_key(kind: Kind, put: &DeviceList) -> Option<Key>
+    ensures { result ≡ places.list_key kind put.now }
+{
+    match kind {
+        Kind::DeviceLists => Some(named(&put.device)),
+        Kind::Registers | Kind::DeviceRegisters | Kind::RegisterOpenings | Kind::Replies => None,
+    }
+}
+
+fn register_key(kind: Kind, register: &Register) -> Option<Key>
+    ensures { result ≡ places.register_key kind register.now }
+{
+    match kind {
+        Kind::Registers => Some(named(&register.name)),
+        Kind::DeviceRegisters => Some(named(&register.device)),
+        Kind::DeviceLists | Kind::RegisterOpenings | Kind::Replies => None,
+    }
+}
+
+fn opening_key(kind: Kind, opening: &Opening) -> Option<Key>
+    ensures { result ≡ places.opening_key kind opening.now }
+{
+    match kind {
+        Kind::RegisterOpenings => Some(named(&opening.register)),
+        Kind::DeviceLists | Kind::Registers | Kind::DeviceRegisters | Kind::Replies => None,
+    }
+}
+
+fn reply_key(kind: Kind, reply: &Reply) -> Option<Key>
+    ensures { result ≡ places.reply_key kind reply.now }
+{
+    match kind {
+        Kind::Replies => Some(Key {
+            name: reply.caller,
+            number: reply.number,
+        }),
+        Kind::DeviceLists | Kind::Registers | Kind::DeviceRegisters | Kind::RegisterOpenings => {
+            None
+        }
+    }
+}
+
+/// What a fact is looked up by, if it is one of the kind.
+fn key_in(kind: Kind, fact: &Fact) -> Option<Key>
+    ensures { result ≡ places.key_in kind fact.now }
+{
+    match fact {
+        Fact::List(put) => list_key(kind, put),
+        Fact::Register(register) => register_key(kind, register),
+        Fact::Opening(opening) => opening_key(kind, opening),
+        Fact::Reply(reply) => reply_key(kind, reply),
+        Fact::Device(_)
+        | Fact::Entry(_)
+        | Fact::Hold(_)
+        | Fact::Void(_)
+        | Fact::Poll(_)
+        | Fact::Outcome(_) => None,
+    }
+}
+
+/// The places of the facts of a kind, by key.
+#[derive(Drop)]
+pub(crate) struct Places {
+    alloc: Global,
+    kind: Kind,
+    places: BTreeMap<Key, Vec<usize>>,
+}
+
+impl Places {
+    ghost use Rattle.memory_books.specs.Tables.Places.{ArePlaces, ArePlacesOf, AreUnchanged, HaveOneMore, places_of, latest_place, has_key};
+    ghost use Rattle.memory_books.specs.declared.tables.places.Kind.{Kind};
+
+    /// No facts.
+    pub(crate) fn new(alloc: Global, kind: Kind) -> Places
+        ensures places { ArePlaces result [] }
+        ensures kind { result.kind ≡ kind }
+    {
+        Places {
+            alloc,
+            kind,
+            places: BTreeMap::new(alloc),
+        }
+    }
+
+    /// One place more under a key.
+    fn add(&mut self, key: Key, place: usize) -> Result<(), AllocError>
+        ensures ok { OnOk result (HaveOneMore key place self.old self.new) }
+        ensures err { OnErr result (AreUnchanged self.old self.new) }
+        ensures kind { self.new.kind ≡ self.old.kind }
+    {
+        if let Some(places) = self.places.get_mut(&key) {
+            places.push(place)?;
+            return Ok(());
+        }
+        let mut places = Vec::new(self.alloc);
+        places.push(place)?;
+        self.places.insert(key, places)?;
+        Ok(())
+    }
+
+    /// The places of the facts under a key, in their order.
+    pub(crate) fn all(&self, key: Key) -> &[usize]
+        ensures { (kind : Kind) (known : List Fact) → ArePlacesOf kind self.now known
+            → result.now ≡ reverse (places_of (has_key kind key) known) }
+    {
+        match self.places.get(&key) {
+            Some(places) => places.as_slice(),
+            None => &[],
+        }
+    }
+
+    /// The place of the latest fact under a key.
+    pub(crate) fn latest(&self, key: Key) -> Option<usize>
+        ensures { (kind : Kind) (known : List Fact) → ArePlacesOf kind self.now known
+            → result ≡ latest_place (has_key kind key) known }
+    {
+        self.all(key).last().copied()
+    }
+}
+
+impl Table for Places {
+    ghost use Rattle.std.specs.Prelude.{Some};
+    ghost use Rattle.memory_books.specs.Tables.Places.{ArePlaces};
+
+    ghost kind = { λ places. Some places.kind };
+
+    ghost says = { ArePlaces };
+
+    fn put(&mut self, place: usize, fact: &Fact) -> Result<(), AllocError> {
+        match key_in(self.kind, fact) {
+            Some(key) => self.add(key, place),
+            None => Ok(()),
+        }
+    }
+}

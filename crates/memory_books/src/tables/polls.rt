@@ -1,0 +1,149 @@
+//! Polls by their numbers, and those that wait.
+ghost use Rattle.std.specs.Prelude.{◌≡◌, [], List, length, IfOk};
+ghost use Rattle.office_events.specs.declared.facts.Fact.{Fact};
+ghost use Rattle.office_rules.specs.Facts.{polls_in, pending_in};
+ghost use Rattle.office_rules.specs.Lawful.{AreLawful};
+ghost use Rattle.office_rules.specs.Readings.{poll_row_of};
+
+use crate::tables::table::Table;
+use office_events::{EndedPoll, Fact, Poll, PollRow};
+use std::alloc::{AllocError, Global};
+
+/// The polls, each with its end.
+#[derive(Drop)]
+pub(crate) struct Polls {
+    rows: Vec<PollRow>,
+}
+
+impl Polls {
+    ghost use Rattle.memory_books.specs.Tables.Polls.{ArePolls, EndsPoll};
+
+    /// No polls.
+    pub fn new(alloc: Global) -> Polls
+        ensures { ArePolls result [] }
+    {
+        Polls {
+            rows: Vec::new(alloc),
+        }
+    }
+
+    /// Writes down how a poll ended, if there is one of this number.
+    fn end(&mut self, ended: &EndedPoll)
+        ensures { EndsPoll ended.now self.old.rows.items self.new.rows.items }
+    {
+        if ended.poll >= 1 && ended.poll - 1 < self.rows.len() as u64 {
+            let index = (ended.poll - 1) as usize;
+            let mut row = self.rows[index];
+            row.ended = Some(*ended);
+            self.rows[index] = row;
+        }
+    }
+
+    /// The poll of a number, and how it ended.
+    pub fn row(&self, number: u64) -> Option<PollRow>
+        ensures { (known : List Fact) → AreLawful known → ArePolls self.now known
+            → result ≡ poll_row_of known number }
+    {
+        if number >= 1 && number - 1 < self.rows.len() as u64 {
+            Some(self.rows[(number - 1) as usize])
+        } else {
+            None
+        }
+    }
+
+    /// How many there are.
+    pub fn count(&self) -> u64
+        ensures { (known : List Fact) → ArePolls self.now known → result ≡ length (polls_in known) }
+    {
+        self.rows.len() as u64
+    }
+}
+
+impl Table for Polls {
+    ghost use Rattle.std.specs.Prelude.{None};
+    ghost use Rattle.memory_books.specs.Tables.Polls.{ArePolls};
+
+    ghost kind = { λ _. None };
+
+    ghost says = { ArePolls };
+
+    fn put(&mut self, _place: usize, fact: &Fact) -> Result<(), AllocError> {
+        match fact {
+            Fact::Poll(poll) => {
+                self.rows.push(PollRow {
+                    poll: *poll,
+                    ended: None,
+                })?;
+            }
+            Fact::Outcome(ended) => self.end(ended),
+            Fact::Device(_)
+            | Fact::List(_)
+            | Fact::Register(_)
+            | Fact::Opening(_)
+            | Fact::Entry(_)
+            | Fact::Hold(_)
+            | Fact::Void(_)
+            | Fact::Reply(_) => {}
+        }
+        Ok(())
+    }
+}
+
+/// The polls that have no outcome.
+#[derive(Drop)]
+pub(crate) struct Pending {
+    polls: Vec<Poll>,
+}
+
+impl Pending {
+    ghost use Rattle.memory_books.specs.Tables.Polls.{ArePending, polls_but};
+
+    /// No polls.
+    pub fn new(alloc: Global) -> Pending
+        ensures { ArePending result [] }
+    {
+        Pending {
+            polls: Vec::new(alloc),
+        }
+    }
+
+    /// Takes out the poll of a number.
+    fn take(&mut self, number: u64)
+        ensures { self.new.polls.items ≡ polls_but number self.old.polls.items }
+    {
+        self.polls.retain(|poll| number != poll.number);
+    }
+
+    /// The polls, in the order in which they were started.
+    pub fn all(&self, alloc: Global) -> Result<Vec<Poll>, AllocError>
+        ensures { (known : List Fact) → ArePending self.now known
+            → IfOk result (λ v. v.items ≡ pending_in known) }
+    {
+        self.polls.as_slice().to_vec(alloc)
+    }
+}
+
+impl Table for Pending {
+    ghost use Rattle.std.specs.Prelude.{None};
+    ghost use Rattle.memory_books.specs.Tables.Polls.{ArePending};
+
+    ghost kind = { λ _. None };
+
+    ghost says = { ArePending };
+
+    fn put(&mut self, _place: usize, fact: &Fact) -> Result<(), AllocError> {
+        match fact {
+            Fact::Poll(poll) => self.polls.push(*poll)?,
+            Fact::Outcome(ended) => self.take(ended.poll),
+            Fact::Device(_)
+            | Fact::List(_)
+            | Fact::Register(_)
+            | Fact::Opening(_)
+            | Fact::Entry(_)
+            | Fact::Hold(_)
+            | Fact::Void(_)
+            | Fact::Reply(_) => {}
+        }
+        Ok(())
+    }
+}

@@ -1,0 +1,63 @@
+//! Tables that grow with the facts.
+ghost use Rattle.std.specs.Prelude.{◌≡◌, List, [], length, OnOk};
+ghost use Rattle.office_events.specs.declared.facts.Fact.{Fact};
+ghost use Rattle.office_rules.specs.Lawful.{AreLawful};
+ghost use Rattle.memory_books.specs.Tables.Growing.{HasCome, latest_first};
+
+use office_events::Fact;
+use std::alloc::AllocError;
+
+/// A table of what facts say.
+pub(crate) trait Table: Drop {
+    ghost use Rattle.std.specs.Prelude.{◌≡◌, List, ◌∷◌, length, Option, OnOk, OnErr};
+    ghost use Rattle.office_events.specs.declared.facts.Fact.{Fact};
+    ghost use Rattle.office_rules.specs.Lawful.{AreLawful};
+    ghost use Rattle.memory_books.specs.declared.tables.places.Kind.{Kind};
+
+    /// Which places it has, if it is a table of places. This never changes.
+    ghost kind: { Self → Option Kind };
+
+    /// It says what these facts say, the latest first.
+    ghost says: { Self → List Fact → Type 0 };
+
+    /// Adds the fact at this place, from 0 on, behind those before it. For want of memory nothing changes.
+    fn put(&mut self, place: usize, fact: &Fact) -> Result<(), AllocError>
+        ensures ok { (known : List Fact) → AreLawful (fact.now ∷ known) → length known ≡ place
+            → says self.old known
+            → OnOk result (says self.new (fact.now ∷ known)) }
+        ensures err { (known : List Fact) → says self.old known
+            → OnErr result (says self.new known) }
+        ensures kind { kind self.new ≡ kind self.old };
+}
+
+/// A table, and how many facts it has.
+#[derive(Drop)]
+pub(crate) struct Kept<T> {
+    pub table: T,
+    pub count: usize,
+}
+
+impl<T: Table> Kept<T> {
+    /// A table that has none of the facts yet.
+    pub fn new(table: T) -> Kept<T>
+        ensures table { result.table ≡ table }
+        ensures count { result.count ≡ 0 }
+    {
+        Kept { table, count: 0 }
+    }
+
+    /// Adds the facts that the table doesn't have. For want of memory it has some of them.
+    pub fn catch_up(&mut self, facts: &[Fact]) -> Result<(), AllocError>
+        ensures kept { AreLawful (latest_first facts.now) → HasCome T.says self.old facts.now
+            → HasCome T.says self.new facts.now }
+        ensures whole { AreLawful (latest_first facts.now) → HasCome T.says self.old facts.now
+            → OnOk result (T.says self.new.table (latest_first facts.now)) }
+        ensures kind { T.kind self.new.table ≡ T.kind self.old.table }
+    {
+        while self.count < facts.len() {
+            self.table.put(self.count, &facts[self.count])?;
+            self.count += 1;
+        }
+        Ok(())
+    }
+}

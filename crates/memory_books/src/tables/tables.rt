@@ -1,0 +1,251 @@
+//! All tables of some facts.
+ghost use Rattle.std.specs.Prelude.{◌≡◌, ◌∷◌, List, [], reverse, length, IfOk, IfSome, OnOk};
+ghost use Rattle.office_events.specs.declared.facts.Fact.{Fact};
+ghost use Rattle.office_rules.specs.Facts.{polls_in, pending_in, list_of, register_of, registers_of, installed_at};
+ghost use Rattle.office_books.specs.Repeats.{repeat_of};
+ghost use Rattle.office_books.specs.Sound.{IsSound};
+ghost use Rattle.office_books.specs.Rows.{TakesAll};
+ghost use Rattle.office_rules.specs.Intervals.{rows_of_meter, rows_of_register};
+ghost use Rattle.office_rules.specs.Lawful.{AreLawful};
+ghost use Rattle.office_rules.specs.Meters.{meter_of, installation_at, entry_at};
+ghost use Rattle.office_rules.specs.Readings.{poll_row_of};
+ghost use Rattle.memory_books.specs.Tables.Growing.{latest_first};
+ghost use Rattle.memory_books.specs.Tables.IntervalRows.{TakesSome, rows_at};
+
+use crate::tables::keys::Key;
+use crate::tables::lookups::{list_at, opening_at, register_at, registers_at, repeat_at};
+use crate::tables::meters::Meters;
+use crate::tables::places::{Kind, Places, named};
+use crate::tables::polls::{Pending, Polls};
+use crate::tables::table::Kept;
+use interval_core::Share;
+use office_books::{Repeat, RowSink};
+use office_events::{
+    EntryPlace, Fact, Installation, Name, Opening, PlannedList, Poll, PollRow, Register,
+};
+use std::alloc::{AllocError, Global};
+
+/// Tables of what facts say. Each has the facts as far as it has come; look them up once all have caught up.
+#[derive(Drop)]
+pub struct Tables {
+    polls: Kept<Polls>,
+    pending: Kept<Pending>,
+    lists: Kept<Places>,
+    registers: Kept<Places>,
+    device_registers: Kept<Places>,
+    openings: Kept<Places>,
+    replies: Kept<Places>,
+    meters: Kept<Meters>,
+}
+
+impl Tables {
+    ghost use Rattle.memory_books.specs.Tables.Whole.{HaveCome, AreWhole, WhereWhole};
+
+    /// Tables that have no facts yet.
+    pub fn new(alloc: Global) -> Tables
+        ensures { (facts : List Fact) → HaveCome result facts }
+    {
+        Tables {
+            polls: Kept::new(Polls::new(alloc)),
+            pending: Kept::new(Pending::new(alloc)),
+            lists: Kept::new(Places::new(alloc, Kind::DeviceLists)),
+            registers: Kept::new(Places::new(alloc, Kind::Registers)),
+            device_registers: Kept::new(Places::new(alloc, Kind::DeviceRegisters)),
+            openings: Kept::new(Places::new(alloc, Kind::RegisterOpenings)),
+            replies: Kept::new(Places::new(alloc, Kind::Replies)),
+            meters: Kept::new(Meters::new(alloc)),
+        }
+    }
+
+    /// Adds the facts that the tables don't have. For want of memory each has some of them, and lacks the rest.
+    pub fn catch_up(&mut self, facts: &[Fact]) -> Result<(), AllocError>
+        ensures kept { AreLawful (latest_first facts.now) → HaveCome self.old facts.now
+            → HaveCome self.new facts.now }
+        ensures whole { AreLawful (latest_first facts.now) → HaveCome self.old facts.now
+            → OnOk result (AreWhole self.new (latest_first facts.now)) }
+    {
+        self.polls.catch_up(facts)?;
+        self.pending.catch_up(facts)?;
+        self.lists.catch_up(facts)?;
+        self.registers.catch_up(facts)?;
+        self.device_registers.catch_up(facts)?;
+        self.openings.catch_up(facts)?;
+        self.replies.catch_up(facts)?;
+        self.meters.catch_up(facts)?;
+        Ok(())
+    }
+
+    /// The poll of a number, and how it ended.
+    pub fn poll(&self, number: u64) -> Option<PollRow>
+        ensures { (known : List Fact) → AreLawful known → AreWhole self.now known
+            → result ≡ poll_row_of known number }
+    {
+        self.polls.table.row(number)
+    }
+
+    /// How many polls were started.
+    pub fn poll_count(&self) -> u64
+        ensures { (known : List Fact) → AreWhole self.now known → result ≡ length (polls_in known) }
+    {
+        self.polls.table.count()
+    }
+
+    /// The polls that have no outcome, in the order in which they were started.
+    pub fn pending(&self, alloc: Global) -> Result<Vec<Poll>, AllocError>
+        ensures { (known : List Fact) → AreWhole self.now known
+            → IfOk result (λ v. v.items ≡ pending_in known) }
+    {
+        self.pending.table.all(alloc)
+    }
+
+    /// The point list of a device, among the facts that the tables are of.
+    pub fn list(&self, facts: &[Fact], device: &Name) -> Result<Option<PlannedList>, AllocError>
+        ensures { (known : List Fact) → facts.now ≡ reverse known → AreWhole self.now known
+            → IfOk result (λ list. list ≡ list_of known device.now) }
+    {
+        match self.lists.table.latest(named(device)) {
+            Some(place) => list_at(facts, place),
+            None => Ok(None),
+        }
+    }
+
+    /// The register of a name, among those facts.
+    pub fn register(&self, facts: &[Fact], name: &Name) -> Option<Register>
+        ensures { (known : List Fact) → facts.now ≡ reverse known → AreWhole self.now known
+            → result ≡ register_of known name.now }
+    {
+        match self.registers.table.latest(named(name)) {
+            Some(place) => register_at(facts, place),
+            None => None,
+        }
+    }
+
+    /// The registers of a device, in the order in which they were added.
+    pub fn registers(
+        &self,
+        alloc: Global,
+        facts: &[Fact],
+        device: &Name,
+    ) -> Result<Vec<Register>, AllocError>
+        ensures { (known : List Fact) → facts.now ≡ reverse known → AreWhole self.now known
+            → IfOk result (λ v. v.items ≡ registers_of known device.now) }
+    {
+        registers_at(alloc, facts, self.device_registers.table.all(named(device)))
+    }
+
+    /// How many registers a device has. This takes no memory.
+    pub fn register_count(&self, device: &Name) -> usize
+        ensures { (known : List Fact) → AreWhole self.now known
+            → result ≡ length (registers_of known device.now) }
+    {
+        self.device_registers.table.all(named(device)).len()
+    }
+
+    /// The latest opening at a register.
+    pub fn installed(&self, facts: &[Fact], register: &Name) -> Option<Opening>
+        ensures { (known : List Fact) → facts.now ≡ reverse known → AreWhole self.now known
+            → result ≡ installed_at known register.now }
+    {
+        match self.openings.table.latest(named(register)) {
+            Some(place) => opening_at(facts, place),
+            None => None,
+        }
+    }
+
+    /// What a request is to the one that is kept under its caller and number.
+    pub fn repeat(
+        &self,
+        facts: &[Fact],
+        caller: &Name,
+        number: u64,
+        request: &[u8],
+    ) -> Option<Repeat>
+        ensures { (known : List Fact) → facts.now ≡ reverse known → AreWhole self.now known
+            → result ≡ repeat_of known caller.now number request.now }
+    {
+        let key = Key {
+            name: *caller,
+            number,
+        };
+        match self.replies.table.latest(key) {
+            Some(place) => repeat_at(facts, place, request),
+            None => None,
+        }
+    }
+
+    /// The installation of a meter, as it stands.
+    pub fn meter(&self, name: &Name) -> Option<Installation>
+        ensures found { (known : List Fact) → AreLawful known → AreWhole self.now known
+            → result ≡ meter_of known name.now }
+        ensures sound { IfSome result IsSound }
+    {
+        self.meters.table.row(name)
+    }
+
+    /// The latest installation at a register, as it stands.
+    pub fn installation(&self, facts: &[Fact], register: &Name) -> Option<Installation>
+        ensures found { WhereWhole self.now facts.now (λ known.
+            result ≡ installation_at known register.now) }
+        ensures sound { IfSome result IsSound }
+    {
+        match self.installed(facts, register) {
+            Some(opening) => self.meter(&opening.meter),
+            None => None,
+        }
+    }
+
+    /// Where a meter stood before its entry at a place, and the next that stands.
+    pub fn entry(&self, meter: &Name, place: u64) -> Option<EntryPlace>
+        ensures found { (known : List Fact) → AreLawful known → AreWhole self.now known
+            → result ≡ entry_at known meter.now place }
+        ensures sound { IfSome result (λ found. IsSound found.before) }
+    {
+        self.meters.table.entry(meter, place)
+    }
+
+    /// Hands on the energy of a meter by quarter hours, in order of their starts. This takes no memory.
+    pub fn intervals<K: RowSink<Share>>(&self, meter: &Name, sink: &mut K)
+        ensures whole { (known : List Fact) → AreLawful known → AreWhole self.now known
+            → TakesAll K.takes sink.old (rows_of_meter known meter.now) sink.new }
+        ensures some { TakesSome K.takes sink.old sink.new }
+    {
+        self.meters.table.hand_on(meter, sink);
+    }
+
+    /// Hands on the energy of the installation that was opened at a place of the facts, if one was.
+    fn hand_on_at<K: RowSink<Share>>(&self, facts: &[Fact], place: usize, sink: &mut K)
+        ensures whole { WhereWhole self.now facts.now (λ known.
+            TakesAll K.takes sink.old (rows_at known facts.now (place ∷ [])) sink.new) }
+        ensures some { TakesSome K.takes sink.old sink.new }
+    {
+        match opening_at(facts, place) {
+            Some(opening) => self.intervals(&opening.meter, sink),
+            None => {}
+        }
+    }
+
+    /// Hands on the energy of the installations that were opened at these places, one after the other.
+    fn hand_on_all<K: RowSink<Share>>(&self, facts: &[Fact], places: &[usize], sink: &mut K)
+        ensures whole { WhereWhole self.now facts.now (λ known.
+            TakesAll K.takes sink.old (rows_at known facts.now places.now) sink.new) }
+        ensures some { TakesSome K.takes sink.old sink.new }
+    {
+        for place in places {
+            self.hand_on_at(facts, *place, sink);
+        }
+    }
+
+    /// Hands on the energy of a register by quarter hours, installation after installation. This takes no memory.
+    pub fn register_intervals<K: RowSink<Share>>(
+        &self,
+        facts: &[Fact],
+        register: &Name,
+        sink: &mut K,
+    )
+        ensures whole { WhereWhole self.now facts.now (λ known.
+            TakesAll K.takes sink.old (rows_of_register known register.now) sink.new) }
+        ensures some { TakesSome K.takes sink.old sink.new }
+    {
+        self.hand_on_all(facts, self.openings.table.all(named(register)), sink);
+    }
+}

@@ -1,0 +1,5 @@
+pub mod SessionsLemmas
+pub mod StartingLemmas
+pub mod SettlingLemmas
+pub mod CommandsLemmas
+pub mod OpeningLemmas

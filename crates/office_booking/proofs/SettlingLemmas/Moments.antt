@@ -1,0 +1,22 @@
+-- Nothing on a session is later than the latest accepted event.
+use Rattle.std.proofs.Common.{ℕ, List, [], ◌∷◌}
+use Rattle.office_events.specs.declared.events.Event.{Event}
+use Rattle.office_rules.specs.Sessions as sessions
+use Rattle.office_rules.specs.History.{History, slots_of}
+use Rattle.office_booking.specs.declared.sessions.slots.Slot.{Slot}
+use Rattle.office_booking.specs.Sessions.Keeping.{KeepsSlots}
+use Rattle.office_booking.proofs.SessionsLemmas.Moments.{AllBefore, before_event}
+use Rattle.office_booking.specs.Settling.Settling.{MayReachAll}
+use Rattle.office_booking.specs.Settling.Events.{IsNext}
+
+kept_before : (at : ℕ) (kept : List Slot) (slots : List sessions.Slot) → KeepsSlots kept slots → AllBefore at slots → MayReachAll at kept slots
+kept_before at [] [] keeps all = tt
+kept_before at [] (slot ∷ slots) keeps all = absurd keeps
+kept_before at (k ∷ kept) [] keeps all = absurd keeps
+kept_before at (k ∷ kept) (slot ∷ slots) keeps all =
+    (record { keeps = keeps.0; before = all.0 }, kept_before at kept slots keeps.1 all.1)
+
+-- An event that is accepted may reach the slots that are kept.
+pub reaches_all : (past : History) (kept : List Slot) (at : ℕ) (e : Event) → IsNext past kept at e → MayReachAll at kept (slots_of past)
+reaches_all past kept at e next =
+    kept_before at kept (slots_of past) next.keeps (before_event past at e next.is_past.accepted next.accepted)

@@ -1,0 +1,5 @@
+pub mod Sessions
+pub mod Starting
+pub mod Settling
+pub mod Commands
+pub mod Opening

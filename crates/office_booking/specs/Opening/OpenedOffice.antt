@@ -1,0 +1,36 @@
+-- What the opening of an office leaves.
+use Rattle.std.specs.Prelude.{◌≡◌, ℕ, true, ◌∷◌, None, Result, IfOk}
+use Rattle.std.specs.declared.alloc.Global.{Global}
+use Rattle.std.specs.declared.vec.Vec.{Vec}
+use Rattle.office_events.specs.declared.facts.Device.{Device}
+use Rattle.office_events.specs.declared.refusals.Refusal.{Refusal}
+use Rattle.office_events.specs.declared.refusals.Refusal.TheVariants as refusal
+use Rattle.office_rules.specs.History.{History, Opened, facts_of, slots_of}
+use Rattle.office_rules.specs.Refusals.{opening_refusal_of}
+use Rattle.office_rules.specs.Lawfulness.{IsPast}
+use Rattle.office_booking.specs.declared.sessions.slots.Slot.{Slot}
+use Rattle.office_booking.specs.Sessions.Keeping.{KeepsSlots}
+use Rattle.office_books.specs.declared.faults.BooksFault.{BooksFault}
+use Rattle.office_books.specs.Ledgers.{Ledger, Moves}
+
+-- the slot of a device that is not connected
+unfoldable pub opened : Device → Slot
+opened device = record { device = device; session = None; idle = λ i. true }
+
+-- The opening may follow what was accepted.
+pub record MayOpen (past : History) (at : ℕ) : Type 0 where
+  pub is_past : IsPast past
+  pub accepted : opening_refusal_of (facts_of past) at ≡ None
+
+-- Each poll that has no outcome is booked as lost, all at once, and there is a slot for each device, with no session.
+pub record Opens (past : History) (at : ℕ) (old new : Ledger)
+    (result : Result (Vec Slot Global) BooksFault) : Type 0 where
+  pub books : Moves old new (facts_of past) (facts_of (Opened at ∷ past)) result
+  pub slots : old.holds (facts_of past) → new.is_clean
+      → IfOk result (λ slots. KeepsSlots slots.items (slots_of (Opened at ∷ past)))
+
+-- An opening is refused for its moment alone.
+abbrev pub IsOfOpening : Refusal → Type 0
+IsOfOpening refusal.ClockBack = Unit {0}
+IsOfOpening refusal.Limit = Unit {0}
+IsOfOpening _ = ⊥

@@ -1,0 +1,44 @@
+-- An installation behind facts that are not booked yet.
+use Rattle.std.specs.Prelude.{◌≡◌, ◌+◌, List, ◌++◌, reverse, Result, Ok, Err, if◌then◌else◌}
+use Rattle.energy_core.specs.Admission.{entered}
+use Rattle.energy_core.specs.declared.entries.Last.{Last}
+use Rattle.energy_core.specs.declared.entries.Step.{Step}
+use Rattle.energy_core.specs.declared.entries.Entry.{Entry}
+use Rattle.energy_core.specs.declared.admission.TermFault.{TermFault}
+use Rattle.office_events.specs.declared.facts.BookedEntry.{BookedEntry}
+use Rattle.office_events.specs.declared.facts.Fact.{Fact}
+use Rattle.office_events.specs.declared.facts.Fact.TheVariants as fact
+use Rattle.office_events.specs.declared.questions.Installation.{Installation}
+use Rattle.office_rules.specs.Facts.{same}
+use Rattle.office_rules.specs.Meters.{installation_of}
+use Rattle.office_rules.specs.Lawful.{AreLawful}
+use Rattle.office_rules.specs.Laws.{IsRecorded}
+use Rattle.office_booking.specs.Settling.Drafts.{AreTold}
+
+-- The installation after an entry, where that may be entered; else it stays.
+abbrev pub with_result : Installation → Result (Last × Step) TermFault → Installation
+with_result row (Ok entry) = record row { last = entry.0; total = row.total + entry.1.mwh }
+with_result row (Err fault) = row
+
+abbrev pub with_entry : Installation → Entry → Installation
+with_entry row e = with_result row (entered row.opening.range row.total row.last e)
+
+-- Only an entry of its own meter changes an installation.
+abbrev pub with_booked : BookedEntry → Installation → Installation
+with_booked booked row =
+    if same booked.meter row.opening.meter then with_entry row booked.entry else row
+
+abbrev pub installation_with : Fact → Installation → Installation
+installation_with (fact.Entry booked) row = with_booked booked row
+installation_with _ row = row
+
+-- an installation as the facts give it
+pub record IsIn (facts : List Fact) (row : Installation) : Type 0 where
+  pub recorded : IsRecorded facts row.opening
+  pub stands : row ≡ installation_of facts row.opening
+
+-- behind these facts it stands so
+abbrev pub StandsBehind : Installation → (facts : List Fact) → Installation → Type 0
+StandsBehind row facts behind =
+    (known : List Fact) → AreTold facts → AreLawful (reverse facts ++ known) → IsIn known row
+    → behind ≡ installation_of (reverse facts ++ known) row.opening

@@ -1,0 +1,36 @@
+-- An event of a device, after all that was accepted before it.
+use Rattle.std.specs.Prelude.{◌≡◌, ℕ, List, [], ◌∷◌, None, Result, IfOk, OnOk, IsOk}
+use Rattle.std.specs.declared.alloc.Global.{Global}
+use Rattle.std.specs.declared.vec.Vec.{Vec}
+use Rattle.office_events.specs.declared.answers.Note.{Note}
+use Rattle.office_events.specs.declared.events.Event.{Event}
+use Rattle.office_rules.specs.History.{History, Fed, facts_of, slots_of, next_poll}
+use Rattle.office_rules.specs.Notes.{notes_of}
+use Rattle.office_rules.specs.Refusals.{refusal_of}
+use Rattle.office_rules.specs.Lawfulness.{IsPast}
+use Rattle.office_booking.specs.declared.sessions.slots.Slot.{Slot}
+use Rattle.office_booking.specs.Sessions.Keeping.{KeepsSlots}
+use Rattle.office_books.specs.declared.faults.BooksFault.{BooksFault}
+use Rattle.office_books.specs.Ledgers.{Ledger, Moves}
+
+-- The slots stand where the past leaves them, and nothing speaks against the event.
+pub record IsNext (past : History) (slots : List Slot) (at : ℕ) (e : Event) : Type 0 where
+  pub is_past : IsPast past
+  pub keeps : KeepsSlots slots (slots_of past)
+  pub accepted : refusal_of past at e ≡ None
+
+-- What it settles is booked all at once and told. At Ok the slots stand where the event leaves them, the notes are the
+-- event's, and the books move to the facts behind it; where the call fails they stay, or a stop may leave the later facts.
+pub record Settles (past : History) (at : ℕ) (e : Event) (old new : Ledger) (after : List Slot)
+    (result : Result (Vec Note Global) BooksFault) : Type 0 where
+  pub slots : OnOk result (KeepsSlots after (slots_of (Fed at e ∷ past)))
+  pub books : Moves old new (facts_of past) (facts_of (Fed at e ∷ past)) result
+  pub notes : old.holds (facts_of past) → new.is_clean → IfOk result (λ told.
+      told.items ≡ notes_of (next_poll (facts_of past)) at e (slots_of past) (facts_of past))
+
+-- The call succeeds, asks no books, and tells nothing.
+pub record IsQuiet {B : Type 0} (old new : B)
+    (result : Result (Vec Note Global) BooksFault) : Type 0 where
+  pub ok : IsOk result
+  pub told : IfOk result (λ told. told.items ≡ [])
+  pub books : new ≡ old

@@ -1,0 +1,13 @@
+//! Carrying out the commands that an office accepts.
+
+mod additions;
+mod effects;
+mod meters;
+mod records;
+mod registers;
+mod replies;
+mod rounds;
+mod starts;
+
+pub use effects::{Done, carry_out, puts_planned};
+pub use crate::starting::Outgoing;

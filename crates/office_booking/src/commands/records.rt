@@ -1,0 +1,68 @@
+//! Commands that are recorded, and change no slot.
+ghost use Rattle.std.specs.Prelude.{◌≡◌, ◌++◌, [], false, List, Option, IfOk};
+ghost use Rattle.std.specs.Option.{option_to_list};
+ghost use Rattle.office_events.specs.declared.facts.Fact.{Fact};
+ghost use Rattle.office_events.specs.declared.answers.Answer.TheVariants as answers;
+ghost use Rattle.office_rules.specs.Lawful.{AreLawful};
+ghost use Rattle.office_rules.specs.Sessions as sessions;
+ghost use Rattle.office_rules.specs.History.{kind_of};
+ghost use Rattle.office_rules.specs.Refusals.{is_start};
+ghost use Rattle.office_booking.specs.Sessions.Ranges.{IsCommandInRange};
+ghost use Rattle.office_books.specs.Ledgers.{GoesOn, Moves};
+ghost use Rattle.office_booking.specs.Commands.Effects.{MovesOnBy, Tries};
+
+use crate::commands::additions::facts_by;
+use crate::commands::effects::Done;
+use crate::commands::replies::kind_of;
+use office_books::{Books, BooksFault};
+use office_events::{Answer, Command, Fact};
+use crate::starting::Outgoing;
+use std::alloc::{AllocError, Global};
+
+/// The facts of a command, and what is kept of the request behind them.
+fn with_reply(facts: Vec<Fact>, reply: Option<Fact>) -> Result<Vec<Fact>, AllocError>
+    ensures { IfOk result (λ all. all.items ≡ facts.items ++ option_to_list reply) }
+{
+    let mut all = facts;
+    if let Some(reply) = reply {
+        all.push(reply)?;
+    }
+    Ok(all)
+}
+
+/// Books the facts of a command, and what is kept of the request behind them.
+pub fn book<B: Books>(
+    books: &mut B,
+    facts: Vec<Fact>,
+    reply: Option<Fact>,
+) -> Result<(), BooksFault>
+    ensures { Tries (B.ledger books.old) (B.ledger books.new)
+        (facts.items ++ option_to_list reply) result }
+{
+    let all = with_reply(facts, reply)?;
+    books.book(all)
+}
+
+/// Carries out a command that starts no polls. The slot of a device that it adds is the caller's to make.
+pub fn record<B: Books>(
+    alloc: Global,
+    books: &mut B,
+    moment: u64,
+    command: &Command,
+    reply: Option<Fact>,
+) -> Result<Done, BooksFault>
+    requires range { IsCommandInRange moment command.now }
+    requires no_start { is_start command.now ≡ false }
+    ensures books { MovesOnBy moment command.now (option_to_list reply) (B.ledger books.old)
+        (B.ledger books.new) result }
+    ensures goes { GoesOn (B.ledger books.old) (B.ledger books.new) result }
+    ensures answer { IfOk result (λ done. done.answer ≡ answers.Done (kind_of command.now)) }
+    ensures sent { IfOk result (λ done. done.outgoing ≡ []) }
+{
+    let facts = facts_by(alloc, books, moment, command)?;
+    book(books, facts, reply)?;
+    Ok(Done {
+        answer: Answer::Done(kind_of(command)),
+        outgoing: Outgoing::none(),
+    })
+}

@@ -1,0 +1,14 @@
+//! What an office carries out: sessions with devices, reads that are started, what events settle, commands and openings, each booked whole.
+#![tactic(auto)]
+
+mod commands;
+mod opening;
+mod sessions;
+mod settling;
+mod starting;
+
+pub use commands::{carry_out, puts_planned};
+pub use opening::{book_opening, opening_refusal};
+pub use sessions::{Slot, has_device, is_connected, place_of};
+pub use settling::settle_event;
+pub use starting::Outgoing;

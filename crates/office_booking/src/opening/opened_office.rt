@@ -1,0 +1,117 @@
+//! The opening of an office: no device is connected, and each poll that has no outcome is lost.
+ghost use Rattle.std.specs.Prelude.{◌≡◌, ◌≤◌, List, map, reverse, None, IfOk, IfSome, OnErr};
+ghost use Rattle.office_events.specs.declared.facts.Fact.{Fact};
+ghost use Rattle.office_rules.specs.Facts.{moment_limit, devices_in};
+ghost use Rattle.office_rules.specs.History as history;
+ghost use Rattle.office_rules.specs.History.{History, with_lost};
+ghost use Rattle.office_rules.specs.Lawful.{AreLawful};
+ghost use Rattle.office_rules.specs.Refusals as refusals;
+ghost use Rattle.office_books.specs.Ledgers.{Finds, GoesOn, Moves, OnlyReads};
+ghost use Rattle.office_booking.specs.Opening.OpenedOffice as opening;
+ghost use Rattle.office_booking.specs.Opening.OpenedOffice.{MayOpen, Opens, IsOfOpening};
+
+use office_books::{Books, BooksFault};
+use office_events::{Device, EndedPoll, Fact, Poll, Refusal};
+use office_rules::facts_are_lawful;
+use crate::sessions::Slot;
+use poll_core::{LAST_MOMENT, LostCause, Outcome};
+use std::alloc::{AllocError, Global};
+
+/// The slot of a device that isn't connected.
+fn opened(device: &Device) -> Slot
+    ensures { result ≡ opening.opened device.now }
+{
+    Slot {
+        device: *device,
+        session: None,
+    }
+}
+
+/// The slots of an office that is opened: no device is connected.
+fn opened_slots(alloc: Global, devices: &[Device]) -> Result<Vec<Slot>, AllocError>
+    ensures { IfOk result (λ slots. slots.items ≡ map opening.opened devices.now) }
+{
+    devices.iter().map(|device| opened(device)).collect(alloc)
+}
+
+/// That a poll is lost, since the office was opened anew.
+fn lost(moment: u64, poll: &Poll) -> Fact
+    ensures { result ≡ history.lost moment poll.now }
+{
+    Fact::Outcome(EndedPoll {
+        poll: poll.number,
+        at: moment,
+        outcome: Outcome::Lost(LostCause::Restart),
+    })
+}
+
+/// That polls are lost.
+fn lost_facts(alloc: Global, moment: u64, polls: &[Poll]) -> Result<Vec<Fact>, AllocError>
+    ensures { IfOk result (λ facts. facts.items ≡ map (history.lost moment) polls.now) }
+{
+    polls.iter().map(|poll| lost(moment, poll)).collect(alloc)
+}
+
+/// The slots of the devices in the books.
+fn slots_in<B: Books>(alloc: Global, books: &mut B) -> Result<Vec<Slot>, BooksFault>
+    ensures found { Finds (B.ledger books.old) (B.ledger books.new) result
+        (λ known slots. slots.items ≡ map opening.opened (reverse (devices_in known))) }
+    ensures reads { OnlyReads (B.ledger books.old) (B.ledger books.new) result }
+{
+    let devices = books.devices()?;
+    Ok(opened_slots(alloc, &devices)?)
+}
+
+/// Books that each poll that has no outcome is lost. If there is none, nothing is written.
+fn book_lost<B: Books>(alloc: Global, books: &mut B, moment: u64) -> Result<(), BooksFault>
+    ensures books { (known : List Fact) → AreLawful (with_lost moment known)
+        → Moves (B.ledger books.old) (B.ledger books.new) known (with_lost moment known) result }
+    ensures refused { (known : List Fact) → (B.ledger books.old).holds known
+        → OnErr result ((B.ledger books.new).holds known) }
+    ensures goes { GoesOn (B.ledger books.old) (B.ledger books.new) result }
+{
+    let polls = books.pending()?;
+    if polls.is_empty() {
+        return Ok(());
+    }
+    let facts = lost_facts(alloc, moment, &polls)?;
+    books.book(facts)
+}
+
+/// Why the opening of an office is refused over these books: it comes before what is recorded, or past the limit.
+/// `None` where nothing speaks against it. Moments are seconds since 1970-01-01 UTC.
+pub fn opening_refusal<B: Books>(books: &mut B, moment: u64) -> Result<Option<Refusal>, BooksFault>
+    ensures found { Finds (B.ledger books.old) (B.ledger books.new) result
+        (λ known why. why ≡ refusals.opening_refusal_of known moment) }
+    ensures reads { OnlyReads (B.ledger books.old) (B.ledger books.new) result }
+    ensures in_time { IfOk result (λ why. why ≡ None → moment ≤ moment_limit) }
+    ensures of_opening { IfOk result (λ why. IfSome why IsOfOpening) }
+{
+    if moment < books.latest()? {
+        return Ok(Some(Refusal::ClockBack));
+    }
+    if LAST_MOMENT < moment {
+        return Ok(Some(Refusal::Limit));
+    }
+    Ok(None)
+}
+
+/// Books the opening of an office that is not refused: that each poll is lost that has no outcome, all at once; where
+/// there is none, nothing is written. Answers a slot for each device, in the order in which they were added; none is
+/// connected.
+pub fn book_opening<B: Books>(
+    alloc: Global,
+    books: &mut B,
+    moment: u64,
+) -> Result<Vec<Slot>, BooksFault>
+    ensures opens { (past : History) → MayOpen past moment
+        → Opens past moment (B.ledger books.old) (B.ledger books.new) result }
+    ensures refused { (known : List Fact) → (B.ledger books.old).holds known
+        → OnErr result ((B.ledger books.new).holds known) }
+    ensures goes { GoesOn (B.ledger books.old) (B.ledger books.new) result }
+{
+    facts_are_lawful();
+    let slots = slots_in(alloc, books)?;
+    book_lost(alloc, books, moment)?;
+    Ok(slots)
+}

@@ -1,0 +1,62 @@
+//! Installations as they stand behind a draft.
+ghost use Rattle.std.specs.Prelude.{◌≡◌};
+ghost use Rattle.office_rules.specs.Meters.{open_at};
+ghost use Rattle.office_books.specs.Sound.{IsSound, ReadsInstallation};
+ghost use Rattle.office_booking.specs.Settling.Drafts.{FindsBehind};
+ghost use Rattle.office_booking.specs.Settling.Behind.{installation_with, StandsBehind};
+
+use crate::settling::drafts::Draft;
+use energy_core::{accepted_is_entered, accounts_go_on, entered_is_booked};
+use office_books::{Books, BooksFault, enter};
+use office_events::{Fact, Installation, Name};
+use office_rules::{meters_are_kept, names_are_distinct};
+
+/// An installation after one more fact.
+fn with_fact(row: &Installation, fact: &Fact) -> Installation
+    requires { IsSound row.now }
+    ensures sound { IsSound result }
+    ensures with_it { result ≡ installation_with fact.now row.now }
+{
+    match fact {
+        Fact::Entry(booked) if booked.meter.is(&row.opening.meter) => enter(row, &booked.entry),
+        _ => *row,
+    }
+}
+
+/// An installation behind these facts.
+fn with_facts(row: &Installation, facts: &[Fact]) -> Installation
+    requires { IsSound row.now }
+    ensures sound { IsSound result }
+    ensures behind { StandsBehind row.now facts.now result }
+{
+    names_are_distinct();
+    meters_are_kept();
+    accepted_is_entered();
+    entered_is_booked();
+    accounts_go_on();
+    let mut behind = *row;
+    for fact in facts {
+        behind = with_fact(&behind, fact);
+    }
+    behind
+}
+
+/// The installation that is open at a register behind the draft.
+pub fn open_installation<B: Books>(
+    books: &mut B,
+    draft: &Draft,
+    register: &Name,
+) -> Result<Option<Installation>, BooksFault>
+    ensures found { FindsBehind (B.ledger books.old) (B.ledger books.new) draft.now result
+        (λ facts row. row ≡ open_at facts register.now) }
+    ensures reads { ReadsInstallation (B.ledger books.old) (B.ledger books.new) result }
+{
+    let Some(booked) = books.installation(register)? else {
+        return Ok(None);
+    };
+    let row = with_facts(&booked, &draft.facts);
+    if row.ended {
+        return Ok(None);
+    }
+    Ok(Some(row))
+}

@@ -1,0 +1,38 @@
+//! An event that is being settled.
+ghost use Rattle.std.specs.Prelude.{◌≡◌, ◌++◌, ◌∷◌, [], OnOk, IfErr};
+ghost use Rattle.office_books.specs.declared.faults.BooksFault.TheVariants.{Memory};
+ghost use Rattle.office_booking.specs.Settling.Drafts.{HasMore};
+
+use office_books::BooksFault;
+use office_events::{Fact, Note};
+use std::alloc::Global;
+
+/// The facts and notes that an event adds, oldest first. They are booked and told together, or not at all.
+#[derive(Drop)]
+pub struct Draft {
+    pub facts: Vec<Fact>,
+    pub notes: Vec<Note>,
+}
+
+impl Draft {
+    /// A draft that adds nothing. It takes no memory.
+    pub fn new(alloc: Global) -> Draft
+        ensures facts { result.facts.items ≡ [] }
+        ensures notes { result.notes.items ≡ [] }
+    {
+        Draft {
+            facts: Vec::new(alloc),
+            notes: Vec::new(alloc),
+        }
+    }
+
+    /// Adds a fact, and the note of it.
+    pub fn add(&mut self, fact: Fact, note: Note) -> Result<(), BooksFault>
+        ensures ok { OnOk result (HasMore self.old self.new fact note) }
+        ensures err { IfErr result (λ fault. fault ≡ Memory) }
+    {
+        self.facts.push(fact)?;
+        self.notes.push(note)?;
+        Ok(())
+    }
+}

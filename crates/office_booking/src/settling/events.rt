@@ -1,0 +1,59 @@
+//! What an event of a device settles, booked all at once.
+ghost use Rattle.std.specs.Prelude.{◌≡◌, ◌≤◌, [], List, IsOk, OnErr};
+ghost use Rattle.office_rules.specs.Facts.{moment_limit};
+ghost use Rattle.office_rules.specs.History.{History, facts_of, slots_of, next_poll};
+ghost use Rattle.office_events.specs.declared.facts.Fact.{Fact};
+ghost use Rattle.office_rules.specs.Lawful.{AreLawful};
+ghost use Rattle.office_books.specs.Ledgers.{GoesOn, Moves, with_facts};
+ghost use Rattle.office_booking.specs.Settling.Settling.{IsSettling, SettleNothing};
+ghost use Rattle.office_booking.specs.Settling.Events.{IsNext, IsQuiet, Settles};
+
+use crate::settling::drafts::Draft;
+use crate::settling::slots::settle_slots;
+use office_books::{Books, BooksFault};
+use office_events::{Event, Fact, Note};
+use office_rules::facts_are_lawful;
+use crate::sessions::Slot;
+use std::alloc::Global;
+
+/// Books the facts of an event, if it has any.
+fn book_all<B: Books>(books: &mut B, facts: Vec<Fact>) -> Result<(), BooksFault>
+    ensures moves { (known : List Fact) → let later = with_facts facts.items known in
+        AreLawful later → Moves (B.ledger books.old) (B.ledger books.new) known later result }
+    ensures refused { (known : List Fact) → (B.ledger books.old).holds known
+        → OnErr result ((B.ledger books.new).holds known) }
+    ensures quiet { facts.items ≡ [] → IsOk result × (books.new ≡ books.old) }
+    ensures goes { GoesOn (B.ledger books.old) (B.ledger books.new) result }
+{
+    if facts.is_empty() {
+        return Ok(());
+    }
+    books.book(facts)
+}
+
+/// Brings an event to the slots of the devices, and books what it settles, all at once. Answers its notes: each poll that
+/// ended, and then the readings of its reply. An event that settles nothing asks no books and takes no memory. Where the
+/// books or memory fail, some slots may have gone on already, so the caller is to give the sessions up.
+pub fn settle_event<B: Books>(
+    alloc: Global,
+    slots: &mut [Slot],
+    books: &mut B,
+    moment: u64,
+    event: &Event,
+) -> Result<Vec<Note>, BooksFault>
+    requires settling { IsSettling event.now }
+    requires limit { moment ≤ moment_limit }
+    ensures settles { (past : History) → IsNext past slots.old moment event.now
+        → Settles past moment event.now (B.ledger books.old) (B.ledger books.new) slots.new result }
+    ensures quiet { (past : History) → IsNext past slots.old moment event.now
+        → SettleNothing (next_poll (facts_of past)) moment event.now (slots_of past)
+        → IsQuiet books.old books.new result }
+    ensures goes { GoesOn (B.ledger books.old) (B.ledger books.new) result }
+{
+    facts_are_lawful();
+    let mut draft = Draft::new(alloc);
+    settle_slots(slots, books, &mut draft, moment, event)?;
+    let Draft { facts, notes } = draft;
+    book_all(books, facts)?;
+    Ok(notes)
+}

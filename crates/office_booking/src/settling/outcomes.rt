@@ -1,0 +1,174 @@
+//! Polls that end, and the readings of their replies.
+ghost use Rattle.std.specs.Prelude.{◌≡◌, OnOk, IfErr};
+ghost use Rattle.poll_core.specs.Telling.{settled_of, LendsReply};
+ghost use Rattle.office_rules.specs.Readings as readings;
+ghost use Rattle.office_rules.specs.Facts.{poll_of};
+ghost use Rattle.office_rules.specs.History as history;
+ghost use Rattle.office_rules.specs.Notes as notes;
+ghost use Rattle.office_books.specs.declared.faults.BooksFault.TheVariants.{Memory};
+ghost use Rattle.office_books.specs.Ledgers.{OnlyReads};
+ghost use Rattle.office_books.specs.Sound.{IsSound};
+ghost use Rattle.office_booking.specs.Settling.Drafts.{HasMore, Adds};
+ghost use Rattle.office_booking.specs.Settling.Replies.{words_of};
+
+use crate::settling::behind::open_installation;
+use crate::settling::drafts::Draft;
+use crate::settling::readings::{is_read_by, reading_of};
+use energy_core::{Entry, Reading, Verdict};
+use mb_wire::Reply;
+use office_books::{Books, BooksFault, judge};
+use office_events::{
+    BookedEntry, EndedPoll, EntryKind, Fact, HeldReading, Installation, Name, Note, Poll, Register,
+};
+use poll_core::Settled;
+
+/// The fact and the note of a reading.
+fn told_of(meter: Name, poll: u64, reading: &Reading, verdict: Verdict) -> (Fact, Note)
+    ensures fact { result.0 ≡ readings.as_fact meter poll reading.now verdict }
+    ensures note { result.1 ≡ notes.as_note meter reading.now verdict }
+{
+    match verdict {
+        Verdict::Accepted { rolls, step } => (
+            Fact::Entry(BookedEntry {
+                meter,
+                kind: EntryKind::Reading,
+                entry: Entry::Step {
+                    at: reading.at,
+                    raw: reading.raw,
+                    rolls,
+                },
+            }),
+            Note::Reading {
+                meter,
+                raw: reading.raw,
+                rolls,
+                step,
+            },
+        ),
+        Verdict::Held(cause) => (
+            Fact::Hold(HeldReading {
+                meter,
+                poll,
+                at: reading.at,
+                raw: reading.raw,
+                sf: reading.sf,
+                cause,
+            }),
+            Note::Held {
+                meter,
+                raw: reading.raw,
+                cause,
+            },
+        ),
+    }
+}
+
+/// Judges a reading of an installation, and adds what becomes of it.
+fn add_judged(
+    draft: &mut Draft,
+    row: &Installation,
+    poll: u64,
+    reading: &Reading,
+) -> Result<(), BooksFault>
+    requires { IsSound row.now }
+    ensures ok { OnOk result (HasMore draft.old draft.new
+        (readings.reading_fact poll reading.now row.now) (notes.reading_note reading.now row.now)) }
+    ensures err { IfErr result (λ fault. fault ≡ Memory) }
+{
+    let verdict = judge(row, reading);
+    let (fact, note) = told_of(row.opening.meter, poll, reading, verdict);
+    draft.add(fact, note)
+}
+
+/// Adds what a reply to a poll tells of a register, if it is read by it and a meter is open there.
+fn add_reading<B: Books>(
+    books: &mut B,
+    draft: &mut Draft,
+    at: u64,
+    poll: &Poll,
+    reply: &Reply,
+    register: &Register,
+) -> Result<(), BooksFault>
+    ensures adds { Adds (B.ledger books.old) (B.ledger books.new) draft.old draft.new result
+        (readings.with_register at poll.now (words_of reply.now) register.now)
+        (notes.register_notes at poll.now (words_of reply.now) register.now) }
+    ensures reads { OnlyReads (B.ledger books.old) (B.ledger books.new) result }
+{
+    if !is_read_by(poll.span, register) {
+        return Ok(());
+    }
+    let Some(row) = open_installation(books, draft, &register.name)? else {
+        return Ok(());
+    };
+    let reading = reading_of(at, poll.span, reply, register);
+    add_judged(draft, &row, poll.number, &reading)
+}
+
+/// Adds what a reply tells of these registers, one after the other.
+fn add_readings<B: Books>(
+    books: &mut B,
+    draft: &mut Draft,
+    at: u64,
+    poll: &Poll,
+    reply: &Reply,
+    registers: &[Register],
+) -> Result<(), BooksFault>
+    ensures adds { Adds (B.ledger books.old) (B.ledger books.new) draft.old draft.new result
+        (readings.with_registers at poll.now (words_of reply.now) registers.now)
+        (notes.registers_notes at poll.now (words_of reply.now) registers.now) }
+    ensures reads { OnlyReads (B.ledger books.old) (B.ledger books.new) result }
+{
+    for register in registers {
+        add_reading(books, draft, at, poll, reply, register)?;
+    }
+    Ok(())
+}
+
+/// Adds the readings of the reply to the poll of a number.
+fn add_reply<B: Books>(
+    books: &mut B,
+    draft: &mut Draft,
+    at: u64,
+    number: u64,
+    reply: &Reply,
+) -> Result<(), BooksFault>
+    ensures adds { Adds (B.ledger books.old) (B.ledger books.new) draft.old draft.new result
+        (λ facts. readings.with_reply at (poll_of facts number) (words_of reply.now) facts)
+        (λ facts. notes.reply_notes at (poll_of facts number) (words_of reply.now) facts) }
+    ensures reads { OnlyReads (B.ledger books.old) (B.ledger books.new) result }
+{
+    let Some(row) = books.poll(number)? else {
+        return Ok(());
+    };
+    let registers = books.registers(&row.poll.device)?;
+    add_readings(books, draft, at, &row.poll, reply, &registers)
+}
+
+/// Adds the outcome of a poll, and then the readings of its reply.
+pub fn add_outcome<B: Books>(
+    books: &mut B,
+    draft: &mut Draft,
+    at: u64,
+    settled: &Settled,
+) -> Result<(), BooksFault>
+    requires { LendsReply settled.now }
+    ensures adds { Adds (B.ledger books.old) (B.ledger books.new) draft.old draft.new result
+        (history.with_outcome at (settled_of settled.now))
+        (notes.outcome_notes at (settled_of settled.now)) }
+    ensures reads { OnlyReads (B.ledger books.old) (B.ledger books.new) result }
+{
+    let ended = EndedPoll {
+        poll: settled.poll,
+        at,
+        outcome: settled.outcome,
+    };
+    let note = Note::Outcome {
+        poll: settled.poll,
+        outcome: settled.outcome,
+    };
+    draft.add(Fact::Outcome(ended), note)?;
+    match &settled.reply {
+        None => Ok(()),
+        Some(reply) => add_reply(books, draft, at, settled.poll, reply),
+    }
+}

@@ -1,0 +1,70 @@
+//! What a reply tells of a register.
+ghost use Rattle.std.specs.Prelude.{◌≡◌, ◌≤◌, ◌+◌};
+ghost use Rattle.office_rules.specs.Readings as readings;
+ghost use Rattle.office_booking.specs.Settling.Replies.{words_of};
+
+use energy_core::Reading;
+use mb_wire::{ReadSpan, Reply};
+use office_events::{Register, ScaleSource};
+use sun_points::{acc32, sunssf};
+
+/// Whether these registers lie in the span.
+fn contains(span: ReadSpan, address: u16, count: u32) -> bool
+    requires { count ≤ 2 }
+    ensures { result ≡ readings.contains span address count }
+{
+    let address = u32::from(address);
+    let from = u32::from(span.address);
+    from <= address && address + count <= from + u32::from(span.count)
+}
+
+/// Whether the register of the scale lies in the span, if the device tells it.
+fn contains_scale(span: ReadSpan, scale: ScaleSource) -> bool
+    ensures { result ≡ readings.contains_scale span scale }
+{
+    match scale {
+        ScaleSource::Fixed(_) => true,
+        ScaleSource::Register(address) => contains(span, address, 1),
+    }
+}
+
+/// Whether the span is read by the register's function, and contains its counter and its scale.
+pub fn is_read_by(span: ReadSpan, register: &Register) -> bool
+    ensures { result ≡ readings.is_read_by span register.now }
+{
+    span.function.code() == register.function.code()
+        && contains(span, register.address, 2)
+        && contains_scale(span, register.scale)
+}
+
+/// The word of the reply at an address; 0 where it has none.
+fn word_at(span: ReadSpan, reply: &Reply, address: u32) -> u16
+    ensures { result ≡ readings.word_at span (words_of reply.now) address }
+{
+    let place = address.saturating_sub(u32::from(span.address));
+    reply.word(place as usize).unwrap_or(0)
+}
+
+/// The scale of a register.
+fn scale_of(span: ReadSpan, reply: &Reply, scale: ScaleSource) -> i16
+    ensures { result ≡ readings.scale_of span (words_of reply.now) scale }
+{
+    match scale {
+        ScaleSource::Fixed(sf) => sf,
+        ScaleSource::Register(address) => sunssf(word_at(span, reply, u32::from(address))),
+    }
+}
+
+/// What the reply tells of a register.
+pub fn reading_of(at: u64, span: ReadSpan, reply: &Reply, register: &Register) -> Reading
+    ensures { result ≡ readings.reading_of at span (words_of reply.now) register.now }
+{
+    let address = u32::from(register.address);
+    let high = word_at(span, reply, address);
+    let low = word_at(span, reply, address + 1);
+    Reading {
+        at,
+        raw: acc32(high, low),
+        sf: scale_of(span, reply, register.scale),
+    }
+}

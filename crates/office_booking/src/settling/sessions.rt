@@ -1,0 +1,137 @@
+//! What an event settles on a session.
+ghost use Rattle.std.specs.Prelude.{◌≡◌, ◌≤◌, true, not, None, OnOk, IfOk};
+ghost use Rattle.poll_core.specs.Settling as happening;
+ghost use Rattle.office_rules.specs.Facts.{moment_limit};
+ghost use Rattle.office_books.specs.Ledgers.{OnlyReads};
+ghost use Rattle.office_booking.specs.Settling.Drafts.{IsIdle};
+ghost use Rattle.office_booking.specs.Settling.Settling.{IsSettling, happening_on, SettlesNothing, TellsAll, TellsReached, ReachesQuietly, ends_session};
+
+use crate::settling::drafts::Draft;
+use crate::settling::outcomes::add_outcome;
+use office_books::{Books, BooksFault};
+use office_events::{Device, Event};
+use crate::sessions::is_named;
+use poll_core::{Closing, Session, longer_pieces_settle};
+
+/// Brings a whole piece to a session, and adds what it settles.
+fn settle_piece<B: Books>(
+    session: &mut Session,
+    books: &mut B,
+    draft: &mut Draft,
+    moment: u64,
+    piece: &[u8],
+) -> Result<(), BooksFault>
+    requires limit { moment ≤ moment_limit }
+    requires rests { session.old.settling ≡ None }
+    ensures tells { TellsAll (B.ledger books.old) (B.ledger books.new) session.old session.new
+        (happening.Piece moment piece.now) draft.old draft.new result }
+    ensures quiet { SettlesNothing session.old (happening.Piece moment piece.now)
+        → IsIdle result books.old books.new draft.old draft.new }
+    ensures rests { OnOk result (session.new.settling ≡ None) }
+    ensures reads { OnlyReads (B.ledger books.old) (B.ledger books.new) result }
+{
+    longer_pieces_settle();
+    let mut taken = 0;
+    'turns: loop {
+        let Ok(turn) = session.next(moment, &piece[taken..]) else {
+            return Ok(());
+        };
+        taken += turn.taken;
+        match turn.settled {
+            None => return Ok(()),
+            Some(settled) => add_outcome(books, draft, moment, &settled)?,
+        }
+    }
+}
+
+/// Brings a moment at which nothing came, and adds what it settles.
+fn settle_tick<B: Books>(
+    session: &mut Session,
+    books: &mut B,
+    draft: &mut Draft,
+    moment: u64,
+) -> Result<(), BooksFault>
+    requires limit { moment ≤ moment_limit }
+    requires rests { session.old.settling ≡ None }
+    ensures tells { TellsAll (B.ledger books.old) (B.ledger books.new) session.old session.new
+        (happening.Tick moment) draft.old draft.new result }
+    ensures quiet { SettlesNothing session.old (happening.Tick moment)
+        → IsIdle result books.old books.new draft.old draft.new }
+    ensures rests { OnOk result (session.new.settling ≡ None) }
+    ensures reads { OnlyReads (B.ledger books.old) (B.ledger books.new) result }
+{
+    'turns: loop {
+        let Ok(told) = session.tick(moment) else {
+            return Ok(());
+        };
+        match told {
+            None => return Ok(()),
+            Some(settled) => add_outcome(books, draft, moment, &settled)?,
+        }
+    }
+}
+
+/// Ends a session, and adds what that settles.
+fn settle_close<B: Books>(
+    session: &mut Session,
+    books: &mut B,
+    draft: &mut Draft,
+    moment: u64,
+    closing: Closing,
+) -> Result<(), BooksFault>
+    requires limit { moment ≤ moment_limit }
+    requires rests { session.old.settling ≡ None }
+    ensures tells { TellsAll (B.ledger books.old) (B.ledger books.new) session.old session.new
+        (happening.Close moment closing) draft.old draft.new result }
+    ensures quiet { SettlesNothing session.old (happening.Close moment closing)
+        → IsIdle result books.old books.new draft.old draft.new }
+    ensures reads { OnlyReads (B.ledger books.old) (B.ledger books.new) result }
+{
+    'turns: loop {
+        let Ok(told) = session.close(moment, closing) else {
+            return Ok(());
+        };
+        match told {
+            None => return Ok(()),
+            Some(settled) => add_outcome(books, draft, moment, &settled)?,
+        }
+    }
+}
+
+/// Brings an event to the session of a device, if it reaches it. Answers whether the device stays connected.
+pub fn settle_session<B: Books>(
+    session: &mut Session,
+    device: &Device,
+    books: &mut B,
+    draft: &mut Draft,
+    moment: u64,
+    event: &Event,
+) -> Result<bool, BooksFault>
+    requires settling { IsSettling event.now }
+    requires limit { moment ≤ moment_limit }
+    requires rests { session.old.settling ≡ None }
+    ensures tells { TellsReached (B.ledger books.old) (B.ledger books.new) session.old session.new
+        (happening_on moment event.now device.now) draft.old draft.new result }
+    ensures stays { let ends = ends_session (happening_on moment event.now device.now) in
+        IfOk result (λ b. b ≡ not ends) }
+    ensures quiet { ReachesQuietly session.old (happening_on moment event.now device.now)
+        → IsIdle result books.old books.new draft.old draft.new }
+    ensures rests { IfOk result (λ b. b ≡ true → session.new.settling ≡ None) }
+    ensures reads { OnlyReads (B.ledger books.old) (B.ledger books.new) result }
+{
+    match event {
+        Event::Bytes(given, piece) if is_named(given, device) => {
+            settle_piece(session, books, draft, moment, piece.as_slice())?;
+            Ok(true)
+        }
+        Event::Tick => {
+            settle_tick(session, books, draft, moment)?;
+            Ok(true)
+        }
+        Event::Gone(given, closing) if is_named(given, device) => {
+            settle_close(session, books, draft, moment, *closing)?;
+            Ok(false)
+        }
+        _ => Ok(true),
+    }
+}

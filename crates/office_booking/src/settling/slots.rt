@@ -1,0 +1,94 @@
+//! What an event settles on the slots of an office.
+ghost use Rattle.std.specs.Prelude.{◌≡◌, ℕ, ◌≤◌, [], List, map, Some, OnOk};
+ghost use Rattle.office_rules.specs.Facts.{moment_limit};
+ghost use Rattle.office_rules.specs.Sessions as sessions;
+ghost use Rattle.office_rules.specs.Sessions.{slot_after};
+ghost use Rattle.office_rules.specs.History.{settled_by};
+ghost use Rattle.office_booking.specs.Sessions.Keeping.{KeepsSlot, KeepsSlots};
+ghost use Rattle.office_books.specs.Ledgers.{OnlyReads};
+ghost use Rattle.office_booking.specs.Settling.Drafts.{IsIdle};
+ghost use Rattle.office_booking.specs.Settling.Settling.{AddsOfSlot, AddsOfSlots, IsSettling, SettleNothing, MayReach, MayReachAll};
+
+use crate::settling::drafts::Draft;
+use crate::settling::sessions::settle_session;
+use office_books::{Books, BooksFault};
+use office_events::{Device, Event};
+use crate::sessions::{Slot, is_named};
+use poll_core::Session;
+
+/// Whether the event connects the device.
+fn connects(event: &Event, device: &Device) -> bool
+    ensures { result ≡ sessions.connects event.now device.now }
+{
+    match event {
+        Event::Connected(given) => is_named(given, device),
+        _ => false,
+    }
+}
+
+/// A device that has just been connected.
+fn connected(device: &Device) -> Slot
+    ensures { KeepsSlot result (record { device = device.now; ended = []; present = Some [] }) }
+{
+    Slot {
+        device: *device,
+        session: Some(Session::new(device.timeout.seconds(), device.window.polls())),
+    }
+}
+
+/// Brings an event to a slot, if it reaches it. Where that fails the slot has no session any more.
+fn settle_slot<B: Books>(
+    slot: &mut Slot,
+    books: &mut B,
+    draft: &mut Draft,
+    moment: u64,
+    event: &Event,
+) -> Result<(), BooksFault>
+    requires settling { IsSettling event.now }
+    requires limit { moment ≤ moment_limit }
+    ensures keeps { (number : ℕ) (stood : sessions.Slot) → MayReach moment slot.old stood
+        → OnOk result (KeepsSlot slot.new (slot_after number moment [] event.now stood)) }
+    ensures adds { AddsOfSlot (B.ledger books.old) (B.ledger books.new) moment event.now slot.old
+        draft.old draft.new result }
+    ensures quiet { (number : ℕ) (stood : sessions.Slot) → MayReach moment slot.old stood
+        → settled_by number moment event.now stood ≡ []
+        → IsIdle result books.old books.new draft.old draft.new }
+    ensures reads { OnlyReads (B.ledger books.old) (B.ledger books.new) result }
+{
+    if connects(event, &slot.device) {
+        *slot = connected(&slot.device);
+        return Ok(());
+    }
+    let Some(mut session) = slot.session.take() else {
+        return Ok(());
+    };
+    if settle_session(&mut session, &slot.device, books, draft, moment, event)? {
+        slot.session = Some(session);
+    }
+    Ok(())
+}
+
+/// Brings an event to each slot that it reaches, in the order in which the devices were added.
+pub fn settle_slots<B: Books>(
+    slots: &mut [Slot],
+    books: &mut B,
+    draft: &mut Draft,
+    moment: u64,
+    event: &Event,
+) -> Result<(), BooksFault>
+    requires settling { IsSettling event.now }
+    requires limit { moment ≤ moment_limit }
+    ensures keeps { (number : ℕ) (stood : List sessions.Slot) → MayReachAll moment slots.old stood
+        → OnOk result (KeepsSlots slots.new (map (slot_after number moment [] event.now) stood)) }
+    ensures adds { AddsOfSlots (B.ledger books.old) (B.ledger books.new) moment event.now slots.old
+        draft.old draft.new result }
+    ensures quiet { (number : ℕ) (stood : List sessions.Slot) → MayReachAll moment slots.old stood
+        → SettleNothing number moment event.now stood
+        → IsIdle result books.old books.new draft.old draft.new }
+    ensures reads { OnlyReads (B.ledger books.old) (B.ledger books.new) result }
+{
+    for i in 0..slots.len() {
+        settle_slot(&mut slots[i], books, draft, moment, event)?;
+    }
+    Ok(())
+}

@@ -1,0 +1,7 @@
+//! The reads that are started on the session of a device.
+
+mod output;
+mod starts;
+
+pub use output::Outgoing;
+pub use starts::{polls_on, start_on};

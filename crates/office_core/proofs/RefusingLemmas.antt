@@ -1,0 +1,5 @@
+pub mod AtMeters
+pub mod Rooms
+pub mod Places
+pub mod OnVoids
+pub mod Asked

@@ -1,0 +1,71 @@
+-- Why a command is refused that comes at a time and in a way.
+use Rattle.std.specs.Prelude.{◌≡◌, ℕ, Bool, false, ◌||◌, List, Option, Some, None, is_none, nat_lt}
+use Rattle.std.specs.List.{find}
+use Rattle.office_events.specs.declared.commands.Command.{Command}
+use Rattle.office_events.specs.declared.events.Asked.{Asked}
+use Rattle.office_events.specs.declared.facts.Fact.{Fact}
+use Rattle.office_events.specs.declared.refusals.Refusal.{Refusal}
+use Rattle.office_events.specs.declared.refusals.Refusal.TheVariants as refusal
+use Rattle.office_rules.specs.Facts.{moment_limit, request_limit}
+use Rattle.office_rules.specs.Sessions as sessions
+use Rattle.office_rules.specs.Refusals.{asks_wrongly, reasons}
+use Rattle.office_booking.specs.declared.sessions.slots.Slot.{Slot}
+use Rattle.office_booking.specs.Sessions.Keeping.{KeepsSlots}
+use Rattle.office_core.specs.declared.refusing.arrivals.Arrival.{Arrival}
+use Rattle.office_core.specs.Refusing.Asking.{IsOfEvent}
+use Rattle.office_booking.specs.Sessions.Ranges.{IsCommandInRange}
+
+-- how an event comes after the latest accepted one, and how a request does
+abbrev pub arrival_of : (latest at : ℕ) → Arrival
+arrival_of latest at =
+    record { moment = at; is_back = nat_lt at latest; is_beyond = nat_lt moment_limit at }
+
+abbrev pub request_arrival : (latest at : ℕ) → Asked → Arrival
+request_arrival latest at asked = record {
+  moment = at;
+  is_back = nat_lt at latest;
+  is_beyond = nat_lt moment_limit at || is_none asked.caller || nat_lt request_limit asked.number;
+}
+
+-- a reason that lies in how it comes
+abbrev pub comes_wrongly : Arrival → Refusal → Bool
+comes_wrongly arrival refusal.ClockBack = arrival.is_back
+comes_wrongly arrival refusal.Limit = arrival.is_beyond
+comes_wrongly arrival _ = false
+
+abbrev pub speaks_against : List sessions.Slot → List Fact → Arrival → Command → Refusal → Bool
+speaks_against slots facts arrival c why =
+    comes_wrongly arrival why || asks_wrongly slots facts arrival.moment c why
+
+-- Why a command is refused, if it is: for the first reason that speaks against it.
+abbrev pub refusal_under : List sessions.Slot → List Fact → Arrival → Command → Option Refusal
+refusal_under slots facts arrival c = find (speaks_against slots facts arrival c) reasons
+
+-- What is answered is why the command is refused, whatever the devices, or these being the kept ones.
+abbrev pub IsWhy : Arrival → Command → List Fact → Option Refusal → Type 0
+IsWhy arrival c facts r = (slots : List sessions.Slot) → r ≡ refusal_under slots facts arrival c
+
+abbrev pub IsWhyAmong : List Slot → Arrival → Command → List Fact → Option Refusal → Type 0
+IsWhyAmong kept arrival c facts r =
+    (slots : List sessions.Slot) → KeepsSlots kept slots → r ≡ refusal_under slots facts arrival c
+
+-- It comes neither too early nor out of range, and its numbers are in their ranges.
+pub record ComesInRange (arrival : Arrival) (c : Command) : Type 0 where
+  pub not_back : arrival.is_back ≡ false
+  pub within : arrival.is_beyond ≡ false
+  pub command : IsCommandInRange arrival.moment c
+
+-- A reason lies in the command; without one it comes in range.
+abbrev pub Befits : Arrival → Command → Option Refusal → Type 0
+Befits arrival c None = ComesInRange arrival c
+Befits arrival c (Some why) = IsOfEvent why
+
+-- Why an event of a device is refused, by how it comes, and by whether its device is unknown, or is or isn't connected.
+abbrev pub speaks_of_session : Arrival → (is_unknown is_busy : Bool) → Refusal → Bool
+speaks_of_session arrival is_unknown is_busy refusal.NotFound = is_unknown
+speaks_of_session arrival is_unknown is_busy refusal.Busy = is_busy
+speaks_of_session arrival is_unknown is_busy why = comes_wrongly arrival why
+
+abbrev pub session_refusal : Arrival → (is_unknown is_busy : Bool) → Option Refusal
+session_refusal arrival is_unknown is_busy =
+    find (speaks_of_session arrival is_unknown is_busy) reasons

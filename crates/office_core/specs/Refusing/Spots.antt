@@ -1,0 +1,58 @@
+-- What is at a place of a meter: the opening has the place 1, and the entries those from 2 on.
+use Rattle.std.specs.Prelude.{◌≡◌, ℕ, Bool, true, false, not, List, Option, Some, None}
+use Rattle.std.specs.List.{find}
+use Rattle.std.specs.Option.{option_and_then}
+use Rattle.office_events.specs.declared.facts.Fact.{Fact}
+use Rattle.office_events.specs.declared.questions.EntryPlace.{EntryPlace}
+use Rattle.office_events.specs.declared.refusals.Refusal.{Refusal}
+use Rattle.office_events.specs.declared.refusals.Refusal.TheVariants as refusal
+use Rattle.office_rules.specs.Facts.{opening_of}
+use Rattle.office_rules.specs.Meters.{entry_at}
+use Rattle.office_rules.specs.Refusals.{has_place, is_not_voidable, is_held_for, verdict_at, reasons}
+use Rattle.office_books.specs.Sound.{IsSound}
+use Rattle.office_core.specs.declared.refusing.arrivals.Arrival.{Arrival}
+use Rattle.office_core.specs.declared.refusing.voids.Spot.{Spot}
+use Rattle.office_core.specs.declared.refusing.voids.Spot.TheVariants as spot
+use Rattle.office_core.specs.Refusing.Reasons.{comes_wrongly}
+
+abbrev pub is_nothing : Spot → Bool
+is_nothing spot.Nothing = true
+is_nothing spot.Opening = false
+is_nothing (spot.Entry place) = false
+
+abbrev pub entry_in : Spot → Option EntryPlace
+entry_in spot.Nothing = None
+entry_in spot.Opening = None
+entry_in (spot.Entry place) = Some place
+
+-- this is at the place of the meter
+pub record IsAt (facts : List Fact) (meter : Option (List ℕ)) (place : ℕ)
+    (found : Spot) : Type 0 where
+  pub there : is_nothing found
+      ≡ not (has_place facts place (option_and_then (opening_of facts) meter))
+  pub entry : entry_in found ≡ option_and_then (λ m. entry_at facts m place) meter
+
+-- the meter's numbers before the entry are in their ranges
+abbrev pub IsSoundSpot : Spot → Type 0
+IsSoundSpot (spot.Entry place) = IsSound place.before
+IsSoundSpot _ = Unit {0}
+
+-- Whether a void that comes so is refused for a reason.
+abbrev pub speaks_of_void : Arrival → Spot → Refusal → Bool
+speaks_of_void arrival found refusal.NotFound = is_nothing found
+speaks_of_void arrival found refusal.NotVoidable = is_not_voidable (entry_in found)
+speaks_of_void arrival found (refusal.NotPlausible why) =
+    is_held_for why (verdict_at (entry_in found))
+speaks_of_void arrival found why = comes_wrongly arrival why
+
+abbrev pub void_refusal : Arrival → Spot → Option Refusal
+void_refusal arrival found = find (speaks_of_void arrival found) reasons
+
+-- why the entry at a place can't go
+abbrev pub speaks_of_strike : EntryPlace → Refusal → Bool
+speaks_of_strike place refusal.NotVoidable = is_not_voidable (Some place)
+speaks_of_strike place (refusal.NotPlausible why) = is_held_for why (verdict_at (Some place))
+speaks_of_strike place why = false
+
+abbrev pub strike_refusal : EntryPlace → Option Refusal
+strike_refusal place = find (speaks_of_strike place) reasons

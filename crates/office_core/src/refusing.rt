@@ -1,0 +1,23 @@
+//! Why an office refuses an event, and how it answers a request that was asked before.
+
+mod arrivals;
+mod commands;
+mod corrections;
+mod devices;
+mod entries;
+mod events;
+mod exchanges;
+mod faults;
+mod given;
+mod installs;
+mod limits;
+mod meters;
+mod names;
+mod registers;
+mod requests;
+mod sessions;
+mod starts;
+mod voids;
+
+pub use events::refusal;
+pub use requests::kept;

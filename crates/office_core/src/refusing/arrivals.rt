@@ -1,0 +1,40 @@
+//! How a command comes to the office.
+ghost use Rattle.std.specs.Prelude.{◌≡◌};
+ghost use Rattle.office_core.specs.Refusing.Reasons as reasons;
+
+use office_events::{Asked, MAX_REQUEST};
+use poll_core::LAST_MOMENT;
+
+/// The moment of a command, in seconds since 1970-01-01 UTC; whether that is before the latest accepted event; and whether
+/// it is past the limit, or the request of the command has a caller or a number that is none.
+#[derive(Clone, Copy, Debug, PartialEq, Eq)]
+pub struct Arrival {
+    pub moment: u64,
+    pub is_back: bool,
+    pub is_beyond: bool,
+}
+
+impl Arrival {
+    /// How an event comes.
+    pub fn new(latest: u64, moment: u64) -> Arrival
+        ensures { result ≡ reasons.arrival_of latest moment }
+    {
+        Arrival {
+            moment,
+            is_back: moment < latest,
+            is_beyond: LAST_MOMENT < moment,
+        }
+    }
+
+    /// How a request comes.
+    pub fn of_request(latest: u64, moment: u64, asked: &Asked) -> Arrival
+        ensures { result ≡ reasons.request_arrival latest moment asked.now }
+    {
+        let arrival = Arrival::new(latest, moment);
+        Arrival {
+            moment,
+            is_back: arrival.is_back,
+            is_beyond: arrival.is_beyond || asked.caller.is_none() || MAX_REQUEST < asked.number,
+        }
+    }
+}

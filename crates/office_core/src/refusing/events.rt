@@ -1,0 +1,60 @@
+//! Why an event is refused.
+ghost use Rattle.std.specs.Prelude.{◌≡◌, IfOk, IfSome, IsOk, None};
+ghost use Rattle.office_books.specs.Ledgers.{OnlyReads};
+ghost use Rattle.office_core.specs.Refusing.Asking.{AsksNoBooks, IsOfDevice, IsOfEvent};
+ghost use Rattle.office_rules.specs.Sessions.{command_in};
+ghost use Rattle.office_booking.specs.Sessions.Places.{AsksOnSlot};
+ghost use Rattle.office_booking.specs.Sessions.Ranges.{IsInRange};
+ghost use Rattle.office_core.specs.Refusing.Telling.{TellsAlone, TellsWhy};
+
+use crate::refusing::arrivals::Arrival;
+use crate::refusing::commands::refusal_of_command;
+use crate::refusing::sessions::refusal_of_session;
+use office_books::{Books, BooksFault};
+use office_events::{Event, Refusal};
+use office_booking::{Slot, has_device, is_connected};
+
+/// Why an event is refused that comes at a moment after what was accepted, the latest of it at `latest`; `None` where
+/// nothing speaks against it. Of the reasons that apply it is the first. Books are asked no more than it takes to find
+/// it, each question once; where they fail, the event is not decided. Moments are seconds since 1970-01-01 UTC.
+pub fn refusal<B: Books>(
+    books: &mut B,
+    slots: &[Slot],
+    latest: u64,
+    moment: u64,
+    event: &Event,
+) -> Result<Option<Refusal>, BooksFault>
+    ensures found { TellsWhy (B.ledger books.old) (B.ledger books.new) slots.now latest moment
+        event.now result }
+    ensures reads { OnlyReads (B.ledger books.old) (B.ledger books.new) result }
+    ensures of_event { IfOk result (λ r. IfSome r IsOfEvent) }
+    ensures in_range { IfOk result (λ r. r ≡ None → IsInRange latest moment event.now) }
+    ensures there { IfOk result (λ r. r ≡ None → AsksOnSlot slots.now (command_in event.now)) }
+    ensures quiet { AsksNoBooks event.now → (books.new ≡ books.old) × IsOk result }
+    ensures alone { IsOfDevice event.now → TellsAlone slots.now latest moment event.now result }
+{
+    let arrival = Arrival::new(latest, moment);
+    match event {
+        Event::Connected(given) => Ok(refusal_of_session(
+            &arrival,
+            !has_device(slots, given),
+            is_connected(slots, given),
+        )),
+        Event::Bytes(given, _) => Ok(refusal_of_session(
+            &arrival,
+            !has_device(slots, given),
+            !is_connected(slots, given),
+        )),
+        Event::Tick => Ok(refusal_of_session(&arrival, false, false)),
+        Event::Gone(given, _) => Ok(refusal_of_session(
+            &arrival,
+            !has_device(slots, given),
+            !is_connected(slots, given),
+        )),
+        Event::Command(c) => refusal_of_command(books, slots, &arrival, c),
+        Event::Asked(asked) => {
+            let arrival = Arrival::of_request(latest, moment, asked);
+            refusal_of_command(books, slots, &arrival, &asked.command)
+        }
+    }
+}

@@ -1,0 +1,78 @@
+//! Faults of an entry that is handed in. Its numbers are any of 64 bits, so what they make is reckoned in 128.
+ghost use Rattle.std.specs.Prelude.{◌≡◌, ◌≤◌, ◌^◌};
+ghost use Rattle.energy_core.specs.Account.{moment_of, reached};
+ghost use Rattle.energy_core.specs.declared.admission.TermFault.TheVariants as fault;
+ghost use Rattle.office_books.specs.Sound.{IsSound};
+ghost use Rattle.office_core.specs.Refusing.Given.{entry_of};
+ghost use Rattle.office_core.specs.Refusing.Entries.{has_fault};
+
+use crate::refusing::given::GivenEntry;
+use energy_core::{MAX_INTERVALS, MAX_RANGE, MAX_TOTAL, energy_up_to};
+use office_events::Installation;
+
+/// When an entry was made.
+fn moment(given: &GivenEntry) -> u64
+    ensures { result ≡ moment_of (entry_of given.now) }
+{
+    match *given {
+        GivenEntry::Step { at, .. } | GivenEntry::Change { at, .. } => at,
+    }
+}
+
+/// What the counter would have reached, had it neither turned over nor been set.
+fn reach(range: u64, given: &GivenEntry) -> u128
+    requires { range ≤ MAX_RANGE }
+    ensures value { result ≡ reached range (entry_of given.now) }
+    ensures small { result ≤ 2 ^ 97 }
+{
+    match *given {
+        GivenEntry::Step { raw, rolls, .. } => {
+            u128::from(raw) + u128::from(rolls) * u128::from(range)
+        }
+        GivenEntry::Change { before, .. } => u128::from(before),
+    }
+}
+
+/// Whether the counter would have gone back.
+pub fn goes_back(row: &Installation, given: &GivenEntry) -> bool
+    requires { IsSound row.now }
+    ensures { result ≡ has_fault row.now (entry_of given.now) fault.NegativeStep }
+{
+    reach(row.opening.range, given) < u128::from(row.last.raw)
+}
+
+/// Whether the last entry is as late, or later.
+pub fn is_not_later(row: &Installation, given: &GivenEntry) -> bool
+    ensures { result ≡ has_fault row.now (entry_of given.now) fault.NotLater }
+{
+    moment(given) <= row.last.at
+}
+
+/// Whether more intervals lie between than a step may touch.
+pub fn is_long(row: &Installation, given: &GivenEntry) -> bool
+    ensures { result ≡ has_fault row.now (entry_of given.now) fault.SpanTooLong }
+{
+    let last = moment(given).saturating_sub(1) / 900;
+    MAX_INTERVALS < last.saturating_sub(row.last.at / 900) + 1
+}
+
+/// Whether the whole energy would pass its limit.
+pub fn is_full(row: &Installation, given: &GivenEntry) -> bool
+    requires { IsSound row.now }
+    ensures { result ≡ has_fault row.now (entry_of given.now) fault.TotalFull }
+{
+    let energy = energy_up_to(&row.last, reach(row.opening.range, given));
+    u128::from(MAX_TOTAL) < u128::from(row.total) + energy
+}
+
+/// Whether an entry tells a number that the counter can't show.
+pub fn is_not_shown(row: &Installation, given: &GivenEntry) -> bool
+    ensures { result ≡ has_fault row.now (entry_of given.now) fault.NotBelowRange }
+{
+    match *given {
+        GivenEntry::Step { raw, .. } => row.opening.range <= raw,
+        GivenEntry::Change { before, after, .. } => {
+            row.opening.range <= before || row.opening.range <= after
+        }
+    }
+}

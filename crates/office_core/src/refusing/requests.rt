@@ -1,0 +1,40 @@
+//! How a request is answered that was asked before.
+ghost use Rattle.std.specs.Prelude.{◌≡◌, IsOk, IfOk};
+ghost use Rattle.office_rules.specs.Refusals.{kept_of};
+ghost use Rattle.office_books.specs.Ledgers.{Finds, OnlyReads};
+ghost use Rattle.office_core.specs.Refusing.Kept.{kept_as, IsNoRequest, IsReusedIfRefused};
+
+use office_books::{Books, BooksFault, Repeat};
+use office_events::{CommandKind, Event, Refusal};
+
+/// How a request is answered by what is kept under its caller and number.
+fn answer_by(repeat: Repeat) -> Result<CommandKind, Refusal>
+    ensures { result ≡ kept_as repeat }
+{
+    match repeat {
+        Repeat::Same(kind) => Ok(kind),
+        Repeat::Other => Err(Refusal::Reused),
+    }
+}
+
+/// How an event is answered by what is kept of a request: as it was where the same was asked before, `Reused` where another
+/// was; `None` where nothing is kept, or the event is no request. What is kept is not copied.
+pub fn kept<B: Books>(
+    books: &mut B,
+    event: &Event,
+) -> Result<Option<Result<CommandKind, Refusal>>, BooksFault>
+    ensures found { Finds (B.ledger books.old) (B.ledger books.new) result
+        (λ known answer. answer ≡ kept_of known event.now) }
+    ensures reads { OnlyReads (B.ledger books.old) (B.ledger books.new) result }
+    ensures reused { IfOk result IsReusedIfRefused }
+    ensures quiet { IsNoRequest event.now → (books.new ≡ books.old) × IsOk result }
+{
+    let Event::Asked(asked) = event else {
+        return Ok(None);
+    };
+    let Some(caller) = &asked.caller else {
+        return Ok(None);
+    };
+    let repeat = books.repeat(caller, asked.number, asked.request.as_slice())?;
+    Ok(repeat.map(answer_by))
+}

@@ -1,0 +1,127 @@
+//! Why polls are not started.
+ghost use Rattle.std.specs.Prelude.{◌≡◌, ◌+◌, List, Option, Some, None, IfOk, is_some, length, nat_lt};
+ghost use Rattle.poll_core.specs.Settling as session;
+ghost use Rattle.office_events.specs.declared.commands.Command.TheVariants as command;
+ghost use Rattle.office_events.specs.declared.facts.Device.{Device};
+ghost use Rattle.office_rules.specs.Facts.{polls_in, poll_limit};
+ghost use Rattle.office_rules.specs.Sessions as sessions;
+ghost use Rattle.office_rules.specs.History.{round_spans};
+ghost use Rattle.office_booking.specs.Sessions.Keeping.{KeepsSlots, KeepsPresent};
+ghost use Rattle.office_booking.specs.Sessions.Places.{StartsOnSlot, has_slot};
+ghost use Rattle.office_books.specs.Ledgers.{Finds, OnlyReads};
+ghost use Rattle.office_core.specs.Refusing.Reasons.{IsWhyAmong, Befits};
+ghost use Rattle.office_core.specs.Refusing.Rounds.{HasRoom, HasRoomOn};
+
+use crate::refusing::arrivals::Arrival;
+use office_books::{Books, BooksFault, list_at};
+use office_events::{MAX_POLLS, Name, PlannedList, Refusal, StartPoll, StartRound, StoreCause};
+use office_booking::{Slot, place_of};
+use poll_core::Session;
+
+/// How many polls can be started in a row on a session; none where a device has no session.
+fn session_room(kept: &Option<Session>) -> u64
+    ensures { (device : Device) (present : Option (List session.Event))
+        → KeepsPresent device kept.now present → HasRoomOn device present result }
+{
+    match kept {
+        None => 0,
+        Some(session) => session.ready().count as u64,
+    }
+}
+
+/// How many polls can be started in a row on the session of the device of a name; `None` where there is no such device.
+fn room(slots: &[Slot], given: &Option<Name>) -> Option<u64>
+    ensures there { is_some result ≡ has_slot slots.now given.now }
+    ensures room { (kept : List sessions.Slot) → KeepsSlots slots.now kept
+        → HasRoom kept given.now result }
+{
+    match place_of(slots, given) {
+        None => None,
+        Some(place) => Some(session_room(&slots[place].session)),
+    }
+}
+
+/// How many reads a plan has from the one of a number on.
+fn reads_left(list: &PlannedList, from: u64) -> u64
+    ensures { result ≡ length (round_spans from (Some list.now)) }
+{
+    (list.reads().len() as u64).saturating_sub(from)
+}
+
+/// Whether so many polls more would be numbered past the greatest number.
+fn is_past_numbers<B: Books>(books: &mut B, more: u64) -> Result<bool, BooksFault>
+    ensures found { Finds (B.ledger books.old) (B.ledger books.new) result
+        (λ known b. b ≡ nat_lt poll_limit (length (polls_in known) + more)) }
+    ensures reads { OnlyReads (B.ledger books.old) (B.ledger books.new) result }
+{
+    let count = books.poll_count()?;
+    Ok(u128::from(MAX_POLLS) < u128::from(count) + u128::from(more))
+}
+
+/// Why a poll is not started.
+pub fn start_poll<B: Books>(
+    books: &mut B,
+    slots: &[Slot],
+    arrival: &Arrival,
+    start: &StartPoll,
+) -> Result<Option<Refusal>, BooksFault>
+    ensures found { Finds (B.ledger books.old) (B.ledger books.new) result
+        (IsWhyAmong slots.now arrival.now (command.StartPoll start.now)) }
+    ensures reads { OnlyReads (B.ledger books.old) (B.ledger books.new) result }
+    ensures befits { IfOk result (Befits arrival.now (command.StartPoll start.now)) }
+    ensures there { IfOk result
+        (λ why. why ≡ None → StartsOnSlot slots.now (command.StartPoll start.now)) }
+{
+    let Some(room) = room(slots, &start.device) else {
+        return Ok(Some(Refusal::NotFound));
+    };
+    if arrival.is_back {
+        return Ok(Some(Refusal::ClockBack));
+    }
+    if room == 0 {
+        return Ok(Some(Refusal::Busy));
+    }
+    if arrival.is_beyond {
+        return Ok(Some(Refusal::Limit));
+    }
+    if is_past_numbers(books, room.min(1))? {
+        return Ok(Some(Refusal::Store(StoreCause::Refused)));
+    }
+    Ok(None)
+}
+
+/// Why a round is not started.
+pub fn start_round<B: Books>(
+    books: &mut B,
+    slots: &[Slot],
+    arrival: &Arrival,
+    start: &StartRound,
+) -> Result<Option<Refusal>, BooksFault>
+    ensures found { Finds (B.ledger books.old) (B.ledger books.new) result
+        (IsWhyAmong slots.now arrival.now (command.StartRound start.now)) }
+    ensures reads { OnlyReads (B.ledger books.old) (B.ledger books.new) result }
+    ensures befits { IfOk result (Befits arrival.now (command.StartRound start.now)) }
+    ensures there { IfOk result
+        (λ why. why ≡ None → StartsOnSlot slots.now (command.StartRound start.now)) }
+{
+    let Some(room) = room(slots, &start.device) else {
+        return Ok(Some(Refusal::NotFound));
+    };
+    let Some(list) = list_at(books, &start.device)? else {
+        return Ok(Some(Refusal::NotFound));
+    };
+    if arrival.is_back {
+        return Ok(Some(Refusal::ClockBack));
+    }
+    if room == 0 {
+        return Ok(Some(Refusal::Busy));
+    }
+    let left = reads_left(&list, start.from);
+    if arrival.is_beyond || left == 0 {
+        return Ok(Some(Refusal::Limit));
+    }
+    if is_past_numbers(books, room.min(left))? {
+        return Ok(Some(Refusal::Store(StoreCause::Refused)));
+    }
+    Ok(None)
+}

@@ -1,0 +1,132 @@
+//! Why an entry is not voided.
+ghost use Rattle.std.specs.Prelude.{◌≡◌, IfOk, IfSome, Some};
+ghost use Rattle.office_events.specs.declared.commands.Command.TheVariants as command;
+ghost use Rattle.office_rules.specs.Refusals.{verdict_between, verdict_at};
+ghost use Rattle.office_books.specs.Ledgers.{Finds, OnlyReads};
+ghost use Rattle.office_books.specs.Sound.{IsSound};
+ghost use Rattle.office_core.specs.Refusing.Reasons.{IsWhy, Befits};
+ghost use Rattle.office_core.specs.Refusing.Asking.{IsOfEvent};
+ghost use Rattle.office_core.specs.Refusing.Spots as spots;
+
+use crate::refusing::arrivals::Arrival;
+use energy_core::{Entry, Reading, Verdict};
+use meter_journal::is_voidable;
+use office_books::{Books, BooksFault, judge};
+use office_events::{EntryPlace, Installation, Name, Refusal, VoidEntry};
+
+/// What is at a place of a meter.
+#[derive(Clone, Copy, Debug, PartialEq, Eq)]
+enum Spot {
+    Nothing,
+    /// Its opening.
+    Opening,
+    /// An entry after it.
+    Entry(EntryPlace),
+}
+
+/// What is at a place of the meter of a name. The opening has the place 1.
+fn spot_at<B: Books>(books: &mut B, given: &Option<Name>, place: u64) -> Result<Spot, BooksFault>
+    ensures found { Finds (B.ledger books.old) (B.ledger books.new) result
+        (λ known spot. spots.IsAt known given.now place spot) }
+    ensures reads { OnlyReads (B.ledger books.old) (B.ledger books.new) result }
+    ensures sound { IfOk result spots.IsSoundSpot }
+{
+    let Some(meter) = given else {
+        return Ok(Spot::Nothing);
+    };
+    if place == 0 {
+        return Ok(Spot::Nothing);
+    }
+    if place == 1 {
+        return match books.meter(meter)? {
+            None => Ok(Spot::Nothing),
+            Some(_) => Ok(Spot::Opening),
+        };
+    }
+    match books.entry(meter, place)? {
+        None => Ok(Spot::Nothing),
+        Some(entry) => Ok(Spot::Entry(entry)),
+    }
+}
+
+/// The verdict on what an entry shows, after a meter that stood so. A change of the counter has none.
+fn verdict_on(before: &Installation, entry: &Entry) -> Option<Verdict>
+    requires { IsSound before.now }
+    ensures { result ≡ verdict_between before.now entry.now }
+{
+    match *entry {
+        Entry::Step { at, raw, .. } => {
+            let reading = Reading {
+                at,
+                raw,
+                sf: before.last.sf,
+            };
+            Some(judge(before, &reading))
+        }
+        Entry::Change { .. } => None,
+    }
+}
+
+/// The verdict on the next entry that stands, after those before the one at a place.
+fn verdict(place: &EntryPlace) -> Option<Verdict>
+    requires { IsSound place.now.before }
+    ensures { result ≡ verdict_at (Some place.now) }
+{
+    match &place.next {
+        None => None,
+        Some(next) => verdict_on(&place.before, &next.entry),
+    }
+}
+
+/// Why the entry at a place can't go.
+fn against_entry(place: &EntryPlace) -> Option<Refusal>
+    requires { IsSound place.now.before }
+    ensures found { result ≡ spots.strike_refusal place.now }
+    ensures of_event { IfSome result IsOfEvent }
+{
+    if !is_voidable(&place.row, &place.next) {
+        return Some(Refusal::NotVoidable);
+    }
+    match verdict(place) {
+        Some(Verdict::Held(cause)) => Some(Refusal::NotPlausible(cause)),
+        Some(Verdict::Accepted { .. }) => None,
+        None => None,
+    }
+}
+
+/// Why what is at a place is not voided by a command that comes so.
+fn against(arrival: &Arrival, spot: &Spot) -> Option<Refusal>
+    requires { spots.IsSoundSpot spot.now }
+    ensures found { result ≡ spots.void_refusal arrival.now spot.now }
+    ensures of_event { IfSome result IsOfEvent }
+{
+    if matches!(spot, Spot::Nothing) {
+        return Some(Refusal::NotFound);
+    }
+    if arrival.is_back {
+        return Some(Refusal::ClockBack);
+    }
+    if arrival.is_beyond {
+        return Some(Refusal::Limit);
+    }
+    match spot {
+        Spot::Nothing => Some(Refusal::NotFound),
+        Spot::Opening => Some(Refusal::NotVoidable),
+        Spot::Entry(place) => against_entry(place),
+    }
+}
+
+/// Why an entry is not voided.
+pub fn void_entry<B: Books>(
+    books: &mut B,
+    arrival: &Arrival,
+    void: &VoidEntry,
+) -> Result<Option<Refusal>, BooksFault>
+    ensures found { Finds (B.ledger books.old) (B.ledger books.new) result
+        (IsWhy arrival.now (command.Void void.now)) }
+    ensures reads { OnlyReads (B.ledger books.old) (B.ledger books.new) result }
+    ensures befits { IfOk result (Befits arrival.now (command.Void void.now)) }
+{
+    let spot = spot_at(books, &void.meter, void.place)?;
+    Ok(against(arrival, &spot))
+}

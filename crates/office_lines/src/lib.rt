@@ -1,8 +1,0 @@
-//! The devices of an office, and the session of each that is connected.
-#![tactic(auto)]
-
-mod places;
-mod slots;
-
-pub use places::{has_device, is_connected, is_named, place_of};
-pub use slots::Slot;

@@ -1,4 +1,0 @@
-pub mod Adding
-pub mod Counting
-pub mod Handed
-pub mod Reading

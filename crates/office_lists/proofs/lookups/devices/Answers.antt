@@ -1,7 +1,0 @@
-use Rattle.std.proofs.Common.{◌∙◌}
-use Rattle.office_rules.specs.Facts.{as_device}
-use Rattle.list_tables.proofs.Turned.{turned}
-use Rattle.office_lists.proofs.lookups.devices.Goals as goal
-
-pub returns : goal.returns
-returns c = c.in_ok-devices.ensures ∙ turned as_device c.args.facts.now

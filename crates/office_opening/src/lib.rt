@@ -1,6 +1,0 @@
-//! The opening of an office over the books that it left.
-#![tactic(auto)]
-
-mod opened_office;
-
-pub use opened_office::{book_opening, opening_refusal};

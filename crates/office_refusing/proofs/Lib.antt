@@ -1,5 +1,0 @@
-mod AtMeters
-mod Rooms
-mod Places
-mod OnVoids
-mod Asked

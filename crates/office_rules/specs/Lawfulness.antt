@@ -1,0 +1,77 @@
+-- What holds of the facts of an office, whatever it accepted.
+use Rattle.std.specs.Prelude.{◌≡◌, ◌≢◌, false, List, [], ◌∷◌, Option, Some, All}
+use Rattle.std.specs.List.{AllPairs}
+use Rattle.energy_core.specs.TrueRun.{Item}
+use Rattle.meter_journal.specs.Truth.{ShowsTrueRun, IsKeptTruly}
+use Rattle.read_plan.specs.PlannedLists.{IsPlanned}
+use Rattle.office_events.specs.declared.facts.Device.{Device}
+use Rattle.office_events.specs.declared.facts.Register.{Register}
+use Rattle.office_events.specs.declared.facts.Opening.{Opening}
+use Rattle.office_events.specs.declared.facts.Fact.{Fact}
+use Rattle.office_events.specs.declared.commands.Command.{Command}
+use Rattle.office_events.specs.declared.commands.Command.TheVariants as command
+use Rattle.office_rules.specs.Facts.{devices_in, registers_in, openings_in, device_of, register_of, opening_of, installed_at}
+use Rattle.office_rules.specs.Meters.{installed, journal_of, is_ended}
+use Rattle.office_rules.specs.Sessions.{command_in}
+use Rattle.office_rules.specs.History.{History, Opened, Fed, facts_of}
+use Rattle.office_rules.specs.Refusals.{AreAccepted}
+use Rattle.office_rules.specs.Lawful.{AreLawful}
+use Rattle.office_rules.specs.Endings.{EachEndsOnce}
+use Rattle.office_rules.specs.Laws.{IsRecorded, IsKept, IsUntraced}
+
+-- A list that a command puts has the reads of its plan, as its type promises: a `PlannedList` is always planned.
+abbrev pub PutsPlanned : Option Command → Type 0
+PutsPlanned (Some (command.PutList c)) = IsPlanned c.list
+PutsPlanned _ = Unit {0}
+
+abbrev pub ListsArePlanned : History → Type 0
+ListsArePlanned [] = Unit {0}
+ListsArePlanned (Opened at ∷ past) = ListsArePlanned past
+ListsArePlanned (Fed at e ∷ past) = PutsPlanned (command_in e) × ListsArePlanned past
+
+-- what an office accepted: each of it after all before, and each list planned
+pub record IsPast (history : History) : Type 0 where
+  pub accepted : AreAccepted history
+  pub planned : ListsArePlanned history
+
+-- Whatever the office accepted, each fact may follow those before it.
+abbrev pub FactsAreLawful : Type 0
+FactsAreLawful = (history : History) → AreAccepted history → ListsArePlanned history
+    → AreLawful (facts_of history)
+
+-- No two devices, no two registers and no two meters have the same name, so each is found by its name. The meter that is open
+-- at a register is the latest there, so no two are.
+pub record AreDistinct (facts : List Fact) : Type 0 where
+  pub devices : AllPairs (λ (a b : Device). a.name ≢ b.name) (devices_in facts)
+  pub registers : AllPairs (λ (a b : Register). a.name ≢ b.name) (registers_in facts)
+  pub meters : AllPairs (λ (a b : Opening). a.meter ≢ b.meter) (openings_in facts)
+  pub device_found : All (λ (device : Device). device_of facts device.name ≡ Some device)
+      (devices_in facts)
+  pub register_found : All
+      (λ (register : Register). register_of facts register.name ≡ Some register)
+      (registers_in facts)
+  pub meter_found : All (λ (opening : Opening). opening_of facts opening.meter ≡ Some opening)
+      (openings_in facts)
+  pub latest : (opening : Opening) → IsRecorded facts opening → is_ended facts opening ≡ false
+      → installed_at facts opening.register ≡ Some opening
+
+abbrev pub NamesAreDistinct : Type 0
+NamesAreDistinct = (facts : List Fact) → AreLawful facts → AreDistinct facts
+
+-- Each poll ended once, or waits. The energy and the interval rows of each installed meter are those of its entries that
+-- stand, what was voided leaves no trace, and where the meter told the truth, they are the true ones.
+pub record AreTrue (history : History) : Type 0 where
+  pub polls : EachEndsOnce history
+  pub lawful : AreLawful (facts_of history)
+  pub distinct : AreDistinct (facts_of history)
+  pub kept : (opening : Opening) → IsRecorded (facts_of history) opening
+      → IsKept (facts_of history) opening
+  pub untraced : (opening : Opening) → IsRecorded (facts_of history) opening
+      → IsUntraced (facts_of history) opening
+  pub truth : (opening : Opening) (first : Item) (items : List Item)
+      → IsRecorded (facts_of history) opening
+      → ShowsTrueRun (installed opening) (journal_of (facts_of history) opening.meter) first items
+      → IsKeptTruly (installed opening) (journal_of (facts_of history) opening.meter) first items
+
+abbrev pub BooksAreTrue : Type 0
+BooksAreTrue = (history : History) → AreAccepted history → ListsArePlanned history → AreTrue history

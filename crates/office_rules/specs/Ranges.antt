@@ -1,0 +1,36 @@
+-- What lawful facts say of the numbers of installations.
+use Rattle.std.specs.Prelude.{◌≡◌, ℕ, ◌≤◌, ◌<◌, List, Some}
+use Rattle.energy_core.specs.declared.limits.TheConstants.{MAX_CEILING, MAX_RANGE, MAX_TOTAL, MIN_RANGE}
+use Rattle.energy_core.specs.Account.{IsScale}
+use Rattle.office_events.specs.declared.facts.Opening.{Opening}
+use Rattle.office_events.specs.declared.facts.Fact.{Fact}
+use Rattle.office_events.specs.declared.questions.Installation.{Installation}
+use Rattle.office_events.specs.declared.questions.EntryPlace.{EntryPlace}
+use Rattle.office_rules.specs.Lawful.{AreLawful}
+use Rattle.office_rules.specs.Meters.{installation_of, meter_of, installation_at, open_at, entry_at}
+use Rattle.office_rules.specs.Laws.{IsRecorded}
+
+-- The numbers of an installation are in their ranges, so that its next entry can be judged.
+pub record IsInRange (row : Installation) : Type 0 where
+  pub range : (MIN_RANGE ≤ row.opening.range) × (row.opening.range ≤ MAX_RANGE)
+  pub ceiling : (1 ≤ row.opening.ceiling) × (row.opening.ceiling ≤ MAX_CEILING)
+  pub raw : row.last.raw < row.opening.range
+  pub scale : IsScale row.last.sf
+  pub total : row.total ≤ MAX_TOTAL
+
+-- So are those of each installation that is recorded or looked up, and where one stood before an entry.
+pub record AreInRange (facts : List Fact) : Type 0 where
+  pub recorded : (opening : Opening) → IsRecorded facts opening
+      → IsInRange (installation_of facts opening)
+  pub by_name : (meter : List ℕ) (row : Installation) → meter_of facts meter ≡ Some row
+      → IsInRange row
+  pub at_register : (register : List ℕ) (row : Installation)
+      → installation_at facts register ≡ Some row → IsInRange row
+  pub unended : (register : List ℕ) (row : Installation) → open_at facts register ≡ Some row
+      → IsInRange row
+  pub placed : (meter : List ℕ) (place : ℕ) (found : EntryPlace)
+      → entry_at facts meter place ≡ Some found
+      → IsInRange found.before
+
+abbrev pub InstallationsAreInRange : Type 0
+InstallationsAreInRange = (facts : List Fact) → AreLawful facts → AreInRange facts

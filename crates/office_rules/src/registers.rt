@@ -1,0 +1,19 @@
+//! A law of the interval rows of registers.
+ghost use Rattle.office_rules.specs.Registers.{RegistersAreInTurn};
+
+use meter_journal::{
+    interval_rows_add_up, interval_rows_are_accounts, journals_are_kept, rows_lie_within,
+    voids_go_no_further,
+};
+
+/// In lawful facts the starts of a register's interval rows never fall, installation after installation, and days can be
+/// made of them.
+pub fn registers_are_in_turn()
+    ensures { RegistersAreInTurn }
+{
+    journals_are_kept();
+    interval_rows_are_accounts();
+    interval_rows_add_up();
+    rows_lie_within();
+    voids_go_no_further();
+}

@@ -1,6 +1,0 @@
-use Rattle.office_books.specs.Sound.{IsSound}
-use Rattle.office_settling.proofs.Overlays.{StandsBehindFirst}
-use Rattle.office_settling.proofs.behind.with_facts.Given as goal
-
-abbrev pub invariant-loop-fact : goal.invariant-loop-fact
-invariant-loop-fact l = IsSound l.behind × StandsBehindFirst l.fn.row l.facts l.fact-index l.behind

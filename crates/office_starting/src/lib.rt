@@ -1,8 +1,0 @@
-//! The reads that are started on the session of a device.
-#![tactic(auto)]
-
-mod output;
-mod starts;
-
-pub use output::Outgoing;
-pub use starts::{polls_on, start_on};

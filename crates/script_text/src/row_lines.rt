@@ -1,0 +1,7 @@
+//! The lines in which rows of intervals and of days are told. No call takes memory.
+
+mod line;
+mod rows;
+
+pub use line::{Line, Text};
+pub use rows::{day_line, end_line, interval_line, write_day, write_end, write_interval};

@@ -1,0 +1,121 @@
+//! The lines of rows.
+ghost use Rattle.std.specs.Prelude.{◌≡◌, ◌≤◌, ◌<◌, ◌+◌, ◌++◌, codes, length};
+ghost use Rattle.jiff.specs.Words.{date_text};
+ghost use Rattle.jiff_core.specs.Calendar.{IsYear};
+ghost use Rattle.jiff_fmt.specs.Text.{pad2, year_text};
+ghost use Rattle.script_text.specs.RowLines.Rows as rows;
+
+use crate::row_lines::line::Line;
+use interval_core::{Day, DayTotal, Share};
+use std::io;
+use sun_points::Sink;
+
+/// `START MWH`: the start of an interval, in seconds since 1970-01-01 UTC, and its energy.
+pub fn interval_line(row: Share) -> Line
+    ensures { result ≡ rows.share_line row }
+{
+    let mut line = Line::new();
+    line.push_number(b"", row.start);
+    line.push_number(b" ", row.mwh);
+    line.push(b"\n");
+    line
+}
+
+/// `DAY COUNT MWH`: the day as `YYYY-MM-DD`, the count of its intervals right in 3 places, and its energy
+/// right in 24 places.
+pub fn day_line(total: &DayTotal) -> Line
+    ensures { result ≡ rows.day_line total.now }
+{
+    let mut line = Line::new();
+    push_day(&mut line, total.day);
+    line.push(b" ");
+    line.push_right(3, total.count);
+    line.push(b" ");
+    line.push_right(24, total.mwh);
+    line.push(b"\n");
+    line
+}
+
+/// `end N`: there were so many rows.
+pub fn end_line(count: u64) -> Line
+    ensures { result ≡ rows.end_line count }
+{
+    let mut line = Line::new();
+    line.push_number(b"end ", count);
+    line.push(b"\n");
+    line
+}
+
+// Four digits of a year, behind a sign and two zeros where it is before the year 0.
+fn push_year(line: &mut Line, year: i16)
+    requires room { length line.old ≤ 64 }
+    requires few { IsYear year }
+    ensures bytes { line.new ≡ line.old ++ year_text year }
+    ensures size { length line.new ≤ length line.old + 7 }
+{
+    if year < 0 {
+        line.push(b"-00");
+    }
+    let number = year.unsigned_abs();
+    line.push_pair((number / 100) as u8);
+    line.push_pair((number % 100) as u8);
+}
+
+// The day as `YYYY-MM-DD`; a year before the first has a sign and six digits.
+fn push_day(line: &mut Line, day: Day)
+    requires { length line.old ≤ 64 }
+    ensures bytes { line.new ≡ line.old ++ date_text day }
+    ensures size { length line.new ≤ length line.old + 13 }
+{
+    push_year(line, day.year());
+    push_part(line, month_of(day));
+    push_part(line, day_of_month(day));
+}
+
+// A hyphen, and a number below 100 in two digits.
+fn push_part(line: &mut Line, number: u8)
+    requires room { length line.old ≤ 124 }
+    requires few { number < 100 }
+    ensures bytes { line.new ≡ line.old ++ codes "-" ++ pad2 number }
+    ensures size { length line.new ≤ length line.old + 3 }
+{
+    line.push(b"-");
+    line.push_pair(number);
+}
+
+// The month, from 1.
+fn month_of(day: Day) -> u8
+    ensures value { result ≡ day.month }
+    ensures few { result < 100 }
+{
+    day.month() as u8
+}
+
+// The day of the month, from 1.
+fn day_of_month(day: Day) -> u8
+    ensures value { result ≡ day.day }
+    ensures few { result < 100 }
+{
+    day.day() as u8
+}
+
+/// Writes the line of an interval.
+pub fn write_interval<S: Sink>(row: Share, output: &mut S) -> io::Result<()>
+    ensures { S.takes output.old (rows.share_line row) result output.new }
+{
+    output.take_text(interval_line(row).bytes())
+}
+
+/// Writes the line of a day.
+pub fn write_day<S: Sink>(total: &DayTotal, output: &mut S) -> io::Result<()>
+    ensures { S.takes output.old (rows.day_line total.now) result output.new }
+{
+    output.take_text(day_line(total).bytes())
+}
+
+/// Writes the line that tells how many rows there were.
+pub fn write_end<S: Sink>(count: u64, output: &mut S) -> io::Result<()>
+    ensures { S.takes output.old (rows.end_line count) result output.new }
+{
+    output.take_text(end_line(count).bytes())
+}

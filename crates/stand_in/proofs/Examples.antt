@@ -1,6 +1,0 @@
--- How long a connection is served, as a number.
-use Rattle.std.proofs.Common.{◌≡◌, refl}
-use Rattle.stand_in.specs.declared.connections.TheConstants.{MOST_TURNS}
-
-most_turns : MOST_TURNS ≡ 100000
-most_turns = refl

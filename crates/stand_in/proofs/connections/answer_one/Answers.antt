@@ -1,9 +1,0 @@
-use Rattle.std.proofs.Common.{[]}
-use Rattle.mb_device.specs.Tricks.{begun}
-use Rattle.stand_in.proofs.connections.answer_one.Goals as goal
-
-pub returns-clause-serves : goal.returns-clause-serves
-returns-clause-serves g c = record {
-  left = c.serve.new.self;
-  serves = c.serve.ensures.serving [] (begun c.args.tricks.now) c.tricked-server.ensures;
-}

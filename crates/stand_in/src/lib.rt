@@ -1,6 +1,0 @@
-//! A stand-in for a device, which answers on a listener.
-#![tactic(auto)]
-
-mod connections;
-
-pub use connections::{MOST_TURNS, answer_all, answer_one};

@@ -1,0 +1,6 @@
+pub mod Texts
+pub mod Writes
+pub mod Asks
+pub mod ReadRows
+pub mod Counts
+pub mod Replaced

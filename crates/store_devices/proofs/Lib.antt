@@ -1,0 +1,2 @@
+pub mod DevicesLemmas
+pub mod PollsLemmas

@@ -1,0 +1,225 @@
+-- Rows of the tables, their columns, and the ranges of their values.
+use Rattle.std.specs.Prelude.{◌≡◌, ℕ, ℤ, pos, ◌≤◌, List, [], ◌∷◌, ◌++◌, map, length, filter, IsTrue, Bool, bytes_eq, ◌==◌, Option, Some, None, if◌then◌else◌, Result, Ok, IsUtf8, string_bytes}
+use Rattle.sqlite.specs.declared.types.Value.{Value}
+use Rattle.sqlite.specs.declared.types.Value.TheVariants.{Null, Int, Text}
+use Rattle.sqlite.specs.Order.{Row, column}
+use Rattle.mb_wire.specs.Spans.{code_of}
+use Rattle.poll_core.specs.declared.limits.TheConstants.{MAX_TIMEOUT, MAX_WINDOW}
+use Rattle.office_events.specs.declared.limits.TheConstants.{LAST_ADDRESS, LAST_COUNTER, LAST_UNIT}
+use Rattle.store_tables.specs.declared.faults.RowFault.{RowFault}
+use Rattle.store_tables.specs.Columns.{is_within, whole_in, within, function_in, or_damaged, and_then}
+use Rattle.store_tables.specs.Content.{without_where}
+use Rattle.store_tables.specs.Limits.{greatest_place, IsPlace}
+use Rattle.store_devices.specs.declared.devices.rows.DeviceRow.{DeviceRow}
+use Rattle.store_devices.specs.declared.devices.rows.Device.{Device}
+use Rattle.store_devices.specs.declared.devices.rows.PointRow.{PointRow}
+use Rattle.store_devices.specs.declared.devices.rows.Point.{Point}
+use Rattle.store_devices.specs.declared.devices.rows.RegisterRow.{RegisterRow}
+use Rattle.store_devices.specs.declared.devices.rows.Register.{Register}
+use Rattle.store_devices.specs.declared.devices.rows.RegisterScale.{RegisterScale}
+use Rattle.store_devices.specs.declared.devices.rows.RegisterScale.TheVariants as scale
+
+-- ---- devices
+
+-- a device under its name
+pub record Added : Type 0 where
+  pub name : List ℕ
+  pub row : DeviceRow
+
+abbrev pub device_columns : Added → Row
+device_columns d =
+    Int (pos d.row.place) ∷ Null ∷ Text d.name ∷ Int (pos d.row.unit) ∷ Int (pos d.row.timeout)
+    ∷ Int (pos d.row.window) ∷ []
+
+-- what the queries show of it
+abbrev pub device_shown : Added → Row
+device_shown d =
+    Int (pos d.row.place) ∷ Text d.name ∷ Int (pos d.row.unit) ∷ Int (pos d.row.timeout)
+    ∷ Int (pos d.row.window) ∷ []
+
+abbrev pub device_place : Added → ℕ
+device_place d = d.row.place
+
+abbrev pub device_place_shown : Added → Row
+device_place_shown d = Int (pos d.row.place) ∷ []
+
+pub record IsSoundDevice (d : DeviceRow) : Type 0 where
+  pub place : IsPlace d.place
+  pub unit : d.unit ≤ LAST_UNIT
+  pub timeout : (1 ≤ d.timeout) × (d.timeout ≤ MAX_TIMEOUT)
+  pub window : (1 ≤ d.window) × (d.window ≤ MAX_WINDOW)
+
+pub record IsSoundAdded (d : Added) : Type 0 where
+  pub row : IsSoundDevice d.row
+  pub name : IsUtf8 d.name
+
+pub record IsDevice (d : Added) (a : Device) : Type 0 where
+  pub name : string_bytes a.name ≡ d.name
+  pub row : a.row ≡ d.row
+
+-- the device that the columns of a row are, or damage
+abbrev pub device_in : Row → Result DeviceRow RowFault
+device_in row =
+    and_then (or_damaged (whole_in 1 greatest_place (column row 0))) (λ place.
+    and_then (or_damaged (whole_in 0 LAST_UNIT (column row 2))) (λ unit.
+    and_then (or_damaged (whole_in 1 MAX_TIMEOUT (column row 3))) (λ timeout.
+    and_then (or_damaged (whole_in 1 MAX_WINDOW (column row 4))) (λ window.
+    Ok (record { place = place; unit = unit; timeout = timeout; window = window })))))
+
+-- ---- points
+
+-- a point of a device's list
+pub record Listed : Type 0 where
+  pub device : List ℕ
+  pub name : List ℕ
+  pub kind : List ℕ
+  pub scale : List ℕ
+  pub row : PointRow
+
+abbrev pub listed_as : (device name kind scale : List ℕ) → PointRow → Listed
+listed_as device name kind scale row =
+    record { device = device; name = name; kind = kind; scale = scale; row = row }
+
+abbrev pub point_columns : Listed → Row
+point_columns p =
+    Text p.device ∷ Int (pos p.row.place) ∷ Text p.name ∷ Int (pos (code_of p.row.function))
+    ∷ Int (pos p.row.area)
+    ∷ Int (pos p.row.address) ∷ Text p.kind ∷ Text p.scale ∷ []
+
+abbrev pub point_shown : Listed → Row
+point_shown p =
+    Int (pos p.row.place) ∷ Text p.name ∷ Int (pos (code_of p.row.function)) ∷ Int (pos p.row.area)
+    ∷ Int (pos p.row.address) ∷ Text p.kind ∷ Text p.scale ∷ []
+
+abbrev pub is_point_of : (device : List ℕ) → Listed → Bool
+is_point_of device p = bytes_eq p.device device
+
+abbrev pub point_place : Listed → ℕ
+point_place p = p.row.place
+
+pub record IsSoundPoint (p : PointRow) : Type 0 where
+  pub place : IsPlace p.place
+  pub area : p.area ≤ 255
+  pub address : p.address ≤ LAST_ADDRESS
+
+pub record IsSoundListed (p : Listed) : Type 0 where
+  pub row : IsSoundPoint p.row
+  pub name : IsUtf8 p.name
+  pub kind : IsUtf8 p.kind
+  pub scale : IsUtf8 p.scale
+
+pub record IsPoint (p : Listed) (a : Point) : Type 0 where
+  pub name : string_bytes a.name ≡ p.name
+  pub kind : string_bytes a.kind ≡ p.kind
+  pub scale : string_bytes a.scale ≡ p.scale
+  pub row : a.row ≡ p.row
+
+-- a point as it stands in the list of a device
+abbrev pub listed_at : (device : List ℕ) → Point → Listed
+listed_at device p =
+    listed_as device (string_bytes p.name) (string_bytes p.kind) (string_bytes p.scale) p.row
+
+-- the points of a device come to the others, or stand in the place of those that it had
+abbrev pub with_points : (device : List ℕ) → List Point → List Listed → List Listed
+with_points device ps rows = map (listed_at device) ps ++ rows
+
+abbrev pub with_list : (device : List ℕ) → List Point → List Listed → List Listed
+with_list device ps rows = with_points device ps (without_where (is_point_of device) rows)
+
+-- the point that the columns of a row are, or damage
+abbrev pub point_in : Row → Result PointRow RowFault
+point_in row =
+    and_then (or_damaged (whole_in 1 greatest_place (column row 0))) (λ place.
+    and_then (or_damaged (function_in (column row 2))) (λ function.
+    and_then (or_damaged (whole_in 0 255 (column row 3))) (λ area.
+    and_then (or_damaged (whole_in 0 LAST_ADDRESS (column row 4))) (λ address.
+    Ok (record { place = place; function = function; area = area; address = address })))))
+
+-- ---- registers
+
+-- the table has the kind of a scale, 0 or 1, and its number
+abbrev pub scale_kind : RegisterScale → ℕ
+scale_kind (scale.Fixed sf) = 0
+scale_kind (scale.At address) = 1
+
+abbrev pub scale_number : RegisterScale → ℤ
+scale_number (scale.Fixed sf) = sf
+scale_number (scale.At address) = pos address
+
+abbrev pub IsSoundScale : RegisterScale → Type 0
+IsSoundScale (scale.Fixed sf) = IsTrue (is_within 3 sf)
+IsSoundScale (scale.At address) = address ≤ LAST_ADDRESS
+
+-- a register of a device under its name
+pub record Registered : Type 0 where
+  pub name : List ℕ
+  pub device : List ℕ
+  pub row : RegisterRow
+
+abbrev pub registered_as : (name device : List ℕ) → RegisterRow → Registered
+registered_as name device row = record { name = name; device = device; row = row }
+
+abbrev pub register_columns : Registered → Row
+register_columns r =
+    Int (pos r.row.place) ∷ Null ∷ Text r.name ∷ Text r.device ∷ Int (pos (code_of r.row.function))
+    ∷ Int (pos r.row.address)
+    ∷ Int (pos (scale_kind r.row.scale)) ∷ Int (scale_number r.row.scale) ∷ []
+
+abbrev pub register_shown : Registered → Row
+register_shown r =
+    Int (pos r.row.place) ∷ Text r.name ∷ Text r.device ∷ Int (pos (code_of r.row.function))
+    ∷ Int (pos r.row.address)
+    ∷ Int (pos (scale_kind r.row.scale)) ∷ Int (scale_number r.row.scale) ∷ []
+
+abbrev pub register_place : Registered → ℕ
+register_place r = r.row.place
+
+abbrev pub register_place_shown : Registered → Row
+register_place_shown r = Int (pos r.row.place) ∷ []
+
+abbrev pub is_register : (name : List ℕ) → Registered → Bool
+is_register name r = bytes_eq r.name name
+
+abbrev pub is_register_of : (device : List ℕ) → Registered → Bool
+is_register_of device r = bytes_eq r.device device
+
+pub record IsSoundRegister (r : RegisterRow) : Type 0 where
+  pub place : IsPlace r.place
+  pub address : r.address ≤ LAST_COUNTER
+  pub scale : IsSoundScale r.scale
+
+pub record IsSoundRegistered (r : Registered) : Type 0 where
+  pub row : IsSoundRegister r.row
+  pub name : IsUtf8 r.name
+  pub device : IsUtf8 r.device
+
+pub record IsRegister (r : Registered) (a : Register) : Type 0 where
+  pub name : string_bytes a.name ≡ r.name
+  pub device : string_bytes a.device ≡ r.device
+  pub row : a.row ≡ r.row
+
+abbrev pub fixed_by : Option ℤ → Option RegisterScale
+fixed_by None = None
+fixed_by (Some sf) = Some (scale.Fixed sf)
+
+abbrev pub at_by : Option ℕ → Option RegisterScale
+at_by None = None
+at_by (Some address) = Some (scale.At address)
+
+-- the scale of a kind and a number, if they are those of one
+abbrev pub scale_of : (kind : ℕ) → Value → Option RegisterScale
+scale_of kind v = if kind == 0 then fixed_by (within 3 v) else at_by (whole_in 0 LAST_ADDRESS v)
+
+-- the register that the columns of a row are, or damage
+abbrev pub register_in : Row → Result RegisterRow RowFault
+register_in row =
+    and_then (or_damaged (whole_in 1 greatest_place (column row 0))) (λ place.
+    and_then (or_damaged (function_in (column row 3))) (λ function.
+    and_then (or_damaged (whole_in 0 LAST_COUNTER (column row 4))) (λ address.
+    and_then (or_damaged (whole_in 0 1 (column row 5))) (λ kind.
+    and_then (or_damaged (scale_of kind (column row 6))) (λ scale.
+    Ok (record { place = place; function = function; address = address; scale = scale }))))))
+
+-- how many registers a device has
+abbrev pub IsRegisterCount : (device : List ℕ) → List Registered → ℕ → Type 0
+IsRegisterCount device rows count = count ≡ length (filter (is_register_of device) rows)

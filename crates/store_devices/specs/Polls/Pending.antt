@@ -1,0 +1,27 @@
+-- The polls that wait for their outcome.
+use Rattle.std.specs.Prelude.{Bool, not, List, Result, IfOk}
+use Rattle.std.specs.List.{list_any}
+use Rattle.sqlite.specs.Order.{Row}
+use Rattle.sqlite.specs.Store.{Ghosts}
+use Rattle.sqlite.specs.Held.{Held, state}
+use Rattle.sqlite.specs.State.{HasCleanDisk}
+use Rattle.store_tables.specs.Content.{Content, AreTables, HasRows}
+use Rattle.store_tables.specs.Answer.{FirstFirst}
+use Rattle.store_tables.specs.Asking.{Shows}
+use Rattle.store_devices.specs.declared.polls.rows.OutcomeRow.{OutcomeRow}
+use Rattle.store_devices.specs.Polls.Rows.{Started, poll_columns, poll_shown, poll_number, outcome_columns, is_outcome_of}
+use Rattle.store_devices.specs.Polls.Trees.{polls, outcomes}
+
+-- no outcome names it
+abbrev pub is_pending : List OutcomeRow → Started → Bool
+is_pending ended p = not (list_any (is_outcome_of p.row.number) ended)
+
+-- The rows that are answered show the polls without an outcome, in order of their numbers.
+abbrev pub ShowsPending : {S A E : Type 0} → Ghosts S → (old new : Held S) → (result : Result A E)
+    → (rows : A → List Row) → Type 0
+ShowsPending g old new result rows =
+    HasCleanDisk (state g new) → (content : Content) → AreTables (state g old).now content
+    → (started : List Started) → HasRows polls poll_columns started content
+    → (ended : List OutcomeRow) → HasRows outcomes outcome_columns ended content
+    → IfOk result
+    (λ answer. Shows (is_pending ended) (FirstFirst poll_number) poll_shown started (rows answer))

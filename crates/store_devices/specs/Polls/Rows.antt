@@ -1,0 +1,330 @@
+-- Rows of the tables, their columns, and the ranges of their values.
+use Rattle.std.specs.Prelude.{◌≡◌, ℕ, pos, ◌≤◌, ◌<◌, ◌+◌, ◌-◌, ◌^◌, min, List, [], ◌∷◌, Bool, bytes_eq, ◌&&◌, ◌==◌, Option, Some, None, if◌then◌else◌, Result, Ok, IsUtf8, string_bytes, codes}
+use Rattle.sqlite.specs.declared.types.Value.{Value}
+use Rattle.sqlite.specs.declared.types.Value.TheVariants.{Null, Int, Real, Text, Blob}
+use Rattle.sqlite.specs.Order.{Row, column}
+use Rattle.mb_wire.specs.Spans.{code_of}
+use Rattle.energy_core.specs.Verdict.{cause_number}
+use Rattle.poll_core.specs.declared.outcome.Outcome.{Outcome}
+use Rattle.poll_core.specs.declared.outcome.Outcome.TheVariants.{Answered, Exception, Silent, Malformed, Lost}
+use Rattle.poll_core.specs.declared.outcome.Malformation.{Malformation}
+use Rattle.poll_core.specs.declared.outcome.Malformation.TheVariants as malformation
+use Rattle.poll_core.specs.declared.outcome.LostCause.{LostCause}
+use Rattle.poll_core.specs.declared.outcome.LostCause.TheVariants as lost
+use Rattle.poll_core.specs.Outcomes.{outcome_number, outcome_code}
+use Rattle.store_tables.specs.declared.faults.RowFault.{RowFault}
+use Rattle.store_tables.specs.Columns.{whole_in, function_in, or_damaged, and_then}
+use Rattle.store_tables.specs.Limits.{greatest_place, IsPlace, latest_moment}
+use Rattle.store_devices.specs.declared.polls.rows.PollRow.{PollRow}
+use Rattle.store_devices.specs.declared.polls.rows.Poll.{Poll}
+use Rattle.store_devices.specs.declared.polls.rows.OutcomeRow.{OutcomeRow}
+use Rattle.store_devices.specs.declared.polls.rows.HoldRow.{HoldRow}
+use Rattle.store_devices.specs.declared.polls.rows.ReplyKind.{ReplyKind}
+use Rattle.store_devices.specs.declared.polls.rows.ReplyKind.TheVariants as kind
+use Rattle.store_devices.specs.declared.polls.rows.Repeat.{Repeat}
+use Rattle.store_devices.specs.declared.polls.rows.Repeat.TheVariants.{Same, Other}
+
+-- ---- polls
+
+-- a poll of a device
+pub record Started : Type 0 where
+  pub device : List ℕ
+  pub row : PollRow
+
+abbrev pub poll_columns : Started → Row
+poll_columns p =
+    Int (pos p.row.number) ∷ Null ∷ Text p.device ∷ Int (pos p.row.unit) ∷ Int (pos p.row.started)
+    ∷ Int (pos p.row.id)
+    ∷ Int (pos (code_of p.row.function)) ∷ Int (pos p.row.address) ∷ Int (pos p.row.count) ∷ []
+
+-- what the queries show of it
+abbrev pub poll_shown : Started → Row
+poll_shown p =
+    Int (pos p.row.number) ∷ Text p.device ∷ Int (pos p.row.unit) ∷ Int (pos p.row.started)
+    ∷ Int (pos p.row.id)
+    ∷ Int (pos (code_of p.row.function)) ∷ Int (pos p.row.address) ∷ Int (pos p.row.count) ∷ []
+
+abbrev pub number_shown : Started → Row
+number_shown p = Int (pos p.row.number) ∷ []
+
+abbrev pub poll_number : Started → ℕ
+poll_number p = p.row.number
+
+abbrev pub is_poll : (number : ℕ) → Started → Bool
+is_poll number p = p.row.number == number
+
+-- so many registers at most from an address on
+abbrev pub greatest_count : (address : ℕ) → ℕ
+greatest_count address = min 125 (65536 - address)
+
+pub record IsSoundPoll (p : PollRow) : Type 0 where
+  pub number : IsPlace p.number
+  pub unit : p.unit ≤ 255
+  pub started : p.started ≤ latest_moment
+  pub id : p.id ≤ 65535
+  pub address : p.address ≤ 65535
+  pub count : (1 ≤ p.count) × (p.count ≤ 125)
+  pub inside : p.address + p.count ≤ 65536
+
+pub record IsSoundStarted (p : Started) : Type 0 where
+  pub row : IsSoundPoll p.row
+  pub device : IsUtf8 p.device
+
+pub record IsStarted (p : Started) (a : Poll) : Type 0 where
+  pub device : string_bytes a.device ≡ p.device
+  pub row : a.row ≡ p.row
+
+abbrev pub HasNumber : Started → ℕ → Type 0
+HasNumber p number = number ≡ p.row.number
+
+-- the poll that the columns of a row are, or damage
+abbrev pub poll_in : Row → Result PollRow RowFault
+poll_in row =
+    and_then (or_damaged (whole_in 1 greatest_place (column row 0))) (λ number.
+    and_then (or_damaged (whole_in 0 255 (column row 2))) (λ unit.
+    and_then (or_damaged (whole_in 0 latest_moment (column row 3))) (λ started.
+    and_then (or_damaged (whole_in 0 65535 (column row 4))) (λ id.
+    and_then (or_damaged (function_in (column row 5))) (λ function.
+    and_then (or_damaged (whole_in 0 65535 (column row 6))) (λ address.
+    and_then (or_damaged (whole_in 1 (greatest_count address) (column row 7))) (λ count.
+    Ok (record {
+      number = number;
+      unit = unit;
+      started = started;
+      id = id;
+      function = function;
+      address = address;
+      count = count;
+    }))))))))
+
+-- ---- outcomes
+
+abbrev pub outcome_columns : OutcomeRow → Row
+outcome_columns o =
+    Int (pos o.poll) ∷ Null ∷ Int (pos o.moment) ∷ Int (pos (outcome_number o.outcome))
+    ∷ Int (pos (outcome_code o.outcome)) ∷ []
+
+abbrev pub outcome_shown : OutcomeRow → Row
+outcome_shown o =
+    Int (pos o.poll) ∷ Int (pos o.moment) ∷ Int (pos (outcome_number o.outcome))
+    ∷ Int (pos (outcome_code o.outcome)) ∷ []
+
+abbrev pub is_outcome_of : (poll : ℕ) → OutcomeRow → Bool
+is_outcome_of poll o = o.poll == poll
+
+abbrev pub IsOutcome : OutcomeRow → OutcomeRow → Type 0
+IsOutcome o a = a ≡ o
+
+-- an exception code has eight bits
+abbrev pub HasCode : Outcome → Type 0
+HasCode outcome = outcome_code outcome ≤ 255
+
+pub record IsSoundOutcome (o : OutcomeRow) : Type 0 where
+  pub poll : IsPlace o.poll
+  pub moment : o.moment ≤ latest_moment
+  pub code : HasCode o.outcome
+
+abbrev pub malformation_of : ℕ → Option Malformation
+malformation_of n =
+    if n == 1 then Some malformation.WrongFunction else
+    if n == 2 then Some malformation.WrongLength else
+    if n == 3 then Some malformation.WrongByteCount else
+    if n == 4 then Some malformation.WrongEcho else
+    if n == 5 then Some malformation.WrongUnit else None
+
+abbrev pub lost_of : ℕ → Option LostCause
+lost_of n =
+    if n == 1 then Some lost.Gone else
+    if n == 2 then Some lost.Garbled else
+    if n == 3 then Some lost.Failed else
+    if n == 4 then Some lost.Restart else None
+
+abbrev pub malformed_of : Option Malformation → Option Outcome
+malformed_of None = None
+malformed_of (Some wrong) = Some (Malformed wrong)
+
+abbrev pub lost_by : Option LostCause → Option Outcome
+lost_by None = None
+lost_by (Some why) = Some (Lost why)
+
+-- the outcome of a number and a code, if they are those of one
+abbrev pub outcome_of : (number code : ℕ) → Option Outcome
+outcome_of number code =
+    if number == 1 then (if code == 0 then Some Answered else None) else
+    if number == 2 then Some (Exception code) else
+    if number == 3 then (if code == 0 then Some Silent else None) else
+    if number == 4 then malformed_of (malformation_of code) else
+    if number == 5 then lost_by (lost_of code) else None
+
+-- the outcome that the columns of a row are, or damage
+abbrev pub outcome_in : Row → Result OutcomeRow RowFault
+outcome_in row =
+    and_then (or_damaged (whole_in 1 greatest_place (column row 0))) (λ poll.
+    and_then (or_damaged (whole_in 0 latest_moment (column row 1))) (λ moment.
+    and_then (or_damaged (whole_in 1 5 (column row 2))) (λ number.
+    and_then (or_damaged (whole_in 0 255 (column row 3))) (λ code.
+    and_then (or_damaged (outcome_of number code)) (λ outcome.
+    Ok (record { poll = poll; moment = moment; outcome = outcome }))))))
+
+-- ---- readings that were held
+
+-- a reading of a meter
+pub record Held : Type 0 where
+  pub meter : List ℕ
+  pub row : HoldRow
+
+abbrev pub hold_columns : Held → Row
+hold_columns h =
+    Int (pos h.row.place) ∷ Null ∷ Text h.meter ∷ Int (pos h.row.poll) ∷ Int (pos h.row.moment)
+    ∷ Int (pos h.row.raw)
+    ∷ Int h.row.sf ∷ Int (pos (cause_number h.row.cause)) ∷ []
+
+-- what INSERT is handed of it
+abbrev pub hold_shown : Held → Row
+hold_shown h =
+    Int (pos h.row.place) ∷ Text h.meter ∷ Int (pos h.row.poll) ∷ Int (pos h.row.moment)
+    ∷ Int (pos h.row.raw)
+    ∷ Int h.row.sf ∷ Int (pos (cause_number h.row.cause)) ∷ []
+
+abbrev pub hold_place : Held → ℕ
+hold_place h = h.row.place
+
+abbrev pub hold_place_shown : Held → Row
+hold_place_shown h = Int (pos h.row.place) ∷ []
+
+pub record IsSoundHold (h : HoldRow) : Type 0 where
+  pub place : IsPlace h.place
+  pub poll : IsPlace h.poll
+  pub moment : h.moment ≤ latest_moment
+
+abbrev pub IsSoundHeld : Held → Type 0
+IsSoundHeld h = IsSoundHold h.row
+
+-- ---- replies
+
+abbrev pub kind_word : ReplyKind → List ℕ
+kind_word kind.Device = codes "device"
+kind_word kind.List = codes "list"
+kind_word kind.Register = codes "register"
+kind_word kind.Install = codes "install"
+kind_word kind.Exchange = codes "exchange"
+kind_word kind.Reset = codes "reset"
+kind_word kind.Rescale = codes "rescale"
+kind_word kind.Manual = codes "manual"
+kind_word kind.Close = codes "close"
+kind_word kind.Void = codes "void"
+kind_word kind.Start = codes "start"
+
+-- the kind of a word, if it is the word of one
+abbrev pub kind_of : List ℕ → Option ReplyKind
+kind_of word =
+    if bytes_eq word (codes "device") then Some kind.Device else
+    if bytes_eq word (codes "list") then Some kind.List else
+    if bytes_eq word (codes "register") then Some kind.Register else
+    if bytes_eq word (codes "install") then Some kind.Install else
+    if bytes_eq word (codes "exchange") then Some kind.Exchange else
+    if bytes_eq word (codes "reset") then Some kind.Reset else
+    if bytes_eq word (codes "rescale") then Some kind.Rescale else
+    if bytes_eq word (codes "manual") then Some kind.Manual else
+    if bytes_eq word (codes "close") then Some kind.Close else
+    if bytes_eq word (codes "void") then Some kind.Void else
+    if bytes_eq word (codes "start") then Some kind.Start else None
+
+-- what was answered to a request, kept under the caller's name and number
+pub record Kept : Type 0 where
+  pub caller : List ℕ
+  pub number : ℕ
+  pub request : List ℕ
+  pub kind : ReplyKind
+  pub moment : ℕ
+
+abbrev pub kept_under : (caller : List ℕ) → (number : ℕ) → (request : List ℕ) → ReplyKind
+    → (moment : ℕ) → Kept
+kept_under caller number request kind moment =
+    record { caller = caller; number = number; request = request; kind = kind; moment = moment }
+
+abbrev pub reply_columns : Kept → Row
+reply_columns k =
+    Text k.caller ∷ Int (pos k.number) ∷ Blob k.request ∷ Text (kind_word k.kind)
+    ∷ Int (pos k.moment)
+    ∷ []
+
+abbrev pub reply_shown : Kept → Row
+reply_shown k = Blob k.request ∷ Text (kind_word k.kind) ∷ []
+
+abbrev pub is_reply : (caller : List ℕ) → (number : ℕ) → Kept → Bool
+is_reply caller number k = bytes_eq k.caller caller && (k.number == number)
+
+-- a number of a caller is below 2 ^ 63
+abbrev pub IsCallNumber : ℕ → Type 0
+IsCallNumber number = number < 2 ^ 63
+
+-- a request with the bytes of a kept one repeats it
+abbrev pub repeat_as : ReplyKind → (same : Bool) → Repeat
+repeat_as kind same = if same then Same kind else Other
+
+abbrev pub IsRepeat : (request : List ℕ) → Kept → Repeat → Type 0
+IsRepeat request k a = a ≡ repeat_as k.kind (bytes_eq k.request request)
+
+abbrev pub IsSoundKept : Kept → Type 0
+IsSoundKept k = k.moment ≤ latest_moment
+
+abbrev pub kind_in : Value → Option ReplyKind
+kind_in (Text word) = kind_of word
+kind_in (Int n) = None
+kind_in Null = None
+kind_in (Real x) = None
+kind_in (Blob b) = None
+
+-- whether a column has these bytes
+abbrev pub same_bytes : List ℕ → Value → Option Bool
+same_bytes bytes (Blob b) = Some (bytes_eq b bytes)
+same_bytes bytes (Text word) = None
+same_bytes bytes (Int n) = None
+same_bytes bytes Null = None
+same_bytes bytes (Real x) = None
+
+-- what a request is to the kept one that a row shows, or damage
+abbrev pub repeat_in : (request : List ℕ) → Row → Result Repeat RowFault
+repeat_in request row =
+    and_then (or_damaged (same_bytes request (column row 0))) (λ same.
+    and_then (or_damaged (kind_in (column row 1))) (λ kind.
+    Ok (repeat_as kind same)))
+
+-- ---- moments
+
+abbrev pub start_of : Started → ℕ
+start_of p = p.row.started
+
+abbrev pub start_shown : Started → Row
+start_shown p = Int (pos p.row.started) ∷ []
+
+abbrev pub HasStart : Started → ℕ → Type 0
+HasStart p moment = moment ≡ p.row.started
+
+abbrev pub outcome_moment : OutcomeRow → ℕ
+outcome_moment o = o.moment
+
+abbrev pub outcome_moment_shown : OutcomeRow → Row
+outcome_moment_shown o = Int (pos o.moment) ∷ []
+
+abbrev pub HasOutcomeMoment : OutcomeRow → ℕ → Type 0
+HasOutcomeMoment o moment = moment ≡ o.moment
+
+abbrev pub hold_moment : Held → ℕ
+hold_moment h = h.row.moment
+
+abbrev pub hold_moment_shown : Held → Row
+hold_moment_shown h = Int (pos h.row.moment) ∷ []
+
+abbrev pub HasHoldMoment : Held → ℕ → Type 0
+HasHoldMoment h moment = moment ≡ h.row.moment
+
+abbrev pub reply_moment : Kept → ℕ
+reply_moment k = k.moment
+
+abbrev pub reply_moment_shown : Kept → Row
+reply_moment_shown k = Int (pos k.moment) ∷ []
+
+abbrev pub HasReplyMoment : Kept → ℕ → Type 0
+HasReplyMoment k moment = moment ≡ k.moment

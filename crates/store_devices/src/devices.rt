@@ -1,0 +1,15 @@
+//! The devices in the tables of the books: devices, the points of their lists, and registers.
+
+mod columns;
+mod devices;
+mod points;
+mod registers;
+mod rows;
+
+pub use columns::{read_device, read_point, read_register};
+pub use devices::{device_rows, insert_device, last_device_rows};
+pub use points::{point_rows, replace_points};
+pub use registers::{
+    insert_register, last_register_rows, register_count, register_of, register_rows,
+};
+pub use rows::{Device, DeviceRow, Point, PointRow, Register, RegisterRow, RegisterScale};

@@ -1,0 +1,117 @@
+//! Rows as the queries show them, read column by column.
+ghost use Rattle.std.specs.Prelude.{◌≡◌, IfOk};
+ghost use Rattle.sqlite.specs.Order.{column};
+ghost use Rattle.store_tables.specs.Asking.{ReadsRow};
+ghost use Rattle.store_tables.specs.Columns.{or_damaged};
+ghost use Rattle.store_devices.specs.Devices.Rows.{device_shown, device_in, IsDevice, IsSoundDevice};
+ghost use Rattle.store_devices.specs.Devices.Rows.{IsSoundAdded, point_shown, point_in, IsPoint};
+ghost use Rattle.store_devices.specs.Devices.Rows.{IsSoundPoint, IsSoundListed, register_shown, register_in};
+ghost use Rattle.store_devices.specs.Devices.Rows.{scale_of, IsRegister, IsSoundRegister, IsSoundRegistered};
+
+use crate::devices::rows::{Device, DeviceRow, Point, PointRow, Register, RegisterRow, RegisterScale};
+use office_events::{LAST_ADDRESS, LAST_COUNTER, LAST_UNIT};
+use poll_core::{MAX_TIMEOUT, MAX_WINDOW};
+use sqlite::Row;
+use store_tables::{GREATEST_PLACE, RowFault, function, scale, text, whole};
+
+/// The numbers of a device.
+fn device(row: &Row) -> Result<DeviceRow, RowFault>
+    ensures { result ≡ device_in row.now }
+{
+    let place = whole(row, 0, 1, GREATEST_PLACE)?;
+    let unit = whole(row, 2, 0, LAST_UNIT)?;
+    let timeout = whole(row, 3, 1, MAX_TIMEOUT)?;
+    let window = whole(row, 4, 1, MAX_WINDOW as u64)?;
+    Ok(DeviceRow {
+        place,
+        unit: unit as u8,
+        timeout: timeout as u8,
+        window: window as u8,
+    })
+}
+
+/// Reads a device of `device_rows`.
+pub fn read_device(row: &Row) -> Result<Device, RowFault>
+    ensures read { ReadsRow row.now device_shown IsDevice IsSoundAdded result }
+    ensures sound { IfOk result (λ a. IsSoundDevice a.row) }
+{
+    let numbers = device(row)?;
+    let name = text(row, 1)?;
+    Ok(Device { name, row: numbers })
+}
+
+/// The numbers of a point.
+fn point(row: &Row) -> Result<PointRow, RowFault>
+    ensures { result ≡ point_in row.now }
+{
+    let place = whole(row, 0, 1, GREATEST_PLACE)?;
+    let function = function(row, 2)?;
+    let area = whole(row, 3, 0, 255)?;
+    let address = whole(row, 4, 0, LAST_ADDRESS)?;
+    Ok(PointRow {
+        place,
+        function,
+        area: area as u8,
+        address: address as u16,
+    })
+}
+
+/// Reads a point of `point_rows`.
+pub fn read_point(row: &Row) -> Result<Point, RowFault>
+    ensures read { ReadsRow row.now point_shown IsPoint IsSoundListed result }
+    ensures sound { IfOk result (λ a. IsSoundPoint a.row) }
+{
+    let numbers = point(row)?;
+    let name = text(row, 1)?;
+    let kind = text(row, 5)?;
+    let scale = text(row, 6)?;
+    Ok(Point {
+        name,
+        kind,
+        scale,
+        row: numbers,
+    })
+}
+
+/// The scale of a kind, in a column.
+fn scale_at(row: &Row, kind: u64, at: usize) -> Result<RegisterScale, RowFault>
+    ensures { result ≡ or_damaged (scale_of kind (column row.now at)) }
+{
+    if kind == 0 {
+        Ok(RegisterScale::Fixed(scale(row, at)?))
+    } else {
+        Ok(RegisterScale::At(whole(row, at, 0, LAST_ADDRESS)? as u16))
+    }
+}
+
+/// The numbers of a register.
+fn register(row: &Row) -> Result<RegisterRow, RowFault>
+    ensures { result ≡ register_in row.now }
+{
+    let place = whole(row, 0, 1, GREATEST_PLACE)?;
+    let function = function(row, 3)?;
+    let address = whole(row, 4, 0, LAST_COUNTER)?;
+    let kind = whole(row, 5, 0, 1)?;
+    let scale = scale_at(row, kind, 6)?;
+    Ok(RegisterRow {
+        place,
+        function,
+        address: address as u16,
+        scale,
+    })
+}
+
+/// Reads a register of `register_rows`.
+pub fn read_register(row: &Row) -> Result<Register, RowFault>
+    ensures read { ReadsRow row.now register_shown IsRegister IsSoundRegistered result }
+    ensures sound { IfOk result (λ a. IsSoundRegister a.row) }
+{
+    let numbers = register(row)?;
+    let name = text(row, 1)?;
+    let device = text(row, 2)?;
+    Ok(Register {
+        name,
+        device,
+        row: numbers,
+    })
+}

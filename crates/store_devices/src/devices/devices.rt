@@ -1,0 +1,60 @@
+//! The table `devices`.
+ghost use Rattle.std.specs.Prelude.{◌≡◌};
+ghost use Rattle.sqlite.specs.Held.{state};
+ghost use Rattle.store_tables.specs.Content.{Edits, with_row};
+ghost use Rattle.store_tables.specs.Steps.{Steps};
+ghost use Rattle.store_tables.specs.Answer.{LastFirst, FirstFirst, every};
+ghost use Rattle.store_tables.specs.Asking.{Asks, AsksInside, TellsRows, Shows, ShowsFirst};
+ghost use Rattle.store_devices.specs.Devices.Rows.{device_columns, device_shown, device_place};
+ghost use Rattle.store_devices.specs.Devices.Rows.{device_place_shown, IsSoundDevice};
+ghost use Rattle.store_devices.specs.Devices.Trees.{devices};
+
+use crate::devices::rows::DeviceRow;
+use sqlite::{Alter, Connection, Error, Row, Transaction, params};
+use store_tables::number;
+
+/// Adds a device.
+pub fn insert_device<S: Alter>(
+    tx: &mut Transaction<'_, S>,
+    name: &str,
+    device: DeviceRow,
+) -> Result<usize, Error>
+    requires sound { IsSoundDevice device }
+    ensures same_reference { tx.new.conn.ghost_name ≡ tx.old.conn.ghost_name }
+    ensures does { Steps (state S.Store tx.old.conn.now) (state S.Store tx.new.conn.now) result
+        (Edits devices device_columns (with_row (record { name = name.now; row = device }))) }
+{
+    let place = number(device.place);
+    tx.execute(
+        "INSERT INTO devices (place, name, unit, timeout, \"window\") VALUES (?1, ?2, ?3, ?4, ?5)",
+        params![
+            &place,
+            name,
+            u32::from(device.unit),
+            u32::from(device.timeout),
+            u32::from(device.window)
+        ],
+    )
+}
+
+/// The devices in the order in which they were added; `read_device` reads each.
+pub fn device_rows<S: Alter>(conn: &mut Connection<S>) -> Result<Vec<Row>, Error>
+    ensures asks { Asks S.Store conn.old conn.new }
+    ensures shows { TellsRows S.Store conn.old conn.new devices device_columns result
+        (Shows every (FirstFirst device_place) device_shown) }
+{
+    conn.query_all(
+        "SELECT place, name, unit, timeout, \"window\" FROM devices ORDER BY place",
+        &[],
+    )
+}
+
+/// The place of the last device inside a transaction, if there is one, in its first column.
+pub fn last_device_rows<S: Alter>(tx: &mut Transaction<'_, S>) -> Result<Vec<Row>, Error>
+    ensures same_reference { tx.new.conn.ghost_name ≡ tx.old.conn.ghost_name }
+    ensures asks { AsksInside S.Store tx.old.conn.now tx.new.conn.now result }
+    ensures shows { TellsRows S.Store tx.old.conn.now tx.new.conn.now devices device_columns result
+        (ShowsFirst every (LastFirst device_place) device_place_shown) }
+{
+    tx.query_all("SELECT place FROM devices ORDER BY place DESC LIMIT 1", &[])
+}

@@ -1,0 +1,145 @@
+//! The table `registers`.
+ghost use Rattle.std.specs.Prelude.{◌≡◌, IfOk, IfSome};
+ghost use Rattle.sqlite.specs.declared.types.Value.TheVariants.{Int};
+ghost use Rattle.sqlite.specs.Held.{state};
+ghost use Rattle.store_tables.specs.Content.{Edits, with_row};
+ghost use Rattle.store_tables.specs.Steps.{Steps};
+ghost use Rattle.store_tables.specs.Answer.{IsFound, AnyOrder, LastFirst, FirstFirst, every};
+ghost use Rattle.store_tables.specs.Asking.{Asks, AsksInside, Tells, LooksUp};
+ghost use Rattle.store_tables.specs.Asking.{TellsRows, Shows, ShowsFirst};
+ghost use Rattle.store_devices.specs.Devices.Rows.{registered_as, register_columns, register_shown};
+ghost use Rattle.store_devices.specs.Devices.Rows.{register_place};
+ghost use Rattle.store_devices.specs.Devices.Rows.{register_place_shown, is_register, is_register_of};
+ghost use Rattle.store_devices.specs.Devices.Rows.{IsRegister, IsRegisterCount, IsSoundRegister};
+ghost use Rattle.store_devices.specs.Devices.Rows.{IsSoundRegistered, scale_kind, scale_number};
+ghost use Rattle.store_devices.specs.Devices.Trees.{registers};
+
+use crate::devices::columns::read_register;
+use crate::devices::rows::{Register, RegisterRow, RegisterScale};
+use sqlite::{Alter, Connection, Error, Row, Transaction, params, types::Value};
+use store_tables::{RowFault, number, signed};
+
+/// The kind of a scale as the table has it.
+fn kind(scale: RegisterScale) -> u32
+    ensures { result ≡ scale_kind scale }
+{
+    match scale {
+        RegisterScale::Fixed(_) => 0,
+        RegisterScale::At(_) => 1,
+    }
+}
+
+/// The number of a scale as the table has it.
+fn value(scale: RegisterScale) -> Value
+    ensures { result ≡ Int (scale_number scale) }
+{
+    match scale {
+        RegisterScale::Fixed(sf) => signed(&sf),
+        RegisterScale::At(address) => number(u64::from(address)),
+    }
+}
+
+/// Adds a register of a device.
+pub fn insert_register<S: Alter>(
+    tx: &mut Transaction<'_, S>,
+    name: &str,
+    device: &str,
+    register: RegisterRow,
+) -> Result<usize, Error>
+    requires sound { IsSoundRegister register }
+    ensures same_reference { tx.new.conn.ghost_name ≡ tx.old.conn.ghost_name }
+    ensures does { Steps (state S.Store tx.old.conn.now) (state S.Store tx.new.conn.now) result
+        (Edits registers register_columns (with_row (registered_as name.now device.now register))) }
+{
+    let place = number(register.place);
+    let scale = value(register.scale);
+    tx.execute(
+        "INSERT INTO registers (place, name, device, function, address, scale_kind, scale) VALUES (?1, ?2, ?3, ?4, ?5, ?6, ?7)",
+        params![
+            &place,
+            name,
+            device,
+            u32::from(register.function.code()),
+            u32::from(register.address),
+            kind(register.scale),
+            &scale
+        ],
+    )
+}
+
+/// The row of a register, if there is one.
+fn rows_of<S: Alter>(conn: &mut Connection<S>, name: &str) -> Result<Vec<Row>, Error>
+    ensures asks { Asks S.Store conn.old conn.new }
+    ensures shows { TellsRows S.Store conn.old conn.new registers register_columns result
+        (ShowsFirst (is_register name.now) AnyOrder register_shown) }
+{
+    conn.query_all(
+        "SELECT place, name, device, function, address, scale_kind, scale FROM registers WHERE name = ?1 LIMIT 1",
+        params![name],
+    )
+}
+
+/// The register of a name.
+pub fn register_of<S: Alter>(
+    conn: &mut Connection<S>,
+    name: &str,
+) -> Result<Option<Register>, RowFault>
+    ensures finds { LooksUp S.Store conn.old conn.new
+        registers register_columns IsSoundRegistered result
+        (IsFound (is_register name.now) IsRegister) }
+    ensures sound { IfOk result (λ found. IfSome found (λ a. IsSoundRegister a.row)) }
+{
+    let rows = rows_of(conn, name)?;
+    match rows.first() {
+        None => Ok(None),
+        Some(row) => Ok(Some(read_register(row)?)),
+    }
+}
+
+/// The registers of a device in the order in which they were added; `read_register` reads each.
+pub fn register_rows<S: Alter>(conn: &mut Connection<S>, device: &str) -> Result<Vec<Row>, Error>
+    ensures asks { Asks S.Store conn.old conn.new }
+    ensures shows { TellsRows S.Store conn.old conn.new registers register_columns result
+        (Shows (is_register_of device.now) (FirstFirst register_place) register_shown) }
+{
+    conn.query_all(
+        "SELECT place, name, device, function, address, scale_kind, scale FROM registers WHERE device = ?1 ORDER BY place",
+        params![device],
+    )
+}
+
+/// The places of the registers of a device.
+fn places_of<S: Alter>(conn: &mut Connection<S>, device: &str) -> Result<Vec<Row>, Error>
+    ensures asks { Asks S.Store conn.old conn.new }
+    ensures shows { TellsRows S.Store conn.old conn.new registers register_columns result
+        (Shows (is_register_of device.now) AnyOrder register_place_shown) }
+{
+    conn.query_all(
+        "SELECT place FROM registers WHERE device = ?1",
+        params![device],
+    )
+}
+
+/// How many registers a device has.
+pub fn register_count<S: Alter>(conn: &mut Connection<S>, device: &str) -> Result<usize, Error>
+    ensures asks { Asks S.Store conn.old conn.new }
+    ensures counts { Tells S.Store conn.old conn.new registers register_columns result
+        (IsRegisterCount device.now) }
+{
+    let rows = places_of(conn, device)?;
+    Ok(rows.len())
+}
+
+/// The place of the last register inside a transaction, if there is one, in its first column.
+pub fn last_register_rows<S: Alter>(tx: &mut Transaction<'_, S>) -> Result<Vec<Row>, Error>
+    ensures same_reference { tx.new.conn.ghost_name ≡ tx.old.conn.ghost_name }
+    ensures asks { AsksInside S.Store tx.old.conn.now tx.new.conn.now result }
+    ensures shows { TellsRows S.Store tx.old.conn.now tx.new.conn.now
+        registers register_columns result
+        (ShowsFirst every (LastFirst register_place) register_place_shown) }
+{
+    tx.query_all(
+        "SELECT place FROM registers ORDER BY place DESC LIMIT 1",
+        &[],
+    )
+}

@@ -1,0 +1,17 @@
+//! The polls in the tables of the books: polls, their outcomes, readings that were held, and replies that are kept.
+
+mod columns;
+mod holds;
+mod latest;
+mod outcomes;
+mod polls;
+mod replies;
+mod rows;
+
+pub use columns::read_poll;
+pub use holds::{insert_hold, last_hold_rows};
+pub use latest::{latest_hold, latest_outcome, latest_reply, latest_start};
+pub use outcomes::{insert_outcome, outcome_of};
+pub use polls::{insert_poll, last_poll, pending_rows, poll_at};
+pub use replies::{insert_reply, repeat_of};
+pub use rows::{HoldRow, OutcomeRow, Poll, PollRow, Repeat, ReplyKind};

@@ -1,0 +1,52 @@
+//! The table `holds`.
+ghost use Rattle.std.specs.Prelude.{◌≡◌};
+ghost use Rattle.sqlite.specs.Held.{state};
+ghost use Rattle.store_tables.specs.Content.{Edits, with_row};
+ghost use Rattle.store_tables.specs.Steps.{Steps};
+ghost use Rattle.store_tables.specs.Answer.{LastFirst, every};
+ghost use Rattle.store_tables.specs.Asking.{AsksInside, TellsRows, ShowsFirst};
+ghost use Rattle.store_devices.specs.Polls.Rows.{hold_columns, hold_place, hold_place_shown, IsSoundHold};
+ghost use Rattle.store_devices.specs.Polls.Trees.{holds};
+
+use crate::polls::rows::HoldRow;
+use sqlite::{Alter, Error, Row, Transaction, params};
+use store_tables::{number, signed};
+
+/// Adds a reading of a meter that was not accepted.
+pub fn insert_hold<S: Alter>(
+    tx: &mut Transaction<'_, S>,
+    meter: &str,
+    hold: HoldRow,
+) -> Result<usize, Error>
+    requires sound { IsSoundHold hold }
+    ensures same_reference { tx.new.conn.ghost_name ≡ tx.old.conn.ghost_name }
+    ensures does { Steps (state S.Store tx.old.conn.now) (state S.Store tx.new.conn.now) result
+        (Edits holds hold_columns (with_row (record { meter = meter.now; row = hold }))) }
+{
+    let place = number(hold.place);
+    let poll = number(hold.poll);
+    let moment = number(hold.moment);
+    let sf = signed(&hold.sf);
+    tx.execute(
+        "INSERT INTO holds (place, meter, poll, moment, raw, sf, cause) VALUES (?1, ?2, ?3, ?4, ?5, ?6, ?7)",
+        params![
+            &place,
+            meter,
+            &poll,
+            &moment,
+            hold.raw,
+            &sf,
+            u32::from(hold.cause.number())
+        ],
+    )
+}
+
+/// The place of the last held reading inside a transaction, if there is one, in its first column.
+pub fn last_hold_rows<S: Alter>(tx: &mut Transaction<'_, S>) -> Result<Vec<Row>, Error>
+    ensures same_reference { tx.new.conn.ghost_name ≡ tx.old.conn.ghost_name }
+    ensures asks { AsksInside S.Store tx.old.conn.now tx.new.conn.now result }
+    ensures shows { TellsRows S.Store tx.old.conn.now tx.new.conn.now holds hold_columns result
+        (ShowsFirst every (LastFirst hold_place) hold_place_shown) }
+{
+    tx.query_all("SELECT place FROM holds ORDER BY place DESC LIMIT 1", &[])
+}

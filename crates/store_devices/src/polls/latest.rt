@@ -1,0 +1,101 @@
+//! The greatest moments of the tables, in seconds since 1970-01-01 UTC. Each looks at the whole of its table, and is for
+//! an opening.
+ghost use Rattle.std.specs.Prelude.{◌≤◌, IfOk, IfSome};
+ghost use Rattle.store_tables.specs.Limits.{latest_moment};
+ghost use Rattle.store_tables.specs.Answer.{IsLast, LastFirst, every};
+ghost use Rattle.store_tables.specs.Asking.{Asks, TellsRows, ShowsFirst, LooksUp};
+ghost use Rattle.store_devices.specs.Polls.Rows.{poll_columns, start_of, start_shown, HasStart};
+ghost use Rattle.store_devices.specs.Polls.Rows.{IsSoundStarted, outcome_columns, outcome_moment};
+ghost use Rattle.store_devices.specs.Polls.Rows.{outcome_moment_shown, HasOutcomeMoment, IsSoundOutcome};
+ghost use Rattle.store_devices.specs.Polls.Rows.{hold_columns, hold_moment, hold_moment_shown};
+ghost use Rattle.store_devices.specs.Polls.Rows.{HasHoldMoment, IsSoundHeld, reply_columns, reply_moment};
+ghost use Rattle.store_devices.specs.Polls.Rows.{reply_moment_shown, HasReplyMoment, IsSoundKept};
+ghost use Rattle.store_devices.specs.Polls.Trees.{polls, outcomes, holds, replies};
+
+use sqlite::{Alter, Connection, Error, Row};
+use store_tables::{LATEST_MOMENT, RowFault, first_whole};
+
+/// The latest start of a poll, if there is one.
+fn start_rows<S: Alter>(conn: &mut Connection<S>) -> Result<Vec<Row>, Error>
+    ensures asks { Asks S.Store conn.old conn.new }
+    ensures shows { TellsRows S.Store conn.old conn.new polls poll_columns result
+        (ShowsFirst every (LastFirst start_of) start_shown) }
+{
+    conn.query_all(
+        "SELECT started FROM polls ORDER BY started DESC LIMIT 1",
+        &[],
+    )
+}
+
+/// The latest start of a poll.
+pub fn latest_start<S: Alter>(conn: &mut Connection<S>) -> Result<Option<u64>, RowFault>
+    ensures finds { LooksUp S.Store conn.old conn.new polls poll_columns IsSoundStarted result
+        (IsLast every HasStart start_of) }
+    ensures sound { IfOk result (λ found. IfSome found (λ n. n ≤ latest_moment)) }
+{
+    let rows = start_rows(conn)?;
+    first_whole(&rows, 0, LATEST_MOMENT)
+}
+
+/// The latest moment of an outcome, if there is one.
+fn outcome_rows<S: Alter>(conn: &mut Connection<S>) -> Result<Vec<Row>, Error>
+    ensures asks { Asks S.Store conn.old conn.new }
+    ensures shows { TellsRows S.Store conn.old conn.new outcomes outcome_columns result
+        (ShowsFirst every (LastFirst outcome_moment) outcome_moment_shown) }
+{
+    conn.query_all(
+        "SELECT moment FROM outcomes ORDER BY moment DESC LIMIT 1",
+        &[],
+    )
+}
+
+/// The latest moment of an outcome.
+pub fn latest_outcome<S: Alter>(conn: &mut Connection<S>) -> Result<Option<u64>, RowFault>
+    ensures finds { LooksUp S.Store conn.old conn.new outcomes outcome_columns IsSoundOutcome result
+        (IsLast every HasOutcomeMoment outcome_moment) }
+    ensures sound { IfOk result (λ found. IfSome found (λ n. n ≤ latest_moment)) }
+{
+    let rows = outcome_rows(conn)?;
+    first_whole(&rows, 0, LATEST_MOMENT)
+}
+
+/// The latest moment of a held reading, if there is one.
+fn hold_rows<S: Alter>(conn: &mut Connection<S>) -> Result<Vec<Row>, Error>
+    ensures asks { Asks S.Store conn.old conn.new }
+    ensures shows { TellsRows S.Store conn.old conn.new holds hold_columns result
+        (ShowsFirst every (LastFirst hold_moment) hold_moment_shown) }
+{
+    conn.query_all("SELECT moment FROM holds ORDER BY moment DESC LIMIT 1", &[])
+}
+
+/// The latest moment of a held reading.
+pub fn latest_hold<S: Alter>(conn: &mut Connection<S>) -> Result<Option<u64>, RowFault>
+    ensures finds { LooksUp S.Store conn.old conn.new holds hold_columns IsSoundHeld result
+        (IsLast every HasHoldMoment hold_moment) }
+    ensures sound { IfOk result (λ found. IfSome found (λ n. n ≤ latest_moment)) }
+{
+    let rows = hold_rows(conn)?;
+    first_whole(&rows, 0, LATEST_MOMENT)
+}
+
+/// The latest moment of a kept reply, if there is one.
+fn reply_rows<S: Alter>(conn: &mut Connection<S>) -> Result<Vec<Row>, Error>
+    ensures asks { Asks S.Store conn.old conn.new }
+    ensures shows { TellsRows S.Store conn.old conn.new replies reply_columns result
+        (ShowsFirst every (LastFirst reply_moment) reply_moment_shown) }
+{
+    conn.query_all(
+        "SELECT moment FROM replies ORDER BY moment DESC LIMIT 1",
+        &[],
+    )
+}
+
+/// The latest moment of a kept reply.
+pub fn latest_reply<S: Alter>(conn: &mut Connection<S>) -> Result<Option<u64>, RowFault>
+    ensures finds { LooksUp S.Store conn.old conn.new replies reply_columns IsSoundKept result
+        (IsLast every HasReplyMoment reply_moment) }
+    ensures sound { IfOk result (λ found. IfSome found (λ n. n ≤ latest_moment)) }
+{
+    let rows = reply_rows(conn)?;
+    first_whole(&rows, 0, LATEST_MOMENT)
+}

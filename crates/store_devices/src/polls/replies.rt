@@ -1,0 +1,72 @@
+//! The table `replies`.
+ghost use Rattle.std.specs.Prelude.{◌≡◌, ◌≤◌};
+ghost use Rattle.sqlite.specs.Held.{state};
+ghost use Rattle.store_tables.specs.Content.{Edits, with_row};
+ghost use Rattle.store_tables.specs.Steps.{Steps};
+ghost use Rattle.store_tables.specs.Limits.{latest_moment};
+ghost use Rattle.store_tables.specs.Answer.{IsFound, AnyOrder};
+ghost use Rattle.store_tables.specs.Asking.{Asks, TellsRows, ShowsFirst, LooksUp};
+ghost use Rattle.store_devices.specs.Polls.Rows.{kept_under, reply_columns, reply_shown, is_reply};
+ghost use Rattle.store_devices.specs.Polls.Rows.{IsCallNumber, IsRepeat, IsSoundKept};
+ghost use Rattle.store_devices.specs.Polls.Trees.{replies};
+
+use crate::polls::columns::repeat;
+use crate::polls::rows::{Repeat, ReplyKind};
+use sqlite::{Alter, Connection, Error, Row, Transaction, params};
+use store_tables::RowFault;
+
+/// Keeps what was answered to a request of a caller.
+pub fn insert_reply<S: Alter>(
+    tx: &mut Transaction<'_, S>,
+    caller: &str,
+    number: u64,
+    request: &[u8],
+    kind: ReplyKind,
+    moment: u64,
+) -> Result<usize, Error>
+    requires number { IsCallNumber number }
+    requires moment { moment ≤ latest_moment }
+    ensures same_reference { tx.new.conn.ghost_name ≡ tx.old.conn.ghost_name }
+    ensures does { Steps (state S.Store tx.old.conn.now) (state S.Store tx.new.conn.now) result
+        (Edits replies reply_columns (with_row
+        (kept_under caller.now number request.now kind moment))) }
+{
+    let number = store_tables::number(number);
+    let moment = store_tables::number(moment);
+    tx.execute(
+        "INSERT INTO replies (caller, number, request, kind, moment) VALUES (?1, ?2, ?3, ?4, ?5)",
+        params![caller, &number, request, kind.word(), &moment],
+    )
+}
+
+/// What is kept under a caller and a number, if something is.
+fn rows_of<S: Alter>(conn: &mut Connection<S>, caller: &str, number: u64) -> Result<Vec<Row>, Error>
+    requires number { IsCallNumber number }
+    ensures asks { Asks S.Store conn.old conn.new }
+    ensures shows { TellsRows S.Store conn.old conn.new replies reply_columns result
+        (ShowsFirst (is_reply caller.now number) AnyOrder reply_shown) }
+{
+    let number = store_tables::number(number);
+    conn.query_all(
+        "SELECT request, kind FROM replies WHERE caller = ?1 AND number = ?2 LIMIT 1",
+        params![caller, &number],
+    )
+}
+
+/// What a request is to the one that is kept under its caller and number, if one is.
+pub fn repeat_of<S: Alter>(
+    conn: &mut Connection<S>,
+    caller: &str,
+    number: u64,
+    request: &[u8],
+) -> Result<Option<Repeat>, RowFault>
+    requires number { IsCallNumber number }
+    ensures { LooksUp S.Store conn.old conn.new replies reply_columns IsSoundKept result
+        (IsFound (is_reply caller.now number) (IsRepeat request.now)) }
+{
+    let rows = rows_of(conn, caller, number)?;
+    match rows.first() {
+        None => Ok(None),
+        Some(row) => Ok(Some(repeat(row, request)?)),
+    }
+}

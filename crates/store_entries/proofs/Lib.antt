@@ -1,4 +1,0 @@
-mod Texts
-mod Writes
-mod Asks
-mod ReadRows

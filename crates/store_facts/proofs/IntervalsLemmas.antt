@@ -1,0 +1,9 @@
+pub mod Texts
+pub mod Kept
+pub mod Upserts
+pub mod Writes
+pub mod Loops
+pub mod Handed
+pub mod Shared
+pub mod Joins
+pub mod Replaced

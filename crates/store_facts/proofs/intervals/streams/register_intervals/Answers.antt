@@ -1,0 +1,13 @@
+use Rattle.std.proofs.Common.{[], ◌∷◌}
+use Rattle.sqlite.specs.declared.types.Value.TheVariants.{Text}
+use Rattle.store_facts.specs.Intervals.Handing.{HaveLying, AreSharesAt, AreSoundLying}
+use Rattle.store_facts.proofs.IntervalsLemmas.Texts as text
+use Rattle.store_facts.proofs.IntervalsLemmas.Shared.{hands_on}
+use Rattle.store_facts.proofs.IntervalsLemmas.Joins.{at_register}
+use Rattle.store_facts.proofs.intervals.streams.register_intervals.Goals as goal
+
+pub returns : goal.returns
+returns g c =
+    hands_on g.S.Store text.register_intervals (Text c.args.register.now ∷ []) text.register_intervals_query text.names c.args.conn.now c.hand_on.new.conn g.K.RowSink.takes c.args.sink.now c.hand_on.new.sink c.hand_on.result
+    HaveLying (AreSharesAt c.args.register.now) AreSoundLying (λ p. p.1) text.register_intervals_is text.register_intervals_unlisted text.register_intervals_plain (at_register c.args.register.now)
+    c.hand_on.ensures.asks c.hand_on.ensures.some (rw (c.params-to_sql.ensures) at c.hand_on.ensures.reads)

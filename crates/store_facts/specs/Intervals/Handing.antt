@@ -1,0 +1,123 @@
+-- Rows of the table, handed on to a sink in order, as they come.
+use Rattle.std.specs.Prelude.{◌≡◌, ◌≢◌, ◌<◌, ◌≤◌, ◌⊎◌, ℕ, Bool, bytes_eq, ◌&&◌, List, [], ◌∷◌, ◌++◌, map, Result, Ok, Err, OnOk, IfErr}
+use Rattle.std.specs.List.{AllByRecursion, AllZip}
+use Rattle.sqlite.specs.Given.{IsPlain}
+use Rattle.sqlite.specs.Listing.{understood}
+use Rattle.sqlite.specs.Order.{Row}
+use Rattle.sqlite.specs.Store.{Ghosts}
+use Rattle.sqlite.specs.Held.{Held, state}
+use Rattle.sqlite.specs.State.{HasCleanDisk, IsUnchanged, Begins, Shown}
+use Rattle.sqlite_keyed.specs.Lists.{pairs}
+use Rattle.interval_core.specs.declared.shares.Share.{Share}
+use Rattle.office_books.specs.Rows.{TakesAll, TakesFirst}
+use Rattle.store_tables.specs.declared.faults.RowFault.{RowFault}
+use Rattle.store_tables.specs.declared.faults.RowFault.TheVariants.{Damaged}
+use Rattle.store_tables.specs.Content.{Content, AreTables, HasRows}
+use Rattle.store_tables.specs.Answer.{AreFound, FirstFirst}
+use Rattle.store_tables.specs.Asking.{Asks}
+use Rattle.store_tables.specs.Meters.Trees.{installations}
+use Rattle.store_tables.specs.Meters.Rows.{Installed, installed_columns, installed_place, is_at}
+use Rattle.store_facts.specs.Intervals.Trees.{intervals}
+use Rattle.store_facts.specs.Intervals.Rows.{Interval, interval_columns, is_of, start_of, share_in, IsSoundShare, IsSoundInterval}
+
+-- The sink took shares in their ranges, and nothing else.
+abbrev pub TookSome : {K : Type 0} → (takes : K → Share → K → Type 0) → (before after : K) → Type 0
+TookSome takes before after =
+    (shares : List Share) × AllByRecursion IsSoundShare shares × TakesAll takes before shares after
+
+-- What the sink took begins the shares that the rows of some tables have, in order, and at Ok is all of them. Whatever the
+-- tables hold, it took nothing but shares in their ranges. Damage is told only where some row is out of them.
+pub record HandsOn {S K Tables : Type 0} (g : Ghosts S) (old new : Held S)
+    (takes : K → Share → K → Type 0) (before after : K)
+    (result : Result (Unit {0}) RowFault) (Have : Tables → Content → Type 0)
+    (AreSharesOf : Tables → List Share → Type 0)
+    (AreSound : Tables → Type 0) : Type 0 where
+  pub asks : Asks g old new
+  pub begun : HasCleanDisk (state g new) → (content : Content) → AreTables (state g old).now content
+      → (rows : Tables) → Have rows content
+      → (after ≡ before)
+      ⊎ ((all : List Share) × AreSharesOf rows all × TakesFirst takes before all after)
+  pub whole : HasCleanDisk (state g new) → (content : Content) → AreTables (state g old).now content
+      → (rows : Tables) → Have rows content
+      → OnOk result ((all : List Share) × AreSharesOf rows all × TakesAll takes before all after)
+  pub some : TookSome takes before after
+  pub fault : HasCleanDisk (state g new) → (content : Content) → AreTables (state g old).now content
+      → (rows : Tables) → Have rows content → AreSound rows → IfErr result (λ e. e ≢ Damaged)
+
+-- ---- the rows of a meter, by their starts
+
+abbrev pub HaveIntervals : List Interval → Content → Type 0
+HaveIntervals = HasRows intervals interval_columns
+
+abbrev pub AreSharesOfMeter : (meter : List ℕ) → List Interval → List Share → Type 0
+AreSharesOfMeter meter rows all =
+    (found : List Interval) × AreFound (is_of meter) (FirstFirst start_of) rows found
+    × (all ≡ map (λ i. i.share) found)
+
+abbrev pub AreSoundIntervals : List Interval → Type 0
+AreSoundIntervals = AllByRecursion IsSoundInterval
+
+-- ---- the rows of a register: meter after meter in the order of their places, each by its starts
+
+pub record Lying : Type 0 where
+  pub installed : List Installed
+  pub rows : List Interval
+
+pub record HaveLying (lying : Lying) (content : Content) : Type 0 where
+  pub installed : HasRows installations installed_columns lying.installed content
+  pub rows : HasRows intervals interval_columns lying.rows content
+
+-- the row is of a meter that was installed at the register
+abbrev pub lies_at : (register : List ℕ) → Installed × Interval → Bool
+lies_at register p = bytes_eq p.1.meter p.0.meter && is_at register p.0
+
+abbrev pub ComesAfter : Installed × Interval → Installed × Interval → Type 0
+ComesAfter p q =
+    (installed_place p.0 < installed_place q.0)
+    ⊎ ((installed_place p.0 ≡ installed_place q.0) × (start_of p.1 ≤ start_of q.1))
+
+abbrev pub AreSharesAt : (register : List ℕ) → Lying → List Share → Type 0
+AreSharesAt register lying all =
+    (found : List (Installed × Interval))
+    × AreFound (lies_at register) ComesAfter (pairs lying.installed lying.rows) found
+    × (all ≡ map (λ p. p.1.share) found)
+
+abbrev pub AreSoundLying : Lying → Type 0
+AreSoundLying lying = AreSoundIntervals lying.rows
+
+-- ---- the rows of a query
+
+-- the shares that the rows are
+abbrev pub AreShares : List Row → List Share → Type 0
+AreShares = AllZip (λ row share. share_in row ≡ Ok share)
+
+-- a query that changes nothing was asked, whose answer begins with these rows
+abbrev pub IsAsked : {S : Type 0} → Ghosts S → (sql : List ℕ) → (params : Row)
+    → (old asked : Held S) → (given : List Row) → Type 0
+IsAsked g sql params old asked given =
+    IsUnchanged (state g old) (state g asked) × Begins sql params (state g asked) given
+
+-- The rows of a query were read from the first on and handed on as shares, at Ok all of them. A row that can't be read as
+-- a share is damage.
+pub record HandsOnQuery {S K : Type 0} (g : Ghosts S) (sql : List ℕ) (params : Row) (old : Held S)
+    (takes : K → Share → K → Type 0) (before after : K) (result : Result (Unit {0}) RowFault) : Type
+    0 where
+  pub given : List Row
+  pub shares : List Share
+  pub begun : (given ≡ []) ⊎ ((asked : Held S) × IsAsked g sql params old asked given)
+  pub read : AreShares given shares
+  pub taken : TakesAll takes before shares after
+  pub whole : OnOk result
+      ((asked : Held S) × (end : Held S) × IsUnchanged (state g old) (state g asked)
+      × Shown sql params (state g asked) (state g end) given)
+  pub damaged : result ≡ Err Damaged
+      → (asked : Held S) × (row : Row) × IsAsked g sql params old asked (given ++ row ∷ [])
+      × (share_in row ≡ Err Damaged)
+
+-- the same where the store gave back what was written, of a query that asks the tables alone
+abbrev pub HandsOnPlain : {S K : Type 0} → Ghosts S → (sql : List ℕ) → (params : Row)
+    → (old new : Held S) → (takes : K → Share → K → Type 0) → (before after : K)
+    → Result (Unit {0}) RowFault → Type 0
+HandsOnPlain g sql params old new takes before after result =
+    HasCleanDisk (state g new) → IsPlain (understood old.schema sql)
+    → HandsOnQuery g sql params old takes before after result

@@ -1,6 +1,0 @@
-mod Texts
-mod Writes
-mod Asks
-mod ReadRows
-mod Counts
-mod Replaced

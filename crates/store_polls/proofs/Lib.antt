@@ -1,5 +1,0 @@
-mod Texts
-mod Writes
-mod Asks
-mod ReadRows
-mod Waiting

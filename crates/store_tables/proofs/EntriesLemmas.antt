@@ -1,0 +1,4 @@
+pub mod Texts
+pub mod Writes
+pub mod Asks
+pub mod ReadRows

@@ -1,0 +1,14 @@
+use Rattle.std.proofs.lemmas.Result.{IfOk-weaker}
+use Rattle.sqlite.specs.Held.{state}
+use Rattle.store_tables.proofs.StepLemmas.{asks_inside}
+use Rattle.store_tables.proofs.EntriesLemmas.Texts as text
+use Rattle.store_tables.proofs.EntriesLemmas.Asks as asking
+use Rattle.store_tables.proofs.entries.inside.entry_rows_inside.Goals as goal
+
+pub returns-clause-asks : goal.returns-clause-asks
+returns-clause-asks g c =
+    asks_inside g.S.Store text.entry_rows _ c.args.tx.now.conn.now c.query_all.new.self.conn.now c.query_all.result (λ rows. rows.items) text.entry_rows_plain c.query_all.ensures.ok c.query_all.ensures.err c.query_all.ensures.survives
+
+pub returns-clause-shows : goal.returns-clause-shows
+returns-clause-shows g c clean content has xs are =
+    IfOk-weaker c.query_all.result _ _ (λ rows h. asking.entry_rows c.args.meter.now (state g.S.Store c.args.tx.now.conn.now) (state g.S.Store c.query_all.new.self.conn.now) content xs rows.items has are (rw (c.params-to_sql.ensures) at h)) (c.query_all.ensures.ok clean)

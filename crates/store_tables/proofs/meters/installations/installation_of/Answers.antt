@@ -1,0 +1,25 @@
+use Rattle.std.proofs.Common.{sym, ◌∙◌, ap, slice_get}
+use Rattle.std.specs.Option.{option_copied}
+use Rattle.store_tables.specs.Answer.{AnyOrder}
+use Rattle.store_tables.proofs.Selects.{found_none, found_some}
+use Rattle.store_tables.proofs.LookUps.{looked_none, looked_some, looked_fault}
+use Rattle.store_tables.specs.Meters.Rows.{IsInstalled, IsSoundInstalled, installed_columns, installed_shown, is_meter}
+use Rattle.store_tables.specs.Meters.Trees.{installations}
+use Rattle.store_tables.proofs.meters.installations.installation_of.Goals as goal
+
+pub returns-in-None-clause-finds : goal.returns-in-None-clause-finds
+returns-in-None-clause-finds g c =
+    looked_none g.S.Store c.args.conn.now c.rows_of.new.conn installations installed_columns IsSoundInstalled c.in_ok-rows.ensures.asks (is_meter c.args.meter.now) (AnyOrder) installed_shown c.in_ok-rows.rows.items c.in_ok-rows.ensures.shows _
+    (ap (λ xs. slice_get xs 0) (sym c.deref.ensures.value) ∙ (sym c.first.ensures.value ∙ ap option_copied c.in-None.is)) (λ xs found are is. found_none (is_meter c.args.meter.now) IsInstalled (AnyOrder) xs found are is)
+
+pub returns-in_err-read_installation-in-Some-clause-finds : goal.returns-in_err-read_installation-in-Some-clause-finds
+returns-in_err-read_installation-in-Some-clause-finds g c =
+    looked_fault g.S.Store c.args.conn.now c.rows_of.new.conn installations installed_columns IsSoundInstalled c.in_ok-rows.ensures.asks (is_meter c.args.meter.now) (AnyOrder) installed_shown c.in_ok-rows.rows.items c.in_ok-rows.ensures.shows _
+    IsInstalled c.in-Some.row.now c.in_err-read_installation-in-Some.field-0.0 c.from_residual-in_err-read_installation-in-Some.result
+    (ap (λ xs. slice_get xs 0) (sym c.deref.ensures.value) ∙ (sym c.first.ensures.value ∙ ap option_copied c.in-Some.is)) c.in_err-read_installation-in-Some.ensures.read c.from_residual-in_err-read_installation-in-Some.ensures.1
+
+pub returns-clause-finds : goal.returns-clause-finds
+returns-clause-finds g c =
+    looked_some g.S.Store c.args.conn.now c.rows_of.new.conn installations installed_columns IsSoundInstalled c.in_ok-rows.ensures.asks (is_meter c.args.meter.now) (AnyOrder) installed_shown c.in_ok-rows.rows.items c.in_ok-rows.ensures.shows _
+    IsInstalled c.in-Some.row.now c.in_ok-read_installation-in-Some.field-0 (ap (λ xs. slice_get xs 0) (sym c.deref.ensures.value) ∙ (sym c.first.ensures.value ∙ ap option_copied c.in-Some.is))
+    c.in_ok-read_installation-in-Some.ensures.read (λ xs found x are is seen. found_some (is_meter c.args.meter.now) IsInstalled (AnyOrder) xs found x _ are is seen)

@@ -1,0 +1,14 @@
+use Rattle.std.proofs.lemmas.Result.{IfOk-weaker}
+use Rattle.sqlite.specs.Held.{state}
+use Rattle.store_tables.proofs.StepLemmas.{asks_inside}
+use Rattle.store_tables.proofs.MetersLemmas.Texts as text
+use Rattle.store_tables.proofs.MetersLemmas.Asks as asking
+use Rattle.store_tables.proofs.meters.installations.last_installation_rows.Goals as goal
+
+pub returns-clause-asks : goal.returns-clause-asks
+returns-clause-asks g c =
+    asks_inside g.S.Store text.last_installation _ c.args.tx.now.conn.now c.query_all.new.self.conn.now c.query_all.result (λ rows. rows.items) text.last_installation_plain c.query_all.ensures.ok c.query_all.ensures.err c.query_all.ensures.survives
+
+pub returns-clause-shows : goal.returns-clause-shows
+returns-clause-shows g c clean content has xs are =
+    IfOk-weaker c.query_all.result _ _ (λ rows h. asking.last_installation (state g.S.Store c.args.tx.now.conn.now) (state g.S.Store c.query_all.new.self.conn.now) content xs rows.items has are h) (c.query_all.ensures.ok clean)

@@ -1,0 +1,14 @@
+use Rattle.std.proofs.lemmas.Result.{IfOk-weaker}
+use Rattle.sqlite.specs.Held.{state}
+use Rattle.store_tables.proofs.StepLemmas.{asks}
+use Rattle.store_tables.proofs.MetersLemmas.Texts as text
+use Rattle.store_tables.proofs.MetersLemmas.Asks as asking
+use Rattle.store_tables.proofs.meters.ranges.rows_of.Goals as goal
+
+pub returns-clause-asks : goal.returns-clause-asks
+returns-clause-asks g c =
+    asks g.S.Store text.range_of _ c.args.conn.now c.query_all.new.self c.query_all.result (λ rows. rows.items) text.range_of_plain c.query_all.ensures.ok c.query_all.ensures.err c.query_all.ensures.mode c.query_all.ensures.survives
+
+pub returns-clause-shows : goal.returns-clause-shows
+returns-clause-shows g c clean content has xs are =
+    IfOk-weaker c.query_all.result _ _ (λ rows h. asking.range_of c.args.meter.now (state g.S.Store c.args.conn.now) (state g.S.Store c.query_all.new.self) content xs rows.items has are (rw (c.params-to_sql.ensures) at h)) (c.query_all.ensures.ok clean)

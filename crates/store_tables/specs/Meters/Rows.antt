@@ -1,0 +1,138 @@
+-- Rows of the tables, their columns, and the ranges of their values.
+use Rattle.std.specs.Prelude.{◌≡◌, ℕ, pos, ◌≤◌, List, [], ◌∷◌, IsTrue, Bool, bytes_eq, ◌==◌, Option, Some, None, if◌then◌else◌, Result, Ok, true, false, IsUtf8, string_bytes}
+use Rattle.std.specs.Option.{option_and_then}
+use Rattle.energy_core.specs.declared.limits.TheConstants.{MAX_CEILING, MAX_RANGE, MAX_SHOWN, MAX_TOTAL, MIN_RANGE}
+use Rattle.sqlite.specs.declared.types.Value.{Value}
+use Rattle.store_tables.specs.declared.faults.RowFault.{RowFault}
+use Rattle.sqlite.specs.declared.types.Value.TheVariants.{Null, Int, Text}
+use Rattle.sqlite.specs.Order.{Row, column}
+use Rattle.store_tables.specs.Columns.{is_within, whole_in, within, or_damaged, and_then}
+use Rattle.store_tables.specs.declared.meters.rows.LastRow.{LastRow}
+use Rattle.store_tables.specs.declared.meters.rows.InstallationRow.{InstallationRow}
+use Rattle.store_tables.specs.declared.meters.rows.Installation.{Installation}
+use Rattle.store_tables.specs.Limits.{greatest_place, latest_moment}
+
+abbrev pub greatest_ceiling : ℕ
+greatest_ceiling = MAX_CEILING
+
+abbrev pub greatest_total : ℕ
+greatest_total = MAX_TOTAL
+
+abbrev pub ended_number : Bool → ℕ
+ended_number false = 0
+ended_number true = 1
+
+-- a meter at a register
+pub record Installed : Type 0 where
+  pub meter : List ℕ
+  pub register : List ℕ
+  pub row : InstallationRow
+
+abbrev pub meter_at : (meter register : List ℕ) → InstallationRow → Installed
+meter_at meter register row = record { meter = meter; register = register; row = row }
+
+abbrev pub installed_columns : Installed → Row
+installed_columns i =
+    Int (pos i.row.place) ∷ Null ∷ Text i.meter ∷ Text i.register ∷ Int (pos i.row.ceiling)
+    ∷ Int (pos (ended_number i.row.is_ended)) ∷ Int (pos i.row.last.moment)
+    ∷ Int (pos i.row.last.raw)
+    ∷ Int i.row.last.sf ∷ Int (pos i.row.last.total) ∷ []
+
+-- what the queries show of it
+abbrev pub installed_shown : Installed → Row
+installed_shown i =
+    Int (pos i.row.place) ∷ Text i.meter ∷ Text i.register ∷ Int (pos i.row.ceiling)
+    ∷ Int (pos (ended_number i.row.is_ended)) ∷ Int (pos i.row.last.moment)
+    ∷ Int (pos i.row.last.raw)
+    ∷ Int i.row.last.sf ∷ Int (pos i.row.last.total) ∷ []
+
+abbrev pub is_meter : (meter : List ℕ) → Installed → Bool
+is_meter meter i = bytes_eq i.meter meter
+
+abbrev pub is_at : (register : List ℕ) → Installed → Bool
+is_at register i = bytes_eq i.register register
+
+abbrev pub installed_place : Installed → ℕ
+installed_place i = i.row.place
+
+-- it stands there, and it has ended
+abbrev pub moved : LastRow → Installed → Installed
+moved last i = record i { row = record i.row { last = last } }
+
+abbrev pub ended : Installed → Installed
+ended i = record i { row = record i.row { is_ended = true } }
+
+pub record IsSoundLast (last : LastRow) : Type 0 where
+  pub moment : last.moment ≤ latest_moment
+  pub raw : last.raw ≤ MAX_SHOWN
+  pub sf : IsTrue (is_within 3 last.sf)
+  pub total : last.total ≤ greatest_total
+
+pub record IsSoundInstallation (row : InstallationRow) : Type 0 where
+  pub place : (1 ≤ row.place) × (row.place ≤ greatest_place)
+  pub ceiling : (1 ≤ row.ceiling) × (row.ceiling ≤ greatest_ceiling)
+  pub last : IsSoundLast row.last
+
+pub record IsSoundInstalled (i : Installed) : Type 0 where
+  pub row : IsSoundInstallation i.row
+  pub meter : IsUtf8 i.meter
+  pub register : IsUtf8 i.register
+
+pub record IsInstalled (i : Installed) (a : Installation) : Type 0 where
+  pub meter : string_bytes a.meter ≡ i.meter
+  pub register : string_bytes a.register ≡ i.register
+  pub row : a.row ≡ i.row
+
+-- a flag is 0 or 1
+abbrev pub flag_of : ℕ → Option Bool
+flag_of n = if n == 0 then Some false else if n == 1 then Some true else None
+
+abbrev pub flag_in : Value → Option Bool
+flag_in v = option_and_then flag_of (whole_in 0 1 v)
+
+abbrev pub last_in : Row → Result LastRow RowFault
+last_in row =
+    and_then (or_damaged (whole_in 0 latest_moment (column row 5))) (λ moment.
+    and_then (or_damaged (whole_in 0 MAX_SHOWN (column row 6))) (λ raw.
+    and_then (or_damaged (within 3 (column row 7))) (λ sf.
+    and_then (or_damaged (whole_in 0 greatest_total (column row 8))) (λ total.
+    Ok (record { moment = moment; raw = raw; sf = sf; total = total })))))
+
+abbrev pub installation_in : Row → Result InstallationRow RowFault
+installation_in row =
+    and_then (or_damaged (whole_in 1 greatest_place (column row 0))) (λ place.
+    and_then (or_damaged (whole_in 1 greatest_ceiling (column row 3))) (λ ceiling.
+    and_then (or_damaged (flag_in (column row 4))) (λ is_ended.
+    and_then (last_in row) (λ last.
+    Ok (record { place = place; ceiling = ceiling; is_ended = is_ended; last = last })))))
+
+abbrev pub installed_place_shown : Installed → Row
+installed_place_shown i = Int (pos i.row.place) ∷ []
+
+abbrev pub HasInstalledPlace : Installed → ℕ → Type 0
+HasInstalledPlace i place = place ≡ i.row.place
+
+-- ---- ranges
+
+-- how many counts the counter of a meter has
+pub record Ranged : Type 0 where
+  pub meter : List ℕ
+  pub range : ℕ
+
+abbrev pub ranged_columns : Ranged → Row
+ranged_columns r = Text r.meter ∷ Int (pos r.range) ∷ []
+
+abbrev pub range_shown : Ranged → Row
+range_shown r = Int (pos r.range) ∷ []
+
+abbrev pub is_range_of : (meter : List ℕ) → Ranged → Bool
+is_range_of meter r = bytes_eq r.meter meter
+
+abbrev pub IsRange : ℕ → Type 0
+IsRange range = (MIN_RANGE ≤ range) × (range ≤ MAX_RANGE)
+
+abbrev pub IsSoundRanged : Ranged → Type 0
+IsSoundRanged r = IsRange r.range
+
+abbrev pub HasRange : Ranged → ℕ → Type 0
+HasRange r range = range ≡ r.range

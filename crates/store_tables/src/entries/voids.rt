@@ -1,0 +1,47 @@
+//! The table `voids`.
+ghost use Rattle.std.specs.Prelude.{◌≡◌, ◌≤◌};
+ghost use Rattle.sqlite.specs.Held.{state};
+ghost use Rattle.store_tables.specs.Content.{Edits, with_row};
+ghost use Rattle.store_tables.specs.Steps.{Steps};
+ghost use Rattle.store_tables.specs.Answer.{FirstFirst};
+ghost use Rattle.store_tables.specs.Asking.{Asks, TellsRows, Shows};
+ghost use Rattle.store_tables.specs.Limits.{IsPlace, latest_moment};
+ghost use Rattle.store_tables.specs.Entries.Rows.{voided_at, voided_columns, voided_shown};
+ghost use Rattle.store_tables.specs.Entries.Rows.{voided_place, is_void_of};
+ghost use Rattle.store_tables.specs.Entries.Trees.{voids};
+
+use sqlite::{Alter, Connection, Error, Row, Transaction, params};
+use crate::number;
+
+/// The places of the voided entries of a meter.
+pub(crate) const OF_METER: &str = "SELECT place FROM voids WHERE meter = ?1 ORDER BY place";
+
+/// Says that the entry of a meter at a place was voided at a moment.
+pub fn insert_void<S: Alter>(
+    tx: &mut Transaction<'_, S>,
+    meter: &str,
+    place: u64,
+    moment: u64,
+) -> Result<usize, Error>
+    requires place { IsPlace place }
+    requires moment { moment ≤ latest_moment }
+    ensures same_reference { tx.new.conn.ghost_name ≡ tx.old.conn.ghost_name }
+    ensures does { Steps (state S.Store tx.old.conn.now) (state S.Store tx.new.conn.now) result
+        (Edits voids voided_columns (with_row (voided_at meter.now place moment))) }
+{
+    let place = number(place);
+    let moment = number(moment);
+    tx.execute(
+        "INSERT INTO voids (meter, place, moment) VALUES (?1, ?2, ?3)",
+        params![meter, &place, &moment],
+    )
+}
+
+/// The voided entries of a meter in order of place; `read_void` reads each.
+pub fn void_rows<S: Alter>(conn: &mut Connection<S>, meter: &str) -> Result<Vec<Row>, Error>
+    ensures asks { Asks S.Store conn.old conn.new }
+    ensures shows { TellsRows S.Store conn.old conn.new voids voided_columns result
+        (Shows (is_void_of meter.now) (FirstFirst voided_place) voided_shown) }
+{
+    conn.query_all(OF_METER, params![meter])
+}

@@ -1,0 +1,14 @@
+//! The meters in the tables of the books: installations, and the ranges of their counters.
+
+mod columns;
+mod installations;
+mod ranges;
+mod rows;
+
+pub use columns::{read_installation, read_range};
+pub use installations::{
+    end_installation, insert_installation, installation_at, installation_of, installation_rows,
+    last_installation, last_installation_rows, move_installation,
+};
+pub use ranges::{insert_range, range_of, range_rows};
+pub use rows::{Installation, InstallationRow, LastRow};

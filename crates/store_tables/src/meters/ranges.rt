@@ -1,0 +1,64 @@
+//! The table `ranges`.
+ghost use Rattle.std.specs.Prelude.{◌≡◌, IfOk, IfSome};
+ghost use Rattle.sqlite.specs.Held.{state};
+ghost use Rattle.store_tables.specs.Content.{Edits, with_row};
+ghost use Rattle.store_tables.specs.Steps.{Steps};
+ghost use Rattle.store_tables.specs.Answer.{IsFound, AnyOrder};
+ghost use Rattle.store_tables.specs.Asking.{Asks, AsksInside, TellsRows, ShowsFirst, LooksUp};
+ghost use Rattle.store_tables.specs.Meters.Rows.{ranged_columns, range_shown, is_range_of, HasRange};
+ghost use Rattle.store_tables.specs.Meters.Rows.{IsRange, IsSoundRanged};
+ghost use Rattle.store_tables.specs.Meters.Trees.{ranges};
+
+use energy_core::{MAX_RANGE, MIN_RANGE};
+use sqlite::{Alter, Connection, Error, Row, Transaction, params};
+use crate::{RowFault, first_whole, number};
+
+/// The row of a meter.
+const OF_METER: &str = "SELECT \"range\" FROM ranges WHERE meter = ?1 LIMIT 1";
+
+/// Adds how many counts the counter of a meter has.
+pub fn insert_range<S: Alter>(
+    tx: &mut Transaction<'_, S>,
+    meter: &str,
+    range: u64,
+) -> Result<usize, Error>
+    requires sound { IsRange range }
+    ensures same_reference { tx.new.conn.ghost_name ≡ tx.old.conn.ghost_name }
+    ensures does { Steps (state S.Store tx.old.conn.now) (state S.Store tx.new.conn.now) result
+        (Edits ranges ranged_columns (with_row (record { meter = meter.now; range = range }))) }
+{
+    let range = number(range);
+    tx.execute(
+        "INSERT INTO ranges (meter, \"range\") VALUES (?1, ?2)",
+        params![meter, &range],
+    )
+}
+
+/// The row of a meter, if there is one.
+fn rows_of<S: Alter>(conn: &mut Connection<S>, meter: &str) -> Result<Vec<Row>, Error>
+    ensures asks { Asks S.Store conn.old conn.new }
+    ensures shows { TellsRows S.Store conn.old conn.new ranges ranged_columns result
+        (ShowsFirst (is_range_of meter.now) AnyOrder range_shown) }
+{
+    conn.query_all(OF_METER, params![meter])
+}
+
+/// How many counts the counter of a meter has.
+pub fn range_of<S: Alter>(conn: &mut Connection<S>, meter: &str) -> Result<Option<u64>, RowFault>
+    ensures finds { LooksUp S.Store conn.old conn.new ranges ranged_columns IsSoundRanged result
+        (IsFound (is_range_of meter.now) HasRange) }
+    ensures sound { IfOk result (λ found. IfSome found IsRange) }
+{
+    let rows = rows_of(conn, meter)?;
+    first_whole(&rows, MIN_RANGE, MAX_RANGE)
+}
+
+/// The row of a meter inside a transaction, if there is one; `read_range` reads it.
+pub fn range_rows<S: Alter>(tx: &mut Transaction<'_, S>, meter: &str) -> Result<Vec<Row>, Error>
+    ensures same_reference { tx.new.conn.ghost_name ≡ tx.old.conn.ghost_name }
+    ensures asks { AsksInside S.Store tx.old.conn.now tx.new.conn.now result }
+    ensures shows { TellsRows S.Store tx.old.conn.now tx.new.conn.now ranges ranged_columns result
+        (ShowsFirst (is_range_of meter.now) AnyOrder range_shown) }
+{
+    tx.query_all(OF_METER, params![meter])
+}

@@ -1,0 +1,37 @@
+//! Numbers that decimal digits spell.
+
+ghost use Rattle.std.specs.Prelude.{◌≡◌, ◌≤◌, IsTrue, length};
+ghost use Rattle.std.specs.Char.{is_ascii_digit};
+ghost use Rattle.std.specs.List.{list_all};
+ghost use Rattle.sun_points.specs.Numbers.Digits.{digits_value, number_of_digits};
+
+/// The number that one to so many decimal digits spell, the ones last. More than 19 digits may spell a number
+/// past 64 bits, so no more may be let in.
+pub fn number_of_digits(most: usize, word: &[u8]) -> Option<u64>
+    requires { most ≤ 19 }
+    ensures { result ≡ number_of_digits most word.now }
+{
+    if word.is_empty() || word.len() > most || !are_digits(word) {
+        return None;
+    }
+    Some(digits_value(word))
+}
+
+fn are_digits(word: &[u8]) -> bool
+    ensures { result ≡ list_all is_ascii_digit word.now }
+{
+    word.iter().all(|byte| byte.is_ascii_digit())
+}
+
+// The number that at most nineteen digits spell, the ones last.
+fn digits_value(digits: &[u8]) -> u64
+    requires few { length digits.now ≤ 19 }
+    requires digits { IsTrue (list_all is_ascii_digit digits.now) }
+    ensures { result ≡ digits_value digits.now }
+{
+    let mut value = 0;
+    for digit in digits {
+        value = 10 * value + u64::from(*digit - b'0');
+    }
+    value
+}
