@@ -3,9 +3,9 @@ use Rattle.std.proofs.Common.{◌≡◌, ◌≤◌, ℕ, List, length, Option, N
 use Rattle.std.specs.Io.KnownBytes.{Appends}
 use Rattle.command_io.specs.Input.{most_bytes}
 use Rattle.command_io.specs.Printing.{PrintsAs}
-use Rattle.command_io.specs.declared.status.Status.{Status}
+use Rattle.command_io.specs.declared.status.ExitStatus.{ExitStatus}
 
-pub input_prints : (input : Option (List ℕ)) (text whole : List ℕ) (Text Input : List ℕ → List ℕ → Status → Type 0) (status : Status)
+pub input_prints : (input : Option (List ℕ)) (text whole : List ℕ) (Text Input : List ℕ → List ℕ → ExitStatus → Type 0) (status : ExitStatus)
     (old from new : Option (List ℕ)) → text ≡ whole → IfSome input (λ all. whole ≡ all) → length whole ≤ most_bytes → from ≡ old
     → ((all printed : List ℕ) → length all ≤ most_bytes → Text all printed status → Input all printed status)
     → PrintsAs (Text text) status from new → IfSome input (λ all. PrintsAs (Input all) status old new)

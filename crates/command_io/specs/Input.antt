@@ -3,8 +3,8 @@ use Rattle.std.specs.Prelude.{◌≡◌, ℕ, List, [], Option, Vec, IfSome, ◌
 use Rattle.std.specs.Io.KnownBytes.{Appends}
 use Rattle.command_io.specs.declared.input.ReadFault.{ReadFault}
 use Rattle.command_io.specs.declared.input.ReadFault.TheVariants.{TooLong}
-use Rattle.command_io.specs.declared.status.Status.{Status}
-use Rattle.command_io.specs.declared.status.Status.TheVariants.{Fine, Refused, Failed}
+use Rattle.command_io.specs.declared.status.ExitStatus.{ExitStatus}
+use Rattle.command_io.specs.declared.status.ExitStatus.TheVariants.{Fine, Refused, Failed}
 use Rattle.sun_points.specs.Writing.{GotPart}
 
 -- the most bytes of an input
@@ -25,20 +25,20 @@ abbrev pub too_long : List ℕ
 too_long = codes "too long\n"
 
 -- that an input is too long was printed, or a part of it where a write failed
-abbrev pub TellsTooLong : Status → (old new : Option (List ℕ)) → Type 0
+abbrev pub TellsTooLong : ExitStatus → (old new : Option (List ℕ)) → Type 0
 TellsTooLong Fine old new = ⊥
 TellsTooLong Refused old new = Appends old new too_long
 TellsTooLong Failed old new = GotPart too_long old new
 
 -- How a command ends that has not read its input: it is too long, and that was told; or there is nothing to tell, since a
 -- read failed or memory was wanting.
-abbrev pub EndsUnread : (input : List ℕ) → Status → (old new : Option (List ℕ)) → Type 0
+abbrev pub EndsUnread : (input : List ℕ) → ExitStatus → (old new : Option (List ℕ)) → Type 0
 EndsUnread input status old new =
     ((most_bytes < length input) × TellsTooLong status old new)
     ⊎ ((status ≡ Failed) × Appends old new [])
 
 -- the same of what an input had left, where that is known
-abbrev pub LeavesUnread : (remaining : Option (List ℕ)) → (old new : Option (List ℕ)) → Status
+abbrev pub LeavesUnread : (remaining : Option (List ℕ)) → (old new : Option (List ℕ)) → ExitStatus
     → Type 0
 LeavesUnread remaining old new status =
     IfSome remaining (λ input. EndsUnread input status old new)

@@ -1,9 +1,9 @@
 -- The numbers of the exit statuses.
 use Rattle.std.specs.Prelude.{ℕ}
-use Rattle.command_io.specs.declared.status.Status.{Status}
-use Rattle.command_io.specs.declared.status.Status.TheVariants.{Fine, Refused, Failed}
+use Rattle.command_io.specs.declared.status.ExitStatus.{ExitStatus}
+use Rattle.command_io.specs.declared.status.ExitStatus.TheVariants.{Fine, Refused, Failed}
 
-abbrev pub status_number : Status → ℕ
+abbrev pub status_number : ExitStatus → ℕ
 status_number Fine = 0
 status_number Refused = 1
 status_number Failed = 3

@@ -4,7 +4,7 @@ ghost use Rattle.command_io.specs.Input.{AreWholeOf, BlamesLengthRightly, Leaves
 ghost use Rattle.command_io.specs.Input.{TellsTooLong, most_bytes};
 
 use crate::calls::Calls;
-use crate::status::Status;
+use crate::status::ExitStatus;
 use std::alloc::Global;
 use std::error::Error;
 use std::fmt;
@@ -86,27 +86,27 @@ pub fn read_input<R: Read, W: Write>(
     alloc: Global,
     input: &mut R,
     output: &mut W,
-) -> Result<Vec<u8>, Status>
+) -> Result<Vec<u8>, ExitStatus>
     ensures whole { IfOk result (AreWholeOf (R.remaining input.old)) }
     ensures fits { IfOk result (λ text. length text.items ≤ most_bytes) }
     ensures silent { IfOk result (λ text. output.new ≡ output.old) }
-    ensures ends { IfErr result (λ status. status ≢ Status.Fine) }
+    ensures ends { IfErr result (λ status. status ≢ ExitStatus.Fine) }
     ensures unread { IfErr result (LeavesUnread (R.remaining input.old)
         (W.contents output.old) (W.contents output.new)) }
 {
     match read_whole(alloc, input) {
         Ok(text) => Ok(text),
         Err(ReadFault::TooLong) => Err(tell_too_long(output)),
-        Err(ReadFault::Failed | ReadFault::Memory) => Err(Status::Failed),
+        Err(ReadFault::Failed | ReadFault::Memory) => Err(ExitStatus::Failed),
     }
 }
 
 // Prints that an input is too long.
-fn tell_too_long<W: Write>(output: &mut W) -> Status
+fn tell_too_long<W: Write>(output: &mut W) -> ExitStatus
     ensures { TellsTooLong result (W.contents output.old) (W.contents output.new) }
 {
     match output.take_text(b"too long\n") {
-        Ok(()) => Status::Refused,
-        Err(_) => Status::Failed,
+        Ok(()) => ExitStatus::Refused,
+        Err(_) => ExitStatus::Failed,
     }
 }

@@ -10,4 +10,4 @@ mod status;
 pub use buffer::Buffered;
 pub use input::{MOST_BYTES, ReadFault, read_input, read_whole};
 pub use lines::{InputLine, InputLines};
-pub use status::Status;
+pub use status::ExitStatus;

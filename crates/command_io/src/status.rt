@@ -4,7 +4,7 @@ ghost use Rattle.command_io.specs.Statuses.{status_number};
 
 /// How a command ended.
 #[derive(Clone, Copy, Debug, PartialEq, Eq)]
-pub enum Status {
+pub enum ExitStatus {
     /// All was carried out.
     Fine,
     /// The input is wrong, or was refused.
@@ -13,15 +13,15 @@ pub enum Status {
     Failed,
 }
 
-impl Status {
+impl ExitStatus {
     /// The exit status of the process.
     pub fn number(self) -> u8
         ensures { result ≡ status_number self }
     {
         match self {
-            Status::Fine => 0,
-            Status::Refused => 1,
-            Status::Failed => 3,
+            ExitStatus::Fine => 0,
+            ExitStatus::Refused => 1,
+            ExitStatus::Failed => 3,
         }
     }
 }

@@ -5,7 +5,7 @@ use interval_core::Share;
 use meter_journal::{
     EntryKind, EntryRow, entries_go_on, interval_rows, interval_rows_add_up,
     interval_rows_are_accounts, journals_are_kept, journals_balance, places_were_kept,
-    rows_lie_within, rows_stand, shares_move_energy, standing_entries_fit, tally_behind,
+    rows_lie_within, rows_stand, shares_move_energy, standing_entries_fit, tally_after,
     truth_is_kept, voids_change_two_rows, voids_go_no_further, voids_leave_no_trace,
 };
 use std::test::Fail;
@@ -51,7 +51,7 @@ const SHARES: [Share; 3] = [
 
 #[test]
 fn books_after_a_void(rt: HostRuntime) {
-    let tally = tally_behind(&HOUSE, &ROWS);
+    let tally = tally_after(&HOUSE, &ROWS);
     assert!(rt;
         tally.last
             == Last {

@@ -1,7 +1,7 @@
 //! Tests of rows in a list.
 use crate::samples::{HOUSE, of_kind, reading, struck};
 use energy_core::{Entry, Last};
-use meter_journal::{EntryKind, EntryRow, find_row, is_voidable, last_behind, row_behind, strike};
+use meter_journal::{EntryKind, EntryRow, find_row, is_voidable, last_behind, row_after, strike};
 
 /// The counter of 32 bits all but at its end.
 const TURNING: Last = Last {
@@ -17,10 +17,10 @@ fn places_count_on(rt: HostRuntime) {
         raw: 5200,
         rolls: 0,
     };
-    let first = row_behind(&[], EntryKind::Reading, entry);
+    let first = row_after(&[], EntryKind::Reading, entry);
     assert!(rt; first == reading(2, 1900, 5200, 0));
-    let behind_a_void = row_behind(&[struck(first)], EntryKind::Reading, entry);
-    assert!(rt; behind_a_void == reading(3, 1900, 5200, 0));
+    let after_a_void = row_after(&[struck(first)], EntryKind::Reading, entry);
+    assert!(rt; after_a_void == reading(3, 1900, 5200, 0));
 }
 
 #[test]
@@ -67,7 +67,7 @@ fn rows_by_place(rt: HostRuntime) {
 }
 
 #[test]
-fn the_counter_behind_rows(rt: HostRuntime) {
+fn the_counter_after_rows(rt: HostRuntime) {
     let first = reading(2, 1900, 5200, 0);
     let change = Entry::Change {
         at: 2000,
@@ -75,7 +75,7 @@ fn the_counter_behind_rows(rt: HostRuntime) {
         after: 520,
         sf: 1,
     };
-    let rows = [first, row_behind(&[first], EntryKind::Rescale, change)];
+    let rows = [first, row_after(&[first], EntryKind::Rescale, change)];
     let want = Last {
         at: 2000,
         raw: 520,

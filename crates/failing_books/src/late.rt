@@ -1,4 +1,4 @@
-//! Books that fail behind the last row.
+//! Books that fail after the last row.
 ghost use Rattle.std.specs.Prelude.{◌≡◌};
 
 use crate::books::FailingBooks;

@@ -1,29 +1,29 @@
 //! Commands over an office in a database that is closed and opened between, whatever makes the connections.
 use crate::day::{REPORTED, book_day};
 use crate::files::Connects;
-use command_io::Status;
+use command_io::ExitStatus;
 use office_store::{OpenFault, SqlBooks};
-use socket_link::ListedClock;
+use socket_link::FixedClock;
 use std::alloc::Global;
 use std::test::Fail;
 use stored_office::{create_stored, report_stored};
 
 /// How a report ends, and what it prints.
-type Report = (Result<Status, OpenFault>, Vec<u8>);
+type Report = (Result<ExitStatus, OpenFault>, Vec<u8>);
 
 /// A register, a moment, how the report of it ends, and what it prints.
-type Row = (&'static str, u64, Status, &'static [u8]);
+type Row = (&'static str, u64, ExitStatus, &'static [u8]);
 
-/// Reports of the day, where the clock was set back to before its last event, and behind it.
+/// Reports of the day, where the clock was set back to before its last event, and after it.
 static KNOWN: [Row; 2] = [
-    ("main", 3699, Status::Refused, b"refused 3\n"),
-    ("main", 5000, Status::Fine, REPORTED),
+    ("main", 3699, ExitStatus::Refused, b"refused 3\n"),
+    ("main", 5000, ExitStatus::Fine, REPORTED),
 ];
 
 /// A name that nothing has, and a meter's.
 static UNKNOWN: [Row; 2] = [
-    ("none", 5000, Status::Refused, b"refused 1\n"),
-    ("m1", 5000, Status::Refused, b"refused 1\n"),
+    ("none", 5000, ExitStatus::Refused, b"refused 1\n"),
+    ("m1", 5000, ExitStatus::Refused, b"refused 1\n"),
 ];
 
 /// A zone, why no office is made for it, and whether there is none then: a text that is no zone makes none, and a second isn't made.
@@ -71,7 +71,7 @@ fn report<C: Connects>(
 ) -> Result<Report, Fail> {
     let connection = connects.open(path)?;
     let moments = [moment];
-    let mut clock = ListedClock::new(&moments);
+    let mut clock = FixedClock::new(&moments);
     let mut printed = Vec::new(alloc);
     let end = report_stored(alloc, connection, register, &mut clock, &mut printed);
     Ok((end, printed))

@@ -17,7 +17,7 @@ const DAY: &str = "1000 device inv 1 5 1
 2800 exchange main 5300 0 m2 0 0 100000
 3700 manual main 45 0";
 
-/// What is reported of the register `main` behind that day: 300 Wh of the meter m1 and 45 Wh of m2, in four quarter hours.
+/// What is reported of the register `main` after that day: 300 Wh of the meter m1 and 45 Wh of m2, in four quarter hours.
 pub(crate) const REPORTED: &[u8] = b"1970-01-01   4                   345000\nend 1\n";
 
 fn start_of(given: &GivenStart) -> Result<Command, Fail> {

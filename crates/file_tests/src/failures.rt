@@ -5,7 +5,7 @@ use std::process::Abort;
 use std::test::Fail;
 use stored_office::{Failure, FileFault};
 
-// What stands behind the name of a file where its tables were not made, or where no office was opened in it.
+// What stands after the name of a file where its tables were not made, or where no office was opened in it.
 const UNMADE: [(OpenFault, &str); 4] = [
     (
         OpenFault::NotOurs,

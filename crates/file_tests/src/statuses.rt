@@ -1,5 +1,5 @@
 //! The exit status of each ending: 0 fine; 1 refused; 2 wrong words; 3 a failed file, stream or socket, or no memory.
-use command_io::Status;
+use command_io::ExitStatus;
 use std::test::Fail;
 use stored_office::{Ending, Failure, ending_of};
 
@@ -22,7 +22,7 @@ fn each_ending_has_its_status(rt: HostRuntime) -> Result<(), Fail> {
 
 #[test]
 fn commands_that_print(rt: HostRuntime) {
-    for (status, number) in [(Status::Fine, 0), (Status::Refused, 1), (Status::Failed, 3)] {
+    for (status, number) in [(ExitStatus::Fine, 0), (ExitStatus::Refused, 1), (ExitStatus::Failed, 3)] {
         assert_eq!(rt; ending_of(status).number(), number);
     }
 }

@@ -1,7 +1,7 @@
 //! The ends of tasks over an office: their exit statuses, and which failure is said.
-use command_io::Status;
+use command_io::ExitStatus;
 use office_events::Refusal;
-use office_program::{Polling, Serving};
+use office_program::{PollEnd, ServeEnd};
 use office_rounds::RoundFault;
 use office_running::RunFault;
 use std::alloc::Global;
@@ -9,51 +9,51 @@ use std::process::Abort;
 use std::test::Fail;
 use stored_office::{Done, Ending, Failure, ending_of_done};
 
-const REPORTS: [(Status, u8, &str); 3] = [
-    (Status::Fine, 0, ""),
-    (Status::Refused, 1, ""),
-    (Status::Failed, 3, "standard input"),
+const REPORTS: [(ExitStatus, u8, &str); 3] = [
+    (ExitStatus::Fine, 0, ""),
+    (ExitStatus::Refused, 1, ""),
+    (ExitStatus::Failed, 3, "standard input"),
 ];
 
-const SERVED: [(Serving, u8, &str); 5] = [
-    (Serving::Served, 0, ""),
-    (Serving::Unopened(Status::Refused), 1, ""),
-    (Serving::Unopened(Status::Failed), 3, "standard input"),
-    (Serving::NoPort, 3, "port 80 of h can't be listened on"),
-    (Serving::Broken, 3, "no more connections"),
+const SERVED: [(ServeEnd, u8, &str); 5] = [
+    (ServeEnd::Served, 0, ""),
+    (ServeEnd::Unopened(ExitStatus::Refused), 1, ""),
+    (ServeEnd::Unopened(ExitStatus::Failed), 3, "standard input"),
+    (ServeEnd::NoPort, 3, "port 80 of h can't be listened on"),
+    (ServeEnd::Broken, 3, "no more connections"),
 ];
 
-const POLLED: [(Polling, u8, &str); 8] = [
-    (Polling::Polled(Ok(())), 0, ""),
+const POLLED: [(PollEnd, u8, &str); 8] = [
+    (PollEnd::Polled(Ok(())), 0, ""),
     (
-        Polling::Polled(Err(RoundFault::Refused(Refusal::NotFound))),
+        PollEnd::Polled(Err(RoundFault::Refused(Refusal::NotFound))),
         1,
         "",
     ),
     (
-        Polling::Polled(Err(RoundFault::Link)),
+        PollEnd::Polled(Err(RoundFault::Link)),
         3,
         "the connection to port 80 of h failed",
     ),
     (
-        Polling::Polled(Err(RoundFault::Output)),
+        PollEnd::Polled(Err(RoundFault::Output)),
         3,
         "standard input",
     ),
     (
-        Polling::Polled(Err(RoundFault::TurnsUsed)),
+        PollEnd::Polled(Err(RoundFault::TurnsUsed)),
         3,
         "port 80 of h sent on and on",
     ),
-    (Polling::Unopened(Status::Refused), 1, ""),
-    (Polling::Unopened(Status::Failed), 3, "standard input"),
-    (Polling::Unconnected, 3, "port 80 of h isn't answered"),
+    (PollEnd::Unopened(ExitStatus::Refused), 1, ""),
+    (PollEnd::Unopened(ExitStatus::Failed), 3, "standard input"),
+    (PollEnd::Unconnected, 3, "port 80 of h isn't answered"),
 ];
 
 const RAN: [(Result<(), RunFault>, u8, &str); 8] = [
     (Ok(()), 0, ""),
-    (Err(RunFault::Unopened(Status::Refused)), 1, ""),
-    (Err(RunFault::Unopened(Status::Failed)), 3, "standard input"),
+    (Err(RunFault::Unopened(ExitStatus::Refused)), 1, ""),
+    (Err(RunFault::Unopened(ExitStatus::Failed)), 3, "standard input"),
     (Err(RunFault::Port), 3, "port 80 of h can't be listened on"),
     (Err(RunFault::Sockets), 3, "the system can't tell"),
     (Err(RunFault::Output), 3, "standard input"),

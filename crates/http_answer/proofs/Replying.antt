@@ -5,8 +5,8 @@ use Rattle.http_commands.specs.Given.{Gives}
 use Rattle.http_commands.specs.declared.fault.CommandFault.{CommandFault}
 use Rattle.http_commands.specs.declared.fault.CommandFault.TheVariants.{Malformed, Memory}
 use Rattle.http_request.specs.declared.head.head.Head.{Head}
-use Rattle.http_request.specs.declared.head.head.Look.{Look}
-use Rattle.http_request.specs.declared.head.head.Look.TheVariants as look
+use Rattle.http_request.specs.declared.head.head.HeadState.{HeadState}
+use Rattle.http_request.specs.declared.head.head.HeadState.TheVariants as head_state
 use Rattle.http_request.specs.Asking.{TestsHead}
 use Rattle.http_request.specs.HeadTests.{Start, head_fault, start_at}
 use Rattle.http_request.specs.declared.ask.Ask.TheVariants.{Command as AskedCommand, Question}
@@ -72,17 +72,17 @@ command_is office start body given route.Meter taken h = cc h
 command_is office start body given route.Intervals taken h = cc h
 command_is office start body given route.Poll taken h = cc h
 
-pub to_fault : (office : Office) (table : Table) (bytes : List ℕ) (seen : Look) (status : Status) → Holds table bytes seen → TestsRequest table bytes seen (Err status) → IsReply office table bytes (reply_bytes (fault status))
-to_fault office table bytes look.Open status holds tests = absurd holds
-to_fault office table bytes look.TooLarge status holds tests =
+pub to_fault : (office : Office) (table : Table) (bytes : List ℕ) (seen : HeadState) (status : Status) → Holds table bytes seen → TestsRequest table bytes seen (Err status) → IsReply office table bytes (reply_bytes (fault status))
+to_fault office table bytes head_state.Open status holds tests = absurd holds
+to_fault office table bytes head_state.TooLarge status holds tests =
     let same : status ≡ FieldsTooLarge = cc tests in
     let of_head : bad_head_status bytes ≡ FieldsTooLarge = cond-true _ _ _ holds.1 in
     inl record { bad = holds.0; is = ap (λ s. reply_bytes (fault s)) (same ∙ sym of_head) }
-to_fault office table bytes look.NoHead status holds tests =
+to_fault office table bytes head_state.NoHead status holds tests =
     let same : status ≡ BadRequest = cc tests in
     let of_head : bad_head_status bytes ≡ BadRequest = cond-false _ _ _ holds.1 in
     inl record { bad = holds.0; is = ap (λ s. reply_bytes (fault s)) (same ∙ sym of_head) }
-to_fault office table bytes (look.Whole at) status holds tests =
+to_fault office table bytes (head_state.Whole at) status holds tests =
     let start = start_at bytes at in
     let body = body_of table bytes at in
     let none : BodyGives table start body (Err Malformed) = λ r c. cc (tests, c.passes) in
@@ -95,12 +95,12 @@ to_fault office table bytes (look.Whole at) status holds tests =
       is = ap reply_bytes (fails office table start body (Err Malformed) status tests);
     }
 
-pub to_question : (office : Office) (table : Table) (bytes : List ℕ) (seen : Look) (found : Found) → Holds table bytes seen → TestsRequest table bytes seen (Ok (Question found))
+pub to_question : (office : Office) (table : Table) (bytes : List ℕ) (seen : HeadState) (found : Found) → Holds table bytes seen → TestsRequest table bytes seen (Ok (Question found))
     → IsReply office table bytes (reply_bytes (question_reply office found.route (name_of found)))
-to_question office table bytes look.Open found holds tests = absurd holds
-to_question office table bytes look.TooLarge found holds tests = cc tests
-to_question office table bytes look.NoHead found holds tests = cc tests
-to_question office table bytes (look.Whole at) found holds tests =
+to_question office table bytes head_state.Open found holds tests = absurd holds
+to_question office table bytes head_state.TooLarge found holds tests = cc tests
+to_question office table bytes head_state.NoHead found holds tests = cc tests
+to_question office table bytes (head_state.Whole at) found holds tests =
     let start = start_at bytes at in
     let body = body_of table bytes at in
     let none : BodyGives table start body (Err Malformed) = λ r c. cc (tests.1.0.route, c.leads, tests.1.1, c.changes) in

@@ -8,7 +8,7 @@ abbrev pub row_text : FaultyRow → List ℕ
 row_text faulty =
     codes "[" ++ decimal faulty.row ++ codes "," ++ decimal (fault_number faulty.fault) ++ codes "]"
 
--- rows behind others: a comma before each
+-- rows after others: a comma before each
 abbrev pub more_rows : List FaultyRow → List ℕ
 more_rows [] = []
 more_rows (faulty ∷ rows) = codes "," ++ row_text faulty ++ more_rows rows

@@ -7,7 +7,7 @@ ghost use Rattle.http_answer.specs.Faults.{faults_text, more_rows};
 use crate::sending::Text;
 use point_list::FaultyRow;
 
-// Puts a row behind what introduces it.
+// Puts a row after what introduces it.
 fn push_row(text: &mut Text, key: &[u8], faulty: FaultyRow)
     requires room { length text.old + length key.now + 60 ≤ 8192 }
     requires low { faulty.row ≤ 514 }
@@ -20,7 +20,7 @@ fn push_row(text: &mut Text, key: &[u8], faulty: FaultyRow)
     text.push(b"]");
 }
 
-// Puts rows behind others.
+// Puts rows after others.
 fn push_rows(text: &mut Text, rows: &[FaultyRow])
     requires room { length text.old + 12 * length rows.now ≤ 8000 }
     requires low { All (λ faulty. faulty.row ≤ 514) rows.now }

@@ -13,14 +13,14 @@ ghost use Rattle.http_answer.specs.Requests.{name_asked};
 ghost use Rattle.http_answer.specs.Whole.{IsReply, reply_to_command};
 
 use http_commands::CommandFault;
-use http_request::{Found, Head, Look, Posted, Route, Status};
+use http_request::{Found, Head, HeadState, Posted, Route, Status};
 use matchit::Router;
 use office_events::Command;
 
 /// A law: the status of the first test that fails answers, and 400 or 431 a bad head.
-pub fn faults_are_replied_to(router: &Router<Route>, bytes: &[u8], look: &Look, status: Status)
-    requires holds { Holds router.now bytes.now look.now }
-    requires fails { TestsRequest router.now bytes.now look.now (Err status) }
+pub fn faults_are_replied_to(router: &Router<Route>, bytes: &[u8], head_state: &HeadState, status: Status)
+    requires holds { Holds router.now bytes.now head_state.now }
+    requires fails { TestsRequest router.now bytes.now head_state.now (Err status) }
     ensures { (office : Office) → IsReply office router.now bytes.now (reply_bytes (fault status)) }
 {}
 
@@ -28,11 +28,11 @@ pub fn faults_are_replied_to(router: &Router<Route>, bytes: &[u8], look: &Look, 
 pub fn questions_are_replied_to(
     router: &Router<Route>,
     bytes: &[u8],
-    look: &Look,
+    head_state: &HeadState,
     found: &Found<'_>,
 )
-    requires holds { Holds router.now bytes.now look.now }
-    requires asks { TestsRequest router.now bytes.now look.now (Ok (Question found.now)) }
+    requires holds { Holds router.now bytes.now head_state.now }
+    requires asks { TestsRequest router.now bytes.now head_state.now (Ok (Question found.now)) }
     ensures { (office : Office) → IsReply office router.now bytes.now
         (reply_bytes (question_reply office found.now.route (name_of found.now))) }
 {}

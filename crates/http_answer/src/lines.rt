@@ -3,30 +3,30 @@ ghost use Rattle.interval_core.specs.Report.{day_line};
 ghost use Rattle.interval_core.specs.Lines.{end_line, share_line};
 ghost use Rattle.http_answer.specs.Sending.Sending.{Puts};
 
-use crate::sending::Outlet;
+use crate::sending::ReplyWriter;
 use interval_core::{DayTotal, Share};
 use mb_wire::Link;
 use script_text::{day_line, end_line, interval_line};
 
 /// Puts the line of an interval row: the start of the interval, in seconds since 1970-01-01 UTC, and its energy in
 /// mWh.
-pub fn put_share<L: Link>(row: &Share, outlet: &mut Outlet<'_, L>)
-    ensures { Puts outlet.old outlet.new (share_line row.now) }
+pub fn put_share<L: Link>(row: &Share, writer: &mut ReplyWriter<'_, L>)
+    ensures { Puts writer.old writer.new (share_line row.now) }
 {
-    outlet.put(interval_line(*row).bytes());
+    writer.put(interval_line(*row).bytes());
 }
 
 /// Puts the line of a day: the day as `YYYY-MM-DD`, the count of its intervals right in 3 places, and its energy in
 /// mWh right in 24 places, with a space between.
-pub fn put_day<L: Link>(total: &DayTotal, outlet: &mut Outlet<'_, L>)
-    ensures { Puts outlet.old outlet.new (day_line total.now) }
+pub fn put_day<L: Link>(total: &DayTotal, writer: &mut ReplyWriter<'_, L>)
+    ensures { Puts writer.old writer.new (day_line total.now) }
 {
-    outlet.put(day_line(total).bytes());
+    writer.put(day_line(total).bytes());
 }
 
 /// Puts the line that ends a report: how many rows it has.
-pub fn put_end<L: Link>(count: u64, outlet: &mut Outlet<'_, L>)
-    ensures { Puts outlet.old outlet.new (end_line count) }
+pub fn put_end<L: Link>(count: u64, writer: &mut ReplyWriter<'_, L>)
+    ensures { Puts writer.old writer.new (end_line count) }
 {
-    outlet.put(end_line(count).bytes());
+    writer.put(end_line(count).bytes());
 }

@@ -11,75 +11,75 @@ use crate::kinds::done_body;
 use crate::rows::{meter_body, poll_body};
 use crate::statuses::status_of;
 use http_commands::CommandFault;
-use crate::sending::{Outlet, fault_body, put_json, refused_body};
+use crate::sending::{ReplyWriter, fault_body, put_json, refused_body};
 use http_request::Status;
 use mb_wire::Link;
 use office_events::{CommandKind, Installation, PollRow, Refusal};
 
 /// Puts the reply for a fault that the office isn't asked of.
-pub fn put_fault<L: Link>(status: Status, outlet: &mut Outlet<'_, L>)
-    ensures { Puts outlet.old outlet.new (reply_bytes (fault status)) }
+pub fn put_fault<L: Link>(status: Status, writer: &mut ReplyWriter<'_, L>)
+    ensures { Puts writer.old writer.new (reply_bytes (fault status)) }
 {
     let body = fault_body(status);
-    put_json(status, body.bytes(), outlet);
+    put_json(status, body.bytes(), writer);
 }
 
 /// Puts the reply for a refusal.
-pub fn put_refusal<L: Link>(refusal: Refusal, outlet: &mut Outlet<'_, L>)
-    ensures { Puts outlet.old outlet.new (reply_bytes (refused refusal)) }
+pub fn put_refusal<L: Link>(refusal: Refusal, writer: &mut ReplyWriter<'_, L>)
+    ensures { Puts writer.old writer.new (reply_bytes (refused refusal)) }
 {
     let body = refused_body(refusal.number());
-    put_json(status_of(refusal), body.bytes(), outlet);
+    put_json(status_of(refusal), body.bytes(), writer);
 }
 
 /// Puts the reply to a command for which the office was asked: the kind of the one that was carried out.
-pub fn put_done<L: Link>(answer: Result<CommandKind, Refusal>, outlet: &mut Outlet<'_, L>)
-    ensures { Puts outlet.old outlet.new (reply_bytes (row_reply done_text answer)) }
+pub fn put_done<L: Link>(answer: Result<CommandKind, Refusal>, writer: &mut ReplyWriter<'_, L>)
+    ensures { Puts writer.old writer.new (reply_bytes (row_reply done_text answer)) }
 {
     match answer {
-        Ok(kind) => put_json(Status::Fine, done_body(kind), outlet),
-        Err(refusal) => put_refusal(refusal, outlet),
+        Ok(kind) => put_json(Status::Fine, done_body(kind), writer),
+        Err(refusal) => put_refusal(refusal, writer),
     }
 }
 
 /// Puts the reply to a command whose body asks for nothing that the office could do.
-pub fn put_command_fault<L: Link>(fault: &CommandFault, outlet: &mut Outlet<'_, L>)
+pub fn put_command_fault<L: Link>(fault: &CommandFault, writer: &mut ReplyWriter<'_, L>)
     requires { HasFewRows (Err fault.now) }
-    ensures { Puts outlet.old outlet.new (reply_bytes (fault_said fault.now)) }
+    ensures { Puts writer.old writer.new (reply_bytes (fault_said fault.now)) }
 {
     match fault {
-        CommandFault::Malformed => put_fault(Status::BadRequest, outlet),
-        CommandFault::Negative => put_refusal(Refusal::Limit, outlet),
+        CommandFault::Malformed => put_fault(Status::BadRequest, writer),
+        CommandFault::Negative => put_refusal(Refusal::Limit, writer),
         CommandFault::Faulty(rows) => {
             let body = faults_body(rows.rows());
-            put_json(Status::Unprocessable, body.bytes(), outlet);
+            put_json(Status::Unprocessable, body.bytes(), writer);
         }
-        CommandFault::Memory => put_refusal(Refusal::Memory, outlet),
+        CommandFault::Memory => put_refusal(Refusal::Memory, writer),
     }
 }
 
 /// Puts the reply to the question for a meter.
-pub fn put_meter<L: Link>(answer: &Result<Installation, Refusal>, outlet: &mut Outlet<'_, L>)
-    ensures { Puts outlet.old outlet.new (reply_bytes (row_reply meter_text answer.now)) }
+pub fn put_meter<L: Link>(answer: &Result<Installation, Refusal>, writer: &mut ReplyWriter<'_, L>)
+    ensures { Puts writer.old writer.new (reply_bytes (row_reply meter_text answer.now)) }
 {
     match answer {
         Ok(row) => {
             let body = meter_body(row);
-            put_json(Status::Fine, body.bytes(), outlet);
+            put_json(Status::Fine, body.bytes(), writer);
         }
-        Err(refusal) => put_refusal(*refusal, outlet),
+        Err(refusal) => put_refusal(*refusal, writer),
     }
 }
 
 /// Puts the reply to the question for a poll.
-pub fn put_poll<L: Link>(answer: &Result<PollRow, Refusal>, outlet: &mut Outlet<'_, L>)
-    ensures { Puts outlet.old outlet.new (reply_bytes (row_reply poll_text answer.now)) }
+pub fn put_poll<L: Link>(answer: &Result<PollRow, Refusal>, writer: &mut ReplyWriter<'_, L>)
+    ensures { Puts writer.old writer.new (reply_bytes (row_reply poll_text answer.now)) }
 {
     match answer {
         Ok(row) => {
             let body = poll_body(row);
-            put_json(Status::Fine, body.bytes(), outlet);
+            put_json(Status::Fine, body.bytes(), writer);
         }
-        Err(refusal) => put_refusal(*refusal, outlet),
+        Err(refusal) => put_refusal(*refusal, writer),
     }
 }

@@ -2,9 +2,9 @@
 
 mod bodies;
 mod outbox;
-mod outlet;
+mod writer;
 mod reply;
 
 pub use bodies::{Text, fault_body, refused_body};
-pub use outlet::Outlet;
+pub use writer::ReplyWriter;
 pub use reply::{put_json, put_text_head};

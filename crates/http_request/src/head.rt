@@ -4,6 +4,6 @@ mod head;
 mod headers;
 mod lines;
 
-pub use head::{Head, Look, MOST_BYTES, MOST_HEADERS, look_at};
+pub use head::{Head, HeadState, MOST_BYTES, MOST_HEADERS, parse_head};
 pub use headers::{Given, header_value};
 pub use lines::has_head_end;

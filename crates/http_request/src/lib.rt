@@ -13,7 +13,7 @@ mod whole;
 pub use ask::{Ask, ask_of};
 pub use numbers::{digits, is_name, number};
 pub use post::{MOST_BODY, Posted, post_headers};
-pub use head::{Given, Head, Look, MOST_BYTES, MOST_HEADERS, has_head_end, header_value, look_at};
+pub use head::{Given, Head, HeadState, MOST_BYTES, MOST_HEADERS, has_head_end, header_value, parse_head};
 pub use reading::{Inbox, TakeFault, read_head};
 pub use routing::{Found, Route, router};
 pub use status::Status;

@@ -37,7 +37,7 @@ impl Status {
         }
     }
 
-    /// The words behind the number.
+    /// The words after the number.
     pub fn reason(self) -> &'static [u8]
         ensures { result.now ≡ reason_of_status self }
     {

@@ -8,9 +8,9 @@ ghost use Rattle.http_request.specs.Head.Heads.{IsHeadAt, IsPlaced};
 ghost use Rattle.http_request.specs.HeadTests.{start_at};
 ghost use Rattle.http_request.specs.Reading.HeadAndBody.{StopsAtOnce};
 ghost use Rattle.http_request.specs.Reading.Taking.{CountsTakes, EndedBy, bytes_in, is_read_fault, room_of};
-ghost use Rattle.http_request.specs.Whole.Whole.{GoesOn, Holds, HoldsRequest, IsWhole, ReadsRequest, RequestsAreOne, TestsRequest, body_of, body_size};
+ghost use Rattle.http_request.specs.Whole.Whole.{IsUnfinished, Holds, HoldsRequest, IsWhole, ReadsRequest, RequestsAreOne, TestsRequest, body_of, body_size};
 
-use crate::head::{Head, Look, MOST_BYTES};
+use crate::head::{Head, HeadState, MOST_BYTES};
 use crate::reading::{Inbox, TakeFault, read_body, read_head};
 use crate::{Ask, MOST_BODY, ask_of};
 use crate::routing::Route;
@@ -39,35 +39,35 @@ pub fn read_request<L: Link>(
     router: &Router<Route>,
     inbox: &mut Inbox<'_>,
     link: &mut L,
-) -> Result<Look, TakeFault>
+) -> Result<HeadState, TakeFault>
     requires { 73728 ≤ room_of inbox.old }
     ensures reads { ReadsRequest router.now result (bytes_in inbox.old) (bytes_in inbox.new)
         (L.remaining link.old) (L.remaining link.new) }
     ensures takes { CountsTakes result inbox.old inbox.new (L.taken link.old) (L.taken link.new) }
     ensures last { EndedBy result (L.last link.new) }
-    ensures stops { OnOk result (StopsAtOnce (GoesOn router.now)
+    ensures stops { OnOk result (StopsAtOnce (IsUnfinished router.now)
         inbox.old inbox.new (L.last link.old) (L.last link.new)) }
     ensures given { Keeps (L.given link.old) (L.given link.new) }
     ensures failures { L.failed link.new ≡ risen (is_read_fault result) (L.failed link.old) }
 {
-    let look = read_head(inbox, link)?;
-    if let Look::Whole(head) = &look {
+    let head_state = read_head(inbox, link)?;
+    if let HeadState::Whole(head) = &head_state {
         let size = body_size(router, inbox.bytes(), head);
         read_body(inbox, link, head.len + size)?;
     }
-    Ok(look)
+    Ok(head_state)
 }
 
 /// What a whole request asks for, or the status that answers it.
-pub fn ask_in<'b>(router: &Router<Route>, bytes: &'b [u8], look: &Look) -> Result<Ask<'b>, Status>
-    requires { Holds router.now bytes.now look.now }
-    ensures { TestsRequest router.now bytes.now look.now result }
+pub fn ask_in<'b>(router: &Router<Route>, bytes: &'b [u8], head_state: &HeadState) -> Result<Ask<'b>, Status>
+    requires { Holds router.now bytes.now head_state.now }
+    ensures { TestsRequest router.now bytes.now head_state.now result }
 {
-    match look {
-        Look::TooLarge => Err(Status::FieldsTooLarge),
-        Look::NoHead => Err(Status::BadRequest),
-        Look::Whole(head) => ask_of(router, bytes, head),
-        Look::Open => unreachable!(),
+    match head_state {
+        HeadState::TooLarge => Err(Status::FieldsTooLarge),
+        HeadState::NoHead => Err(Status::BadRequest),
+        HeadState::Whole(head) => ask_of(router, bytes, head),
+        HeadState::Open => unreachable!(),
     }
 }
 
@@ -90,7 +90,7 @@ pub fn one_head(bytes: &[u8], one: &Head, other: &Head)
 
 /// A law: bytes that go on, or lack a part of the body, hold no whole request.
 pub fn no_request(router: &Router<Route>, bytes: &[u8], head: &Head)
-    requires { GoesOn router.now bytes.now }
+    requires { IsUnfinished router.now bytes.now }
     ensures { IsWhole router.now bytes.now head.now → ⊥ }
 {}
 

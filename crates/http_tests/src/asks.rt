@@ -1,14 +1,14 @@
 //! What peers are replied.
 use crate::office::opened;
-use run_status::{Asked, Counts, Own, ask, own_route, reply_own};
+use run_status::{PeerReply, Counts, StatusRoute, ask, status_route, reply_status};
 use std::test::Fail;
 
 #[test]
 fn two_routes_are_no_questions_to_the_office(rt: HostRuntime) {
-    let status = Some(Own::Status);
-    assert_eq!(rt; own_route(b"GET /status HTTP/1.1\r\n\r\n"), status);
+    let status = Some(StatusRoute::Status);
+    assert_eq!(rt; status_route(b"GET /status HTTP/1.1\r\n\r\n"), status);
     let metrics = b"GET /metrics HTTP/1.0\r\nHost: a\r\n\r\n";
-    assert_eq!(rt; own_route(metrics), Some(Own::Metrics));
+    assert_eq!(rt; status_route(metrics), Some(StatusRoute::Metrics));
     let others: [&[u8]; 7] = [
         b"GET /status HTTP/1.1\r\n",
         b"GET /status HTTP/1.1\r\nHost: a\r\n",
@@ -19,7 +19,7 @@ fn two_routes_are_no_questions_to_the_office(rt: HostRuntime) {
         b"",
     ];
     for other in others {
-        assert_eq!(rt; own_route(other), None);
+        assert_eq!(rt; status_route(other), None);
     }
 }
 
@@ -29,7 +29,7 @@ static HEAD: &[u8] =
 #[test]
 fn the_status_has_a_head(rt: HostRuntime) -> Result<(), Fail> {
     let mut text = Vec::new(rt.alloc());
-    reply_own(rt.alloc(), &mut text, Own::Status, &Counts::new(), &[])?;
+    reply_status(rt.alloc(), &mut text, StatusRoute::Status, &Counts::new(), &[])?;
     assert_eq!(rt; text.len(), 91 + 256);
     assert!(rt; text.starts_with(HEAD));
     Ok(())
@@ -44,10 +44,10 @@ fn a_request_is_asked_once_it_is_whole(rt: HostRuntime) -> Result<(), Fail> {
     for count in [0, 1, 20, 30] {
         let begun = REQUEST.get(..count).unwrap_or(REQUEST);
         let asked = ask(rt.alloc(), begun, &mut office, 1000);
-        assert!(rt; matches!(asked, Asked::Open));
+        assert!(rt; matches!(asked, PeerReply::Open));
     }
     match ask(rt.alloc(), REQUEST, &mut office, 1000) {
-        Asked::Replied(reply) => assert!(rt; reply.starts_with(b"HTTP/1.1 404 ")),
+        PeerReply::Replied(reply) => assert!(rt; reply.starts_with(b"HTTP/1.1 404 ")),
         _ => return Err(Fail::from("no reply")),
     }
     Ok(())

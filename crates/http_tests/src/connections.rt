@@ -4,7 +4,7 @@ use office_core::Office;
 use office_events::Name;
 use office_http::serve_on;
 use memory_books::ListBooks;
-use socket_link::ListedClock;
+use socket_link::FixedClock;
 use std::alloc::Global;
 use std::io::{Read, Write};
 use std::net::{Shutdown, TcpListener, TcpStream};
@@ -115,7 +115,7 @@ fn are_served(rt: &HostRuntime, clients: &[Client; 3], moments: &[u64]) -> Resul
     let mut office = metered(rt.alloc())?;
     let listener = TcpListener::bind(rt, "127.0.0.1:0")?;
     let mut streams = streams_of(rt, &listener, clients)?;
-    let mut clock = ListedClock::new(moments);
+    let mut clock = FixedClock::new(moments);
     let served = serve_on(rt.alloc(), &listener, 3, &mut office, &mut clock);
     if served.is_err() || energy_of_ended(&mut office) != Some(300_000) {
         return Ok(false);

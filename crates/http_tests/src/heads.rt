@@ -1,5 +1,5 @@
 //! Heads: where one ends, its limits, and its headers by name.
-use http_request::{Given, Look, has_head_end, header_value, look_at};
+use http_request::{Given, HeadState, has_head_end, header_value, parse_head};
 use std::alloc::{AllocError, Global};
 use std::test::Fail;
 
@@ -51,17 +51,17 @@ static WHOLE: [&[u8]; 4] = [
 #[test]
 fn a_look_reads_on_until_the_head_has_ended(rt: HostRuntime) {
     for bytes in &OPEN {
-        assert!(rt; matches!(look_at(bytes), Look::Open));
+        assert!(rt; matches!(parse_head(bytes), HeadState::Open));
     }
     for bytes in &BAD {
-        assert!(rt; matches!(look_at(bytes), Look::NoHead));
+        assert!(rt; matches!(parse_head(bytes), HeadState::NoHead));
     }
     for bytes in &WHOLE {
-        assert!(rt; matches!(look_at(bytes), Look::Whole(_)));
+        assert!(rt; matches!(parse_head(bytes), HeadState::Whole(_)));
     }
 }
 
-/// A head of so many headers, with a value of so many bytes behind the last.
+/// A head of so many headers, with a value of so many bytes after the last.
 pub(crate) fn head_of(
     alloc: Global,
     header: &[u8],
@@ -74,17 +74,17 @@ pub(crate) fn head_of(
 }
 
 // A look at so many bytes at the front.
-fn look_at_first(bytes: &[u8], count: usize) -> Look {
-    look_at(bytes.get(..count).unwrap_or(bytes))
+fn look_at_first(bytes: &[u8], count: usize) -> HeadState {
+    parse_head(bytes.get(..count).unwrap_or(bytes))
 }
 
 #[test]
 fn a_head_has_at_most_64_headers(rt: HostRuntime) -> Result<(), Fail> {
     let most = head_of(rt.alloc(), b"\r\nA: b", 64, 0)?;
-    assert!(rt; matches!(look_at(&most), Look::Whole(_)));
+    assert!(rt; matches!(parse_head(&most), HeadState::Whole(_)));
     let over = head_of(rt.alloc(), b"\r\nA: b", 65, 0)?;
-    assert!(rt; matches!(look_at(&over), Look::TooLarge));
-    assert!(rt; matches!(look_at_first(&over, 407), Look::Open));
+    assert!(rt; matches!(parse_head(&over), HeadState::TooLarge));
+    assert!(rt; matches!(look_at_first(&over, 407), HeadState::Open));
     Ok(())
 }
 
@@ -93,8 +93,8 @@ fn a_head_has_at_most_64_headers(rt: HostRuntime) -> Result<(), Fail> {
 fn a_head_has_at_most_8192_bytes(rt: HostRuntime) -> Result<(), Fail> {
     let most = head_of(rt.alloc(), b"\r\nA:", 1, 8170)?;
     assert_eq!(rt; most.len(), 8192);
-    assert!(rt; matches!(look_at(&most), Look::Whole(_)));
-    assert!(rt; matches!(look_at_first(&most, 8191), Look::Open));
+    assert!(rt; matches!(parse_head(&most), HeadState::Whole(_)));
+    assert!(rt; matches!(look_at_first(&most, 8191), HeadState::Open));
     Ok(())
 }
 
@@ -102,9 +102,9 @@ fn a_head_has_at_most_8192_bytes(rt: HostRuntime) -> Result<(), Fail> {
 fn a_head_of_8193_bytes_is_past_the_limit(rt: HostRuntime) -> Result<(), Fail> {
     let over = head_of(rt.alloc(), b"\r\nA:", 1, 8171)?;
     assert_eq!(rt; over.len(), 8193);
-    assert!(rt; matches!(look_at(&over), Look::TooLarge));
-    assert!(rt; matches!(look_at_first(&over, 8192), Look::TooLarge));
-    assert!(rt; matches!(look_at_first(&over, 8191), Look::Open));
+    assert!(rt; matches!(parse_head(&over), HeadState::TooLarge));
+    assert!(rt; matches!(look_at_first(&over, 8192), HeadState::TooLarge));
+    assert!(rt; matches!(look_at_first(&over, 8191), HeadState::Open));
     Ok(())
 }
 
@@ -112,8 +112,8 @@ static HEADERS: &[u8] = b"GET / HTTP/1.1\r\nHost: a\r\nHOST: b\r\nContent-length
 
 // How often a header is given in it, and its value where that is once.
 fn given(name: &[u8]) -> Given<'static> {
-    match look_at(HEADERS) {
-        Look::Whole(head) => header_value(HEADERS, &head.headers[..head.count], name),
+    match parse_head(HEADERS) {
+        HeadState::Whole(head) => header_value(HEADERS, &head.headers[..head.count], name),
         _ => Given::Never,
     }
 }

@@ -1,4 +1,4 @@
-//! Tests of HTTP, of an office behind it, and of the program's commands over one: requests and their heads, bodies and replies; an
+//! Tests of HTTP, of an office after it, and of the program's commands over one: requests and their heads, bodies and replies; an
 //! office over books in memory, also where links and books fail at each call; listeners with clients in the same process; and commands
 //! that serve, report and poll.
 #![tactic(auto)]

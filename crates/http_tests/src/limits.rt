@@ -47,7 +47,7 @@ static BODIES: [(usize, &str, &str); 2] = [
 
 static DEVICE: &[u8] = b"{\"name\":\"b\",\"unit\":2,\"timeout\":5,\"window\":16}";
 
-// A request for a device, with spaces behind it.
+// A request for a device, with spaces after it.
 fn device(alloc: Global, size: usize) -> Result<Vec<u8>, AllocError> {
     let head = format!(in alloc;
         "POST /devices HTTP/1.1\r\nContent-Length: {size}\r\nOffice-Caller: desk\r\nOffice-Request: {size}\r\n\r\n"

@@ -1,5 +1,5 @@
 //! The lines of reports.
-use http_answer::{Outlet, put_day, put_end, put_share};
+use http_answer::{ReplyWriter, put_day, put_end, put_share};
 use interval_core::{DayTotal, Share};
 use jiff::civil::date;
 use mb_wire::MemoryLink;
@@ -21,12 +21,12 @@ static INTERVALS: &[u8] = b"900 177777\n1800 0\nend 2\n";
 fn intervals_are_told(rt: HostRuntime) {
     let mut output = [0; 100];
     let mut link = MemoryLink::new(b"", &mut output, 100, None);
-    let mut outlet = Outlet::new(&mut link);
+    let mut writer = ReplyWriter::new(&mut link);
     for row in &ROWS {
-        put_share(row, &mut outlet);
+        put_share(row, &mut writer);
     }
-    put_end(2, &mut outlet);
-    assert!(rt; outlet.finish().is_ok());
+    put_end(2, &mut writer);
+    assert!(rt; writer.finish().is_ok());
     assert_eq!(rt; link.given(), INTERVALS);
 }
 
@@ -37,7 +37,7 @@ static DAYS: &[u8] =
 fn days_are_told(rt: HostRuntime) {
     let mut output = [0; 200];
     let mut link = MemoryLink::new(b"", &mut output, 200, None);
-    let mut outlet = Outlet::new(&mut link);
+    let mut writer = ReplyWriter::new(&mut link);
     let days = [
         (date(2024, 3, 31), 92, 920_000),
         (
@@ -47,9 +47,9 @@ fn days_are_told(rt: HostRuntime) {
         ),
     ];
     for (day, count, mwh) in days {
-        put_day(&DayTotal { day, count, mwh }, &mut outlet);
+        put_day(&DayTotal { day, count, mwh }, &mut writer);
     }
-    put_end(10, &mut outlet);
-    assert!(rt; outlet.finish().is_ok());
+    put_end(10, &mut writer);
+    assert!(rt; writer.finish().is_ok());
     assert_eq!(rt; link.given(), DAYS);
 }

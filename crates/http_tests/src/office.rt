@@ -65,7 +65,7 @@ pub(crate) fn poll(alloc: Global) -> Result<[Event; 3], Fail> {
     ])
 }
 
-// The office behind these events, each at its moment.
+// The office after these events, each at its moment.
 fn behind(
     mut office: Office<ListBooks>,
     moments: &[u64],

@@ -1,12 +1,12 @@
 //! Offices that are opened by a command, or not.
 use crate::narrow::Narrow;
 use crate::office::{blank, waiting};
-use command_io::Status;
+use command_io::ExitStatus;
 use failing_books::FailingBooks;
 use office_events::EndedPoll;
 use office_program::open_office;
 use poll_core::{LostCause, Outcome};
-use socket_link::ListedClock;
+use socket_link::FixedClock;
 use std::alloc::Global;
 use std::io::Write;
 use std::test::Fail;
@@ -15,7 +15,7 @@ use std::test::Fail;
 fn what_waited_is_lost(rt: HostRuntime) -> Result<(), Fail> {
     let books = waiting(rt.alloc())?;
     let mut printed = Vec::new(rt.alloc());
-    let mut clock = ListedClock::new(&[2100]);
+    let mut clock = FixedClock::new(&[2100]);
     let Ok(mut office) = open_office(rt.alloc(), books, &mut clock, &mut printed) else {
         return Err(Fail::from("not opened"));
     };
@@ -33,8 +33,8 @@ fn what_waited_is_lost(rt: HostRuntime) -> Result<(), Fail> {
 }
 
 // How the opening ends of an office whose clock was set back, and which prints to this writer.
-fn set_back<W: Write>(alloc: Global, output: &mut W) -> Result<Status, Fail> {
-    let mut clock = ListedClock::new(&[1999]);
+fn set_back<W: Write>(alloc: Global, output: &mut W) -> Result<ExitStatus, Fail> {
+    let mut clock = FixedClock::new(&[1999]);
     match open_office(alloc, waiting(alloc)?, &mut clock, output) {
         Ok(_) => Err(Fail::from("opened")),
         Err(unopened) => Ok(unopened.status),
@@ -44,10 +44,10 @@ fn set_back<W: Write>(alloc: Global, output: &mut W) -> Result<Status, Fail> {
 #[test]
 fn a_clock_that_was_set_back_is_refused(rt: HostRuntime) -> Result<(), Fail> {
     let mut printed = Vec::new(rt.alloc());
-    assert_eq!(rt; set_back(rt.alloc(), &mut printed)?, Status::Refused);
+    assert_eq!(rt; set_back(rt.alloc(), &mut printed)?, ExitStatus::Refused);
     assert_eq!(rt; printed.as_slice(), b"refused 3\n".as_slice());
     let mut narrow = Narrow { room: 4 };
-    assert_eq!(rt; set_back(rt.alloc(), &mut narrow)?, Status::Failed);
+    assert_eq!(rt; set_back(rt.alloc(), &mut narrow)?, ExitStatus::Failed);
     Ok(())
 }
 
@@ -55,7 +55,7 @@ fn a_clock_that_was_set_back_is_refused(rt: HostRuntime) -> Result<(), Fail> {
 fn a_store_that_fails_is_told(rt: HostRuntime) -> Result<(), Fail> {
     let books = FailingBooks::new(blank(rt.alloc())?, 1);
     let mut printed = Vec::new(rt.alloc());
-    let mut clock = ListedClock::new(&[0]);
+    let mut clock = FixedClock::new(&[0]);
     let Err(unopened) = open_office(rt.alloc(), books, &mut clock, &mut printed) else {
         return Err(Fail::from("opened"));
     };

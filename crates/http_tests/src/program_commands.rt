@@ -1,11 +1,11 @@
 //! Commands of the program over books in memory, also where the clock was set back.
 use crate::office::metered;
-use command_io::Status;
+use command_io::ExitStatus;
 use office_events::Refusal;
 use memory_books::ListBooks;
-use office_program::{Polling, Serving, poll_books, report_books, serve_books};
+use office_program::{PollEnd, ServeEnd, poll_books, report_books, serve_books};
 use office_rounds::RoundFault;
-use socket_link::ListedClock;
+use socket_link::FixedClock;
 use std::alloc::Global;
 use std::net::TcpListener;
 use std::test::Fail;
@@ -30,21 +30,21 @@ fn a_report_is_refused(rt: HostRuntime) -> Result<(), Fail> {
     for (moment, text) in &REPORTS {
         let books = books(rt.alloc())?;
         let moments = [*moment];
-        let mut clock = ListedClock::new(&moments);
+        let mut clock = FixedClock::new(&moments);
         let mut printed = Vec::new(rt.alloc());
         let done = report_books(rt.alloc(), books, "none", &mut clock, &mut printed);
-        assert_eq!(rt; done.end, Status::Refused);
+        assert_eq!(rt; done.end, ExitStatus::Refused);
         assert_eq!(rt; printed.as_slice(), *text);
     }
     Ok(())
 }
 
 /// How serving at a port ends, where the clock tells a moment, and what it prints.
-fn serve(rt: &HostRuntime, moment: u64, port: u16) -> Result<(Serving, Vec<u8>), Fail> {
+fn serve(rt: &HostRuntime, moment: u64, port: u16) -> Result<(ServeEnd, Vec<u8>), Fail> {
     let books = books(rt.alloc())?;
     let place = ("127.0.0.1", port);
     let moments = [moment];
-    let mut clock = ListedClock::new(&moments);
+    let mut clock = FixedClock::new(&moments);
     let mut printed = Vec::new(rt.alloc());
     let done = serve_books(rt, rt.alloc(), books, place, 0, &mut clock, &mut printed);
     Ok((done.end, printed))
@@ -54,15 +54,15 @@ fn serve(rt: &HostRuntime, moment: u64, port: u16) -> Result<(Serving, Vec<u8>),
 #[test]
 fn serving_ends_by_its_first_fault(rt: HostRuntime) -> Result<(), Fail> {
     let (_taken, port) = taken(&rt)?;
-    let cases: [(u64, u16, Serving, &[u8]); 3] = [
+    let cases: [(u64, u16, ServeEnd, &[u8]); 3] = [
         (
             999,
             port,
-            Serving::Unopened(Status::Refused),
+            ServeEnd::Unopened(ExitStatus::Refused),
             b"refused 3\n",
         ),
-        (1000, port, Serving::NoPort, b""),
-        (1000, 0, Serving::Served, b""),
+        (1000, port, ServeEnd::NoPort, b""),
+        (1000, 0, ServeEnd::Served, b""),
     ];
     for (moment, port, end, text) in cases {
         let (ended, printed) = serve(&rt, moment, port)?;
@@ -73,11 +73,11 @@ fn serving_ends_by_its_first_fault(rt: HostRuntime) -> Result<(), Fail> {
 }
 
 /// How a round at a port ends, where the clock tells a moment, and what it prints.
-fn poll(rt: &HostRuntime, moment: u64, port: u16) -> Result<(Polling, Vec<u8>), Fail> {
+fn poll(rt: &HostRuntime, moment: u64, port: u16) -> Result<(PollEnd, Vec<u8>), Fail> {
     let books = books(rt.alloc())?;
     let place = ("127.0.0.1", port);
     let moments = [moment];
-    let mut clock = ListedClock::new(&moments);
+    let mut clock = FixedClock::new(&moments);
     let mut printed = Vec::new(rt.alloc());
     let done = poll_books(
         rt,
@@ -95,10 +95,10 @@ fn poll(rt: &HostRuntime, moment: u64, port: u16) -> Result<(Polling, Vec<u8>), 
 #[test]
 fn a_round_ends_by_its_first_fault(rt: HostRuntime) -> Result<(), Fail> {
     let (_device, port) = taken(&rt)?;
-    let no_list = Polling::Polled(Err(RoundFault::Refused(Refusal::NotFound)));
-    let cases: [(u64, u16, Polling, &[u8]); 3] = [
-        (999, 1, Polling::Unopened(Status::Refused), b"refused 3\n"),
-        (1000, 1, Polling::Unconnected, b""),
+    let no_list = PollEnd::Polled(Err(RoundFault::Refused(Refusal::NotFound)));
+    let cases: [(u64, u16, PollEnd, &[u8]); 3] = [
+        (999, 1, PollEnd::Unopened(ExitStatus::Refused), b"refused 3\n"),
+        (1000, 1, PollEnd::Unconnected, b""),
         (1000, port, no_list, b"ok\nok\nrefused 1\n"),
     ];
     for (moment, port, end, text) in cases {

@@ -1,5 +1,5 @@
 //! Replies that go to a link.
-use http_answer::{Outlet, put_json, put_text_head};
+use http_answer::{ReplyWriter, put_json, put_text_head};
 use http_request::Status;
 use mb_wire::{Link, MemoryLink};
 use std::test::Fail;
@@ -34,9 +34,9 @@ fn a_reply_begins_with_its_status_line(rt: HostRuntime) {
     for (status, line) in &STATUSES {
         let mut output = [0; 200];
         let mut link = MemoryLink::new(b"", &mut output, 200, None);
-        let mut outlet = Outlet::new(&mut link);
-        put_json(*status, b"{}", &mut outlet);
-        assert!(rt; outlet.finish().is_ok());
+        let mut writer = ReplyWriter::new(&mut link);
+        put_json(*status, b"{}", &mut writer);
+        assert!(rt; writer.finish().is_ok());
         assert!(rt; link.given().starts_with(line));
     }
 }
@@ -51,11 +51,11 @@ static TEXT: &[u8] =
 fn replies_have_their_headers(rt: HostRuntime) {
     let mut output = [0; 400];
     let mut link = MemoryLink::new(b"", &mut output, 400, None);
-    let mut outlet = Outlet::new(&mut link);
-    put_json(Status::NotFound, b"{\"refused\":1}", &mut outlet);
-    put_text_head(&mut outlet);
-    outlet.put(b"end 0\n");
-    assert!(rt; outlet.finish().is_ok());
+    let mut writer = ReplyWriter::new(&mut link);
+    put_json(Status::NotFound, b"{\"refused\":1}", &mut writer);
+    put_text_head(&mut writer);
+    writer.put(b"end 0\n");
+    assert!(rt; writer.finish().is_ok());
     let len = JSON.len();
     assert_eq!(rt; link.given().get(..len), Some(JSON));
     assert_eq!(rt; link.given().get(len..), Some(TEXT));
@@ -66,9 +66,9 @@ fn each_give_may_fail(rt: HostRuntime) {
     for call in 1..12u64 {
         let mut output = [0; 200];
         let mut link = MemoryLink::new(b"", &mut output, 10, Some(call));
-        let mut outlet = Outlet::new(&mut link);
-        put_json(Status::NotFound, b"{\"refused\":1}", &mut outlet);
-        assert!(rt; outlet.finish().is_err());
+        let mut writer = ReplyWriter::new(&mut link);
+        put_json(Status::NotFound, b"{\"refused\":1}", &mut writer);
+        assert!(rt; writer.finish().is_err());
         assert_eq!(rt; link.failures(), 1);
         assert!(rt; JSON.starts_with(link.given()));
     }
@@ -80,11 +80,11 @@ static BLOCK: [u8; 300] = [b'x'; 300];
 fn nothing_is_given_after_a_failed_give(rt: HostRuntime) {
     let mut output = [0; 2000];
     let mut link = MemoryLink::new(b"", &mut output, 100, Some(2));
-    let mut outlet = Outlet::new(&mut link);
+    let mut writer = ReplyWriter::new(&mut link);
     for _ in 0..4 {
-        outlet.put(&BLOCK);
+        writer.put(&BLOCK);
     }
-    assert!(rt; outlet.finish().is_err());
+    assert!(rt; writer.finish().is_err());
     assert_eq!(rt; link.given().len(), 100);
     assert_eq!(rt; link.failures(), 1);
 }

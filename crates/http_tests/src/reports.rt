@@ -1,7 +1,7 @@
 //! Reports.
 use crate::narrow::Narrow;
 use crate::office::{polled, unmetered};
-use command_io::Status;
+use command_io::ExitStatus;
 use office_core::Office;
 use office_events::Name;
 use memory_books::ListBooks;
@@ -16,7 +16,7 @@ fn reports(
     alloc: Global,
     office: &mut Office<ListBooks>,
     register: &[u8],
-    status: Status,
+    status: ExitStatus,
     text: &[u8],
 ) {
     let mut printed = Vec::new(alloc);
@@ -30,14 +30,14 @@ static DAY: &[u8] = b"1970-01-01   2                   200000\nend 1\n";
 #[test]
 fn a_register_has_its_days(rt: HostRuntime) -> Result<(), Fail> {
     let mut office = polled(rt.alloc())?;
-    reports(&rt, rt.alloc(), &mut office, b"main", Status::Fine, DAY);
+    reports(&rt, rt.alloc(), &mut office, b"main", ExitStatus::Fine, DAY);
     let mut office = unmetered(rt.alloc())?;
     reports(
         &rt,
         rt.alloc(),
         &mut office,
         b"main",
-        Status::Fine,
+        ExitStatus::Fine,
         b"end 0\n",
     );
     Ok(())
@@ -54,7 +54,7 @@ fn a_register_that_is_none_is_refused(rt: HostRuntime) -> Result<(), Fail> {
             alloc,
             &mut office,
             register,
-            Status::Refused,
+            ExitStatus::Refused,
             b"refused 1\n",
         );
     }

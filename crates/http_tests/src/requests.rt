@@ -1,5 +1,5 @@
 //! The tests of a head, and what its body asks for.
-use http_request::{Ask, Look, Route, Status, ask_of, look_at, router};
+use http_request::{Ask, HeadState, Route, Status, ask_of, parse_head, router};
 use matchit::Router;
 use std::alloc::Global;
 use std::process::Abort;
@@ -7,14 +7,14 @@ use std::test::Fail;
 
 // The status that answers what was read, 200 where all tests pass.
 fn status_of(router: &Router<Route>, bytes: &[u8]) -> u16 {
-    match look_at(bytes) {
-        Look::Whole(head) => match ask_of(router, bytes, &head) {
+    match parse_head(bytes) {
+        HeadState::Whole(head) => match ask_of(router, bytes, &head) {
             Ok(_) => Status::Fine.number(),
             Err(status) => status.number(),
         },
-        Look::TooLarge => 431,
-        Look::NoHead => 400,
-        Look::Open => 0,
+        HeadState::TooLarge => 431,
+        HeadState::NoHead => 400,
+        HeadState::Open => 0,
     }
 }
 
@@ -173,7 +173,7 @@ fn a_caller_is_a_name(rt: HostRuntime) -> Result<(), Fail> {
 
 // The route that a request line leads to, and its name.
 fn route_at<'b>(router: &Router<Route>, head: &'b [u8]) -> Option<(Route, Option<&'b str>)> {
-    let Look::Whole(at) = look_at(head) else {
+    let HeadState::Whole(at) = parse_head(head) else {
         return None;
     };
     match ask_of(router, head, &at) {

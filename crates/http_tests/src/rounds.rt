@@ -5,7 +5,7 @@ use mb_wire::MemoryLink;
 use office_events::{Name, Refusal};
 use office_program::{poll_round, round_status};
 use office_rounds::RoundFault;
-use socket_link::ListedClock;
+use socket_link::FixedClock;
 use std::alloc::Global;
 use std::io::Write;
 use std::test::Fail;
@@ -19,7 +19,7 @@ fn round<W: Write>(
     let mut office = unmetered(alloc)?;
     let device = Name::new(device);
     let mut link = MemoryLink::new(&[], &mut [], 260, None);
-    let mut clock = ListedClock::new(&[1000]);
+    let mut clock = FixedClock::new(&[1000]);
     Ok(poll_round(alloc, &mut link, &mut office, device, &mut clock, output))
 }
 
@@ -27,7 +27,7 @@ fn round<W: Write>(
 static ROUNDS: [(&[u8], &[u8]); 2] = [(b"none", b"refused 1\n"), (b"inv", b"ok\nok\nrefused 1\n")];
 
 #[test]
-fn a_refusal_is_printed_behind_the_round(rt: HostRuntime) -> Result<(), Fail> {
+fn a_refusal_is_printed_after_the_round(rt: HostRuntime) -> Result<(), Fail> {
     for (device, text) in &ROUNDS {
         let mut printed = Vec::new(rt.alloc());
         let done = round(rt.alloc(), device, &mut printed)?;

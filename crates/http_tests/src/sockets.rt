@@ -1,7 +1,7 @@
 //! Links over sockets, links that have only so much time, and clocks.
 use crate::connections::client_of;
 use mb_wire::{Link, LinkFailed, MemoryLink, Took};
-use socket_link::{Clock, HurriedLink, ListedClock, SocketLink, SystemClock};
+use socket_link::{Clock, DeadlineLink, FixedClock, SocketLink, SystemClock};
 use std::io::{self, Read};
 use std::net::{TcpListener, TcpStream};
 use std::test::Fail;
@@ -33,9 +33,9 @@ fn a_socket_gives_takes_idles_and_ends(rt: HostRuntime) -> Result<(), Fail> {
 #[test]
 fn a_link_fails_once_its_time_is_over(rt: HostRuntime) {
     let mut given = [0; 8];
-    let mut clock = ListedClock::new(&[10, 10, 11]);
+    let mut clock = FixedClock::new(&[10, 10, 11]);
     let mut inner = MemoryLink::new(b"hello", &mut given, 3, None);
-    let mut link = HurriedLink::new(&mut inner, &mut clock, 10);
+    let mut link = DeadlineLink::new(&mut inner, &mut clock, 10);
     let mut piece = [0; 16];
     assert_eq!(rt; link.take(&mut piece), Ok(Took::Bytes(3)));
     assert_eq!(rt; link.give(b"you"), Ok(3));
@@ -47,9 +47,9 @@ fn a_link_fails_once_its_time_is_over(rt: HostRuntime) {
 
 #[test]
 fn a_list_of_moments_ends_with_its_last(rt: HostRuntime) {
-    let mut clock = ListedClock::new(&[5, 3]);
+    let mut clock = FixedClock::new(&[5, 3]);
     assert_eq!(rt; [clock.now(), clock.now(), clock.now()], [5, 3, 3]);
-    assert_eq!(rt; ListedClock::new(&[]).now(), 0);
+    assert_eq!(rt; FixedClock::new(&[]).now(), 0);
 }
 
 // Past the first second of 2020.

@@ -11,7 +11,7 @@ use std::test::Fail;
 
 static INTERVALS: &[u8] = b"GET /meters/m1/intervals HTTP/1.1\r\n\r\n";
 
-// What is given of the intervals, where the books fail behind their last row.
+// What is given of the intervals, where the books fail after their last row.
 fn cut(alloc: Global, failing: u64) -> Result<Option<Vec<u8>>, Fail> {
     let books = FailingBooks::after_rows(polled(alloc)?.into_books(), failing);
     let Ok(mut office) = Office::open(alloc, books, 1900) else {

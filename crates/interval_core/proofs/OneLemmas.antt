@@ -101,7 +101,7 @@ before-all day a accounts order lt =
 none-contained : (day : ℤ) → Contains (days_of []) day → ⊥
 none-contained day contains = omega (arith, contains.1)
 
--- the days behind the first are those of the rest
+-- the days after the first are those of the rest
 behind : (a b : DayAccount) (xs ys : List DayAccount) → a.day ≡ b.day → AreInOrder (a ∷ xs) → (d : ℤ)
     → (Contains (days_of (a ∷ xs)) d → Contains (days_of (b ∷ ys)) d) → Contains (days_of xs) d → Contains (days_of ys) d
 behind a b xs ys same order d into contains =

@@ -51,7 +51,7 @@ in_order-changed (x ∷ before) a b after same order =
       in_order-changed before a b after same order.1,
     )
 
--- a new account, behind those of earlier days and before those of later ones
+-- a new account, after those of earlier days and before those of later ones
 pub in_order-inserted : (before : List DayAccount) (a : DayAccount) (after : List DayAccount) → All (Earlier a.day) before → All (Later a.day) after
     → AreInOrder (before ++ after) → AreInOrder (before ++ a ∷ after)
 in_order-inserted [] a after earlier later order = (later, order)

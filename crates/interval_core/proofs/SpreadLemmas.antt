@@ -52,7 +52,7 @@ touched-starts step start forward =
           ),
     )
 
--- before and behind the step nothing is gained
+-- before and after the step nothing is gained
 outside-zero : (step : Step) (start : ℕ) → step.from < step.till → (start + 900 ≤ step.from) ⊎ (step.till ≤ start) → share_at step start ≡ 0
 outside-zero step start forward (inl before) =
     let up = running_mono step (min (start + 900) step.till) (max start step.from) forward (omega (arith, before)) in

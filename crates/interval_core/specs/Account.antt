@@ -21,7 +21,7 @@ abbrev pub IsAscending : List ℕ → Type 0
 IsAscending [] = Unit {0}
 IsAscending (n ∷ ns) = All (λ later. n < later) ns × IsAscending ns
 
--- One share for each interval that the step touches, in order; together they are its energy. Before and behind the
+-- One share for each interval that the step touches, in order; together they are its energy. Before and after the
 -- step a share is 0.
 pub record IsSpread (step : Step) (shares : List Share) : Type 0 where
   pub in_order : IsAscending (starts_of shares)

@@ -27,7 +27,7 @@ pub record HasTaken (zone : Zone) (rows : List Share) (fold : FoldState) : Type 
   pub accounts : AreAccounts zone rows fold.accounts
   pub latest : IsLatest rows fold.latest
 
--- Whatever rows the fold was given, it has this one behind them where the push was Ok.
+-- Whatever rows the fold was given, it has this one after them where the push was Ok.
 abbrev pub TakesRow : Zone → Share → (old : FoldState) → Result (Unit {0}) DayFault
     → (new : FoldState) → Type 0
 TakesRow zone row old answer new = (rows : List Share) → HasTaken zone rows old

@@ -6,7 +6,7 @@ use Rattle.interval_core.specs.Share.{running_energy, share_of}
 use Rattle.interval_core.specs.declared.shares.Share.{Share}
 use Rattle.interval_core.specs.declared.shares.Shares.TheInside.{Inside}
 
--- The next interval is one that the step touches or the one behind the last, and the running energy is known
+-- The next interval is one that the step touches or the one after the last, and the running energy is known
 -- where it begins.
 pub record IsUnderway (s : Inside) : Type 0 where
   pub begun : s.spread.step.from / INTERVAL_SECONDS ≤ s.interval

@@ -6,7 +6,7 @@ use std::test::Fail;
 use sun_chain::{Common, Model, NamedPoint, PointScale};
 use sun_points::{Point, Scale};
 
-// The registers of model 103 behind its ID and length.
+// The registers of model 103 after its ID and length.
 const ABSENT_INVERTER: [u16; 50] = [
     0xFFFF, 0xFFFF, 0xFFFF, 0xFFFF, 0x8000, 0xFFFF, 0xFFFF, 0xFFFF, 0xFFFF, 0xFFFF, 0xFFFF, 0x8000,
     0x8000, 0x8000, 0xFFFF, 0x8000, 0x8000, 0x8000, 0x8000, 0x8000, 0x8000, 0x8000, 0, 0, 0x8000,

@@ -126,7 +126,7 @@ fn a_scale_point_scales(rt: HostRuntime) -> Result<(), Fail> {
     Ok(())
 }
 
-// A mark at 50000, 64 models of no register, and these words behind them.
+// A mark at 50000, 64 models of no register, and these words after them.
 fn sixty_four_models(alloc: Global, behind: &[u16]) -> Result<Image, Fail> {
     let mut image = Image::new(alloc);
     put(&mut image, 50000, &[0x5375, 0x6E53])?;

@@ -45,7 +45,7 @@ fn device(alloc: Global, length: u16) -> Result<Image, Fail> {
     Ok(image)
 }
 
-// What a device says of itself: its texts, each behind how many registers it has, and its address.
+// What a device says of itself: its texts, each after how many registers it has, and its address.
 fn print_common(common: &Common<'_>, output: &mut Vec<u8>) -> io::Result<()> {
     let texts = [
         common.manufacturer,

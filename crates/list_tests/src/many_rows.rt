@@ -5,7 +5,7 @@ use std::alloc::Global;
 use std::io::Write;
 use std::test::Fail;
 
-// What comes behind 512 rows, and what is told of it. No row is read behind the 513th, whose lesser faults show.
+// What comes after 512 rows, and what is told of it. No row is read after the 513th, whose lesser faults show.
 static BEHIND_512_ROWS: [(&str, &str); 3] = [
     ("q,3,0,0,int16,\n", "row 514 fault 12\n"),
     ("q,3,0,0,int16,\n1x\n", "row 514 fault 12\n"),

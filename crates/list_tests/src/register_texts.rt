@@ -4,7 +4,7 @@ use std::alloc::Global;
 use std::test::Fail;
 use sun_points::Text;
 
-// The registers of a text behind which zeros follow, and how it is shown.
+// The registers of a text after which zeros follow, and how it is shown.
 static TEXTS: [([u16; 4], &str); 5] = [
     ([0x4142, 0x0043, 0x4400, 0], "AB"),
     ([0x410A, 0, 0x4200, 0], "A\\x0A"),

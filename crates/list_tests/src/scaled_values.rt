@@ -7,7 +7,7 @@ use sun_points::{Scale, write_scaled};
 
 static VALUES: [i64; 6] = [0, 5, -5, 2301, i64::MIN, i64::MAX];
 
-// The values at each scale, each behind a space.
+// The values at each scale, each after a space.
 static SCALED: [(i16, &str); 21] = [
     (
         -10,

@@ -65,7 +65,7 @@ two_later_answers : sent_to (begun ((2, play.Later) ∷ (1, play.Later) ∷ []))
 unfolding maps answer_to_frame sent_next course_next trick_at frames frames_in
 two_later_answers = refl
 
--- behind a cut nothing is carried out
+-- after a cut nothing is carried out
 a_cut_answer : sent_to (on_first (play.Cut 4)) maps (own_frames (read ++ write)) ≡ 0 ∷ 7 ∷ 0 ∷ 0 ∷ []
 unfolding maps answer_to_frame sent_next course_next trick_at frames frames_in
 a_cut_answer = refl
@@ -79,7 +79,7 @@ the_first_trick : sent_to (begun ((1, play.Unit) ∷ (1, play.Drop) ∷ [])) map
 unfolding maps answer_to_frame sent_next course_next trick_at frames frames_in
 the_first_trick = refl
 
--- the greatest transaction identifier and the greatest unit have 0 behind them
+-- the greatest transaction identifier and the greatest unit have 0 after them
 the_last_id : sent_to (on_first play.Id) maps (own_frames (255 ∷ 255 ∷ 0 ∷ 0 ∷ 0 ∷ 6 ∷ 1 ∷ 3 ∷ 0 ∷ 0 ∷ 0 ∷ 1 ∷ [])) ≡ 0 ∷ 0 ∷ 0 ∷ 0 ∷ 0 ∷ 5 ∷ 1 ∷ 3 ∷ 2 ∷ 0 ∷ 9 ∷ []
 unfolding maps answer_to_frame sent_next course_next trick_at frames frames_in
 the_last_id = refl

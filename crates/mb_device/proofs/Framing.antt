@@ -6,7 +6,7 @@ use Rattle.std.proofs.lemmas.List.Concat.{flat_map-append}
 use Rattle.std.proofs.lemmas.List.Elements.{filter-append}
 use Rattle.std.proofs.lemmas.Bool.{cond-true, cond-false, eq-eqb, ne_eqb}
 use Rattle.mb_wire.specs.Frames.{span_of, IsFrame, IsOpen, IsBad, frames, rest}
-use Rattle.mb_wire.specs.Reader.{Buffered, Tells, buffered_after}
+use Rattle.mb_wire.specs.Reader.{Buffered, TellsFraming, buffered_after}
 use Rattle.mb_wire.specs.declared.frames.Framing.{Framing}
 use Rattle.mb_wire.specs.declared.frames.Framing.TheVariants.{Need, Whole, Foreign, Garbled}
 use Rattle.mb_wire.proofs.Readings.{AllByRecursion-append, Reads-is, Reads-only, span_of-append}
@@ -16,7 +16,7 @@ use Rattle.mb_device.specs.Server.{buffered_frames, is_own, own_frames}
 abbrev concat : List (List ℕ) → List ℕ
 concat frames = flat_map (λ frame. frame) frames
 
--- what comes behind bytes is read behind their rest
+-- what comes after bytes is read after their rest
 pub frames-then : (a b : List ℕ) → (frames (a ++ b) ≡ frames a ++ frames (rest a ++ b)) × (rest (a ++ b) ≡ rest (rest a ++ b))
 frames-then a b =
     let first = Reads-is a in
@@ -62,7 +62,7 @@ bad_alone b left bad =
     (ap (filter is_own) alone.0, subst IsBad (sym alone.1) still)
 
 -- the frame that a feed ended is the one that the reader next holds, if it is of this protocol
-told_frames : (what : Framing) (b : List ℕ) → Tells what b → (own_frames b ≡ buffered_frames (buffered_after what b).frame) × (rest b ≡ (buffered_after what b).rest)
+told_frames : (what : Framing) (b : List ℕ) → TellsFraming what b → (own_frames b ≡ buffered_frames (buffered_after what b).frame) × (rest b ≡ (buffered_after what b).rest)
 told_frames Need b tells = open_alone b tells
 told_frames Whole b tells =
     let alone = frame_alone b tells.0 in
@@ -73,7 +73,7 @@ told_frames Foreign b tells =
 told_frames Garbled b tells = let alone = rest_alone b (inr tells.0) in (ap (filter is_own) alone.0, alone.1)
 
 -- a feed of a piece leaves the frames of what it did not take
-pub piece_frames : (what : Framing) (r piece : List ℕ) (taken : ℕ) (buffered : Buffered) → Tells what (r ++ take taken piece) → buffered ≡ buffered_after what (r ++ take taken piece)
+pub piece_frames : (what : Framing) (r piece : List ℕ) (taken : ℕ) (buffered : Buffered) → TellsFraming what (r ++ take taken piece) → buffered ≡ buffered_after what (r ++ take taken piece)
     → (own_frames (r ++ piece) ≡ buffered_frames buffered.frame ++ own_frames (buffered.rest ++ from taken piece)) × (rest (r ++ piece) ≡ rest (buffered.rest ++ from taken piece))
 piece_frames what r piece taken buffered tells is =
     let b = r ++ take taken piece in
@@ -87,12 +87,12 @@ piece_frames what r piece taken buffered tells is =
     )
 
 -- the last feed of a piece
-pub need_piece : (what : Framing) (r piece : List ℕ) (taken : ℕ) (buffered : Buffered) → Tells what (r ++ take taken piece) → buffered ≡ buffered_after what (r ++ take taken piece) → what ≡ Need → taken ≡ length piece
+pub need_piece : (what : Framing) (r piece : List ℕ) (taken : ℕ) (buffered : Buffered) → TellsFraming what (r ++ take taken piece) → buffered ≡ buffered_after what (r ++ take taken piece) → what ≡ Need → taken ≡ length piece
     → (own_frames (r ++ piece) ≡ buffered_frames buffered.frame) × IsOpen (rest (r ++ piece)) × (buffered.rest ≡ rest (r ++ piece))
 need_piece what r piece taken buffered tells is need all =
     let b = r ++ take taken piece in
     let whole : b ≡ r ++ piece = ap (λ y. r ++ y) (take_all taken piece (omega arith)) in
-    let told : Tells Need b = subst (λ w. Tells w b) need tells in
+    let told : TellsFraming Need b = subst (λ w. TellsFraming w b) need tells in
     let is_need : buffered ≡ buffered_after Need b = is ∙ ap (λ w. buffered_after w b) need in
     let alone = open_alone b told in
     let nothing : buffered_frames buffered.frame ≡ [] = ap (λ (h : Buffered). buffered_frames h.frame) is_need in
@@ -103,12 +103,12 @@ need_piece what r piece taken buffered tells is need all =
     )
 
 -- a feed that ends at a bad length
-pub garbled_piece : (what : Framing) (r piece : List ℕ) (taken : ℕ) (buffered : Buffered) → Tells what (r ++ take taken piece) → buffered ≡ buffered_after what (r ++ take taken piece) → what ≡ Garbled
+pub garbled_piece : (what : Framing) (r piece : List ℕ) (taken : ℕ) (buffered : Buffered) → TellsFraming what (r ++ take taken piece) → buffered ≡ buffered_after what (r ++ take taken piece) → what ≡ Garbled
     → (own_frames (r ++ piece) ≡ buffered_frames buffered.frame) × IsBad (rest (r ++ piece))
 garbled_piece what r piece taken buffered tells is garbled =
     let b = r ++ take taken piece in
     let whole : b ++ from taken piece ≡ r ++ piece = append_assoc r (take taken piece) (from taken piece) ∙ ap (λ y. r ++ y) (whole_again taken piece) in
-    let told : Tells Garbled b = subst (λ w. Tells w b) garbled tells in
+    let told : TellsFraming Garbled b = subst (λ w. TellsFraming w b) garbled tells in
     let is_garbled : buffered ≡ buffered_after Garbled b = is ∙ ap (λ w. buffered_after w b) garbled in
     let alone = bad_alone b (from taken piece) told.0 in
     let nothing : buffered_frames buffered.frame ≡ [] = ap (λ (h : Buffered). buffered_frames h.frame) is_garbled in (
@@ -116,11 +116,11 @@ garbled_piece what r piece taken buffered tells is garbled =
       subst (λ y. IsBad (rest y)) whole alone.1,
     )
 
--- open bytes and nothing behind them
+-- open bytes and nothing after them
 pub nothing_taken : (buffered : List ℕ) → IsOpen buffered → (own_frames (buffered ++ []) ≡ []) × (rest (buffered ++ []) ≡ buffered)
 nothing_taken buffered is_open = let alone = open_alone buffered is_open in (ap own_frames (append-nil buffered) ∙ alone.0, ap rest (append-nil buffered) ∙ alone.1)
 
--- bytes behind those that were taken
+-- bytes after those that were taken
 pub taken_more : (buffered taken more : List ℕ) → (own_frames (buffered ++ (taken ++ more)) ≡ own_frames (buffered ++ taken) ++ own_frames (rest (buffered ++ taken) ++ more)) × (rest (buffered ++ (taken ++ more)) ≡ rest (rest (buffered ++ taken) ++ more))
 taken_more buffered taken more =
     let joined : buffered ++ (taken ++ more) ≡ (buffered ++ taken) ++ more = sym (append_assoc buffered taken more) in

@@ -29,7 +29,7 @@ pub Gives-then : {X E : Type 0} (result : Result X E) (a b c : Option (List ℕ)
 Gives-then result a b c bytes n first next =
     subst (Gives result a c) (whole_again n bytes) (Gives-both result a b c (take n bytes) (from n bytes) first next)
 
--- bytes of which a part was given, and others behind them
+-- bytes of which a part was given, and others after them
 pub GivesPart-before : (a b : Option (List ℕ)) (first next : List ℕ) → GivesPart a b first → GivesPart a b (first ++ next)
 GivesPart-before a b first next gives =
     record {

@@ -33,7 +33,7 @@ pub course_after-append : (course : Course) (xs ys : List Fields) → course_aft
 course_after-append course [] ys = refl
 course_after-append course (x ∷ xs) ys = course_after-append (course_next course x) xs ys
 
--- behind a cut nothing is sent, and the connection stays cut
+-- after a cut nothing is sent, and the connection stays cut
 pub sent-cut : (xs : List Fields) → sent CutOff xs ≡ []
 unfolding sent_next course_next
 sent-cut [] = refl

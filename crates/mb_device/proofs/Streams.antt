@@ -62,7 +62,7 @@ uncut (Playing tricks number later) maps (x ∷ xs) going =
 uncut CutOff maps (x ∷ xs) going =
     absurd (both_ways _ (ap is_cut (course_after-cut (answers maps (x ∷ xs)))) going)
 
--- frames were dealt with on a connection, and so it stands behind them, and so does the device
+-- frames were dealt with on a connection, and so it stands after them, and so does the device
 pub record Dealt (course : Course) (maps : Maps) (xs : List (List ℕ)) (mid : Course) (after : Maps) : Type 0 where
   pub stands : mid ≡ course_behind course maps xs
   pub going : is_cut mid ≡ false
@@ -158,7 +158,7 @@ Answered-then (Err fault.Write) course mid xs ys a b c first dealt next = all_th
 Answered-then (Err fault.Garbled) course mid xs ys a b c first dealt next = all_then_all course mid xs ys a b c first dealt next
 Answered-then (Err fault.TurnsUsed) course mid xs ys a b c first dealt next = all_then_all course mid xs ys a b c first dealt next
 
--- frames behind the one whose answer was broken off
+-- frames after the one whose answer was broken off
 pub BrokenOff-before : (course : Course) (xs ys : List (List ℕ)) (a b : Around) → BrokenOff course xs a b → BrokenOff course (xs ++ ys) a b
 BrokenOff-before course xs ys a b h =
     record {

@@ -13,7 +13,7 @@ pub record Exchange : Type 0 where
   pub taken : List ℕ
   pub given : List ℕ
 
--- one exchange, and another behind it
+-- one exchange, and another after it
 abbrev pub joined : Exchange → Exchange → Exchange
 joined first next = record { taken = first.taken ++ next.taken; given = first.given ++ next.given }
 
@@ -25,7 +25,7 @@ in_all exchanges =
       given = flat_map (λ exchange. exchange.given) exchanges;
     }
 
--- Given is what the server sends for the frames of this protocol that end in what was taken behind the
+-- Given is what the server sends for the frames of this protocol that end in what was taken after the
 -- bytes buffered; and so the device and the server stand.
 pub record Exchanges (buffered : List ℕ) (course : Course) (exchange : Exchange) (old new : Maps)
     (standing : Standing) : Type 0 where

@@ -46,7 +46,7 @@ maps_after_all maps (frame ∷ frames) = maps_after_all (maps_after maps (pdu_of
 abbrev pub sent_to : Course → Maps → List (List ℕ) → List ℕ
 sent_to course maps frames = sent course (answers maps frames)
 
--- the connection behind frames
+-- the connection after frames
 abbrev pub course_behind : Course → Maps → List (List ℕ) → Course
 course_behind course maps frames = course_after course (answers maps frames)
 
@@ -105,7 +105,7 @@ standing_after (Ok x) bytes course = standing_on (rest bytes) course
 standing_after (Err fault) bytes course = Faulted
 
 -- The bytes that came in all on a connection, those buffered before them included; the connection before
--- them, and behind the frames that end in them.
+-- them, and after the frames that end in them.
 pub record Stretch : Type 0 where
   pub bytes : List ℕ
   pub before : Course

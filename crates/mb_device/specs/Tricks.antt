@@ -76,7 +76,7 @@ cuts (Some play.Unit) = false
 cuts (Some play.Garble) = false
 cuts (Some (play.Cut count)) = true
 
--- the frame that is buffered behind a frame with this trick
+-- the frame that is buffered after a frame with this trick
 abbrev pub later_of : Option Trick → List ℕ → List ℕ
 later_of None frame = []
 later_of (Some play.Drop) frame = []
@@ -87,7 +87,7 @@ later_of (Some play.Unit) frame = []
 later_of (Some play.Garble) frame = []
 later_of (Some (play.Cut count)) frame = []
 
--- a connection behind a frame with this trick
+-- a connection after a frame with this trick
 abbrev pub behind : Option Trick → List ℕ → Course → Course
 behind trick frame (Playing tricks number later) =
     if cuts trick then CutOff else Playing tricks (risen true number) (later_of trick frame)
@@ -110,7 +110,7 @@ abbrev pub sent : Course → List Fields → List ℕ
 sent course [] = []
 sent course (answer ∷ answers) = sent_next course answer ++ sent (course_next course answer) answers
 
--- a connection behind answers
+-- a connection after answers
 abbrev pub course_after : Course → List Fields → Course
 course_after course [] = course
 course_after course (answer ∷ answers) = course_after (course_next course answer) answers

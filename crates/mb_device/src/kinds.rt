@@ -64,7 +64,7 @@ impl Kind {
 }
 
 impl Area {
-    // The address behind the last.
+    // The address after the last.
     fn end(&self) -> u64
         ensures { result ≡ self.now.start + self.now.count }
     {

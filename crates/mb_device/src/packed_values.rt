@@ -38,7 +38,7 @@ pub(crate) fn pack_coils(values: &[Option<u16>], out: &mut [u8; MAX_BYTES]) -> u
     count
 }
 
-// Writes the value at place `i` behind those before it.
+// Writes the value at place `i` after those before it.
 fn put_word(out: &mut [u8; MAX_BYTES], i: usize, value: u16)
     requires { i < MAX_READ_REGISTERS }
     ensures { take (2 * i + 2) out.new ≡ take (2 * i) out.old ++ word value }

@@ -164,7 +164,7 @@ impl<'t> Sender<'t> {
         self.is_cut
     }
 
-    // Goes on to the next frame, behind one that was spelled so.
+    // Goes on to the next frame, after one that was spelled so.
     fn go_on(&mut self, trick: Option<Trick>, frame: [u8; MAX_ADU], end: usize)
         requires { end ≤ MAX_ADU }
         ensures { self.new ≡ behind trick (take end frame) self.old }

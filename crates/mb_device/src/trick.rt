@@ -7,7 +7,7 @@ pub enum Trick {
     Drop,
     /// The answer is sent twice.
     Twice,
-    /// The answer is buffered. It is sent once the next frame has been dealt with: behind what is sent for
+    /// The answer is buffered. It is sent once the next frame has been dealt with: after what is sent for
     /// that frame, or in its place where that answer is buffered too.
     Later,
     /// The transaction identifier is one more, modulo 65536.

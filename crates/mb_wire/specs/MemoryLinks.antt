@@ -56,7 +56,7 @@ handed_out (Ok End) input = []
 handed_out (Ok Idle) input = []
 handed_out (Err failed) input = []
 
--- a piece with bytes at its front, and behind them as it was
+-- a piece with bytes at its front, and after them as it was
 abbrev pub filled : List ℕ → List ℕ → List ℕ
 filled bytes piece = bytes ++ drop (length bytes) piece
 

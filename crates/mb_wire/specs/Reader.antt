@@ -25,11 +25,11 @@ FitsState Ended bytes = IsFrame bytes × IsOwn bytes
 FitsState Stuck bytes = IsBad bytes × (length bytes ≡ 6)
 
 -- what the bytes since the last frame's end are, those taken now included
-abbrev pub Tells : Framing → List ℕ → Type 0
-Tells Need bytes = IsOpen bytes
-Tells Whole bytes = IsFrame bytes × IsOwn bytes
-Tells Foreign bytes = IsFrame bytes × (IsOwn bytes → ⊥)
-Tells Garbled bytes = IsBad bytes × (length bytes ≡ 6)
+abbrev pub TellsFraming : Framing → List ℕ → Type 0
+TellsFraming Need bytes = IsOpen bytes
+TellsFraming Whole bytes = IsFrame bytes × IsOwn bytes
+TellsFraming Foreign bytes = IsFrame bytes × (IsOwn bytes → ⊥)
+TellsFraming Garbled bytes = IsBad bytes × (length bytes ≡ 6)
 
 -- a frame ended
 abbrev pub IsEnd : Framing → Type 0

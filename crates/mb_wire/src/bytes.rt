@@ -25,7 +25,7 @@ pub(crate) fn head(function: u8, address: u16, field: u16) -> [u8; 5]
     [function, address_high, address_low, field_high, field_low]
 }
 
-// Writes bytes behind the first `end` of `out`, and says how many there are then.
+// Writes bytes after the first `end` of `out`, and says how many there are then.
 pub(crate) fn append(out: &mut [u8; MAX_PDU], end: usize, bytes: &[u8]) -> usize
     requires { end + length bytes.now ≤ MAX_PDU }
     ensures count { result ≡ end + length bytes.now }
@@ -45,7 +45,7 @@ fn lowest_bits(byte: u8, count: u16) -> u8
     (u16::from(byte) % limit) as u8
 }
 
-// Writes so many coils behind the first `end` bytes of `out`, with spare bits 0.
+// Writes so many coils after the first `end` bytes of `out`, with spare bits 0.
 pub(crate) fn append_coils(
     out: &mut [u8; MAX_PDU],
     end: usize,
@@ -67,7 +67,7 @@ pub(crate) fn append_coils(
     }
 }
 
-// Writes registers behind the first `end` bytes of `out`.
+// Writes registers after the first `end` bytes of `out`.
 pub(crate) fn append_words(out: &mut [u8; MAX_PDU], end: usize, bytes: &[u8]) -> usize
     requires fits { end + length bytes.now ≤ MAX_PDU }
     requires bytes { length bytes.now ≡ 2 * length (words_of bytes.now) }

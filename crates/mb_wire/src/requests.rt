@@ -193,7 +193,7 @@ fn count_words(bytes: &[u8]) -> usize
     bytes.len() / 2
 }
 
-// Writes how many bytes a request carries, and these, behind its head.
+// Writes how many bytes a request carries, and these, after its head.
 fn append_carried(out: &mut [u8; MAX_PDU], end: usize, request: &Request<'_>) -> usize
     requires lawful { IsLawful request.now }
     requires head { end ≡ 5 }

@@ -1,4 +1,4 @@
--- Facts that are added behind the others.
+-- Facts that are added after the others.
 use Rattle.std.proofs.Common.{◌≡◌, true, false, List, [], ◌∷◌, ◌++◌, reverse, inl, inr, refl, sym, ap, subst, ◌∙◌, Ok, Err}
 use Rattle.std.proofs.lemmas.List.{append-nil, reverse-append, reverse-reverse}
 use Rattle.office_events.specs.declared.facts.Fact.{Fact}

@@ -31,7 +31,7 @@ figures_after old new f known are few counted latest = record {
   latest = latest ∙ ap (max (moment_in f)) are.latest;
 }
 
--- one more of facts that come behind others
+-- one more of facts that come after others
 pub with_more : (facts known : List Fact) (i : ℕ) (d : Fact) → i < length facts
     → with_facts (take (i + 1) facts) known ≡ get_or facts i d ∷ with_facts (take i facts) known
 with_more facts known i d less =

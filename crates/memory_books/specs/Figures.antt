@@ -14,7 +14,7 @@ pub record AreFigures (figures : Figures) (known : List Fact) : Type 0 where
 abbrev pub most_facts : ℕ
 most_facts = 18446744073709551615
 
--- figures of some facts became those of the facts with these behind
+-- figures of some facts became those of the facts with these after
 abbrev pub CountOn : (facts : List Fact) → (old new : Figures) → Type 0
 CountOn facts old new =
     (known : List Fact) → AreFigures old known → length known + length facts ≤ most_facts

@@ -15,7 +15,7 @@ pub record AreListed (books : ListBooks) (known : List Fact) : Type 0 where
   pub tables : HaveCome books.tables books.facts.items
   pub figures : AreFigures books.figures known
 
--- with these facts behind the others, figures that were those of the list are so again
+-- with these facts after the others, figures that were those of the list are so again
 abbrev pub GoOn : (facts : List Fact) → (old new : ListBooks) → Type 0
 GoOn facts old new = (known : List Fact) → old.facts.items ≡ reverse known
     → AreFigures old.figures known

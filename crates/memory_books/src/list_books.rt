@@ -56,7 +56,7 @@ impl ListBooks {
         Ok(())
     }
 
-    /// Adds facts behind the others: all of them or, where memory is wanting, none.
+    /// Adds facts after the others: all of them or, where memory is wanting, none.
     fn add(&mut self, facts: Vec<Fact>) -> Result<(), BooksFault>
         ensures ok { OnOk result (self.new.facts.items ≡ self.old.facts.items ++ facts.items) }
         ensures figures { OnOk result (GoOn facts.items self.old self.new) }

@@ -27,7 +27,7 @@ past_row row rows (share ∷ shares) h =
     let off : row.start == share.start ≡ false = let lt : row.start < share.start = h.0 in grind (arith, nat_tests, lt) in
     ap (with_each shares) (cond-false _ _ _ off) ∙ past_row row (with_share share rows) shares h.1
 
--- where no row has begun, each stands behind the one before
+-- where no row has begun, each stands after the one before
 all_new : (shares : List Share) → Rising shares → with_each shares [] ≡ shares
 all_new [] h = refl
 all_new (share ∷ shares) h = past_row share [] shares h.0 ∙ ap (λ rows. share ∷ rows) (all_new shares h.1)
@@ -47,7 +47,7 @@ one_row row share shares false e rising le =
     past_row row (share ∷ []) shares (above_lower row.start share.start shares (omega (arith, lt)) rising.0)
     ∙ ap (λ rows. row ∷ rows) (past_row share [] shares rising.0 ∙ ap (λ rows. share ∷ rows) (all_new shares rising.1))
 
--- Shares behind rows are added each to the row of its interval.
+-- Shares after rows are added each to the row of its interval.
 pub added_each : (rows : List Share) (share : Share) (shares : List Share) → Rising rows → Rising (share ∷ shares) → UpTo share.start rows
     → with_shares rows (share ∷ shares) ≡ with_each (share ∷ shares) rows
 added_each [] share shares up rising upto = sym (all_new (share ∷ shares) rising)
@@ -57,15 +57,15 @@ added_each (row ∷ next ∷ rows) share shares up rising upto =
     ap (λ rs. row ∷ rs) (added_each (next ∷ rows) share shares up.1 rising upto.1)
     ∙ sym (past_row row (next ∷ rows) (share ∷ shares) (lt, above_lower row.start share.start shares (omega (arith, lt)) rising.0))
 
--- the rows of steps, and the shares of the step behind them
+-- the rows of steps, and the shares of the step after them
 abbrev IsAddedEach : List Share → List Share → Type 0
 IsAddedEach rows shares = with_shares rows shares ≡ with_each shares rows
 
-added_behind : (opened last : ℕ) (step : Step) (rows shares : List Share) → Rising rows → Rising shares → step.from ≡ last
+added_after : (opened last : ℕ) (step : Step) (rows shares : List Share) → Rising rows → Rising shares → step.from ≡ last
     → ((s : ℕ) → Among s rows → Lies opened last s) → ((s : ℕ) → Among s shares → Touches step s) → (Among (step.from / 900 * 900) shares)
     → IsAddedEach rows shares
-added_behind opened last step rows [] up rising is lie touch begun = absurd begun
-added_behind opened last step rows (share ∷ shares) up rising is lie touch begun =
+added_after opened last step rows [] up rising is lie touch begun = absurd begun
+added_after opened last step rows (share ∷ shares) up rising is lie touch begun =
     let first = touch share.start (inl refl) in
     added_each rows share shares up rising (upto_all share.start rows (λ s there.
     let l = lie s there in
@@ -90,7 +90,7 @@ entries_go_on law meter lines k e well h =
       last = refl;
       total = total;
       joined = refl;
-      added = added_behind meter.opening.at last.at step (rows_of_steps (steps_after meter es)) (shares_of step) before.rising
+      added = added_after meter.opening.at last.at step (rows_of_steps (steps_after meter es)) (shares_of step) before.rising
           (rising_of (shares_of step) spread.in_order) refl
           (λ s there. touched_lies meter es s was.account.follow (before.touched s there))
           (λ s there. (spread.touched s).0 (contains_of s (shares_of step) there))

@@ -17,7 +17,7 @@ reverse_cons x xs = reverse-append (x ∷ []) xs
 pub reverse_onto : {X : Type 0} (x : X) (xs ys : List X) → reverse (x ∷ xs) ++ ys ≡ reverse xs ++ x ∷ ys
 reverse_onto x xs ys = ap (λ zs. zs ++ ys) (reverse_cons x xs) ∙ append_assoc (reverse xs) (x ∷ []) ys
 
--- where the counter stands behind one more row
+-- where the counter stands after one more row
 pub last_on : (opening : Last) (row : EntryRow) (rows : List EntryRow) → last_of opening (entries_in (row ∷ rows)) ≡ behind (last_of opening (entries_in rows)) row
 last_on opening row rows =
     elim (cases_Bool row.stands) [
@@ -42,7 +42,7 @@ pub last_all : (opening : Last) (rows : List EntryRow) (i : ℕ) (last : Last) �
     → last ≡ last_of opening (entries_in (latest_first (take i rows))) → last ≡ last_of opening (entries_in (latest_first rows))
 last_all opening rows i last le is = is ∙ ap (λ (rs : List EntryRow). last_of opening (entries_in (latest_first rs))) (take_all i rows le)
 
--- ---- what stands behind the first rows
+-- ---- what stands after the first rows
 
 pub numbered_below : (newer older : List EntryRow) → AreNumbered (newer ++ older) → AreNumbered older
 numbered_below [] older h = h
@@ -72,7 +72,7 @@ numbered_drop n m (suc i) (row ∷ rows) is h = numbered_drop (suc n) m i rows (
 
 -- ---- a void
 
--- rows behind the struck one
+-- rows after the struck one
 void_onto : (opening : Last) (place n : ℕ) (newer before done : List EntryRow) → place < n → NumberedFrom n newer
     → with_void opening place before ≡ done
     → with_void opening place (reverse newer ++ before) ≡ reverse (rolled_on (last_of opening (entries_in done)) newer) ++ done
@@ -104,7 +104,7 @@ roll_step rows i last stand d next lt next_is stand_is =
 pub roll_end : (rows : List EntryRow) (i : ℕ) (last : Last) → length rows ≤ i → take i rows ++ rolled_on last (drop i rows) ≡ rows
 roll_end rows i last le = ap (λ rs. take i rows ++ rolled_on last rs) (drop_all i rows le) ∙ append-nil (take i rows) ∙ take_all i rows le
 
--- older rows, the struck one, and those behind it
+-- older rows, the struck one, and those after it
 pub void_at : (opening : Last) (place n : ℕ) (older : List EntryRow) (row : EntryRow) (newer : List EntryRow) → place < n → NumberedFrom n newer
     → row.place == place ≡ true
     → with_void opening place (latest_first (older ++ row ∷ newer))

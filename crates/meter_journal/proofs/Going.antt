@@ -79,7 +79,7 @@ may_go_on meter rows i d last total well h lt on last_is total_is =
     } in
     subst (λ (l : Last). MayGoOn meter l total e) (sym last_is) (subst (λ n. MayGoOn meter (last_after meter es) n e) (sym total_is) may)
 
--- the tally behind one more row
+-- the tally after one more row
 pub last_next : (meter : Installed) (rows : List EntryRow) (i : ℕ) (d : EntryRow) (last next : Last) → i < length rows
     → last ≡ last_after meter (earlier rows i) → next ≡ behind last (get_or rows i d) → next ≡ last_after meter (earlier rows (i + 1))
 last_next meter rows i d last next lt last_is next_is =
@@ -122,7 +122,7 @@ no_step range rows i d last is =
       | inr off ↦ off
     ]
 
--- the interval rows behind one more row
+-- the interval rows after one more row
 pub shares_next : (meter : Installed) (rows : List EntryRow) (i : ℕ) (d : EntryRow) (last : Last) (shares next : List Share) (step : Step)
     → i < length rows → (get_or rows i d).stands ≡ true → last ≡ last_after meter (earlier rows i)
     → shares ≡ rows_of_steps (steps_after meter (earlier rows i)) → step ≡ step_to meter.range last (get_or rows i d).entry

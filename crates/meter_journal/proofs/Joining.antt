@@ -54,10 +54,10 @@ no_shares [] = refl
 no_shares (row ∷ []) = refl
 no_shares (row ∷ next ∷ rows) = ap (λ rs. row ∷ rs) (no_shares (next ∷ rows))
 
--- shares that begin later stay behind a row
-behind_row : (row : Share) (shares : List Share) → Above row.start shares → joined row shares ≡ row ∷ shares
-behind_row row [] h = refl
-behind_row row (share ∷ shares) h = cond-false _ _ _ (different row.start share.start h.0)
+-- shares that begin later stay after a row
+after_row : (row : Share) (shares : List Share) → Above row.start shares → joined row shares ≡ row ∷ shares
+after_row row [] h = refl
+after_row row (share ∷ shares) h = cond-false _ _ _ (different row.start share.start h.0)
 
 some_rows : (rows : List Share) (share : Share) → 0 < length (with_shares rows (share ∷ []))
 some_rows [] share = omega arith
@@ -81,12 +81,12 @@ joined_first : (row share : Share) (shares : List Share) (b : Bool) → row.star
     ≡ cond b (record { start = row.start; mwh = row.mwh + share.mwh } ∷ shares) (row ∷ share ∷ shares)
 joined_first row share shares true e rising =
     let is : row.start ≡ share.start = eqb-true row.start share.start e in
-    behind_row (record { start = row.start; mwh = row.mwh + share.mwh }) shares (same_start row share shares is rising.0)
-joined_first row share shares false e rising = ap (λ rs. row ∷ rs) (behind_row share shares rising.0)
+    after_row (record { start = row.start; mwh = row.mwh + share.mwh }) shares (same_start row share shares is rising.0)
+joined_first row share shares false e rising = ap (λ rs. row ∷ rs) (after_row share shares rising.0)
 
 one_by_one : (rows : List Share) (share : Share) (shares : List Share) → Rising (share ∷ shares)
     → with_shares (with_shares rows (share ∷ [])) shares ≡ with_shares rows (share ∷ shares)
-one_by_one [] share shares rising = behind_row share shares rising.0
+one_by_one [] share shares rising = after_row share shares rising.0
 one_by_one (row ∷ []) share shares rising = joined_first row share shares (row.start == share.start) refl rising
 one_by_one (row ∷ next ∷ rows) share shares rising =
     ahead row (with_shares (next ∷ rows) (share ∷ [])) shares (some_rows (next ∷ rows) share)

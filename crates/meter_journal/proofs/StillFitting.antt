@@ -78,7 +78,7 @@ entered_lower meter es es' e low h =
       entered = subst (λ (x : Last). entered meter.range (total_after meter es') x e ≡ Ok (h.next, h.step)) (sym low.last) still;
     }
 
--- a row behind one that stands still fits, with the rollovers that its neighbour gives it
+-- a row after one that stands still fits, with the rollovers that its neighbour gives it
 pub rolled_fits : (meter : Installed) (es es' : List Entry) (place : ℕ) (k : EntryKind) (e : Entry) (stands : Bool) → Lower meter es es'
     → StandFits meter es (record { place = place; kind = k; entry = e; stands = stands })
     → StandFits meter es' (rolled (last_after meter es') (record { place = place; kind = k; entry = e; stands = stands }))
@@ -95,7 +95,7 @@ rolled_fits meter es es' place kind.Reset (entry.Change at before new sf) true l
 rolled_fits meter es es' place kind.Rescale (entry.Step at raw rolls) true low h = λ s. absurd (h refl)
 rolled_fits meter es es' place kind.Rescale (entry.Change at before new sf) true low h = λ s. entered_lower meter es es' _ low (h refl)
 
--- so does the next one behind the voided one
+-- so does the next one after the voided one
 pub next_fits : (meter : Installed) (es : List Entry) (place : ℕ) (k : EntryKind) (e : Entry) (stands : Bool)
     → NextFits meter es (Some (record { place = place; kind = k; entry = e; stands = stands }))
     → StandFits meter es (rolled (last_after meter es) (record { place = place; kind = k; entry = e; stands = stands }))

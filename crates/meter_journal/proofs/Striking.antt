@@ -120,7 +120,7 @@ out_to meter x next = steps_out meter (record { before = x.before; row = x.row; 
 abbrev pub put_to : Installed → Around → Option EntryRow → List Step
 put_to meter x next = steps_put meter (record { before = x.before; row = x.row; next = next })
 
--- no entry stands behind the voided one
+-- no entry stands after the voided one
 pub record IsLast (meter : Installed) (place : ℕ) (rows : List EntryRow) (x : Around) : Type 0 where
   pub gap : IsGap meter.opening place rows x
   pub rows_are : with_void meter.opening place rows ≡ map (changed_by place None (last_before meter.opening x)) rows
@@ -162,12 +162,12 @@ one_below meter row rows step there =
       | inr off ↦ subst (λ (es : List Entry). IsOneOf step (steps_after meter es)) (sym (entries_struck row rows off)) there
     ]
 
--- a row behind the next one
-row_behind : (meter : Installed) (place : ℕ) (row : EntryRow) (rows : List EntryRow) (x : Around) (next : EntryRow)
+-- a row after the next one
+row_after : (meter : Installed) (place : ℕ) (row : EntryRow) (rows : List EntryRow) (x : Around) (next : EntryRow)
     → row.place == place ≡ false → AreNumbered (row ∷ rows) → StandFits meter (entries_in rows) row
     → AllFollow meter.range meter.opening (entries_in (row ∷ rows))
     → IsFollowed meter place rows x next → IsFollowed meter place (row ∷ rows) (passed row x) next
-row_behind meter place row rows x next off numbers fits follow h =
+row_after meter place row rows x next off numbers fits follow h =
     let rest : List EntryRow = with_void meter.opening place rows in
     let l : Last = last_after meter (entries_in rows) in
     let kept : rolled (last_after meter (entries_in rest)) row ≡ row =
@@ -204,11 +204,11 @@ row_behind meter place row rows x next off numbers fits follow h =
       };
     }
 
--- a struck row behind the voided one
-struck_behind : (meter : Installed) (place : ℕ) (row : EntryRow) (rows : List EntryRow) (x : Around)
+-- a struck row after the voided one
+struck_after : (meter : Installed) (place : ℕ) (row : EntryRow) (rows : List EntryRow) (x : Around)
     → row.place == place ≡ false → row.stands ≡ false
     → IsLast meter place rows x → IsLast meter place (row ∷ rows) (passed row x)
-struck_behind meter place row rows x off struck h =
+struck_after meter place row rows x off struck h =
     let rest : List EntryRow = with_void meter.opening place rows in
     let l : Last = last_before meter.opening x in
     let made : with_void meter.opening place (row ∷ rows) ≡ row ∷ rest =
@@ -315,18 +315,18 @@ next_behind meter place row rows x off on is is0 numbers follow h =
           (step_to meter.range l (entry.Step read.at read.raw fewer) ∷ [])) (sym new) moved)));
     }
 
-one_behind : (meter : Installed) (place : ℕ) (row : EntryRow) (rows : List EntryRow) (x : Around) (n : Option EntryRow) (stands : Bool)
+one_after : (meter : Installed) (place : ℕ) (row : EntryRow) (rows : List EntryRow) (x : Around) (n : Option EntryRow) (stands : Bool)
     → row.stands ≡ stands → row.place == place ≡ false → is_read x.row.kind x.row.entry ≡ true
     → is_free (option_or n (cond stands (Some row) None)) ≡ true
     → AreNumbered (row ∷ rows) → StandFits meter (entries_in rows) row
     → AllFollow meter.range meter.opening (entries_in (row ∷ rows))
     → Changes meter place rows x n → Changes meter place (row ∷ rows) (passed row x) (option_or n (cond stands (Some row) None))
-one_behind meter place row rows x (Some next) stands is off read free numbers fits follow h =
-    row_behind meter place row rows x next off numbers fits follow h
-one_behind meter place row rows x None true is off read free numbers fits follow h =
+one_after meter place row rows x (Some next) stands is off read free numbers fits follow h =
+    row_after meter place row rows x next off numbers fits follow h
+one_after meter place row rows x None true is off read free numbers fits follow h =
     next_behind meter place row rows x off is free read numbers follow h
-one_behind meter place row rows x None false is off read free numbers fits follow h =
-    struck_behind meter place row rows x off is h
+one_after meter place row rows x None false is off read free numbers fits follow h =
+    struck_after meter place row rows x off is h
 
 free_before : (n m : Option EntryRow) → is_free (option_or n m) ≡ true → is_free n ≡ true
 free_before None m h = refl
@@ -364,5 +364,5 @@ changes meter place (row ∷ rows) a there on read free numbers still follow =
           changes meter place rows x found.1 on_x read_x (free_before x.next (if_standing row) free_x) numbers.1 still.1
           (follow_rest meter row rows row.stands refl follow) in
           subst (λ (y : Around). Changes meter place (row ∷ rows) y y.next) is
-          (one_behind meter place row rows x x.next row.stands refl off read_x free_x numbers still.0 follow rest)
+          (one_after meter place row rows x x.next row.stands refl off read_x free_x numbers still.0 follow rest)
     ]

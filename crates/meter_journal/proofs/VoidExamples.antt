@@ -98,7 +98,7 @@ only_taken : rows_until 1000 1000 (without_each (all_shares (step 1000 1900 2000
     ≡ []
 only_taken = refl
 
--- A void behind which the counter turned over: the next row has the rollover from then on, and the first is struck.
+-- A void after which the counter turned over: the next row has the rollover from then on, and the first is struck.
 
 abbrev turning : Last
 turning = record { at = 1000; raw = 4294967200; sf = pos 0 }

@@ -17,7 +17,7 @@ use Rattle.meter_journal.specs.Journal.{Entered, Voided, Journal, Around, entrie
 use Rattle.meter_journal.specs.Lists.{MayGoOn}
 use Rattle.meter_journal.specs.Fitting.{AreFitting}
 
--- the row is that of a quarter hour that begins before the counter's last moment and ends behind its opening; so the
+-- the row is that of a quarter hour that begins before the counter's last moment and ends after its opening; so the
 -- counter has gone on since then
 pub record LiesWithin (opened last : ℕ) (row : Share) : Type 0 where
   pub quarter : row.start % INTERVAL_SECONDS ≡ 0
@@ -44,7 +44,7 @@ step_on meter lines e = step_to meter.range (last_in meter lines) e
 -- One more entry is booked where the counter stands. The counter then stands where the entry says, the energy grows by
 -- that of the step, and the interval rows by its shares: these are joined to the last row, or added each to the row of its
 -- interval.
-pub record GoesOn (meter : Installed) (lines : Journal) (k : EntryKind) (e : Entry) : Type 0 where
+pub record ContinuesJournal (meter : Installed) (lines : Journal) (k : EntryKind) (e : Entry) : Type 0 where
   pub may : MayGoOn meter (last_in meter lines) (total_in meter lines) e
   pub booked : entered meter.range (total_in meter lines) (last_in meter lines) e
       ≡ Ok (last_in meter (Entered k e ∷ lines), step_on meter lines e)
@@ -59,7 +59,7 @@ pub record GoesOn (meter : Installed) (lines : Journal) (k : EntryKind) (e : Ent
 abbrev pub EntriesGoOn : Type 0
 EntriesGoOn = (meter : Installed) (lines : Journal) (k : EntryKind) (e : Entry)
     → IsWellInstalled meter
-    → AreFitting meter (Entered k e ∷ lines) → GoesOn meter lines k e
+    → AreFitting meter (Entered k e ∷ lines) → ContinuesJournal meter lines k e
 
 -- Shares that are added bring their energy, and rows from which shares are taken have no more than before.
 pub record MoveEnergy (shares rows : List Share) : Type 0 where

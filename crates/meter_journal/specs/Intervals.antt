@@ -5,7 +5,7 @@ use Rattle.energy_core.specs.declared.entries.Step.{Step}
 use Rattle.interval_core.specs.declared.shares.Share.{Share}
 use Rattle.interval_core.specs.Share.{shares_of}
 
--- shares behind a row: the first may lie in the same interval
+-- shares after a row: the first may lie in the same interval
 abbrev pub joined : Share → List Share → List Share
 joined row [] = row ∷ []
 joined row (share ∷ shares) =
@@ -13,7 +13,7 @@ joined row (share ∷ shares) =
     then record { start = row.start; mwh = row.mwh + share.mwh } ∷ shares
     else row ∷ share ∷ shares
 
--- rows with the shares of a later step behind them
+-- rows with the shares of a later step after them
 abbrev pub with_shares : List Share → List Share → List Share
 with_shares [] shares = shares
 with_shares (row ∷ []) shares = joined row shares
@@ -30,7 +30,7 @@ energy_before bound [] = 0
 energy_before bound (row ∷ rows) =
     (if nat_lt row.start bound then row.mwh else 0) + energy_before bound rows
 
--- a share added to the row of its interval; where there is none, it stands behind the others
+-- a share added to the row of its interval; where there is none, it stands after the others
 abbrev pub with_share : Share → List Share → List Share
 with_share share [] = share ∷ []
 with_share share (row ∷ rows) =

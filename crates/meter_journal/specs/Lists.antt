@@ -18,7 +18,7 @@ abbrev pub AreNumbered : List EntryRow → Type 0
 AreNumbered [] = Unit {0}
 AreNumbered (row ∷ rows) = (row.place ≡ length rows + 2) × AreNumbered rows
 
--- where the counter stands behind a row
+-- where the counter stands after a row
 abbrev pub behind : Last → EntryRow → Last
 behind last row = if row.stands then after last row.entry else last
 

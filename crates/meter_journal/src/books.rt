@@ -62,8 +62,8 @@ fn go_past(meter: &Installed, tally: &mut Tally, row: &EntryRow) -> Option<Step>
     Some(go_on(meter, tally, &row.entry))
 }
 
-/// The tally behind these rows.
-pub fn tally_behind(meter: &Installed, rows: &[EntryRow]) -> Tally
+/// The tally after these rows.
+pub fn tally_after(meter: &Installed, rows: &[EntryRow]) -> Tally
     requires range_low { MIN_RANGE ≤ meter.now.range }
     requires range_high { meter.now.range ≤ MAX_RANGE }
     requires installed { books.IsWellInstalled meter.now }

@@ -6,7 +6,7 @@ ghost use Rattle.meter_journal.specs.Voids.{VoidsChangeTwoRows};
 
 use interval_core::shares_add_up;
 
-/// Each interval row begins before the counter's last moment, and its quarter hour ends behind the opening.
+/// Each interval row begins before the counter's last moment, and its quarter hour ends after the opening.
 pub fn rows_lie_within()
     ensures { RowsLieWithin }
 {

@@ -11,7 +11,7 @@ use energy_core::{MAX_INTERVALS, MAX_TOTAL, Step};
 use interval_core::{Share, Shares, shares_add_up};
 use std::alloc::AllocError;
 
-/// Takes one more share behind the row that is still open, and answers the row that is done, if it lies in another interval.
+/// Takes one more share after the row that is still open, and answers the row that is done, if it lies in another interval.
 pub fn join(pending: &mut Option<Share>, share: Share) -> Option<Share>
     requires { ForSome pending.old (λ row. row.mwh + share.mwh < 2 ^ 64) }
     ensures rows { let so_far = option_to_list pending.old in

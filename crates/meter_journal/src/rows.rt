@@ -9,8 +9,8 @@ ghost use Rattle.meter_journal.specs.Lists as lists;
 use crate::lines::{EntryKind, EntryRow};
 use energy_core::{Entry, Last};
 
-/// The row of a new entry behind these.
-pub fn row_behind(rows: &[EntryRow], kind: EntryKind, entry: Entry) -> EntryRow
+/// The row of a new entry after these.
+pub fn row_after(rows: &[EntryRow], kind: EntryKind, entry: Entry) -> EntryRow
     ensures { result ≡ journal.new_row rows.now kind entry }
 {
     EntryRow {
@@ -52,7 +52,7 @@ pub fn is_voidable(row: &EntryRow, next: &Option<EntryRow>) -> bool
     row.stands && is_read(row) && is_free
 }
 
-/// Where the counter stands behind a row. One that was struck changes nothing.
+/// Where the counter stands after a row. One that was struck changes nothing.
 fn behind(last: &Last, row: &EntryRow) -> Last
     ensures { result ≡ lists.behind last.now row.now }
 {
@@ -69,7 +69,7 @@ fn behind(last: &Last, row: &EntryRow) -> Last
     }
 }
 
-/// Where the counter stands behind these rows.
+/// Where the counter stands after these rows.
 pub fn last_behind(opening: &Last, rows: &[EntryRow]) -> Last
     ensures { let es = journal.entries_in (lists.latest_first rows.now) in
         result ≡ last_of opening.now es }
@@ -95,7 +95,7 @@ fn with_rolls(last: &Last, entry: &Entry) -> Entry
     }
 }
 
-/// A row behind where the counter stands: a reading that stands takes the rollovers of its neighbour.
+/// A row after where the counter stands: a reading that stands takes the rollovers of its neighbour.
 fn rolled(last: &Last, row: &EntryRow) -> EntryRow
     ensures { result ≡ journal.rolled last.now row.now }
 {

@@ -4,7 +4,7 @@ use mb_device::{Area, Bank, Kind};
 use std::alloc::Global;
 use std::process::Abort;
 
-/// Two holding areas side by side, one behind a gap, and a coil.
+/// Two holding areas side by side, one after a gap, and a coil.
 pub(crate) static GAPS: [Area; 4] = [
     Area {
         kind: Kind::Holding,

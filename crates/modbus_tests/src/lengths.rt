@@ -17,7 +17,7 @@ static LENGTHS: [(u16, usize, Framing); 7] = [
     (65535, 6, Framing::Garbled),
 ];
 
-// A frame of a function that no device has, and bytes behind it.
+// A frame of a function that no device has, and bytes after it.
 fn frame_of(length: u16) -> [u8; 261] {
     let [high, low] = length.to_be_bytes();
     let mut frame = [0x2B; 261];

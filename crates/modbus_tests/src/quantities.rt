@@ -4,7 +4,7 @@ use crate::replies::{bit_in, comes_back, word_in};
 use crate::requests::{self, is_written_as};
 use mb_wire::{Request, decode_reply, decode_request};
 
-// A PDU's function code, the number behind its address, its byte count, how many bytes the PDU has, and the number of
+// A PDU's function code, the number after its address, its byte count, how many bytes the PDU has, and the number of
 // its fault: 0 where it is a request.
 static REQUESTS: [(u8, u16, u8, usize, u8); 36] = [
     // coils and discrete inputs that are read
@@ -50,7 +50,7 @@ static REQUESTS: [(u8, u16, u8, usize, u8); 36] = [
     (16, 124, 248, 254, 3),
 ];
 
-/// A request, with the same value in each byte behind its byte count.
+/// A request, with the same value in each byte after its byte count.
 pub(crate) fn request_of(
     function: u8,
     address: u16,
@@ -108,7 +108,7 @@ static REPLIES: [(u8, u16, u8, usize, u8); 20] = [
     (4, 125, 252, 254, 3),
 ];
 
-// A reply whose bytes behind its byte count are all 1.
+// A reply whose bytes after its byte count are all 1.
 fn reply_of(function: u8, count: u8) -> [u8; 254] {
     let mut pdu = [1; 254];
     pdu[..2].copy_from_slice(&[function, count]);
@@ -134,7 +134,7 @@ fn replies_bring_what_was_asked_for(rt: HostRuntime) {
     }
 }
 
-// The last coils and registers of the longest replies, and none behind them. The highest bit of each byte is on.
+// The last coils and registers of the longest replies, and none after them. The highest bit of each byte is on.
 static LAST_BITS: [(usize, Option<bool>); 3] = [
     (1998, Some(false)),
     (1999, Some(true)),

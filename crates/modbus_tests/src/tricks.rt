@@ -65,7 +65,7 @@ static ON_BOTH: [(&[(u64, Trick)], &[u8]); 16] = [
             0, 7, 0, 0, 0, 5, 1, 3, 2, 0, 5, 0, 7, 0, 0, 0, 5, 1, 3, 2, 0, 5,
         ],
     ),
-    // An answer that is buffered comes behind the next frame, however that is dealt with.
+    // An answer that is buffered comes after the next frame, however that is dealt with.
     (
         &[(1, Trick::Later)],
         &[

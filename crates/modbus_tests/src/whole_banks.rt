@@ -34,8 +34,8 @@ fn whole_bank(alloc: Global) -> Result<Bank, &'static str> {
     Ok(Bank::new(alloc, &ALL_ADDRESSES).ok().ok_or("no bank")?)
 }
 
-// A request: its function code, its address, the number behind that, its byte count, and how many bytes it has; how
-// many bytes answer it, and the first two of them. It has 0xFF in each byte behind its byte count.
+// A request: its function code, its address, the number after that, its byte count, and how many bytes it has; how
+// many bytes answer it, and the first two of them. It has 0xFF in each byte after its byte count.
 struct Case {
     function: u8,
     address: u16,

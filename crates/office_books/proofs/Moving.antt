@@ -5,15 +5,15 @@ use Rattle.office_rules.specs.Lawful.{AreLawful}
 use Rattle.office_books.specs.declared.faults.BooksFault.{BooksFault}
 use Rattle.office_books.specs.declared.faults.BooksFault.TheVariants.{Store, Memory}
 use Rattle.office_books.specs.Faults.{faults_after}
-use Rattle.office_books.specs.Ledgers.{Ledger, GoesOn, KeepsFacts, OnlyReads, Books, Moves, with_facts}
+use Rattle.office_books.specs.Ledgers.{Ledger, LedgerGoesOn, KeepsFacts, OnlyReads, Books, Moves, with_facts}
 
 -- a failure goes on as one, whatever was to be answered
-pub goes_failed : {T S : Type 0} (old new : Ledger) (why : BooksFault) → GoesOn {T = T} old new (Err why) → GoesOn {T = S} old new (Err why)
+pub goes_failed : {T S : Type 0} (old new : Ledger) (why : BooksFault) → LedgerGoesOn {T = T} old new (Err why) → LedgerGoesOn {T = S} old new (Err why)
 goes_failed old new (Store fault) goes = record { clean = goes.clean; faults = goes.faults; zone = goes.zone }
 goes_failed old new Memory goes = record { clean = goes.clean; faults = goes.faults; zone = goes.zone }
 
 pub goes_on_then : {T S : Type 0} (old between new : Ledger) (x : T) (result : Result S BooksFault)
-    → GoesOn old between (Ok x) → GoesOn between new result → GoesOn old new result
+    → LedgerGoesOn old between (Ok x) → LedgerGoesOn between new result → LedgerGoesOn old new result
 goes_on_then old between new x (Ok y) first after = record {
   clean = λ c. first.clean (after.clean c);
   faults = after.faults ∙ first.faults;

@@ -18,7 +18,7 @@ pub record Ledger : Type 1 where
   pub zone : Zone
 
 -- A wrong answer that was taken as true stays one, failures are counted, and the zone stays.
-pub record GoesOn {T : Type 0} (old new : Ledger) (result : Result T BooksFault) : Type 0 where
+pub record LedgerGoesOn {T : Type 0} (old new : Ledger) (result : Result T BooksFault) : Type 0 where
   pub clean : new.is_clean → old.is_clean
   pub faults : new.fault_count ≡ faults_after result old.fault_count
   pub zone : new.zone ≡ old.zone
@@ -30,7 +30,7 @@ pub record KeepsFacts (old new : Ledger) : Type 0 where
 
 -- A look-up changes nothing.
 pub record OnlyReads {T : Type 0} (old new : Ledger) (result : Result T BooksFault) : Type 0 where
-  pub goes : GoesOn old new result
+  pub goes : LedgerGoesOn old new result
   pub keeps : KeepsFacts old new
 
 -- What is answered is what the facts say.
@@ -57,7 +57,7 @@ pub record Books (old new : Ledger) (facts : List Fact) (result : Result (Unit {
       → AreLawful (with_facts facts known)
       → old.may_leave left → OnErr result (new.may_leave (left ++ with_facts facts known ∷ []))
   pub nothing : facts ≡ [] → IsOk result × KeepsFacts old new
-  pub goes : GoesOn old new result
+  pub goes : LedgerGoesOn old new result
 
 -- A call takes the books from these facts to later ones. At Ok they hold the later ones, and a stop leaves nothing else, or
 -- nothing was recorded and it leaves what it left. Where the call fails they hold what they held, and a stop may yet leave
@@ -70,4 +70,4 @@ pub record Moves {T : Type 0} (old new : Ledger) (known later : List Fact)
       → OnOk result (new.may_leave (later ∷ []) ⊎ ((later ≡ known) × new.may_leave left))
   pub under_way : (left : List (List Fact)) → old.holds known → new.is_clean → old.may_leave left
       → OnErr result (new.may_leave left ⊎ new.may_leave (left ++ later ∷ []))
-  pub goes : GoesOn old new result
+  pub goes : LedgerGoesOn old new result

@@ -113,9 +113,9 @@ ListsDays old new register result =
     (IsOutside old.fault_count new.fault_count)
 
 -- So does the office, by the facts of what it accepted.
-abbrev pub Tells : {B T : Type 0} → (B → Ledger) → (old new : Office B) → Result T Refusal
+abbrev pub TellsRow : {B T : Type 0} → (B → Ledger) → (old new : Office B) → Result T Refusal
     → (List Fact → Option T) → Type 0
-Tells ledger old new result row = After ledger old new (λ past.
+TellsRow ledger old new result row = After ledger old new (λ past.
     IsFound (row (facts_of past)) (failures_of ledger old) (failures_of ledger new) result)
 
 abbrev pub TellsRows : {B S T : Type 0} → (S → T → S → Type 0) → (B → Ledger)

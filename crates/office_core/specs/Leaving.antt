@@ -5,7 +5,7 @@ use Rattle.office_rules.specs.History.{History, Accepted, facts_of}
 use Rattle.office_rules.specs.Lawfulness.{IsPast}
 use Rattle.office_books.specs.Ledgers.{Ledger}
 
--- The facts are those behind one event, or one opening, more. It may follow what was accepted, but for later events
+-- The facts are those after one event, or one opening, more. It may follow what was accepted, but for later events
 -- that recorded nothing.
 pub record IsOneMore (past : History) (facts : List Fact) : Type 0 where
   pub next : Accepted

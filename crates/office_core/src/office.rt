@@ -11,7 +11,7 @@ ghost use Rattle.office_rules.specs.Sessions.{command_in};
 ghost use Rattle.office_booking.specs.Sessions.Places.{AsksOnSlot};
 ghost use Rattle.office_booking.specs.Sessions.Ranges.{AsksInRange};
 ghost use Rattle.office_core.specs.Asking.{OnlyAsks, TakesRows, intervals_of};
-ghost use Rattle.office_core.specs.Asking.{Tells, TellsDays, TellsRows};
+ghost use Rattle.office_core.specs.Asking.{TellsRow, TellsDays, TellsRows};
 ghost use Rattle.office_core.specs.Events as events;
 ghost use Rattle.office_core.specs.Failing.{IsNotForWantOfDay};
 ghost use Rattle.office_core.specs.Leaving.{BooksStand};
@@ -158,7 +158,7 @@ impl<B: Books> Office<B> {
 
     /// The installation of a meter, as it stands. `None` is a name that no meter can have.
     pub fn meter(&mut self, name: &Option<Name>) -> Result<Installation, Refusal>
-        ensures found { Tells B.ledger self.old self.new result
+        ensures found { TellsRow B.ledger self.old self.new result
             (λ facts. option_and_then (meter_of facts) name.now) }
         ensures asks { OnlyAsks B.ledger self.old self.new result }
         ensures no_day { IfErr result IsNotForWantOfDay }
@@ -171,7 +171,7 @@ impl<B: Books> Office<B> {
 
     /// The poll of a number, and how it ended, if it has.
     pub fn poll(&mut self, number: u64) -> Result<PollRow, Refusal>
-        ensures found { Tells B.ledger self.old self.new result
+        ensures found { TellsRow B.ledger self.old self.new result
             (λ facts. poll_row_of facts number) }
         ensures asks { OnlyAsks B.ledger self.old self.new result }
         ensures no_day { IfErr result IsNotForWantOfDay }

@@ -24,7 +24,7 @@ pub const LAST_UNIT: u64 = 255;
 /// The last address of a device's registers.
 pub const LAST_ADDRESS: u64 = 65535;
 
-/// The last address of a counter's high word: its low word stands behind it.
+/// The last address of a counter's high word: its low word stands after it.
 pub const LAST_COUNTER: u64 = 65534;
 
 /// The most turns of a counter from one entry to the next.

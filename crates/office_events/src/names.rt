@@ -68,7 +68,7 @@ fn begins_with_letter(text: &[u8]) -> bool
     }
 }
 
-/// The text, and zeros behind it.
+/// The text, and zeros after it.
 fn padded(text: &[u8]) -> [u8; MAX_NAME]
     requires { length text.now ≤ MAX_NAME }
     ensures { result ≡ text.now ++ replicate (MAX_NAME - length text.now) 0 }

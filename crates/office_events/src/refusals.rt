@@ -44,7 +44,7 @@ impl Display for StoreCause {
 impl Error for StoreCause {}
 
 /// Why an event or a question is refused. `Stopped` comes before all others, then `Reused`; of the others that apply the one
-/// with the smallest number is answered, but that `Store` comes behind `NotPlausible`.
+/// with the smallest number is answered, but that `Store` comes after `NotPlausible`.
 #[derive(Clone, Copy, Debug, PartialEq, Eq)]
 pub enum Refusal {
     /// No device, register, meter, list, entry or poll has that name, place or number.

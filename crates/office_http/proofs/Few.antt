@@ -24,21 +24,21 @@ pub record FromJournals : Type 0 where
   pub within : RowsLieWithin
   pub no_further : VoidsGoNoFurther
 
-few_behind : (low opened last : ℕ) (rows : List Share) → All (λ later. low < later) (starts_of rows) → IsAscending (starts_of rows)
+few_after : (low opened last : ℕ) (rows : List Share) → All (λ later. low < later) (starts_of rows) → IsAscending (starts_of rows)
     → All (LiesWithin opened last) rows → length rows ≤ last - (low + 1)
-few_behind low opened last [] above ascending within = omega arith
-few_behind low opened last (row ∷ rows) above ascending within =
+few_after low opened last [] above ascending within = omega arith
+few_after low opened last (row ∷ rows) above ascending within =
     let P : ℕ → Type 0 = λ later. low < later in
     let lt : low < row.start = All-head P row.start (starts_of rows) above in
     let here = All-head (LiesWithin opened last) row rows within in
-    let more = few_behind row.start opened last rows ascending.0 ascending.1 (All-tail (LiesWithin opened last) row rows within) in
+    let more = few_after row.start opened last rows ascending.0 ascending.1 (All-tail (LiesWithin opened last) row rows within) in
     omega (arith, lt, here.before, more)
 
 few_within : (opened last : ℕ) (rows : List Share) → IsAscending (starts_of rows) → All (LiesWithin opened last) rows → length rows ≤ last
 few_within opened last [] ascending within = omega arith
 few_within opened last (row ∷ rows) ascending within =
     let here = All-head (LiesWithin opened last) row rows within in
-    let more = few_behind row.start opened last rows ascending.0 ascending.1 (All-tail (LiesWithin opened last) row rows within) in
+    let more = few_after row.start opened last rows ascending.0 ascending.1 (All-tail (LiesWithin opened last) row rows within) in
     omega (arith, here.before, more)
 
 latest_bounded : (facts : List Fact) → AreLawful facts → latest_in facts ≤ moment_limit

@@ -8,8 +8,8 @@ use Rattle.mb_wire.specs.Links.{risen}
 use Rattle.mb_wire.specs.declared.link.LastTake.{LastTake}
 use Rattle.mb_wire.specs.declared.link.LinkFailed.{LinkFailed}
 use Rattle.http_request.specs.Head.Heads.{IsOpenHead, Looks}
-use Rattle.http_request.specs.declared.head.head.Look.{Look}
-use Rattle.http_request.specs.declared.head.head.Look.TheVariants.{Open, TooLarge, NoHead, Whole}
+use Rattle.http_request.specs.declared.head.head.HeadState.{HeadState}
+use Rattle.http_request.specs.declared.head.head.HeadState.TheVariants.{Open, TooLarge, NoHead, Whole}
 use Rattle.http_request.specs.Reading.HeadAndBody.{ReadsHead, StopsAtOnce}
 use Rattle.http_request.specs.Reading.Taking.{Came, CountsTakes, bytes_in}
 use Rattle.http_request.specs.declared.reading.inbox.TheConstants.{MOST_TAKES}
@@ -19,7 +19,7 @@ use Rattle.http_request.specs.declared.reading.inbox.TakeFault.TheVariants as ta
 use Rattle.http_answer.specs.Sending.Giving.{Gives}
 use Rattle.http_answer.specs.Sending.Sending.{HasPut, OnlyGives, Outgoing}
 use Rattle.http_request.specs.Routing.Routes.{Table, routes}
-use Rattle.http_request.specs.Whole.Whole.{GoesOn, Holds, ReadsRequest}
+use Rattle.http_request.specs.Whole.Whole.{IsUnfinished, Holds, ReadsRequest}
 use Rattle.http_answer.specs.Replies.{refused, reply_bytes}
 use Rattle.office_events.specs.declared.refusals.Refusal.{Refusal}
 use Rattle.office_events.specs.declared.refusals.Refusal.TheVariants as refusal
@@ -45,7 +45,7 @@ gives_since (Err e) a b c bytes h gives = (gives.0, gives.1, gives.2, Appends-tr
 came_is : (old new : List ℕ) (r s : Option (List ℕ)) → old ≡ [] → (came : Came old new r s) → new ≡ came.chunk
 came_is old new r s empty came = came.bytes ∙ ap (λ o. o ++ came.chunk) empty
 
-stopped : (P : List ℕ → Type 0) → ((bytes : List ℕ) → P bytes → GoesOn routes bytes) → (old new : Inbox) (was now : Option LastTake) (read : List ℕ)
+stopped : (P : List ℕ → Type 0) → ((bytes : List ℕ) → P bytes → IsUnfinished routes bytes) → (old new : Inbox) (was now : Option LastTake) (read : List ℕ)
     → bytes_in old ≡ [] → bytes_in new ≡ read → StopsAtOnce P old new was now → StopsReading read now
 stopped P goes old new was now read empty is (inl none) = inl (sym is ∙ none.bytes ∙ empty)
 stopped P goes old new was now read empty is (inr some) = inr record {
@@ -57,11 +57,11 @@ stopped P goes old new was now read empty is (inr some) = inr record {
 }
 
 -- a whole request has a head
-pub head_of : (table : Table) (look : Look) (bytes : List ℕ) → Holds table bytes look → HasHead bytes
+pub head_of : (table : Table) (head_state : HeadState) (bytes : List ℕ) → Holds table bytes head_state → HasHead bytes
 head_of table Open bytes h = absurd h
-head_of table TooLarge bytes h = record { look = TooLarge; finds = h; come = refl }
-head_of table NoHead bytes h = record { look = NoHead; finds = h; come = refl }
-head_of table (Whole at) bytes h = record { look = Whole at; finds = h.head; come = refl }
+head_of table TooLarge bytes h = record { head_state = TooLarge; finds = h; come = refl }
+head_of table NoHead bytes h = record { head_state = NoHead; finds = h; come = refl }
+head_of table (Whole at) bytes h = record { head_state = Whole at; finds = h.head; come = refl }
 
 -- ---- taking failed
 
@@ -71,17 +71,17 @@ pub read_failed : {B : Type 0} (ledger : B → Ledger) (at : ℕ) (office : Offi
 read_failed ledger at office take.Read old new remaining later given later_given last empty reads keeps = record {
   read = reads.0.chunk;
   takes = reads.0.consumed;
-  does = record { goes_on = subst (GoesOn routes) (came_is old new remaining later empty reads.0) reads.1; nothing = keeps; unchanged = refl };
+  does = record { goes_on = subst (IsUnfinished routes) (came_is old new remaining later empty reads.0) reads.1; nothing = keeps; unchanged = refl };
 }
 read_failed ledger at office take.Short old new remaining later given later_given last empty reads keeps = record {
   read = reads.0.chunk;
   takes = reads.0.consumed;
-  does = (record { goes_on = subst (GoesOn routes) (came_is old new remaining later empty reads.0) reads.1; nothing = keeps; unchanged = refl }, reads.2);
+  does = (record { goes_on = subst (IsUnfinished routes) (came_is old new remaining later empty reads.0) reads.1; nothing = keeps; unchanged = refl }, reads.2);
 }
 read_failed ledger at office take.TurnsUsed old new remaining later given later_given last empty reads keeps = record {
   read = reads.0.chunk;
   takes = reads.0.consumed;
-  does = record { goes_on = subst (GoesOn routes) (came_is old new remaining later empty reads.0) reads.1; nothing = keeps; unchanged = refl };
+  does = record { goes_on = subst (IsUnfinished routes) (came_is old new remaining later empty reads.0) reads.1; nothing = keeps; unchanged = refl };
 }
 
 pub head_failed : (fault : TakeFault) (old new : List ℕ) (remaining later given later_given : Option (List ℕ)) (last : Option LastTake)
@@ -116,7 +116,7 @@ does_reply ledger at old new link read (Err TurnsUsed) end replies = absurd end
 
 pub replied : {B : Type 0} (ledger : B → Ledger) (at : ℕ) (old new : Office B) (inbox full : Inbox) (seen : List ℕ) (result : Result (Unit {0}) HandleFault)
     (remaining mid later given given_mid later_given : Option (List ℕ)) (was between last : Option LastTake)
-    → bytes_in inbox ≡ [] → seen ≡ bytes_in full → Came (bytes_in inbox) (bytes_in full) remaining mid → StopsAtOnce (GoesOn routes) inbox full was between → Keeps given given_mid
+    → bytes_in inbox ≡ [] → seen ≡ bytes_in full → Came (bytes_in inbox) (bytes_in full) remaining mid → StopsAtOnce (IsUnfinished routes) inbox full was between → Keeps given given_mid
     → Keeps mid later → last ≡ between → IsEnd result → HasHead (bytes_in full)
     → After ledger old new (λ past. GivesReply ledger past at old new given_mid later_given seen result)
     → Handles ledger at old new (passage remaining later given later_given last) result
@@ -128,7 +128,7 @@ replied ledger at old new inbox full seen result remaining mid later given given
       takes = Consumes-kept remaining mid later came.chunk came.consumed rest;
       does = does_reply ledger at old new (passage remaining later given later_given last) came.chunk result end (record {
         head = subst HasHead all head;
-        stops = subst (StopsReading came.chunk) (sym same) (stopped (GoesOn routes) (λ bytes h. h) inbox full was between came.chunk empty all stops);
+        stops = subst (StopsReading came.chunk) (sym same) (stopped (IsUnfinished routes) (λ bytes h. h) inbox full was between came.chunk empty all stops);
         replies = λ past stands clean.
             let one = subst (λ r. GivesReply ledger past at old new given_mid later_given r result) is (gives past stands clean) in
             record {
@@ -255,12 +255,12 @@ bare_does link read (Ok x) h = h
 bare_does link read (Err e) h = h
 
 -- what was given where a head was read
-pub bare_replied : (inbox full : Inbox) (look : Look) (sent : Result (Unit {0}) LinkFailed) (result : Result (Unit {0}) HandleFault)
+pub bare_replied : (inbox full : Inbox) (head_state : HeadState) (sent : Result (Unit {0}) LinkFailed) (result : Result (Unit {0}) HandleFault)
     (remaining mid later given given_mid later_given : Option (List ℕ)) (was between last : Option LastTake)
-    → bytes_in inbox ≡ [] → ReadsHead (Ok look) (bytes_in inbox) (bytes_in full) remaining mid → StopsAtOnce IsOpenHead inbox full was between → Keeps given given_mid
+    → bytes_in inbox ≡ [] → ReadsHead (Ok head_state) (bytes_in inbox) (bytes_in full) remaining mid → StopsAtOnce IsOpenHead inbox full was between → Keeps given given_mid
     → Keeps mid later → last ≡ between → result ≡ ended sent None → Gives sent given_mid later_given (reply_bytes (refused refusal.Memory))
     → HandlesBare (passage remaining later given later_given last) result
-bare_replied inbox full look sent result remaining mid later given given_mid later_given was between last empty reads stops keeps rest same is gives =
+bare_replied inbox full head_state sent result remaining mid later given given_mid later_given was between last empty reads stops keeps rest same is gives =
     let came = reads.0 in
     let all = came_is (bytes_in inbox) (bytes_in full) remaining mid empty came in
     let link = passage remaining later given later_given last in
@@ -270,7 +270,7 @@ bare_replied inbox full look sent result remaining mid later given given_mid lat
       does = bare_does link came.chunk sent (record {
         sent = sent;
         ends = refl;
-        head = record { look = look; finds = subst (λ bytes. Looks bytes look) all reads.1; come = reads.2 };
+        head = record { head_state = head_state; finds = subst (λ bytes. Looks bytes head_state) all reads.1; come = reads.2 };
         stops = subst (StopsReading came.chunk) (sym same) (stopped IsOpenHead (λ bytes h. inl h) inbox full was between came.chunk empty all stops);
         gives = gives_since sent given given_mid later_given (reply_bytes (refused refusal.Memory)) keeps gives;
       });

@@ -11,14 +11,14 @@ use Rattle.office_books.specs.Ledgers.{Ledger}
 use Rattle.office_core.specs.Standing.{After}
 use Rattle.office_core.specs.declared.office.Office.{Office}
 use Rattle.http_request.specs.Head.Heads.{Looks, is_open}
-use Rattle.http_request.specs.declared.head.head.Look.{Look}
+use Rattle.http_request.specs.declared.head.head.HeadState.{HeadState}
 use Rattle.http_request.specs.Reading.HeadAndBody.{TakesWhatLacks}
 use Rattle.http_request.specs.declared.reading.inbox.TheConstants.{MOST_TAKES}
 use Rattle.http_request.specs.declared.reading.inbox.TakeFault.{TakeFault}
 use Rattle.http_request.specs.declared.reading.inbox.TakeFault.TheVariants as take
 use Rattle.http_answer.specs.Sending.Giving.{Gives}
 use Rattle.http_request.specs.Routing.Routes.{routes}
-use Rattle.http_request.specs.Whole.Whole.{GoesOn}
+use Rattle.http_request.specs.Whole.Whole.{IsUnfinished}
 use Rattle.http_answer.specs.Replies.{refused, reply_bytes}
 use Rattle.office_http.specs.Serving.{Serves}
 use Rattle.office_http.specs.declared.fault.HandleFault.{HandleFault}
@@ -84,13 +84,13 @@ passage remaining later_remaining given later_given last = record {
 
 -- Nothing more was taken once what was read contained a request, or a bad head: before the last take it went on.
 abbrev pub StopsReading : (read : List ℕ) → Option LastTake → Type 0
-StopsReading read last = (read ≡ []) ⊎ TakesWhatLacks (GoesOn routes) [] read last
+StopsReading read last = (read ≡ []) ⊎ TakesWhatLacks (IsUnfinished routes) [] read last
 
 -- What was read holds a head, or a bad one.
 pub record HasHead (read : List ℕ) : Type 0 where
-  pub look : Look
-  pub finds : Looks read look
-  pub come : is_open look ≡ false
+  pub head_state : HeadState
+  pub finds : Looks read head_state
+  pub come : is_open head_state ≡ false
 
 -- A reply is answered to what was read. Of what was put of it all was given, or at Write a beginning.
 pub record GivesReply {B : Type 0} (ledger : B → Ledger) (past : History) (at : ℕ)
@@ -122,7 +122,7 @@ pub record Replies {B : Type 0} (ledger : B → Ledger) (at : ℕ) (old new : Of
 
 -- What was read holds no request and no bad head: nothing was given, and the office is as it was.
 pub record ReadsOn {B : Type 0} (old new : Office B) (link : Passage) (read : List ℕ) : Type 0 where
-  pub goes_on : GoesOn routes read
+  pub goes_on : IsUnfinished routes read
   pub nothing : Keeps link.given link.later_given
   pub unchanged : new ≡ old
 
@@ -164,7 +164,7 @@ pub record RepliesBare (link : Passage) (read : List ℕ) (result : Result (Unit
   pub gives : Gives sent link.given link.later_given (reply_bytes (refused refusal.Memory))
 
 pub record ReadsOnBare (link : Passage) (read : List ℕ) : Type 0 where
-  pub goes_on : GoesOn routes read
+  pub goes_on : IsUnfinished routes read
   pub nothing : Keeps link.given link.later_given
 
 abbrev pub DoesBare : Passage → (read : List ℕ) → Result (Unit {0}) HandleFault → Type 0

@@ -7,7 +7,7 @@ ghost use Rattle.office_http.specs.Serving.{AreDaysAsked, AreIntervalsAsked, IsP
 
 use crate::rows::{Replied, RowLines};
 use crate::wants::Want;
-use http_answer::{Outlet, kind_answered, name_asked, number_asked, put_command_fault, put_done, put_fault, put_meter, put_poll, put_refusal};
+use http_answer::{ReplyWriter, kind_answered, name_asked, number_asked, put_command_fault, put_done, put_fault, put_meter, put_poll, put_refusal};
 use http_request::{Found, Route};
 use mb_wire::Link;
 use meter_journal::{interval_rows_are_accounts, rows_lie_within, voids_go_no_further};
@@ -32,15 +32,15 @@ fn put_asked<'l, L: Link, B: Books>(
     asked: Asked,
     office: &mut Office<B>,
     moment: u64,
-    mut outlet: Outlet<'l, L>,
+    mut writer: ReplyWriter<'l, L>,
 ) -> Replied<'l, L>
     requires { IsAskedFor routes bytes.now asked }
     ensures { PutsReply B.ledger moment bytes.now office.old office.new
-        outlet.entry result.outlet result.cut }
+        writer.entry result.writer result.cut }
 {
     let answer = office.feed(moment, &Event::Asked(asked));
-    put_done(told(answer), &mut outlet);
-    Replied { outlet, cut: None }
+    put_done(told(answer), &mut writer);
+    Replied { writer, cut: None }
 }
 
 // Asks for the poll of a number.
@@ -49,21 +49,21 @@ fn put_poll_asked<'l, L: Link, B: Books>(
     number: Option<u64>,
     office: &mut Office<B>,
     moment: u64,
-    mut outlet: Outlet<'l, L>,
+    mut writer: ReplyWriter<'l, L>,
 ) -> Replied<'l, L>
     requires { IsPollAsked bytes.now number }
     ensures { PutsReply B.ledger moment bytes.now office.old office.new
-        outlet.entry result.outlet result.cut }
+        writer.entry result.writer result.cut }
 {
     match number {
         None => {
-            put_refusal(Refusal::NotFound, &mut outlet);
-            Replied { outlet, cut: None }
+            put_refusal(Refusal::NotFound, &mut writer);
+            Replied { writer, cut: None }
         }
         Some(number) => {
             let answer = office.poll(number);
-            put_poll(&answer, &mut outlet);
-            Replied { outlet, cut: None }
+            put_poll(&answer, &mut writer);
+            Replied { writer, cut: None }
         }
     }
 }
@@ -74,17 +74,17 @@ fn put_intervals<'l, L: Link, B: Books>(
     meter: &Option<Name>,
     office: &mut Office<B>,
     moment: u64,
-    outlet: Outlet<'l, L>,
+    writer: ReplyWriter<'l, L>,
 ) -> Replied<'l, L>
     requires { AreIntervalsAsked bytes.now meter.now }
     ensures { PutsReply B.ledger moment bytes.now office.old office.new
-        outlet.entry result.outlet result.cut }
+        writer.entry result.writer result.cut }
 {
     facts_are_lawful();
     interval_rows_are_accounts();
     rows_lie_within();
     voids_go_no_further();
-    let mut lines = RowLines::new(outlet);
+    let mut lines = RowLines::new(writer);
     let answer = office.intervals(meter, &mut lines);
     lines.end(answer)
 }
@@ -95,13 +95,13 @@ fn put_days<'l, L: Link, B: Books>(
     register: &Option<Name>,
     office: &mut Office<B>,
     moment: u64,
-    outlet: Outlet<'l, L>,
+    writer: ReplyWriter<'l, L>,
 ) -> Replied<'l, L>
     requires { AreDaysAsked bytes.now register.now }
     ensures { PutsReply B.ledger moment bytes.now office.old office.new
-        outlet.entry result.outlet result.cut }
+        writer.entry result.writer result.cut }
 {
-    let mut lines = RowLines::new(outlet);
+    let mut lines = RowLines::new(writer);
     let answer = office.days(register, &mut lines);
     lines.end(answer)
 }
@@ -112,21 +112,21 @@ fn put_question<'l, L: Link, B: Books>(
     found: &Found<'_>,
     office: &mut Office<B>,
     moment: u64,
-    mut outlet: Outlet<'l, L>,
+    mut writer: ReplyWriter<'l, L>,
 ) -> Replied<'l, L>
     requires { IsQuestion routes bytes.now found.now }
     ensures { PutsReply B.ledger moment bytes.now office.old office.new
-        outlet.entry result.outlet result.cut }
+        writer.entry result.writer result.cut }
 {
     match found.route {
         Route::Meter => {
             let answer = office.meter(&name_asked(found.name));
-            put_meter(&answer, &mut outlet);
-            Replied { outlet, cut: None }
+            put_meter(&answer, &mut writer);
+            Replied { writer, cut: None }
         }
-        Route::Poll => put_poll_asked(bytes, number_asked(found.name), office, moment, outlet),
-        Route::Intervals => put_intervals(bytes, &name_asked(found.name), office, moment, outlet),
-        Route::Days => put_days(bytes, &name_asked(found.name), office, moment, outlet),
+        Route::Poll => put_poll_asked(bytes, number_asked(found.name), office, moment, writer),
+        Route::Intervals => put_intervals(bytes, &name_asked(found.name), office, moment, writer),
+        Route::Days => put_days(bytes, &name_asked(found.name), office, moment, writer),
         Route::Devices
         | Route::List
         | Route::Registers
@@ -146,23 +146,23 @@ pub fn put_reply<'l, L: Link, B: Books>(
     want: Want<'_>,
     office: &mut Office<B>,
     moment: u64,
-    mut outlet: Outlet<'l, L>,
+    mut writer: ReplyWriter<'l, L>,
 ) -> Replied<'l, L>
     requires wants { Wants routes bytes.now want }
     requires few { HasFewFaults want }
     ensures { PutsReply B.ledger moment bytes.now office.old office.new
-        outlet.entry result.outlet result.cut }
+        writer.entry result.writer result.cut }
 {
     match want {
-        Want::Nothing(status) => {
-            put_fault(status, &mut outlet);
-            Replied { outlet, cut: None }
+        Want::Rejected(status) => {
+            put_fault(status, &mut writer);
+            Replied { writer, cut: None }
         }
         Want::Refused(why) => {
-            put_command_fault(&why, &mut outlet);
-            Replied { outlet, cut: None }
+            put_command_fault(&why, &mut writer);
+            Replied { writer, cut: None }
         }
-        Want::Answer(found) => put_question(bytes, &found, office, moment, outlet),
-        Want::Command(asked) => put_asked(bytes, asked, office, moment, outlet),
+        Want::Answer(found) => put_question(bytes, &found, office, moment, writer),
+        Want::Command(asked) => put_asked(bytes, asked, office, moment, writer),
     }
 }

@@ -13,7 +13,7 @@ use crate::answers::put_reply;
 use crate::fault::HandleFault;
 use crate::rows::Replied;
 use crate::wants::{Want, wanted};
-use http_answer::{Outlet, put_refusal};
+use http_answer::{ReplyWriter, put_refusal};
 use http_request::{Inbox, MOST_BYTES, MOST_ROOM, Route, read_head, read_request, router};
 use matchit::Router;
 use mb_wire::{Link, LinkFailed};
@@ -43,10 +43,10 @@ fn refuse<L: Link>(link: &mut L) -> Result<(), HandleFault>
     let mut room = [0; MOST_BYTES];
     let mut inbox = Inbox::new(&mut room);
     read_head(&mut inbox, link)?;
-    let mut outlet = Outlet::new(link);
-    put_refusal(Refusal::Memory, &mut outlet);
-    let sent = outlet.finish();
-    outlet.into_link();
+    let mut writer = ReplyWriter::new(link);
+    put_refusal(Refusal::Memory, &mut writer);
+    let sent = writer.finish();
+    writer.into_link();
     ended(sent, None)
 }
 
@@ -69,10 +69,10 @@ fn reply<L: Link, B: Books>(
     ensures takes { L.taken link.new ≡ L.taken link.old }
     ensures lasts { Lasts B.ledger office.old office.new }
 {
-    let outlet = Outlet::new(link);
-    let Replied { mut outlet, cut } = put_reply(bytes, want, office, moment, outlet);
-    let sent = outlet.finish();
-    outlet.into_link();
+    let writer = ReplyWriter::new(link);
+    let Replied { mut writer, cut } = put_reply(bytes, want, office, moment, writer);
+    let sent = writer.finish();
+    writer.into_link();
     ended(sent, cut)
 }
 
@@ -94,8 +94,8 @@ fn serve<L: Link, B: Books>(
     ensures lasts { Lasts B.ledger office.old office.new }
 {
     let mut inbox = Inbox::new(room);
-    let look = read_request(router, &mut inbox, link)?;
-    let want = wanted(alloc, router, inbox.bytes(), &look);
+    let head_state = read_request(router, &mut inbox, link)?;
+    let want = wanted(alloc, router, inbox.bytes(), &head_state);
     reply(inbox.bytes(), want, link, office, moment)
 }
 

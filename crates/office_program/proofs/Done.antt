@@ -1,6 +1,6 @@
 -- What was done with an office that was opened.
 use Rattle.std.proofs.Common.{◌≡◌, ◌⊎◌, inl, inr, ℕ, List, Option, Result, ◌∷◌, refl, sym, subst}
-use Rattle.command_io.specs.declared.status.Status.{Status}
+use Rattle.command_io.specs.declared.status.ExitStatus.{ExitStatus}
 use Rattle.office_events.specs.Names.{named}
 use Rattle.office_rules.specs.History.{History, Opened}
 use Rattle.office_books.specs.Ledgers.{Ledger}
@@ -9,15 +9,15 @@ use Rattle.office_core.specs.Taking.{failures_of}
 use Rattle.office_core.specs.declared.office.Office.{Office}
 use Rattle.office_program.specs.Texts.OpenedOffice.{Opens}
 use Rattle.office_program.specs.Texts.Reports.{Asks, ReportPrints}
-use Rattle.office_program.specs.Texts.EndTexts.{Tells}
+use Rattle.office_program.specs.Texts.EndTexts.{TellsEnd}
 use Rattle.office_program.specs.Opened.{WithOffice}
 use Rattle.office_program.specs.Report.{Reports, TellsReport}
 use Rattle.office_program.specs.HttpPort.{Serves, ServesPort, TellsServing}
-use Rattle.office_program.specs.declared.http_port.Serving.{Serving}
-use Rattle.office_program.specs.declared.http_port.Serving.TheVariants.{Served, Unopened, NoPort, Broken}
+use Rattle.office_program.specs.declared.http_port.ServeEnd.{ServeEnd}
+use Rattle.office_program.specs.declared.http_port.ServeEnd.TheVariants.{Served, Unopened, NoPort, Broken}
 use Rattle.office_program.specs.PortRound.{PollsPort, TellsPolling}
-use Rattle.office_program.specs.declared.port_round.Polling.{Polling}
-use Rattle.office_program.specs.declared.port_round.Polling.TheVariants as polling
+use Rattle.office_program.specs.declared.port_round.PollEnd.{PollEnd}
+use Rattle.office_program.specs.declared.port_round.PollEnd.TheVariants as polling
 
 -- books that are handed back are as clean as those of the office that was left
 kept : {B : Type 0} (ledger : B → Ledger) (left : Office B) (back : B) → back ≡ books_in left → (ledger back).is_clean
@@ -26,20 +26,20 @@ kept {B = B} ledger left back is clean = let P : B → Type 0 = λ b. (ledger b)
 
 pub reported : {B W : Type 0} (ledger : B → Ledger) (contents : W → Option (List ℕ)) (past : History) (register : List ℕ)
     (name : Option (List ℕ)) (moments later : Option (List ℕ)) (books back : B) (opened left : Office B) (before silent : W)
-    (holds : Option (List ℕ)) (status : Status)
+    (holds : Option (List ℕ)) (status : ExitStatus)
     → name ≡ named register
     → ((ledger (books_in opened)).is_clean → Opens ledger past moments later opened)
     → silent ≡ before
-    → After ledger opened left (λ behind. Tells (ReportPrints (ledger (books_in opened)).zone behind name
+    → After ledger opened left (λ behind. TellsEnd (ReportPrints (ledger (books_in opened)).zone behind name
     (failures_of ledger opened) (failures_of ledger left)) status (contents silent) holds)
     → Asks ledger opened left → back ≡ books_in left → (ledger back).is_clean
     → TellsReport ledger past register moments later books back (contents before) holds status
 reported {W = W} ledger contents past register name moments later books back opened left before silent holds status names opens same prints asks is clean =
     let whole = kept ledger left back is clean in
     let behind = opens (asks.only.clean whole) in
-    let P : W → Type 0 = λ w. Tells (ReportPrints (ledger (books_in opened)).zone (Opened behind.at ∷ past) name
+    let P : W → Type 0 = λ w. TellsEnd (ReportPrints (ledger (books_in opened)).zone (Opened behind.at ∷ past) name
     (failures_of ledger opened) (failures_of ledger left)) status (contents w) holds in
-    let Q : Option (List ℕ) → Type 0 = λ n. Tells (ReportPrints (ledger (books_in opened)).zone (Opened behind.at ∷ past) n
+    let Q : Option (List ℕ) → Type 0 = λ n. TellsEnd (ReportPrints (ledger (books_in opened)).zone (Opened behind.at ∷ past) n
     (failures_of ledger opened) (failures_of ledger left)) status (contents before) holds in
     inr (record {
       then = later;
@@ -55,7 +55,7 @@ reported {W = W} ledger contents past register name moments later books back ope
     })
 
 pub served : {B : Type 0} (ledger : B → Ledger) (past : History) (connections : ℕ) (moments then later : Option (List ℕ))
-    (books back : B) (opened left : Office B) (had holds : Option (List ℕ)) (end : Serving)
+    (books back : B) (opened left : Office B) (had holds : Option (List ℕ)) (end : ServeEnd)
     → ((ledger (books_in opened)).is_clean → Opens ledger past moments then opened)
     → ((ledger (books_in left)).is_clean → (ledger (books_in opened)).is_clean)
     → After ledger opened left (λ behind. ServesPort connections ledger behind opened left end)
@@ -100,7 +100,7 @@ served ledger past connections moments then later books back opened left had hol
 
 pub polled : {B W : Type 0} (ledger : B → Ledger) (contents : W → Option (List ℕ)) (past : History) (device : List ℕ)
     (moments then later : Option (List ℕ)) (books back : B) (opened left : Office B) (before silent : W)
-    (holds : Option (List ℕ)) (end : Polling)
+    (holds : Option (List ℕ)) (end : PollEnd)
     → ((ledger (books_in opened)).is_clean → Opens ledger past moments then opened)
     → silent ≡ before
     → ((ledger (books_in left)).is_clean → (ledger (books_in opened)).is_clean)

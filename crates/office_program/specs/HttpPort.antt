@@ -1,4 +1,4 @@
--- Serving over books.
+-- ServeEnd over books.
 use Rattle.std.specs.Prelude.{◌≡◌, ℕ, List, Option}
 use Rattle.office_rules.specs.History.{History}
 use Rattle.office_books.specs.Ledgers.{Ledger}
@@ -6,12 +6,12 @@ use Rattle.office_core.specs.declared.office.Office.{Office}
 use Rattle.office_http.specs.Connections.Connections.{ServesUpTo}
 use Rattle.office_program.specs.Texts.OpenedOffice.{TellsUnopened}
 use Rattle.office_program.specs.Opened.{WithOffice}
-use Rattle.office_program.specs.declared.http_port.Serving.{Serving}
-use Rattle.office_program.specs.declared.http_port.Serving.TheVariants.{Served, Unopened, NoPort, Broken}
+use Rattle.office_program.specs.declared.http_port.ServeEnd.{ServeEnd}
+use Rattle.office_program.specs.declared.http_port.ServeEnd.TheVariants.{Served, Unopened, NoPort, Broken}
 
 -- What serving on a port leaves of an office: as many requests at most, or none where there is no port.
 abbrev pub ServesPort : {B : Type 0} → (connections : ℕ) → (B → Ledger) → (past : History)
-    → (opened left : Office B) → Serving → Type 0
+    → (opened left : Office B) → ServeEnd → Type 0
 ServesPort connections ledger past opened left NoPort = left ≡ opened
 ServesPort connections ledger past opened left Served = ServesUpTo connections ledger past left
 ServesPort connections ledger past opened left Broken = ServesUpTo connections ledger past left
@@ -19,7 +19,7 @@ ServesPort connections ledger past opened left (Unopened status) = ⊥
 
 -- The office served so on a port, and nothing was printed.
 pub record Serves {B : Type 0} (ledger : B → Ledger) (connections : ℕ) (had holds : Option (List ℕ))
-    (end : Serving)
+    (end : ServeEnd)
     (behind : History) (then : Option (List ℕ)) (opened left : Office B) : Type 0 where
   pub serves : ServesPort connections ledger behind opened left end
   pub silent : holds ≡ had
@@ -27,7 +27,7 @@ pub record Serves {B : Type 0} (ledger : B → Ledger) (connections : ℕ) (had 
 -- The opening was refused, and that alone was printed; or the office was opened, and served.
 abbrev pub TellsServing : {B : Type 0} → (B → Ledger) → (past : History) → (connections : ℕ)
     → (moments later : Option (List ℕ)) → (books back : B) → (had holds : Option (List ℕ))
-    → Serving → Type 0
+    → ServeEnd → Type 0
 TellsServing ledger past connections moments later books back had holds (Unopened status) =
     TellsUnopened past moments later (ledger books) (ledger back) status had holds
 TellsServing ledger past connections moments later books back had holds end =

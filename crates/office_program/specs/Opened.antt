@@ -7,7 +7,7 @@ use Rattle.office_core.specs.Standing.{books_in}
 use Rattle.office_core.specs.declared.office.Office.{Office}
 use Rattle.office_program.specs.Texts.OpenedOffice.{Opens}
 
--- The office was opened, and printed nothing of it; this was done with it behind its opening, between what was opened and
+-- The office was opened, and printed nothing of it; this was done with it after its opening, between what was opened and
 -- what was left, from what the clock would tell then on; and the books of that are handed back.
 pub record WithOffice {B : Type 0} (ledger : B → Ledger) (past : History)
     (moments : Option (List ℕ)) (back : B)
@@ -20,7 +20,7 @@ pub record WithOffice {B : Type 0} (ledger : B → Ledger) (past : History)
   pub does : Does (Opened opens.at ∷ past) then opened left
   pub handed : back ≡ books_in left
 
--- Of books that stand behind what was accepted before this is told, if no wrong answer of a store was taken as true by the
+-- Of books that stand after what was accepted before this is told, if no wrong answer of a store was taken as true by the
 -- time that they are handed back.
 abbrev pub OverStanding : {B : Type 0} → (B → Ledger) → (books back : B)
     → (Tells : (past : History) → Type 0) → Type 0

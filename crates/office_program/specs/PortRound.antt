@@ -9,13 +9,13 @@ use Rattle.office_books.specs.declared.books.Books as stores
 use Rattle.office_core.specs.Standing.{After}
 use Rattle.office_core.specs.Taking.{failures_of}
 use Rattle.office_core.specs.declared.office.Office.{Office}
-use Rattle.office_rounds.specs.Rounds.{Wire, desk, passage}
+use Rattle.office_rounds.specs.Rounds.{Wire, round_state, passage}
 use Rattle.office_rounds.specs.declared.fault.RoundFault.{RoundFault}
 use Rattle.office_program.specs.Texts.OpenedOffice.{TellsUnopened}
 use Rattle.office_program.specs.Texts.Rounds.{PollsRound}
 use Rattle.office_program.specs.Opened.{OverStanding, WithOffice}
-use Rattle.office_program.specs.declared.port_round.Polling.{Polling}
-use Rattle.office_program.specs.declared.port_round.Polling.TheVariants.{Polled, Unopened, Unconnected}
+use Rattle.office_program.specs.declared.port_round.PollEnd.{PollEnd}
+use Rattle.office_program.specs.declared.port_round.PollEnd.TheVariants.{Polled, Unopened, Unconnected}
 
 -- What a round at a port leaves of an office, and prints: the round, over some link; or nothing, where there is no device.
 pub record IsPolled {B : Type 0} (ledger : B → Ledger) (device : List ℕ)
@@ -24,8 +24,8 @@ pub record IsPolled {B : Type 0} (ledger : B → Ledger) (device : List ℕ)
   pub from : Wire
   pub to : Wire
   pub polls : PollsRound ledger (named device) behind
-      (passage (desk had then (failures_of ledger opened))
-      (desk holds later (failures_of ledger left)) from to) left done
+      (passage (round_state had then (failures_of ledger opened))
+      (round_state holds later (failures_of ledger left)) from to) left done
 
 pub record IsLeft {B : Type 0} (had holds : Option (List ℕ)) (opened left : Office B)
     : Type 0 where
@@ -33,7 +33,7 @@ pub record IsLeft {B : Type 0} (had holds : Option (List ℕ)) (opened left : Of
   pub silent : holds ≡ had
 
 abbrev pub PollsPort : {B : Type 0} → (B → Ledger) → (device : List ℕ)
-    → (later had holds : Option (List ℕ)) → Polling
+    → (later had holds : Option (List ℕ)) → PollEnd
     → (behind : History) → (then : Option (List ℕ)) → (opened left : Office B) → Type 0
 PollsPort ledger device later had holds (Polled done) behind then opened left =
     IsPolled ledger device later had holds done behind then opened left
@@ -43,7 +43,7 @@ PollsPort ledger device later had holds (Unopened status) behind then opened lef
 
 -- So it is of an office that is open, the clock and the writer, each as it was found and as it was left.
 abbrev pub PollsPortOf : {B C W : Type 0} → stores.Ghosts B → clocks.Ghosts C → writers.Ghosts W
-    → (device : List ℕ) → (old new : Office B) → (before after : C) → (had holds : W) → Polling
+    → (device : List ℕ) → (old new : Office B) → (before after : C) → (had holds : W) → PollEnd
     → Type 0
 PollsPortOf b c w device old new before after had holds end =
     After b.ledger old new (λ past. PollsPort b.ledger device (c.moments after) (w.contents had)
@@ -52,7 +52,7 @@ PollsPortOf b c w device old new before after had holds end =
 -- The opening was refused, and that alone was printed; or the office was opened, and polled.
 abbrev pub TellsPolling : {B : Type 0} → (B → Ledger) → (past : History) → (device : List ℕ)
     → (moments later : Option (List ℕ)) → (books back : B) → (had holds : Option (List ℕ))
-    → Polling → Type 0
+    → PollEnd → Type 0
 TellsPolling ledger past device moments later books back had holds (Unopened status) =
     TellsUnopened past moments later (ledger books) (ledger back) status had holds
 TellsPolling ledger past device moments later books back had holds end =
@@ -60,7 +60,7 @@ TellsPolling ledger past device moments later books back had holds end =
 
 -- So it is of the books, the clock and the writer, each as it was found and as it was left.
 abbrev pub PollsOver : {B C W : Type 0} → stores.Ghosts B → clocks.Ghosts C → writers.Ghosts W
-    → (device : List ℕ) → (books back : B) → (before after : C) → (had holds : W) → Polling → Type 0
+    → (device : List ℕ) → (books back : B) → (before after : C) → (had holds : W) → PollEnd → Type 0
 PollsOver b c w device books back before after had holds end =
     OverStanding b.ledger books back (λ past. TellsPolling b.ledger past device (c.moments before)
     (c.moments after) books back (w.contents had) (w.contents holds) end)

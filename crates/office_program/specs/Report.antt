@@ -2,7 +2,7 @@
 use Rattle.std.specs.Prelude.{◌≡◌, ◌⊎◌, ℕ, List, Option}
 use Rattle.std.specs.declared.io.Write as writers
 use Rattle.socket_link.specs.declared.clock.Clock as clocks
-use Rattle.command_io.specs.declared.status.Status.{Status}
+use Rattle.command_io.specs.declared.status.ExitStatus.{ExitStatus}
 use Rattle.office_events.specs.Names.{named}
 use Rattle.office_rules.specs.History.{History}
 use Rattle.office_books.specs.Ledgers.{Ledger}
@@ -12,14 +12,14 @@ use Rattle.office_core.specs.Taking.{failures_of}
 use Rattle.office_core.specs.declared.office.Office.{Office}
 use Rattle.office_program.specs.Texts.OpenedOffice.{TellsUnopened}
 use Rattle.office_program.specs.Texts.Reports.{ReportPrints}
-use Rattle.office_program.specs.Texts.EndTexts.{Tells}
+use Rattle.office_program.specs.Texts.EndTexts.{TellsEnd}
 use Rattle.office_program.specs.Opened.{OverStanding, WithOffice}
 
 -- All days of the register were printed, or why there are none; and the office was only asked.
 pub record Reports {B : Type 0} (ledger : B → Ledger) (register later had holds : Option (List ℕ))
-    (status : Status) (behind : History) (then : Option (List ℕ)) (opened left : Office B)
+    (status : ExitStatus) (behind : History) (then : Option (List ℕ)) (opened left : Office B)
     : Type 0 where
-  pub prints : Tells (ReportPrints (ledger (books_in opened)).zone behind register
+  pub prints : TellsEnd (ReportPrints (ledger (books_in opened)).zone behind register
       (failures_of ledger opened) (failures_of ledger left)) status had holds
   pub stands : Stands ledger behind left
   pub once : then ≡ later
@@ -27,7 +27,7 @@ pub record Reports {B : Type 0} (ledger : B → Ledger) (register later had hold
 -- The opening was refused, and that alone was printed; or the office was opened, and reported. The clock was asked once.
 abbrev pub TellsReport : {B : Type 0} → (B → Ledger) → (past : History) → (register : List ℕ)
     → (moments later : Option (List ℕ)) → (books back : B) → (had holds : Option (List ℕ))
-    → Status → Type 0
+    → ExitStatus → Type 0
 TellsReport ledger past register moments later books back had holds status =
     TellsUnopened past moments later (ledger books) (ledger back) status had holds
     ⊎ WithOffice ledger past moments back
@@ -35,7 +35,7 @@ TellsReport ledger past register moments later books back had holds status =
 
 -- So it is of the books, the clock and the writer, each as it was found and as it was left.
 abbrev pub ReportsOver : {B C W : Type 0} → stores.Ghosts B → clocks.Ghosts C → writers.Ghosts W
-    → (register : List ℕ) → (books back : B) → (before after : C) → (had holds : W) → Status
+    → (register : List ℕ) → (books back : B) → (before after : C) → (had holds : W) → ExitStatus
     → Type 0
 ReportsOver b c w register books back before after had holds end =
     OverStanding b.ledger books back (λ past. TellsReport b.ledger past register (c.moments before)

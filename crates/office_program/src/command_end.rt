@@ -2,7 +2,7 @@
 
 /// The books that a command hands back, and how it ended.
 #[derive(Drop)]
-pub struct Ended<B, E> {
+pub struct CommandEnd<B, E> {
     pub books: B,
     pub end: E,
 }

@@ -6,9 +6,9 @@ ghost use Rattle.office_rules.specs.History.{History};
 ghost use Rattle.office_program.specs.Texts.Passing.{Lasts};
 ghost use Rattle.office_program.specs.HttpPort.{ServesPort, TellsServing};
 
-use crate::command_end::Ended;
+use crate::command_end::CommandEnd;
 use crate::texts::open_office;
-use command_io::Status;
+use command_io::ExitStatus;
 use office_books::Books;
 use office_core::Office;
 use office_http::serve_on;
@@ -19,11 +19,11 @@ use std::net::{Net, TcpListener};
 
 /// How serving ended.
 #[derive(Clone, Copy, Debug, PartialEq, Eq)]
-pub enum Serving {
+pub enum ServeEnd {
     /// So many connections came and went.
     Served,
     /// The office was not opened, and the command ends so.
-    Unopened(Status),
+    Unopened(ExitStatus),
     /// The port can't be listened on.
     NoPort,
     /// The listener failed.
@@ -38,17 +38,17 @@ fn serve_port<R: Net, B: Books, C: Clock>(
     place: (&str, u16),
     connections: u32,
     clock: &mut C,
-) -> Serving
+) -> ServeEnd
     ensures serves { After B.ledger office.old office.new
         (λ past. ServesPort connections B.ledger past office.old office.new result) }
     ensures lasts { http.Lasts B.ledger office.old office.new }
 {
     let Ok(listener) = TcpListener::bind(net, place) else {
-        return Serving::NoPort;
+        return ServeEnd::NoPort;
     };
     match serve_on(alloc, &listener, u64::from(connections), office, clock) {
-        Ok(()) => Serving::Served,
-        Err(_) => Serving::Broken,
+        Ok(()) => ServeEnd::Served,
+        Err(_) => ServeEnd::Broken,
     }
 }
 
@@ -63,7 +63,7 @@ pub fn serve_books<R: Net, B: Books, C: Clock, W: Write>(
     connections: u32,
     clock: &mut C,
     output: &mut W,
-) -> Ended<B, Serving>
+) -> CommandEnd<B, ServeEnd>
     ensures tells { (past : History) → BooksStand (B.ledger books) past
         → (B.ledger result.books).is_clean
         → TellsServing B.ledger past connections (C.moments clock.old) (C.moments clock.new)
@@ -73,14 +73,14 @@ pub fn serve_books<R: Net, B: Books, C: Clock, W: Write>(
     match open_office(alloc, books, clock, output) {
         Ok(mut office) => {
             let end = serve_port(net, alloc, &mut office, place, connections, clock);
-            Ended {
+            CommandEnd {
                 books: office.into_books(),
                 end,
             }
         }
-        Err(unopened) => Ended {
+        Err(unopened) => CommandEnd {
             books: unopened.books,
-            end: Serving::Unopened(unopened.status),
+            end: ServeEnd::Unopened(unopened.status),
         },
     }
 }

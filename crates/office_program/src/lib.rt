@@ -7,8 +7,8 @@ mod port_round;
 mod report;
 mod texts;
 
-pub use command_end::Ended;
-pub use http_port::{Serving, serve_books};
-pub use port_round::{PATIENCE, Polling, poll_books};
+pub use command_end::CommandEnd;
+pub use http_port::{ServeEnd, serve_books};
+pub use port_round::{PATIENCE, PollEnd, poll_books};
 pub use report::report_books;
 pub use texts::{open_office, poll_round, report_days, round_status};

@@ -3,9 +3,9 @@ ghost use Rattle.office_rounds.specs.Passing as rounds;
 ghost use Rattle.office_program.specs.Texts.Passing.{Lasts};
 ghost use Rattle.office_program.specs.PortRound.{PollsOver, PollsPortOf};
 
-use crate::command_end::Ended;
+use crate::command_end::CommandEnd;
 use crate::texts::{open_office, poll_round};
-use command_io::Status;
+use command_io::ExitStatus;
 use office_books::Books;
 use office_core::Office;
 use office_events::Name;
@@ -21,11 +21,11 @@ pub const PATIENCE: u64 = 5;
 
 /// How a round ended.
 #[derive(Clone, Copy, Debug, PartialEq, Eq)]
-pub enum Polling {
+pub enum PollEnd {
     /// The round came to its end, or to a fault.
     Polled(Result<(), RoundFault>),
     /// The office was not opened, and the command ends so.
-    Unopened(Status),
+    Unopened(ExitStatus),
     /// The device was not connected.
     Unconnected,
 }
@@ -53,16 +53,16 @@ fn poll_port<R: Net, B: Books, C: Clock, W: Write>(
     place: (&str, u16),
     clock: &mut C,
     output: &mut W,
-) -> Polling
+) -> PollEnd
     ensures polls { PollsPortOf B.Books C.Clock W.Write device.now
         office.old office.new clock.old clock.new output.old output.new result }
     ensures lasts { rounds.Lasts B.ledger office.old office.new }
 {
     let Ok(mut link) = connect(net, place) else {
-        return Polling::Unconnected;
+        return PollEnd::Unconnected;
     };
     let name = Name::new(device.as_bytes());
-    Polling::Polled(poll_round(alloc, &mut link, office, name, clock, output))
+    PollEnd::Polled(poll_round(alloc, &mut link, office, name, clock, output))
 }
 
 /// Opens an office over books at the moment that the clock tells, and then polls the whole plan of a device at a port of a
@@ -76,7 +76,7 @@ pub fn poll_books<R: Net, B: Books, C: Clock, W: Write>(
     place: (&str, u16),
     clock: &mut C,
     output: &mut W,
-) -> Ended<B, Polling>
+) -> CommandEnd<B, PollEnd>
     ensures tells { PollsOver B.Books C.Clock W.Write device.now books result.books
         clock.old clock.new output.old output.new result.end }
     ensures lasts { Lasts (B.ledger books) (B.ledger result.books) }
@@ -84,14 +84,14 @@ pub fn poll_books<R: Net, B: Books, C: Clock, W: Write>(
     match open_office(alloc, books, clock, output) {
         Ok(mut office) => {
             let end = poll_port(net, alloc, &mut office, device, place, clock, output);
-            Ended {
+            CommandEnd {
                 books: office.into_books(),
                 end,
             }
         }
-        Err(unopened) => Ended {
+        Err(unopened) => CommandEnd {
             books: unopened.books,
-            end: Polling::Unopened(unopened.status),
+            end: PollEnd::Unopened(unopened.status),
         },
     }
 }

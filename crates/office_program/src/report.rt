@@ -2,9 +2,9 @@
 ghost use Rattle.office_program.specs.Texts.Passing.{Lasts};
 ghost use Rattle.office_program.specs.Report.{ReportsOver};
 
-use crate::command_end::Ended;
+use crate::command_end::CommandEnd;
 use crate::texts::{open_office, report_days};
-use command_io::Status;
+use command_io::ExitStatus;
 use office_books::Books;
 use office_events::Name;
 use socket_link::Clock;
@@ -20,7 +20,7 @@ pub fn report_books<B: Books, C: Clock, W: Write>(
     register: &str,
     clock: &mut C,
     output: &mut W,
-) -> Ended<B, Status>
+) -> CommandEnd<B, ExitStatus>
     ensures tells { ReportsOver B.Books C.Clock W.Write register.now books result.books
         clock.old clock.new output.old output.new result.end }
     ensures lasts { Lasts (B.ledger books) (B.ledger result.books) }
@@ -28,12 +28,12 @@ pub fn report_books<B: Books, C: Clock, W: Write>(
     match open_office(alloc, books, clock, output) {
         Ok(mut office) => {
             let end = report_days(&mut office, &Name::new(register.as_bytes()), output);
-            Ended {
+            CommandEnd {
                 books: office.into_books(),
                 end,
             }
         }
-        Err(unopened) => Ended {
+        Err(unopened) => CommandEnd {
             books: unopened.books,
             end: unopened.status,
         },

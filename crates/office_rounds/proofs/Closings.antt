@@ -4,7 +4,7 @@ use Rattle.std.specs.Io.KnownBytes.{Appends}
 use Rattle.std.proofs.KnownBytes.{Appends-trans}
 use Rattle.sun_points.specs.Writing.{GotPart}
 use Rattle.script_text.proofs.Got.{got_first}
-use Rattle.socket_link.specs.Clocks.{Tells}
+use Rattle.socket_link.specs.Clocks.{TellsMoment}
 use Rattle.poll_core.specs.declared.outcome.Closing.{Closing}
 use Rattle.poll_core.specs.declared.outcome.Closing.TheVariants as closing
 use Rattle.office_events.specs.declared.answers.Answer.{Answer}
@@ -21,9 +21,9 @@ use Rattle.office_core.specs.EventRun.{Answered}
 use Rattle.office_core.specs.Standing.{is_stopped}
 use Rattle.office_core.specs.declared.office.Office.{Office}
 use Rattle.office_rounds.specs.Faults.{IsPrinted}
-use Rattle.office_rounds.specs.Rounds.{Desk, IsSettled, IsToldOf, NoneWaits, gone_at}
-use Rattle.office_rounds.specs.Stepping.{Broken, Closes, EndsPrinted, EndsUnprinted, Feeds, FeedStops, IsTaken, RefusedStops, Stops, fault_behind, is_output}
-use Rattle.office_rounds.specs.FedEvents.{history_behind, text_behind, told_text}
+use Rattle.office_rounds.specs.Rounds.{RoundState, IsSettled, IsToldOf, NoneWaits, gone_at}
+use Rattle.office_rounds.specs.Stepping.{Broken, Closes, EndsPrinted, EndsUnprinted, Feeds, FeedStops, IsTaken, RefusedStops, Stops, fault_after, is_output}
+use Rattle.office_rounds.specs.FedEvents.{history_behind, text_after, told_text}
 use Rattle.office_rounds.specs.declared.fault.RoundFault.{RoundFault}
 use Rattle.office_rounds.specs.declared.fault.RoundFault.TheVariants.{Refused, Link, Output, TurnsUsed}
 use Rattle.office_rounds.specs.declared.progress.Progress.{Progress}
@@ -73,13 +73,13 @@ abbrev pub gone_one : (device : Option (List ℕ)) → (at : ℕ) → Result Ans
 gone_one device at reply = record { at = at; event = event.Gone device closing.Failed; result = reply }
 
 -- The end of a round, where this was printed of it.
-pub closes : {B : Type 0} (ledger : B → Ledger) (device : Option (List ℕ)) (past : History) (begun was now : Desk) (before office : Office B)
+pub closes : {B : Type 0} (ledger : B → Ledger) (device : Option (List ℕ)) (past : History) (begun was now : RoundState) (before office : Office B)
     (earlier : List Answered) (round : Progress) (cause fault : RoundFault) (moment at : ℕ) (reply : Result Answer Refusal)
-    → Broken ledger device past begun was before earlier round cause → Tells was.moments now.moments moment
+    → Broken ledger device past begun was before earlier round cause → TellsMoment was.moments now.moments moment
     → at ≡ gone_at round.latest moment
     → IsTaken ledger (history_behind past earlier) at (event.Gone device closing.Failed) reply was now office
     → RefusedStops (is_stopped before) (event.Gone device closing.Failed) reply (is_stopped office) → IsToldOf cause fault
-    → IsPrinted {X = Unit {0}} (Err fault) (text_behind past (gone_one device at reply ∷ earlier)) begun.printed now.printed
+    → IsPrinted {X = Unit {0}} (Err fault) (text_after past (gone_one device at reply ∷ earlier)) begun.printed now.printed
     → Closes ledger device past begun now office earlier cause fault
 closes ledger device past begun was now before office earlier round cause fault moment at reply broken tells is taken stops told printed =
     let history = history_behind past earlier in
@@ -116,30 +116,30 @@ pub part_of_more : (a b : Option (List ℕ)) (text more : List ℕ) → GotPart 
 part_of_more a b text more got =
     let failed : Result (Unit {0}) (Unit {0}) = Err tt in got_first failed a b text more (text ++ more) refl got refl
 
-told_behind : {B : Type 0} (ledger : B → Ledger) (device : Option (List ℕ)) (past : History) (begun was now : Desk) (before office : Office B)
+told_after : {B : Type 0} (ledger : B → Ledger) (device : Option (List ℕ)) (past : History) (begun was now : RoundState) (before office : Office B)
     (earlier : List Answered) (round : Progress) (cause fault : RoundFault) (moment at : ℕ) (reply : Result Answer Refusal)
-    → Broken ledger device past begun was before earlier round cause → (cause ≡ Output → ⊥) → Tells was.moments now.moments moment
+    → Broken ledger device past begun was before earlier round cause → (cause ≡ Output → ⊥) → TellsMoment was.moments now.moments moment
     → at ≡ gone_at round.latest moment
     → IsTaken ledger (history_behind past earlier) at (event.Gone device closing.Failed) reply was now office
     → RefusedStops (is_stopped before) (event.Gone device closing.Failed) reply (is_stopped office)
     → ((fault ≡ cause) × Appends was.printed now.printed (told_text (history_behind past earlier) at (event.Gone device closing.Failed) reply))
     ⊎ ((fault ≡ Output) × GotPart (told_text (history_behind past earlier) at (event.Gone device closing.Failed) reply) was.printed now.printed)
     → Closes ledger device past begun now office earlier cause fault
-told_behind ledger device past begun was now before office earlier round cause fault moment at reply broken other tells is taken stops (inl told) =
+told_after ledger device past begun was now before office earlier round cause fault moment at reply broken other tells is taken stops (inl told) =
     let P : RoundFault → Type 0 = λ f. Closes ledger device past begun now office earlier cause f in
     subst P (sym told.0)
     (closes ledger device past begun was now before office earlier round cause cause moment at reply broken tells is taken stops (inl refl)
-    (whole_printed cause (text_behind past earlier) _ begun.printed was.printed now.printed other broken.printed told.1))
-told_behind ledger device past begun was now before office earlier round cause fault moment at reply broken other tells is taken stops (inr told) =
+    (whole_printed cause (text_after past earlier) _ begun.printed was.printed now.printed other broken.printed told.1))
+told_after ledger device past begun was now before office earlier round cause fault moment at reply broken other tells is taken stops (inr told) =
     let P : RoundFault → Type 0 = λ f. Closes ledger device past begun now office earlier cause f in
     subst P (sym told.0)
     (closes ledger device past begun was now before office earlier round cause Output moment at reply broken tells is taken stops (inr refl)
-    (part_printed cause (text_behind past earlier) _ begun.printed was.printed now.printed other broken.printed told.1))
+    (part_printed cause (text_after past earlier) _ begun.printed was.printed now.printed other broken.printed told.1))
 
 -- The end was told, and printed.
-pub closes_printed : {B : Type 0} (ledger : B → Ledger) (device same : Option (List ℕ)) (past : History) (begun was now : Desk)
+pub closes_printed : {B : Type 0} (ledger : B → Ledger) (device same : Option (List ℕ)) (past : History) (begun was now : RoundState)
     (before office : Office B) (earlier : List Answered) (round : Progress) (cause fault : RoundFault) (moment at : ℕ) → same ≡ device
-    → Broken ledger device past begun was before earlier round cause → (cause ≡ Output → ⊥) → Tells was.moments now.moments moment
+    → Broken ledger device past begun was before earlier round cause → (cause ≡ Output → ⊥) → TellsMoment was.moments now.moments moment
     → at ≡ gone_at round.latest moment
     → EndsPrinted ledger (history_behind past earlier) at (event.Gone same closing.Failed) cause was now before office fault
     → Closes ledger device past begun now office earlier cause fault
@@ -147,12 +147,12 @@ closes_printed ledger device same past begun was now before office earlier round
     let P : Option (List ℕ) → Type 0 = λ d.
     EndsPrinted ledger (history_behind past earlier) at (event.Gone d closing.Failed) cause was now before office fault in
     let mine = subst P equal ends in
-    told_behind ledger device past begun was now before office earlier round cause fault moment at mine.reply broken other tells is mine.taken mine.stops mine.printed
+    told_after ledger device past begun was now before office earlier round cause fault moment at mine.reply broken other tells is mine.taken mine.stops mine.printed
 
 -- It was told, and not printed.
-pub closes_unprinted : {B : Type 0} (ledger : B → Ledger) (device same : Option (List ℕ)) (past : History) (begun was now : Desk)
+pub closes_unprinted : {B : Type 0} (ledger : B → Ledger) (device same : Option (List ℕ)) (past : History) (begun was now : RoundState)
     (before office : Office B) (earlier : List Answered) (round : Progress) (moment at : ℕ) → same ≡ device
-    → Broken ledger device past begun was before earlier round Output → Tells was.moments now.moments moment
+    → Broken ledger device past begun was before earlier round Output → TellsMoment was.moments now.moments moment
     → at ≡ gone_at round.latest moment → now.printed ≡ was.printed
     → EndsUnprinted ledger (history_behind past earlier) at (event.Gone same closing.Failed) was now before office
     → Closes ledger device past begun now office earlier Output Output
@@ -160,16 +160,16 @@ closes_unprinted ledger device same past begun was now before office earlier rou
     let P : Option (List ℕ) → Type 0 = λ d.
     EndsUnprinted ledger (history_behind past earlier) at (event.Gone d closing.Failed) was now before office in
     let mine = subst P equal ends in
-    let Q : Option (List ℕ) → Type 0 = λ o. GotPart (text_behind past earlier) begun.printed o in
+    let Q : Option (List ℕ) → Type 0 = λ o. GotPart (text_after past earlier) begun.printed o in
     closes ledger device past begun was now before office earlier round Output Output moment at mine.reply broken tells is mine.taken mine.stops (inl refl)
-    (part_of_more begun.printed now.printed (text_behind past earlier) _ (subst Q (sym unprinted) broken.printed))
+    (part_of_more begun.printed now.printed (text_after past earlier) _ (subst Q (sym unprinted) broken.printed))
 
 pub not_refused : (was now : Bool) (e : Event) (given : Answer) → RefusedStops was e (Ok given) now
 not_refused was now e given why is = absurd (cc)
 
-pub ended_err : {B : Type 0} (ledger : B → Ledger) (past : History) (at : ℕ) (e : Event) (cause fault told : RoundFault) (begun now : Desk)
+pub ended_err : {B : Type 0} (ledger : B → Ledger) (past : History) (at : ℕ) (e : Event) (cause fault told : RoundFault) (begun now : RoundState)
     (old new : Office B) → Feeds ledger past at e begun now new (Err fault) → FeedStops (is_stopped old) e (Err fault) (is_stopped new)
-    → told ≡ fault_behind cause fault → EndsPrinted ledger past at e cause begun now old new told
+    → told ≡ fault_after cause fault → EndsPrinted ledger past at e cause begun now old new told
 ended_err ledger past at e cause (Refused why) told begun now old new feeds stops is =
     record { reply = Err why; taken = feeds.0; stops = λ other same. stops; printed = inl (is, feeds.1) }
 ended_err ledger past at e cause Link told begun now old new feeds stops is = absurd feeds
@@ -186,9 +186,9 @@ is_that TurnsUsed h = absurd (cc)
 pub is_other : (fault : RoundFault) → is_output fault ≡ false → fault ≡ Output → ⊥
 is_other fault h is = let no : true ≡ false = ap is_output (sym is) ∙ h in absurd (cc)
 
-pub closes_as : {B : Type 0} (ledger : B → Ledger) (device same : Option (List ℕ)) (past : History) (begun was now : Desk)
+pub closes_as : {B : Type 0} (ledger : B → Ledger) (device same : Option (List ℕ)) (past : History) (begun was now : RoundState)
     (before office : Office B) (earlier : List Answered) (round : Progress) (cause : RoundFault) (moment at : ℕ) → is_output cause ≡ true
-    → same ≡ device → Broken ledger device past begun was before earlier round cause → Tells was.moments now.moments moment
+    → same ≡ device → Broken ledger device past begun was before earlier round cause → TellsMoment was.moments now.moments moment
     → at ≡ gone_at round.latest moment → now.printed ≡ was.printed
     → EndsUnprinted ledger (history_behind past earlier) at (event.Gone same closing.Failed) was now before office
     → Closes ledger device past begun now office earlier cause Output

@@ -5,7 +5,7 @@ use Rattle.std.proofs.KnownBytes.{Appends-trans}
 use Rattle.std.specs.Io.KnownBytes.{Appends}
 use Rattle.sun_points.specs.Writing.{GotPart}
 use Rattle.script_text.proofs.Got.{got_both}
-use Rattle.socket_link.specs.Clocks.{Tells}
+use Rattle.socket_link.specs.Clocks.{TellsMoment}
 use Rattle.office_events.specs.declared.answers.Answer.{Answer}
 use Rattle.office_events.specs.declared.answers.Note.{Note}
 use Rattle.office_events.specs.declared.events.Event.{Event}
@@ -18,9 +18,9 @@ use Rattle.office_core.specs.EventRun.{Answered}
 use Rattle.office_core.specs.Standing.{notes_in}
 use Rattle.office_core.specs.declared.office.Office.{Office}
 use Rattle.office_rounds.specs.Course.{Does, endings_of, first_by, first_poll, is_ending, next_in, planned_by, polls_ended, reads_started, started_by}
-use Rattle.office_rounds.specs.Rounds.{Desk}
-use Rattle.office_rounds.specs.Stepping.{Broken, Counts, FeedStops, Feeds, GoesOn, Going, IsTaken, IsUnprinted, Prints, Told, counted, latest_behind}
-use Rattle.office_rounds.specs.FedEvents.{history_behind, text_behind, told_text}
+use Rattle.office_rounds.specs.Rounds.{RoundState}
+use Rattle.office_rounds.specs.Stepping.{Broken, Counts, FeedStops, Feeds, RoundGoesOn, Going, IsTaken, IsUnprinted, Prints, Told, counted, latest_after}
+use Rattle.office_rounds.specs.FedEvents.{history_behind, text_after, told_text}
 use Rattle.office_rounds.specs.declared.fault.RoundFault.{RoundFault}
 use Rattle.office_rounds.specs.declared.fault.RoundFault.TheVariants.{Refused, Link, Output, TurnsUsed}
 use Rattle.office_rounds.specs.declared.progress.Progress.{Progress}
@@ -63,13 +63,13 @@ counts_more device past fed old new at e given notes endings counts noted told a
     )
 
 -- an accepted event goes on
-pub goes_on : {B : Type 0} (ledger : B → Ledger) (device : Option (List ℕ)) (past : History) (begun was now : Desk) (before office : Office B)
+pub goes_on : {B : Type 0} (ledger : B → Ledger) (device : Option (List ℕ)) (past : History) (begun was now : RoundState) (before office : Office B)
     (fed : List Answered) (old new : Progress) (at : ℕ) (e : Event) (given : Answer) (endings : ℕ)
-    → Going ledger device past begun was before fed old → Does device (next_in past fed) e → Tells was.moments now.moments at
+    → Going ledger device past begun was before fed old → Does device (next_in past fed) e → TellsMoment was.moments now.moments at
     → IsTaken ledger (history_behind past fed) at e (Ok given) was now office
     → Appends was.printed now.printed (told_text (history_behind past fed) at e (Ok given))
     → Notes old new at given (notes_in office) endings
-    → GoesOn ledger device past begun now office fed (fed_one at e (Ok given)) new endings
+    → RoundGoesOn ledger device past begun now office fed (fed_one at e (Ok given)) new endings
 goes_on ledger device past begun was now before office fed old new at e given endings going does tells taken printed noted =
     let accepted = one_accepted (history_behind past fed) at e was.failures now.failures given (of_round device (next_in past fed) e does) taken.answer in
     let counts = counts_more device past fed old new at e given (notes_in office) endings going.counts noted taken.told.notes accepted in
@@ -78,7 +78,7 @@ goes_on ledger device past begun was now before office fed old new at e given en
         leaves = record { stands = taken.stands; answered = (was.failures, going.leaves.answered, taken.answer) };
         next = (going.next, does, refl);
         timed = (was.moments, going.timed, tells);
-        printed = Appends-trans begun.printed was.printed now.printed (text_behind past fed) _ going.printed printed;
+        printed = Appends-trans begun.printed was.printed now.printed (text_after past fed) _ going.printed printed;
         counts = counts.1;
       };
       told = taken.told.outgoing;
@@ -86,9 +86,9 @@ goes_on ledger device past begun was now before office fed old new at e given en
     }
 
 -- a refused one breaks the round off
-pub breaks_off : {B : Type 0} (ledger : B → Ledger) (device : Option (List ℕ)) (past : History) (begun was now : Desk) (before office : Office B)
+pub breaks_off : {B : Type 0} (ledger : B → Ledger) (device : Option (List ℕ)) (past : History) (begun was now : RoundState) (before office : Office B)
     (fed : List Answered) (old new : Progress) (at : ℕ) (e : Event) (why : Refusal)
-    → Going ledger device past begun was before fed old → Does device (next_in past fed) e → Tells was.moments now.moments at
+    → Going ledger device past begun was before fed old → Does device (next_in past fed) e → TellsMoment was.moments now.moments at
     → IsTaken ledger (history_behind past fed) at e (Err why) was now office → Appends was.printed now.printed []
     → new.device ≡ old.device → new.latest ≡ old.latest
     → Broken ledger device past begun now office (fed_one at e (Err why) ∷ fed) new (Refused why)
@@ -96,7 +96,7 @@ breaks_off ledger device past begun was now before office fed old new at e why g
   leaves = record { stands = taken.stands; answered = (was.failures, going.leaves.answered, taken.answer) };
   course = inl (going.next, does, refl);
   timed = (was.moments, going.timed, tells);
-  printed = Appends-trans begun.printed was.printed now.printed (text_behind past fed) [] going.printed printed;
+  printed = Appends-trans begun.printed was.printed now.printed (text_after past fed) [] going.printed printed;
   device_is = same ∙ going.counts.device_is;
   latest = latest ∙ going.counts.latest;
 }
@@ -106,9 +106,9 @@ part_more a b c x y first second =
     let failed : Result (Unit {0}) (Unit {0}) = Err tt in got_both failed a b c x y (x ++ y) first second refl
 
 -- so does one that is not printed
-pub unprinted : {B : Type 0} (ledger : B → Ledger) (device : Option (List ℕ)) (past : History) (begun was now : Desk) (before office : Office B)
+pub unprinted : {B : Type 0} (ledger : B → Ledger) (device : Option (List ℕ)) (past : History) (begun was now : RoundState) (before office : Office B)
     (fed : List Answered) (old new : Progress) (at : ℕ) (e : Event)
-    → Going ledger device past begun was before fed old → Does device (next_in past fed) e → Tells was.moments now.moments at
+    → Going ledger device past begun was before fed old → Does device (next_in past fed) e → TellsMoment was.moments now.moments at
     → (taken : IsUnprinted ledger (history_behind past fed) at e was now office) → new.device ≡ old.device → new.latest ≡ at
     → Broken ledger device past begun now office (fed_one at e (Ok taken.given) ∷ fed) new Output
 unprinted ledger device past begun was now before office fed old new at e going does tells taken same latest =
@@ -117,12 +117,12 @@ unprinted ledger device past begun was now before office fed old new at e going 
       leaves = record { stands = taken.taken.stands; answered = (was.failures, going.leaves.answered, taken.taken.answer) };
       course = (going.next, does, refl);
       timed = (was.moments, going.timed, tells);
-      printed = part_more begun.printed was.printed now.printed (text_behind past fed) _ going.printed taken.printed;
+      printed = part_more begun.printed was.printed now.printed (text_after past fed) _ going.printed taken.printed;
       device_is = same ∙ going.counts.device_is;
       latest = latest ∙ sym (ap latest_of accepted);
     }
 
-pub fed_printed : {B : Type 0} (ledger : B → Ledger) (past : History) (at : ℕ) (e : Event) (given : Answer) (was now : Desk) (office : Office B)
+pub fed_printed : {B : Type 0} (ledger : B → Ledger) (past : History) (at : ℕ) (e : Event) (given : Answer) (was now : RoundState) (office : Office B)
     (text : List ℕ) (result : Result Answer RoundFault) → IsTaken ledger past at e (Ok given) was now office
     → Prints given text was.printed now.printed result → text ≡ told_text past at e (Ok given) → Feeds ledger past at e was now office result
 fed_printed ledger past at e given was now office text (Ok told) taken h is =
@@ -138,11 +138,11 @@ fed_printed ledger past at e given was now office text (Err Output) taken h is =
 fed_printed ledger past at e given was now office text (Err TurnsUsed) taken h is = absurd h
 
 -- an event that broke the round off
-pub told_broken : {B : Type 0} (ledger : B → Ledger) (device : Option (List ℕ)) (past : History) (begun was now : Desk) (before office : Office B)
+pub told_broken : {B : Type 0} (ledger : B → Ledger) (device : Option (List ℕ)) (past : History) (begun was now : RoundState) (before office : Office B)
     (fed : List Answered) (old new : Progress) (at : ℕ) (e : Event) (cause : RoundFault)
-    → Going ledger device past begun was before fed old → Does device (next_in past fed) e → Tells was.moments now.moments at
+    → Going ledger device past begun was before fed old → Does device (next_in past fed) e → TellsMoment was.moments now.moments at
     → Feeds ledger (history_behind past fed) at e was now office (Err cause) → new.device ≡ old.device
-    → new.latest ≡ latest_behind cause at old.latest
+    → new.latest ≡ latest_after cause at old.latest
     → (one : Answered) × (one.event ≡ e) × Told ledger device past begun now office fed one new (Err cause)
 told_broken ledger device past begun was now before office fed old new at e (Refused why) going does tells feeds same latest = (
   fed_one at e (Err why),

@@ -1,4 +1,4 @@
--- What is next behind an event, and what it brings.
+-- What is next after an event, and what it brings.
 use Rattle.std.proofs.Common.{◌≡◌, ℕ, ◌==◌, Bool, true, false, cond, List, [], ◌∷◌, Option, Result, Ok, Err, refl, sym, ap, ◌∙◌, subst}
 use Rattle.std.specs.List.{count_by}
 use Rattle.office_events.specs.declared.answers.Answer.{Answer}
@@ -27,7 +27,7 @@ takes_on : (first : Option ℕ) (h : History) (at : ℕ) (device : Option (List 
     ≡ Take
 takes_on first h at device read result started ended planned = rw (no_notes h at device read result) refl
 
--- behind a start something is taken
+-- after a start something is taken
 pub start_next : (past : History) (fed : List Answered) (one : Answered) (device : Option (List ℕ)) (read : ℕ)
     → one.event ≡ start_from device read → next_in past (one ∷ fed) ≡ Take
 start_next past fed one device read is =
@@ -38,32 +38,32 @@ start_next past fed one device read is =
     subst P (sym is)
     (takes_on (first_poll fed) (history_behind past fed) one.at device read one.result (reads_started (one ∷ fed)) ended (reads_planned (one ∷ fed)))
 
-over_behind : (e : Event) (next : Next) → is_end e ≡ true → next_behind e next ≡ Over
-over_behind (event.Connected given) next h = absurd (cc)
-over_behind (event.Bytes given piece) next h = absurd (cc)
-over_behind event.Tick next h = absurd (cc)
-over_behind (event.Gone given c) next h = refl
-over_behind (event.Command c) next h = absurd (cc)
-over_behind (event.Asked asked) next h = absurd (cc)
+over_after : (e : Event) (next : Next) → is_end e ≡ true → next_behind e next ≡ Over
+over_after (event.Connected given) next h = absurd (cc)
+over_after (event.Bytes given piece) next h = absurd (cc)
+over_after event.Tick next h = absurd (cc)
+over_after (event.Gone given c) next h = refl
+over_after (event.Command c) next h = absurd (cc)
+over_after (event.Asked asked) next h = absurd (cc)
 
--- behind the end the round is over
+-- after the end the round is over
 pub end_next : (past : History) (fed : List Answered) (one : Answered) (e : Event) → one.event ≡ e → is_end e ≡ true
     → next_in past (one ∷ fed) ≡ Over
-end_next past fed one e is h = over_behind one.event _ (ap is_end is ∙ h)
+end_next past fed one e is h = over_after one.event _ (ap is_end is ∙ h)
 
-on_behind : (device : Option (List ℕ)) (e : Event) (next : Next) → IsTaken device e → is_end e ≡ false → next_behind e next ≡ next
-on_behind device (event.Connected given) next taken h = absurd taken
-on_behind device (event.Bytes given piece) next taken h = refl
-on_behind device event.Tick next taken h = refl
-on_behind device (event.Gone given c) next taken h = absurd (cc)
-on_behind device (event.Command c) next taken h = absurd taken
-on_behind device (event.Asked asked) next taken h = absurd taken
+on_after : (device : Option (List ℕ)) (e : Event) (next : Next) → IsTaken device e → is_end e ≡ false → next_behind e next ≡ next
+on_after device (event.Connected given) next taken h = absurd taken
+on_after device (event.Bytes given piece) next taken h = refl
+on_after device event.Tick next taken h = refl
+on_after device (event.Gone given c) next taken h = absurd (cc)
+on_after device (event.Command c) next taken h = absurd taken
+on_after device (event.Asked asked) next taken h = absurd taken
 
 on_next : (past : History) (fed : List Answered) (one : Answered) (device : Option (List ℕ)) (e : Event) → one.event ≡ e → IsTaken device e
     → is_end e ≡ false
     → next_in past (one ∷ fed) ≡ next_after (endings_of past fed one) (reads_started (one ∷ fed)) (polls_ended past (one ∷ fed)) (reads_planned (one ∷ fed))
 on_next past fed one device e is taken h =
-    on_behind device one.event _ (subst (IsTaken device) (sym is) taken) (ap is_end is ∙ h)
+    on_after device one.event _ (subst (IsTaken device) (sym is) taken) (ap is_end is ∙ h)
 
 after_test : (none : Bool) (started ended planned endings : ℕ) → (endings == 0) ≡ none
     → next_after endings started ended planned ≡ cond none Take (next_left started ended planned)
@@ -118,7 +118,7 @@ by_end false past fed one device e endings h is taken same =
     on_next past fed one device e is taken h
     ∙ ap (λ n. next_after n (reads_started (one ∷ fed)) (polls_ended past (one ∷ fed)) (reads_planned (one ∷ fed))) (sym same)
 
--- what is next behind an event that was taken
+-- what is next after an event that was taken
 pub by_next : (past : History) (fed : List Answered) (one : Answered) (device : Option (List ℕ)) (e : Event) (endings : ℕ)
     → one.event ≡ e → IsTaken device e → endings ≡ endings_of past fed one
     → next_in past (one ∷ fed)

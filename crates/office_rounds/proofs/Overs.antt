@@ -12,7 +12,7 @@ use Rattle.office_core.specs.EventRun.{Answered}
 use Rattle.office_core.specs.Taking.{IsAnswer}
 use Rattle.office_core.specs.declared.office.Office.{Office}
 use Rattle.office_rounds.specs.Course.{AreNext, Connect, Does, Leave, Next, Over, StartFrom, Take, endings_of, next_after, next_behind, next_in, next_left, polls_ended, reads_planned, reads_started}
-use Rattle.office_rounds.specs.Rounds.{Desk, IsBrokenOff, IsRound, NoneWaits, Wire, passage}
+use Rattle.office_rounds.specs.Rounds.{RoundState, IsBrokenOff, IsRound, NoneWaits, Wire, passage}
 use Rattle.office_rounds.specs.Stepping.{Broken, Closes, Going, IsWired}
 use Rattle.office_rounds.specs.FedEvents.{AreAnswered, history_behind}
 use Rattle.office_rounds.specs.declared.fault.RoundFault.{RoundFault}
@@ -29,7 +29,7 @@ goes_after : (none : Bool) (started ended planned : ℕ) → cond none Take (nex
 goes_after true started ended planned h = absurd (cc)
 goes_after false started ended planned h = goes_left (nat_lt started planned) (nat_le planned ended) started h
 
--- behind what a round is over
+-- after what a round is over
 pub record IsGone (e : Event) : Type 0 where
   pub given : Option (List ℕ)
   pub cause : Closing
@@ -71,7 +71,7 @@ over_settled device past (one ∷ earlier) before after over next told =
     gone_so device gone.given gone.cause (history_behind past earlier) one.at one.event one.result told.0 after gone.is
     (of_this device gone.given gone.cause (next_in past earlier) (subst P gone.is next.1)) next.2 told.2
 
-pub is_round : {B : Type 0} (ledger : B → Ledger) (device : Option (List ℕ)) (past : History) (begun now : Desk) (from to : Wire) (office : Office B)
+pub is_round : {B : Type 0} (ledger : B → Ledger) (device : Option (List ℕ)) (past : History) (begun now : RoundState) (from to : Wire) (office : Office B)
     (fed : List Answered) (round : Progress) → Going ledger device past begun now office fed round
     → IsWired {X = Unit {0}} past from to fed (Ok tt) → next_in past fed ≡ Over → IsRound ledger device past (passage begun now from to) office
 is_round ledger device past begun now from to office fed round going wired over = record {
@@ -87,7 +87,7 @@ is_round ledger device past begun now from to office fed round going wired over 
 }
 
 -- a round that was broken off, and closed
-pub is_broken_off : {B : Type 0} (ledger : B → Ledger) (device : Option (List ℕ)) (past : History) (begun was now : Desk) (from to : Wire)
+pub is_broken_off : {B : Type 0} (ledger : B → Ledger) (device : Option (List ℕ)) (past : History) (begun was now : RoundState) (from to : Wire)
     (before office : Office B) (earlier : List Answered) (round : Progress) (cause fault : RoundFault)
     → Broken ledger device past begun was before earlier round cause → IsWired {X = Unit {0}} past from to earlier (Err cause)
     → Closes ledger device past begun now office earlier cause fault → IsBrokenOff ledger device past (passage begun now from to) office fault

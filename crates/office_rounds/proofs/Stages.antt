@@ -17,12 +17,12 @@ use Rattle.office_core.specs.Standing.{books_in, outgoing_in}
 use Rattle.office_core.specs.declared.office.Office.{Office}
 use Rattle.office_rounds.specs.Course.{Does, IsTaken, Leave, Next, StartFrom, Take, next_in, next_left, start_from}
 use Rattle.office_rounds.specs.Faults.{AreGiven, IsPrinted, OfOffice, OnlyLink, TakesOn, is_link_fault}
-use Rattle.office_rounds.specs.Rounds.{BreaksOff, Desk, Wire}
+use Rattle.office_rounds.specs.Rounds.{BreaksOff, RoundState, Wire}
 use Rattle.office_rounds.specs.Stepping.{Broken, Going, IsUnsent, IsWired, Scene, Steps, StepsFrom, counted}
 use Rattle.mb_wire.specs.declared.link.LastTake.{LastTake}
 use Rattle.office_rounds.specs.Passing.{AreAtMost, AreTakes}
 use Rattle.office_rounds.specs.Taking.{Brings, TurnTakes, next_by, over_or_take}
-use Rattle.office_rounds.specs.FedEvents.{frames_behind, history_behind, piece_in, pieces_behind, text_behind}
+use Rattle.office_rounds.specs.FedEvents.{frames_after, history_behind, piece_in, pieces_after, text_after}
 use Rattle.office_rounds.specs.declared.fault.RoundFault.{RoundFault}
 use Rattle.office_rounds.specs.declared.fault.RoundFault.TheVariants.{Refused, Link, Output, TurnsUsed}
 use Rattle.office_rounds.specs.declared.progress.Progress.{Progress}
@@ -31,9 +31,9 @@ use Rattle.office_rounds.proofs.Nexts.{start_next}
 use Rattle.office_rounds.proofs.Wires.{appends_nothing, consumes_nothing, part_of_all}
 
 -- a round that was going is broken off
-pub broken : {B : Type 0} (ledger : B → Ledger) (device : Option (List ℕ)) (past : History) (begun now : Desk) (office : Office B)
+pub broken : {B : Type 0} (ledger : B → Ledger) (device : Option (List ℕ)) (past : History) (begun now : RoundState) (office : Office B)
     (fed : List Answered) (round : Progress) (cause : RoundFault) → Going ledger device past begun now office fed round
-    → BreaksOff device past cause fed → IsPrinted {X = Unit {0}} (Err cause) (text_behind past fed) begun.printed now.printed
+    → BreaksOff device past cause fed → IsPrinted {X = Unit {0}} (Err cause) (text_after past fed) begun.printed now.printed
     → Broken ledger device past begun now office fed round cause
 broken ledger device past begun now office fed round cause going course printed = record {
   leaves = going.leaves;
@@ -54,25 +54,25 @@ given_broken TurnsUsed h at e result a b frames unsent got = absurd unsent
 
 -- The link of a round that was broken off while an event was told.
 pub wired_broken : (past : History) (from to : Wire) (fed : List Answered) (one : Answered) (e : Event) (cause : RoundFault)
-    → Consumes from.remaining to.remaining (pieces_behind fed ++ piece_in e) → Appends from.given to.given (frames_behind past fed)
+    → Consumes from.remaining to.remaining (pieces_after fed ++ piece_in e) → Appends from.given to.given (frames_after past fed)
     → one.event ≡ e → IsUnsent cause one.result → IsWired {X = Unit {0}} past from to (one ∷ fed) (Err cause)
 wired_broken past from to fed one e cause taken given is unsent = record {
   taken =
-      let P : Event → Type 0 = λ x. Consumes from.remaining to.remaining (pieces_behind fed ++ piece_in x) in
+      let P : Event → Type 0 = λ x. Consumes from.remaining to.remaining (pieces_after fed ++ piece_in x) in
       subst P (sym is) taken;
-  given = given_broken cause (history_behind past fed) one.at one.event one.result from.given to.given (frames_behind past fed) unsent given;
+  given = given_broken cause (history_behind past fed) one.at one.event one.result from.given to.given (frames_after past fed) unsent given;
 }
 
 -- The link of a round that goes on, where nothing is to be sent.
 pub wired_on : (past : History) (from to : Wire) (fed : List Answered) (one : Answered) (e : Event)
-    → Consumes from.remaining to.remaining (pieces_behind fed ++ piece_in e) → Appends from.given to.given (frames_behind past fed)
+    → Consumes from.remaining to.remaining (pieces_after fed ++ piece_in e) → Appends from.given to.given (frames_after past fed)
     → one.event ≡ e → outgoing_after (history_behind past fed) one.at one.event one.result ≡ []
     → IsWired {X = Unit {0}} past from to (one ∷ fed) (Ok tt)
 wired_on past from to fed one e taken given is none = record {
   taken =
-      let P : Event → Type 0 = λ x. Consumes from.remaining to.remaining (pieces_behind fed ++ piece_in x) in
+      let P : Event → Type 0 = λ x. Consumes from.remaining to.remaining (pieces_after fed ++ piece_in x) in
       subst P (sym is) taken;
-  given = appends_nothing from.given to.given (frames_behind past fed) _ given none;
+  given = appends_nothing from.given to.given (frames_after past fed) _ given none;
 }
 
 -- The link of a round that has given the frames of a start, or not all of them.
@@ -81,9 +81,9 @@ pub wired_started : (past : History) (from mid to : Wire) (fed : List Answered) 
     → frames ≡ outgoing_after (history_behind past fed) one.at one.event one.result → Keeps mid.remaining to.remaining
     → Appends mid.given to.given frames → IsWired {X = Unit {0}} past from to (one ∷ fed) (Ok tt)
 wired_started past from mid to fed one device read frames wired is told kept given = record {
-  taken = consumes_nothing from.remaining to.remaining (pieces_behind fed) _
-      (Consumes-kept from.remaining mid.remaining to.remaining (pieces_behind fed) wired.taken kept) (ap piece_in is);
-  given = Appends-trans from.given mid.given to.given (frames_behind past fed) _ wired.given (subst (Appends mid.given to.given) told given);
+  taken = consumes_nothing from.remaining to.remaining (pieces_after fed) _
+      (Consumes-kept from.remaining mid.remaining to.remaining (pieces_after fed) wired.taken kept) (ap piece_in is);
+  given = Appends-trans from.given mid.given to.given (frames_after past fed) _ wired.given (subst (Appends mid.given to.given) told given);
 }
 
 pub wired_unstarted : (past : History) (from mid to : Wire) (fed : List Answered) (one : Answered) (device : Option (List ℕ)) (read : ℕ)
@@ -91,11 +91,11 @@ pub wired_unstarted : (past : History) (from mid to : Wire) (fed : List Answered
     → frames ≡ outgoing_after (history_behind past fed) one.at one.event one.result → Keeps mid.remaining to.remaining
     → GotPart frames mid.given to.given → IsWired {X = Unit {0}} past from to (one ∷ fed) (Err Link)
 wired_unstarted past from mid to fed one device read frames wired is told kept given = record {
-  taken = consumes_nothing from.remaining to.remaining (pieces_behind fed) _
-      (Consumes-kept from.remaining mid.remaining to.remaining (pieces_behind fed) wired.taken kept) (ap piece_in is);
+  taken = consumes_nothing from.remaining to.remaining (pieces_after fed) _
+      (Consumes-kept from.remaining mid.remaining to.remaining (pieces_after fed) wired.taken kept) (ap piece_in is);
   given =
       let P : List ℕ → Type 0 = λ x. GotPart x mid.given to.given in
-      part_more from.given mid.given to.given (frames_behind past fed) _ wired.given (subst P told given);
+      part_more from.given mid.given to.given (frames_after past fed) _ wired.given (subst P told given);
 }
 
 pub does_start : (device same : Option (List ℕ)) (read : ℕ) (next : Next) → next ≡ StartFrom read → same ≡ device
@@ -111,9 +111,9 @@ does_take device same next e is equal taken =
     let P : Option (List ℕ) → Type 0 = λ d. IsTaken d e in
     rw is (subst P equal taken)
 
-pub nothing_left : (fed : List Answered) (e : Event) (from to : Wire) → piece_in e ≡ [] → Consumes from.remaining to.remaining (pieces_behind fed)
-    → Consumes from.remaining to.remaining (pieces_behind fed ++ piece_in e)
-nothing_left fed e from to none taken = consumes_nothing from.remaining to.remaining (pieces_behind fed) (piece_in e) taken none
+pub nothing_left : (fed : List Answered) (e : Event) (from to : Wire) → piece_in e ≡ [] → Consumes from.remaining to.remaining (pieces_after fed)
+    → Consumes from.remaining to.remaining (pieces_after fed ++ piece_in e)
+nothing_left fed e from to none taken = consumes_nothing from.remaining to.remaining (pieces_after fed) (piece_in e) taken none
 
 -- which of the reads that are left are next
 left_by : (start leave : Bool) (started ended planned : ℕ) → nat_lt started planned ≡ start → nat_le planned ended ≡ leave
@@ -152,26 +152,26 @@ left_take started ended planned s p e is same ends fits all some =
 -- what a take brought
 pub taken_wire : (past : History) (from old new : Wire) (fed : List Answered) (e : Event) → IsWired {X = Unit {0}} past from old fed (Ok tt)
     → Consumes old.remaining new.remaining (piece_in e) → Keeps old.given new.given
-    → Consumes from.remaining new.remaining (pieces_behind fed ++ piece_in e) × Appends from.given new.given (frames_behind past fed)
+    → Consumes from.remaining new.remaining (pieces_after fed ++ piece_in e) × Appends from.given new.given (frames_after past fed)
 taken_wire past from old new fed e wired taken kept = (
-  Consumes-trans from.remaining old.remaining new.remaining (pieces_behind fed) (piece_in e) wired.taken taken,
-  Appends-kept from.given old.given new.given (frames_behind past fed) wired.given kept,
+  Consumes-trans from.remaining old.remaining new.remaining (pieces_after fed) (piece_in e) wired.taken taken,
+  Appends-kept from.given old.given new.given (frames_after past fed) wired.given kept,
 )
 
 -- and where it brought nothing
 pub kept_wire : (past : History) (from old new : Wire) (fed : List Answered) → IsWired {X = Unit {0}} past from old fed (Ok tt)
     → Consumes old.remaining new.remaining [] → Keeps old.given new.given
-    → Consumes from.remaining new.remaining (pieces_behind fed) × Appends from.given new.given (frames_behind past fed)
+    → Consumes from.remaining new.remaining (pieces_after fed) × Appends from.given new.given (frames_after past fed)
 kept_wire past from old new fed wired taken kept = (
-  subst (Consumes from.remaining new.remaining) (append-nil (pieces_behind fed))
-      (Consumes-trans from.remaining old.remaining new.remaining (pieces_behind fed) [] wired.taken taken),
-  Appends-kept from.given old.given new.given (frames_behind past fed) wired.given kept,
+  subst (Consumes from.remaining new.remaining) (append-nil (pieces_after fed))
+      (Consumes-trans from.remaining old.remaining new.remaining (pieces_after fed) [] wired.taken taken),
+  Appends-kept from.given old.given new.given (frames_after past fed) wired.given kept,
 )
 
 pub of_device : (device same : Option (List ℕ)) (e : Event) → same ≡ device → IsTaken same e → IsTaken device e
 of_device device same e equal taken = let P : Option (List ℕ) → Type 0 = λ d. IsTaken d e in subst P equal taken
 
--- One step behind another.
+-- One step after another.
 pub compose : {B X Y : Type 0} (ledger : B → Ledger) (old mid new : Scene B) (now : Progress → List Answered → History → Next)
     (x : X) (after : X → Next) (next : Progress → List Answered → History → Next) (result : Result Y RoundFault) (final : Y → Next)
     → StepsFrom ledger old mid now (Ok x) after
@@ -190,7 +190,7 @@ used_up ledger old new now x after final first = λ device past begun from fed g
     let so = first device past begun from fed going wired is clean in (
       so.0,
       (
-        broken ledger device past begun new.desk new.office so.0 new.round TurnsUsed so.1.0 so.1.0.next so.1.0.printed,
+        broken ledger device past begun new.round_state new.office so.0 new.round TurnsUsed so.1.0 so.1.0.next so.1.0.printed,
         record { taken = so.1.1.taken; given = so.1.1.given },
       ),
     )
@@ -198,7 +198,7 @@ used_up ledger old new now x after final first = λ device past begun from fed g
 -- a round that is told to be over, or to take on, where nothing is done
 pub stays : {B X : Type 0} (ledger : B → Ledger) (at : Scene B) (now : Progress → List Answered → History → Next) (x : X)
     (final : X → Next)
-    → ((device : Option (List ℕ)) (past : History) (begun : Desk) (fed : List Answered) → Going ledger device past begun at.desk at.office fed at.round
+    → ((device : Option (List ℕ)) (past : History) (begun : RoundState) (fed : List Answered) → Going ledger device past begun at.round_state at.office fed at.round
     → now at.round fed past ≡ final x) → StepsFrom ledger at at now (Ok x) final
 stays ledger at now x final same = λ device past begun from fed going wired is clean.
     (fed, (going, wired, is ∙ same device past begun fed going))
@@ -206,7 +206,7 @@ stays ledger at now x final same = λ device past begun from fed going wired is 
 -- a step that does another, which is next
 pub steps_as : {B X : Type 0} (ledger : B → Ledger) (old new : Scene B) (now next : Progress → List Answered → History → Next)
     (result : Result X RoundFault) (final : X → Next) → StepsFrom ledger old new next result final
-    → ((device : Option (List ℕ)) (past : History) (begun : Desk) (fed : List Answered) → Going ledger device past begun old.desk old.office fed old.round
+    → ((device : Option (List ℕ)) (past : History) (begun : RoundState) (fed : List Answered) → Going ledger device past begun old.round_state old.office fed old.round
     → now old.round fed past ≡ next old.round fed past) → StepsFrom ledger old new now result final
 steps_as ledger old new now next result final step same = λ device past begun from fed going wired is clean.
     step device past begun from fed going wired (is ∙ same device past begun fed going) clean
@@ -224,7 +224,7 @@ pub by_left : (is_end : Bool) (endings : ℕ) (next : Next) → is_end ≡ false
 by_left is_end endings next on some = by_some is_end (endings == 0) endings next on refl (not_none (endings == 0) endings refl some)
 
 -- The frames of a start were given, or not all of them.
-pub sent : {B : Type 0} (ledger : B → Ledger) (device : Option (List ℕ)) (past : History) (begun : Desk) (from mid to : Wire) (now : Desk)
+pub sent : {B : Type 0} (ledger : B → Ledger) (device : Option (List ℕ)) (past : History) (begun : RoundState) (from mid to : Wire) (now : RoundState)
     (office : Office B) (fed : List Answered) (one : Answered) (round : Progress) (same : Option (List ℕ)) (read : ℕ)
     (result : Result (Unit {0}) RoundFault) (frames : List ℕ) → IsWired {X = Unit {0}} past from mid fed (Ok tt)
     → one.event ≡ start_from same read → Going ledger device past begun now office (one ∷ fed) round
@@ -251,10 +251,10 @@ sent ledger device past begun from mid to now office fed one round same read (Er
 sent ledger device past begun from mid to now office fed one round same read (Err TurnsUsed) frames wired is going told are kept given only = absurd only
 
 -- A turn that took nothing breaks the round off.
-pub not_taken : {B : Type 0} (ledger : B → Ledger) (device : Option (List ℕ)) (past : History) (begun now : Desk) (from to : Wire)
+pub not_taken : {B : Type 0} (ledger : B → Ledger) (device : Option (List ℕ)) (past : History) (begun now : RoundState) (from to : Wire)
     (office : Office B) (fed : List Answered) (round : Progress) (same : Option (List ℕ)) (cause : RoundFault) (before after : ℕ)
     (last : Option LastTake) → Brings same (Err cause) before after last → Going ledger device past begun now office fed round
-    → Consumes from.remaining to.remaining (pieces_behind fed) → Appends from.given to.given (frames_behind past fed)
+    → Consumes from.remaining to.remaining (pieces_after fed) → Appends from.given to.given (frames_after past fed)
     → Broken ledger device past begun now office fed round cause × IsWired {X = Unit {0}} past from to fed (Err cause)
 not_taken ledger device past begun now from to office fed round same (Refused why) before after last brings going taken given = (
   broken ledger device past begun now office fed round (Refused why) going (inr (going.next, brings.1)) going.printed,
@@ -262,7 +262,7 @@ not_taken ledger device past begun now from to office fed round same (Refused wh
 )
 not_taken ledger device past begun now from to office fed round same Link before after last brings going taken given = (
   broken ledger device past begun now office fed round Link going going.next going.printed,
-  record { taken = taken; given = part_of_all from.given to.given (frames_behind past fed) given },
+  record { taken = taken; given = part_of_all from.given to.given (frames_after past fed) given },
 )
 not_taken ledger device past begun now from to office fed round same Output before after last brings going taken given = absurd brings
 not_taken ledger device past begun now from to office fed round same TurnsUsed before after last brings going taken given = absurd brings

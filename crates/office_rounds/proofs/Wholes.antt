@@ -13,7 +13,7 @@ use Rattle.office_core.specs.declared.office.Office.{Office}
 use Rattle.office_rounds.specs.Faults.{OfOffice, is_link_fault}
 use Rattle.office_rounds.specs.Passing.{CountsFailures}
 use Rattle.mb_wire.specs.Links.{risen}
-use Rattle.office_rounds.specs.Rounds.{Desk, IsToldOf, Rounds, Wire, passage}
+use Rattle.office_rounds.specs.Rounds.{RoundState, IsToldOf, Rounds, Wire, passage}
 use Rattle.office_rounds.specs.Stepping.{Broken, Closes, Connects, IsWired, connection}
 use Rattle.office_rounds.specs.declared.fault.RoundFault.{RoundFault}
 use Rattle.office_rounds.specs.declared.fault.RoundFault.TheVariants.{Refused, Link, Output, TurnsUsed}
@@ -42,14 +42,14 @@ wired_unprinted past at device given w =
     record { taken = wired.taken; given = part_of_all w.given w.given _ wired.given }
 
 -- The connection was refused.
-pub unconnected : {B : Type 0} (ledger : B → Ledger) (device : Option (List ℕ)) (past : History) (begun now : Desk) (w : Wire)
+pub unconnected : {B : Type 0} (ledger : B → Ledger) (device : Option (List ℕ)) (past : History) (begun now : RoundState) (w : Wire)
     (office : Office B) (round : Progress) (why : Refusal) → Connects ledger device past begun now office round (Err (Refused why))
     → Rounds ledger device past (passage begun now w w) office (Err (Refused why))
 unconnected ledger device past begun now w office round why h =
     inl (record { at = h.0; leaves = h.1; timed = h.2; same = refl; printed = h.3 })
 
 -- It was told, and not printed.
-pub unprinted : {B : Type 0} (ledger : B → Ledger) (device : Option (List ℕ)) (past : History) (begun was now : Desk) (w : Wire)
+pub unprinted : {B : Type 0} (ledger : B → Ledger) (device : Option (List ℕ)) (past : History) (begun was now : RoundState) (w : Wire)
     (before office : Office B) (round : Progress) (fault : RoundFault) → (h : Connects ledger device past begun was before round (Err Output))
     → Closes ledger device past begun now office (connection device h.0 (Ok h.1.0) ∷ []) Output fault
     → Rounds ledger device past (passage begun now w w) office (Err fault)
@@ -57,7 +57,7 @@ unprinted ledger device past begun was now w before office round fault h closes 
     inr (is_broken_off ledger device past begun was now w w before office (connection device h.0 (Ok h.1.0) ∷ []) round Output fault h.1.1
     (wired_unprinted past h.0 device h.1.0 w) closes)
 
-pub unprinted_as : {B : Type 0} (ledger : B → Ledger) (device : Option (List ℕ)) (past : History) (begun was now : Desk) (w : Wire)
+pub unprinted_as : {B : Type 0} (ledger : B → Ledger) (device : Option (List ℕ)) (past : History) (begun was now : RoundState) (w : Wire)
     (before office : Office B) (round : Progress) (cause fault : RoundFault) → cause ≡ Output
     → Connects ledger device past begun was before round (Err cause)
     → ((fed : List Answered) → Broken ledger device past begun was before fed round cause → Closes ledger device past begun now office fed cause fault)
@@ -71,7 +71,7 @@ unprinted_as ledger device past begun was now w before office round cause fault 
     (λ told shuts. unprinted ledger device past begun was now w before office round fault told (shuts (connection device told.0 (Ok told.1.0) ∷ []) told.1.1))
     h closes
 
-pub connects_same : {B : Type 0} (ledger : B → Ledger) (device same : Option (List ℕ)) (past : History) (begun now : Desk) (office : Office B)
+pub connects_same : {B : Type 0} (ledger : B → Ledger) (device same : Option (List ℕ)) (past : History) (begun now : RoundState) (office : Office B)
     (round : Progress) (result : Result (Unit {0}) RoundFault) → same ≡ device → Connects ledger same past begun now office round result
     → Connects ledger device past begun now office round result
 connects_same ledger device same past begun now office round result equal h =

@@ -15,9 +15,9 @@ use Rattle.office_core.specs.Standing.{After, books_in, notes_in, outgoing_in}
 use Rattle.office_core.specs.Taking.{failures_of}
 use Rattle.office_core.specs.declared.office.Office.{Office}
 use Rattle.office_rounds.specs.Course.{Does, IsTaken, Leave, Next, Over, StartFrom, Take, next_in}
-use Rattle.office_rounds.specs.FedEvents.{frames_behind, piece_in, pieces_behind}
-use Rattle.office_rounds.specs.Rounds.{Desk, Passage, Rounds, Wire, desk, passage, wire}
-use Rattle.office_rounds.specs.Stepping.{Broken, Closes, Connects, EndsPrinted, EndsUnprinted, Feeds, Going, IsWired, Prints, Scene, Steps, StepsFrom, Told, next_behind_taken, next_left_in, scene}
+use Rattle.office_rounds.specs.FedEvents.{frames_after, piece_in, pieces_after}
+use Rattle.office_rounds.specs.Rounds.{RoundState, Passage, Rounds, Wire, round_state, passage, wire}
+use Rattle.office_rounds.specs.Stepping.{Broken, Closes, Connects, EndsPrinted, EndsUnprinted, Feeds, Going, IsWired, Prints, Scene, Steps, StepsFrom, Told, next_after_taken, next_left_in, scene}
 use Rattle.office_rounds.specs.Taking.{over_or_take}
 use Rattle.office_rounds.specs.declared.fault.RoundFault.{RoundFault}
 use Rattle.office_rounds.specs.declared.progress.Progress.{Progress}
@@ -38,8 +38,8 @@ abbrev pub EndsSilently : {B : Type 0} → stores.Ghosts B → (at : ℕ) → Ev
     → Type 0
 EndsSilently b at gone old new = (printed moments later : Option (List ℕ))
     → After b.ledger old new (λ past. EndsUnprinted b.ledger past at gone
-    (desk printed moments (failures_of b.ledger old))
-    (desk printed later (failures_of b.ledger new)) old new)
+    (round_state printed moments (failures_of b.ledger old))
+    (round_state printed later (failures_of b.ledger new)) old new)
 
 module _ {B W : Type 0} (b : stores.Ghosts B) (w : writers.Ghosts W) where
   -- An event is fed, and what is told of it is printed, whatever a clock told meanwhile.
@@ -47,22 +47,22 @@ module _ {B W : Type 0} (b : stores.Ghosts B) (w : writers.Ghosts W) where
       → Result Answer RoundFault → Type 0
   FeedsAndPrints at e old new had holds result = (moments later : Option (List ℕ))
       → After b.ledger old new (λ past. Feeds b.ledger past at e
-      (desk (w.contents had) moments (failures_of b.ledger old))
-      (desk (w.contents holds) later (failures_of b.ledger new)) new result)
+      (round_state (w.contents had) moments (failures_of b.ledger old))
+      (round_state (w.contents holds) later (failures_of b.ledger new)) new result)
 
   -- The end of a round is fed, and what is told of it is printed.
   abbrev pub EndsAndPrints : (at : ℕ) → Event → (cause : RoundFault) → (old new : Office B)
       → (had holds : W) → (fault : RoundFault) → Type 0
   EndsAndPrints at gone cause old new had holds fault = (moments later : Option (List ℕ))
       → After b.ledger old new (λ past. EndsPrinted b.ledger past at gone cause
-      (desk (w.contents had) moments (failures_of b.ledger old))
-      (desk (w.contents holds) later (failures_of b.ledger new)) old new fault)
+      (round_state (w.contents had) moments (failures_of b.ledger old))
+      (round_state (w.contents holds) later (failures_of b.ledger new)) old new fault)
 
 module _ {B C W : Type 0} (b : stores.Ghosts B) (c : clocks.Ghosts C) (w : writers.Ghosts W) where
   -- what is known of the writer, the clock and the books
-  abbrev pub desk_of : Office B → C → W → Desk
+  abbrev pub desk_of : Office B → C → W → RoundState
   desk_of office clock output =
-      desk (w.contents output) (c.moments clock) (failures_of b.ledger office)
+      round_state (w.contents output) (c.moments clock) (failures_of b.ledger office)
 
   -- of an office, a clock and a writer, each as it was found and as it was left
   abbrev pub Leaves : Type 0 → Type 1
@@ -77,7 +77,7 @@ module _ {B C W : Type 0} (b : stores.Ghosts B) (c : clocks.Ghosts C) (w : write
   -- Where an event is next in a round that goes on, it is fed and printed; the result tells how many polls ended with it.
   abbrev pub TellsNext : Event → (from to : Progress) → Leaves (Result ℕ RoundFault)
   TellsNext e from to old new before after had holds result =
-      (device : Option (List ℕ)) (past : History) (begun : Desk) (fed : List Answered)
+      (device : Option (List ℕ)) (past : History) (begun : RoundState) (fed : List Answered)
       → Going b.ledger device past begun (desk_of old before had) old fed from
       → Does device (next_in past fed) e → (b.ledger (books_in new)).is_clean
       → (one : Answered) × (one.event ≡ e)
@@ -86,7 +86,7 @@ module _ {B C W : Type 0} (b : stores.Ghosts B) (c : clocks.Ghosts C) (w : write
   -- A round that was broken off is closed: the last thing that is fed is that its device is gone.
   abbrev pub ClosesBroken : Progress → (cause : RoundFault) → Leaves RoundFault
   ClosesBroken round cause old new before after had holds fault =
-      (device : Option (List ℕ)) (past : History) (begun : Desk) (fed : List Answered)
+      (device : Option (List ℕ)) (past : History) (begun : RoundState) (fed : List Answered)
       → Broken b.ledger device past begun (desk_of old before had) old fed round cause
       → (b.ledger (books_in new)).is_clean
       → Closes b.ledger device past begun (desk_of new after holds) new fed cause fault
@@ -94,7 +94,7 @@ module _ {B C W : Type 0} (b : stores.Ghosts B) (c : clocks.Ghosts C) (w : write
   -- A round whose connection was not told is over, and its link is as it was.
   abbrev pub EndsUnconnected : Progress → (cause : RoundFault) → Leaves RoundFault
   EndsUnconnected round cause old new before after had holds fault =
-      (device : Option (List ℕ)) (past : History) (begun : Desk) (wire : Wire)
+      (device : Option (List ℕ)) (past : History) (begun : RoundState) (wire : Wire)
       → Connects b.ledger device past begun (desk_of old before had) old round (Err cause)
       → (b.ledger (books_in new)).is_clean
       → Rounds b.ledger device past (passage begun (desk_of new after holds) wire wire) new
@@ -131,7 +131,7 @@ module _ {L B C W : Type 0} (l : links.Ghosts L) (b : stores.Ghosts B) (c : cloc
       StepsFrom b.ledger (scene_of here from old before had) (scene_of there to new after holds)
       now result then
 
-  -- The reads that are left are started, behind which something is taken.
+  -- The reads that are left are started, after which something is taken.
   abbrev pub StartsReads : StepsBetween (Unit {0})
   StartsReads = StepsOn (λ round fed past. StartFrom round.started) (λ done. Take)
 
@@ -139,13 +139,13 @@ module _ {L B C W : Type 0} (l : links.Ghosts L) (b : stores.Ghosts B) (c : cloc
   abbrev pub StartsLeft : StepsBetween Bool
   StartsLeft = StepsOn (λ round fed past. StartFrom round.started) over_or_take
 
-  -- What is left behind the end of a poll is done.
+  -- What is left after the end of a poll is done.
   abbrev pub Follows : StepsBetween Bool
   Follows = StepsOn next_left_in over_or_take
 
-  -- What is next behind an event that was taken is done.
+  -- What is next after an event that was taken is done.
   abbrev pub FollowsTaken : (is_end : Bool) → (endings : ℕ) → StepsBetween Bool
-  FollowsTaken is_end endings = StepsOn (next_behind_taken is_end endings) over_or_take
+  FollowsTaken is_end endings = StepsOn (next_after_taken is_end endings) over_or_take
 
   -- A turn is taken, and the result says whether the round is over.
   abbrev pub TakesTurn : StepsBetween Bool
@@ -159,14 +159,14 @@ module _ {L B C W : Type 0} (l : links.Ghosts L) (b : stores.Ghosts B) (c : cloc
   abbrev pub PollsOut : StepsBetween (Unit {0})
   PollsOut = StepsOn (λ round fed past. StartFrom round.started) (λ done. Over)
 
-  -- An event that was taken from the link is fed where it is next, and what is next behind it is done.
+  -- An event that was taken from the link is fed where it is next, and what is next after it is done.
   abbrev pub FeedsTaken : Event → StepsBetween Bool
   FeedsTaken e here there from to old new before after had holds result =
-      (device : Option (List ℕ)) (past : History) (begun : Desk) (first : Wire)
+      (device : Option (List ℕ)) (past : History) (begun : RoundState) (first : Wire)
       (fed : List Answered)
       → Going b.ledger device past begun (desk_of b c w old before had) old fed here
-      → Consumes first.remaining (l.remaining from) (pieces_behind fed ++ piece_in e)
-      → Appends first.given (l.given from) (frames_behind past fed)
+      → Consumes first.remaining (l.remaining from) (pieces_after fed ++ piece_in e)
+      → Appends first.given (l.given from) (frames_after past fed)
       → next_in past fed ≡ Take → IsTaken here.device e → (b.ledger (books_in new)).is_clean
       → (later : List Answered)
       × Steps b.ledger device past begun (desk_of b c w new after holds) first
@@ -175,7 +175,7 @@ module _ {L B C W : Type 0} (l : links.Ghosts L) (b : stores.Ghosts B) (c : cloc
   -- A round whose reads are to be started is polled to its end.
   abbrev pub PollsToEnd : Progress → (from to : L) → Leaves b c w (Result (Unit {0}) RoundFault)
   PollsToEnd round from to old new before after had holds result =
-      (device : Option (List ℕ)) (past : History) (begun : Desk) (first : Wire)
+      (device : Option (List ℕ)) (past : History) (begun : RoundState) (first : Wire)
       (fed : List Answered)
       → Going b.ledger device past begun (desk_of b c w old before had) old fed round
       → IsWired {X = Unit {0}} past first (wire_of l from) fed (Ok tt)

@@ -1,4 +1,4 @@
--- What a round feeds next, behind what it fed.
+-- What a round feeds next, after what it fed.
 use Rattle.std.specs.Prelude.{◌≡◌, ℕ, ◌+◌, ◌==◌, nat_lt, nat_le, Bool, false, List, [], ◌∷◌, Option, None, Some, Result, Ok, Err, IsOk, if◌then◌else◌}
 use Rattle.std.specs.List.{count_by}
 use Rattle.poll_core.specs.declared.outcome.Closing.TheVariants as closing
@@ -100,7 +100,7 @@ next_left started ended planned =
     else if nat_le planned ended then Leave
     else Take
 
--- So it is behind an event with which a poll of the round has ended.
+-- So it is after an event with which a poll of the round has ended.
 abbrev pub next_after : (endings started ended planned : ℕ) → Next
 next_after endings started ended planned =
     if endings == 0 then Take else next_left started ended planned
@@ -141,7 +141,7 @@ Does device Leave e = e ≡ event.Gone device closing.Gone
 Does device Take e = IsTaken device e
 Does device Over e = ⊥
 
--- Each of these was next behind those before it, and was accepted.
+-- Each of these was next after those before it, and was accepted.
 abbrev pub AreNext : (device : Option (List ℕ)) → (past : History) → List Answered → Type 0
 AreNext device past [] = Unit {0}
 AreNext device past (one ∷ earlier) =

@@ -1,7 +1,7 @@
 -- The events that a round fed to an office, with what they were answered, and what comes of them. Lists of them stand
 -- latest first.
 use Rattle.std.specs.Prelude.{◌≡◌, ℕ, List, [], ◌∷◌, ◌++◌, Option, Result, Ok, Err}
-use Rattle.socket_link.specs.Clocks.{Tells}
+use Rattle.socket_link.specs.Clocks.{TellsMoment}
 use Rattle.script_text.specs.AnswerText.{accepted_text}
 use Rattle.office_events.specs.declared.answers.Answer.{Answer}
 use Rattle.office_events.specs.declared.events.Event.{Event}
@@ -13,7 +13,7 @@ use Rattle.office_rules.specs.Refusals.{with_answer}
 use Rattle.office_core.specs.EventRun.{Answered}
 use Rattle.office_core.specs.Taking.{IsAnswer}
 
--- what the office has accepted behind these events, where it had accepted `past` before them
+-- what the office has accepted after these events, where it had accepted `past` before them
 abbrev pub history_behind : (past : History) → List Answered → History
 history_behind past [] = past
 history_behind past (one ∷ earlier) =
@@ -32,16 +32,16 @@ told_text past at e (Ok given) =
     accepted_text given (notes_after past at e (Ok given)) (outgoing_after past at e (Ok given))
 told_text past at e (Err why) = []
 
-abbrev pub text_behind : (past : History) → List Answered → List ℕ
-text_behind past [] = []
-text_behind past (one ∷ earlier) =
-    text_behind past earlier ++ told_text (history_behind past earlier) one.at one.event one.result
+abbrev pub text_after : (past : History) → List Answered → List ℕ
+text_after past [] = []
+text_after past (one ∷ earlier) =
+    text_after past earlier ++ told_text (history_behind past earlier) one.at one.event one.result
 
 -- the frames that the office wants sent
-abbrev pub frames_behind : (past : History) → List Answered → List ℕ
-frames_behind past [] = []
-frames_behind past (one ∷ earlier) =
-    frames_behind past earlier
+abbrev pub frames_after : (past : History) → List Answered → List ℕ
+frames_after past [] = []
+frames_after past (one ∷ earlier) =
+    frames_after past earlier
     ++ outgoing_after (history_behind past earlier) one.at one.event one.result
 
 -- the bytes of the device that they bring
@@ -53,12 +53,12 @@ piece_in (event.Gone given closing) = []
 piece_in (event.Command c) = []
 piece_in (event.Asked asked) = []
 
-abbrev pub pieces_behind : List Answered → List ℕ
-pieces_behind [] = []
-pieces_behind (one ∷ earlier) = pieces_behind earlier ++ piece_in one.event
+abbrev pub pieces_after : List Answered → List ℕ
+pieces_after [] = []
+pieces_after (one ∷ earlier) = pieces_after earlier ++ piece_in one.event
 
 -- each comes at the moment that the clock tells for it
 abbrev pub AreTimed : (begun now : Option (List ℕ)) → List Answered → Type 0
 AreTimed begun now [] = now ≡ begun
 AreTimed begun now (one ∷ earlier) =
-    (between : Option (List ℕ)) × AreTimed begun between earlier × Tells between now one.at
+    (between : Option (List ℕ)) × AreTimed begun between earlier × TellsMoment between now one.at

@@ -1,7 +1,7 @@
 -- What a round leaves: the office, what was taken from the link and given to it, and what was printed.
 use Rattle.std.specs.Prelude.{◌≡◌, ◌⊎◌, ℕ, nat_lt, true, ◌||◌, List, [], ◌∷◌, Option, Some, Result, Ok, Err, if◌then◌else◌}
 use Rattle.std.specs.Io.KnownBytes.{Appends, Consumes}
-use Rattle.socket_link.specs.Clocks.{Tells}
+use Rattle.socket_link.specs.Clocks.{TellsMoment}
 use Rattle.poll_core.specs.declared.outcome.Closing.TheVariants as closing
 use Rattle.office_events.specs.declared.events.Event.TheVariants as event
 use Rattle.office_events.specs.declared.refusals.Refusal.{Refusal}
@@ -16,18 +16,18 @@ use Rattle.office_core.specs.Standing.{Stands, is_stopped}
 use Rattle.office_core.specs.declared.office.Office.{Office}
 use Rattle.office_rounds.specs.Course.{AreNext, Does, Over, next_in}
 use Rattle.office_rounds.specs.Faults.{AreGiven, IsPrinted}
-use Rattle.office_rounds.specs.FedEvents.{AreAnswered, AreTimed, frames_behind, history_behind, pieces_behind, text_behind}
+use Rattle.office_rounds.specs.FedEvents.{AreAnswered, AreTimed, frames_after, history_behind, pieces_after, text_after}
 use Rattle.office_rounds.specs.declared.fault.RoundFault.{RoundFault}
 use Rattle.office_rounds.specs.declared.fault.RoundFault.TheVariants.{Refused, Link, Output, TurnsUsed}
 
 -- what is known of the writer and the clock, and how often the books have failed
-pub record Desk : Type 0 where
+pub record RoundState : Type 0 where
   pub printed : Option (List ℕ)
   pub moments : Option (List ℕ)
   pub failures : ℕ
 
-abbrev pub desk : (printed moments : Option (List ℕ)) → (failures : ℕ) → Desk
-desk printed moments failures = record { printed = printed; moments = moments; failures = failures }
+abbrev pub round_state : (printed moments : Option (List ℕ)) → (failures : ℕ) → RoundState
+round_state printed moments failures = record { printed = printed; moments = moments; failures = failures }
 
 -- what is known of the link
 pub record Wire : Type 0 where
@@ -39,16 +39,16 @@ wire remaining given = record { remaining = remaining; given = given }
 
 -- a round from its beginning
 pub record Passage : Type 0 where
-  pub begun : Desk
-  pub ended : Desk
+  pub begun : RoundState
+  pub ended : RoundState
   pub from : Wire
   pub to : Wire
 
-abbrev pub passage : (begun ended : Desk) → (from to : Wire) → Passage
+abbrev pub passage : (begun ended : RoundState) → (from to : Wire) → Passage
 passage begun ended from to = record { begun = begun; ended = ended; from = from; to = to }
 
--- The office stands behind the events that were fed, each answered as its definition says.
-pub record IsFed {B : Type 0} (ledger : B → Ledger) (past : History) (begun now : Desk)
+-- The office stands after the events that were fed, each answered as its definition says.
+pub record IsFed {B : Type 0} (ledger : B → Ledger) (past : History) (begun now : RoundState)
     (office : Office B)
     (fed : List Answered) : Type 0 where
   pub stands : Stands ledger (history_behind past fed) office
@@ -73,9 +73,9 @@ pub record IsRound {B : Type 0} (ledger : B → Ledger) (device : Option (List �
   pub next : AreNext device past fed
   pub over : next_in past fed ≡ Over
   pub timed : AreTimed through.begun.moments through.ended.moments fed
-  pub taken : Consumes through.from.remaining through.to.remaining (pieces_behind fed)
-  pub given : Appends through.from.given through.to.given (frames_behind past fed)
-  pub printed : Appends through.begun.printed through.ended.printed (text_behind past fed)
+  pub taken : Consumes through.from.remaining through.to.remaining (pieces_after fed)
+  pub given : Appends through.from.given through.to.given (frames_after past fed)
+  pub printed : Appends through.begun.printed through.ended.printed (text_after past fed)
   pub settled : IsSettled device (history_behind past fed) office
 
 -- The connection was refused: nothing else was fed, taken, given or printed.
@@ -85,11 +85,11 @@ pub record IsNotConnected {B : Type 0} (ledger : B → Ledger) (device : Option 
   pub at : ℕ
   pub leaves : IsFed ledger past through.begun through.ended office
       (record { at = at; event = event.Connected device; result = Err why } ∷ [])
-  pub timed : Tells through.begun.moments through.ended.moments at
+  pub timed : TellsMoment through.begun.moments through.ended.moments at
   pub same : through.to ≡ through.from
   pub printed : Appends through.begun.printed through.ended.printed []
 
--- the latest of these events was next behind the others, and was refused
+-- the latest of these events was next after the others, and was refused
 abbrev pub IsRefused : (device : Option (List ℕ)) → (past : History) → Refusal → List Answered
     → Type 0
 IsRefused device past why [] = ⊥
@@ -118,7 +118,7 @@ pub record IsGoneAt (past : History) (begun now : Option (List ℕ)) (earlier : 
   pub between : Option (List ℕ)
   pub timed : AreTimed begun between earlier
   pub moment : ℕ
-  pub told : Tells between now moment
+  pub told : TellsMoment between now moment
   pub is : at ≡ gone_at (latest_of (history_behind past earlier)) moment
 
 -- the fault that broke the round off is told, or that a writing failed thereafter
@@ -138,10 +138,10 @@ pub record IsBrokenOff {B : Type 0} (ledger : B → Ledger) (device : Option (Li
   pub event : gone.event ≡ event.Gone device closing.Failed
   pub leaves : IsFed ledger past through.begun through.ended office (gone ∷ earlier)
   pub timed : IsGoneAt past through.begun.moments through.ended.moments earlier gone.at
-  pub taken : Consumes through.from.remaining through.to.remaining (pieces_behind earlier)
-  pub given : AreGiven {X = Unit {0}} (Err cause) (frames_behind past earlier) through.from.given
+  pub taken : Consumes through.from.remaining through.to.remaining (pieces_after earlier)
+  pub given : AreGiven {X = Unit {0}} (Err cause) (frames_after past earlier) through.from.given
       through.to.given
-  pub printed : IsPrinted {X = Unit {0}} (Err fault) (text_behind past (gone ∷ earlier))
+  pub printed : IsPrinted {X = Unit {0}} (Err fault) (text_after past (gone ∷ earlier))
       through.begun.printed through.ended.printed
   pub settled : IsSettled device (history_behind past (gone ∷ earlier)) office
 

@@ -4,7 +4,7 @@ use Rattle.std.specs.Io.KnownBytes.{Appends, Consumes}
 use Rattle.office_events.specs.declared.events.Event.{Event}
 use Rattle.office_events.specs.declared.events.Event.TheVariants as event
 use Rattle.poll_core.specs.declared.outcome.Closing.TheVariants as closing
-use Rattle.socket_link.specs.Clocks.{Tells}
+use Rattle.socket_link.specs.Clocks.{TellsMoment}
 use Rattle.office_events.specs.declared.answers.Answer.{Answer}
 use Rattle.office_events.specs.declared.refusals.Refusal.{Refusal}
 use Rattle.office_events.specs.declared.refusals.Refusal.TheVariants as refusal
@@ -20,8 +20,8 @@ use Rattle.office_core.specs.declared.office.Office.{Office}
 use Rattle.sun_points.specs.Writing.{GotPart}
 use Rattle.office_rounds.specs.Course.{AreNext, Next, endings_of, first_poll, next_in, next_left, polls_ended, reads_planned, reads_started}
 use Rattle.office_rounds.specs.Faults.{AreGiven, IsPrinted}
-use Rattle.office_rounds.specs.Rounds.{BreaksOff, Desk, IsFed, IsGoneAt, IsSettled, IsToldOf, Wire}
-use Rattle.office_rounds.specs.FedEvents.{AreTimed, frames_behind, history_behind, pieces_behind, text_behind, told_text}
+use Rattle.office_rounds.specs.Rounds.{BreaksOff, RoundState, IsFed, IsGoneAt, IsSettled, IsToldOf, Wire}
+use Rattle.office_rounds.specs.FedEvents.{AreTimed, frames_after, history_behind, pieces_after, text_after, told_text}
 use Rattle.office_rounds.specs.Taking.{next_by}
 use Rattle.office_rounds.specs.declared.fault.RoundFault.{RoundFault}
 use Rattle.office_rounds.specs.declared.fault.RoundFault.TheVariants.{Refused, Link, Output, TurnsUsed}
@@ -34,24 +34,24 @@ connection device at result = record { at = at; event = event.Connected device; 
 abbrev pub counted : ℕ → ℕ
 counted n = min n (2 ^ 64 - 1)
 
--- the office stands behind the answer to an event, and tells of it
+-- the office stands after the answer to an event, and tells of it
 pub record IsTaken {B : Type 0} (ledger : B → Ledger) (past : History) (at : ℕ) (e : Event)
     (reply : Result Answer Refusal)
-    (begun now : Desk) (office : Office B) : Type 0 where
+    (begun now : RoundState) (office : Office B) : Type 0 where
   pub stands : Stands ledger (with_answer past at e reply) office
   pub answer : IsAnswer past at e begun.failures now.failures reply
   pub told : IsTold past at e reply office
 
 -- what feeding an event does, and printing what is told of it
 pub record IsUnprinted {B : Type 0} (ledger : B → Ledger) (past : History) (at : ℕ) (e : Event)
-    (begun now : Desk)
+    (begun now : RoundState)
     (office : Office B) : Type 0 where
   pub given : Answer
   pub taken : IsTaken ledger past at e (Ok given) begun now office
   pub printed : IsPrinted {X = Unit {0}} (Err Output) (told_text past at e (Ok given)) begun.printed
       now.printed
 
-abbrev pub Feeds : {B : Type 0} → (B → Ledger) → History → (at : ℕ) → Event → (begun now : Desk)
+abbrev pub Feeds : {B : Type 0} → (B → Ledger) → History → (at : ℕ) → Event → (begun now : RoundState)
     → Office B
     → Result Answer RoundFault → Type 0
 Feeds ledger past at e begun now office (Ok given) =
@@ -82,7 +82,7 @@ RefusedStops was e reply now = (why : Refusal) → reply ≡ Err why → Stops w
 -- The end of a round was told, and printed; or not printed, since a writing had failed.
 pub record EndsPrinted {B : Type 0} (ledger : B → Ledger) (past : History) (at : ℕ) (e : Event)
     (cause : RoundFault)
-    (begun now : Desk) (old new : Office B) (fault : RoundFault) : Type 0 where
+    (begun now : RoundState) (old new : Office B) (fault : RoundFault) : Type 0 where
   pub reply : Result Answer Refusal
   pub taken : IsTaken ledger past at e reply begun now new
   pub stops : RefusedStops (is_stopped old) e reply (is_stopped new)
@@ -90,17 +90,17 @@ pub record EndsPrinted {B : Type 0} (ledger : B → Ledger) (past : History) (at
       ⊎ ((fault ≡ Output) × GotPart (told_text past at e reply) begun.printed now.printed)
 
 pub record EndsUnprinted {B : Type 0} (ledger : B → Ledger) (past : History) (at : ℕ) (e : Event)
-    (begun now : Desk) (old new : Office B) : Type 0 where
+    (begun now : RoundState) (old new : Office B) : Type 0 where
   pub reply : Result Answer Refusal
   pub taken : IsTaken ledger past at e reply begun now new
   pub stops : RefusedStops (is_stopped old) e reply (is_stopped new)
 
 -- the fault that is told: that a writing has failed now, or the one that broke the round off
-abbrev pub fault_behind : (cause fault : RoundFault) → RoundFault
-fault_behind cause (Refused why) = cause
-fault_behind cause Link = cause
-fault_behind cause Output = Output
-fault_behind cause TurnsUsed = cause
+abbrev pub fault_after : (cause fault : RoundFault) → RoundFault
+fault_after cause (Refused why) = cause
+fault_after cause Link = cause
+fault_after cause Output = Output
+fault_after cause TurnsUsed = cause
 
 -- a writing failed
 abbrev pub is_output : RoundFault → Bool
@@ -118,12 +118,12 @@ Prints given text old new (Err Link) = ⊥
 Prints given text old new (Err Output) = GotPart text old new
 Prints given text old new (Err TurnsUsed) = ⊥
 
--- the moment of the latest event that was accepted, behind one that broke the round off
-abbrev pub latest_behind : RoundFault → (at latest : ℕ) → ℕ
-latest_behind (Refused why) at latest = latest
-latest_behind Link at latest = latest
-latest_behind Output at latest = at
-latest_behind TurnsUsed at latest = latest
+-- the moment of the latest event that was accepted, after one that broke the round off
+abbrev pub latest_after : RoundFault → (at latest : ℕ) → ℕ
+latest_after (Refused why) at latest = latest
+latest_after Link at latest = latest
+latest_after Output at latest = at
+latest_after TurnsUsed at latest = latest
 
 -- what a round has counted
 pub record Counts (device : Option (List ℕ)) (past : History) (fed : List Answered)
@@ -155,22 +155,22 @@ pub record IsNew (round : Progress) : Type 0 where
 
 -- All that was next was fed so far, and printed.
 pub record Going {B : Type 0} (ledger : B → Ledger) (device : Option (List ℕ)) (past : History)
-    (begun now : Desk)
+    (begun now : RoundState)
     (office : Office B) (fed : List Answered) (round : Progress) : Type 0 where
   pub leaves : IsFed ledger past begun now office fed
   pub next : AreNext device past fed
   pub timed : AreTimed begun.moments now.moments fed
-  pub printed : Appends begun.printed now.printed (text_behind past fed)
+  pub printed : Appends begun.printed now.printed (text_after past fed)
   pub counts : Counts device past fed round
 
 -- It was broken off.
 pub record Broken {B : Type 0} (ledger : B → Ledger) (device : Option (List ℕ)) (past : History)
-    (begun now : Desk)
+    (begun now : RoundState)
     (office : Office B) (fed : List Answered) (round : Progress) (cause : RoundFault) : Type 0 where
   pub leaves : IsFed ledger past begun now office fed
   pub course : BreaksOff device past cause fed
   pub timed : AreTimed begun.moments now.moments fed
-  pub printed : IsPrinted {X = Unit {0}} (Err cause) (text_behind past fed) begun.printed
+  pub printed : IsPrinted {X = Unit {0}} (Err cause) (text_after past fed) begun.printed
       now.printed
   pub device_is : round.device ≡ device
   pub latest : round.latest ≡ latest_of (history_behind past fed)
@@ -178,12 +178,12 @@ pub record Broken {B : Type 0} (ledger : B → Ledger) (device : Option (List �
 -- what was taken from the link is what was fed, and what was given to it is what the office wanted sent
 pub record IsWired {X : Type 0} (past : History) (from to : Wire) (fed : List Answered)
     (result : Result X RoundFault) : Type 0 where
-  pub taken : Consumes from.remaining to.remaining (pieces_behind fed)
-  pub given : AreGiven result (frames_behind past fed) from.given to.given
+  pub taken : Consumes from.remaining to.remaining (pieces_after fed)
+  pub given : AreGiven result (frames_after past fed) from.given to.given
 
 -- One more event was fed, which was next.
-pub record GoesOn {B : Type 0} (ledger : B → Ledger) (device : Option (List ℕ)) (past : History)
-    (begun now : Desk)
+pub record RoundGoesOn {B : Type 0} (ledger : B → Ledger) (device : Option (List ℕ)) (past : History)
+    (begun now : RoundState)
     (office : Office B) (fed : List Answered) (one : Answered) (round : Progress) (endings : ℕ) :
     Type 0 where
   pub going : Going ledger device past begun now office (one ∷ fed) round
@@ -199,16 +199,16 @@ IsUnsent Output result = Unit {0}
 IsUnsent TurnsUsed result = ⊥
 
 abbrev pub Told : {B : Type 0} → (B → Ledger) → (device : Option (List ℕ)) → History
-    → (begun now : Desk) → Office B
+    → (begun now : RoundState) → Office B
     → List Answered → Answered → Progress → Result ℕ RoundFault → Type 0
 Told ledger device past begun now office fed one round (Ok endings) =
-    GoesOn ledger device past begun now office fed one round endings
+    RoundGoesOn ledger device past begun now office fed one round endings
 Told ledger device past begun now office fed one round (Err cause) =
     Broken ledger device past begun now office (one ∷ fed) round cause × IsUnsent cause one.result
 
 -- What a step of a round does that was going: it goes on, or is broken off.
 abbrev pub Steps : {B X : Type 0} → (B → Ledger) → (device : Option (List ℕ)) → History
-    → (begun now : Desk) → (from to : Wire)
+    → (begun now : RoundState) → (from to : Wire)
     → Office B → List Answered → Progress → Result X RoundFault → (X → Next) → Type 0
 Steps ledger device past begun now from to office fed round (Ok x) next =
     Going ledger device past begun now office fed round
@@ -220,12 +220,12 @@ Steps ledger device past begun now from to office fed round (Err cause) next =
 -- where a step of a round finds it and leaves it
 pub record Scene (B : Type 0) : Type 0 where
   pub office : Office B
-  pub desk : Desk
+  pub round_state : RoundState
   pub wire : Wire
   pub round : Progress
 
-abbrev pub scene : {B : Type 0} → Office B → Desk → Wire → Progress → Scene B
-scene office desk wire round = record { office = office; desk = desk; wire = wire; round = round }
+abbrev pub scene : {B : Type 0} → Office B → RoundState → Wire → Progress → Scene B
+scene office round_state wire round = record { office = office; round_state = round_state; wire = wire; round = round }
 
 -- A step does so of every round that has come so far and is to do this next, if no wrong answer of a store was taken as
 -- true until now.
@@ -233,27 +233,27 @@ abbrev pub StepsFrom : {B X : Type 0} → (B → Ledger) → (old new : Scene B)
     → (now : Progress → List Answered → History → Next)
     → Result X RoundFault → (X → Next) → Type 0
 StepsFrom ledger old new now result next =
-    (device : Option (List ℕ)) (past : History) (begun : Desk) (from : Wire) (fed : List Answered)
-    → Going ledger device past begun old.desk old.office fed old.round
+    (device : Option (List ℕ)) (past : History) (begun : RoundState) (from : Wire) (fed : List Answered)
+    → Going ledger device past begun old.round_state old.office fed old.round
     → IsWired {X = Unit {0}} past from old.wire fed (Ok tt)
     → next_in past fed ≡ now old.round fed past → (ledger (books_in new.office)).is_clean
     → (later : List Answered)
-    × Steps ledger device past begun new.desk from new.wire new.office later new.round result next
+    × Steps ledger device past begun new.round_state from new.wire new.office later new.round result next
 
 -- what is next where the reads that are left are started
 abbrev pub next_left_in : Progress → List Answered → History → Next
 next_left_in round fed past =
     next_left (reads_started fed) (polls_ended past fed) (reads_planned fed)
 
--- what is next behind an event that was taken, with which so many polls have ended
-abbrev pub next_behind_taken : (is_end : Bool) → (endings : ℕ) → Progress → List Answered → History
+-- what is next after an event that was taken, with which so many polls have ended
+abbrev pub next_after_taken : (is_end : Bool) → (endings : ℕ) → Progress → List Answered → History
     → Next
-next_behind_taken is_end endings round fed past =
+next_after_taken is_end endings round fed past =
     next_by is_end endings (next_left_in round fed past)
 
 -- what the connection of a device does
 abbrev pub Connects : {B : Type 0} → (B → Ledger) → (device : Option (List ℕ)) → History
-    → (begun now : Desk) → Office B → Progress
+    → (begun now : RoundState) → Office B → Progress
     → Result (Unit {0}) RoundFault → Type 0
 Connects ledger device past begun now office round (Ok x) =
     (at : ℕ) × ((given : Answer)
@@ -261,7 +261,7 @@ Connects ledger device past begun now office round (Ok x) =
     × (round.started ≡ 0))
 Connects ledger device past begun now office round (Err (Refused why)) =
     (at : ℕ) × IsFed ledger past begun now office (connection device at (Err why) ∷ [])
-    × Tells begun.moments now.moments at
+    × TellsMoment begun.moments now.moments at
     × Appends begun.printed now.printed []
 Connects ledger device past begun now office round (Err Output) =
     (at : ℕ) × ((given : Answer)
@@ -272,13 +272,13 @@ Connects ledger device past begun now office round (Err TurnsUsed) = ⊥
 
 -- A round that was broken off is closed: the last thing that was fed is that the device is gone.
 pub record Closes {B : Type 0} (ledger : B → Ledger) (device : Option (List ℕ)) (past : History)
-    (begun now : Desk)
+    (begun now : RoundState)
     (office : Office B) (earlier : List Answered) (cause fault : RoundFault) : Type 0 where
   pub told : IsToldOf cause fault
   pub gone : Answered
   pub event : gone.event ≡ event.Gone device closing.Failed
   pub leaves : IsFed ledger past begun now office (gone ∷ earlier)
   pub timed : IsGoneAt past begun.moments now.moments earlier gone.at
-  pub printed : IsPrinted {X = Unit {0}} (Err fault) (text_behind past (gone ∷ earlier))
+  pub printed : IsPrinted {X = Unit {0}} (Err fault) (text_after past (gone ∷ earlier))
       begun.printed now.printed
   pub settled : IsSettled device (history_behind past (gone ∷ earlier)) office

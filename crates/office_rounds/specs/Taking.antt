@@ -19,7 +19,7 @@ abbrev pub over_or_take : Bool → Next
 over_or_take true = Over
 over_or_take false = Take
 
--- what is next behind an event that was taken: nothing behind the end, a take where no poll has ended, else this
+-- what is next after an event that was taken: nothing after the end, a take where no poll has ended, else this
 abbrev pub next_by : (is_end : Bool) → (endings : ℕ) → Next → Next
 next_by true endings next = Over
 next_by false endings next = if endings == 0 then Take else next

@@ -2,10 +2,10 @@
 //! to be told.
 
 mod feed;
-mod happenings;
+mod device_events;
 mod turns;
-mod witness;
+mod observer;
 
-pub use happenings::Happening;
+pub use device_events::DeviceEvent;
 pub use turns::{MOST_STEPS, turn};
-pub use witness::Witness;
+pub use observer::Observer;

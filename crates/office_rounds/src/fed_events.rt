@@ -50,9 +50,9 @@ pub(crate) fn feed<B: Books, W: Write>(
     }
 }
 
-/// The moment of the latest event that was accepted, behind one that broke the round off.
-pub(crate) fn latest_behind(fault: RoundFault, at: u64, latest: u64) -> u64
-    ensures { result ≡ stepping.latest_behind fault at latest }
+/// The moment of the latest event that was accepted, after one that broke the round off.
+pub(crate) fn latest_after(fault: RoundFault, at: u64, latest: u64) -> u64
+    ensures { result ≡ stepping.latest_after fault at latest }
 {
     match fault {
         RoundFault::Refused(_) => latest,
@@ -79,7 +79,7 @@ pub(crate) fn tell<B: Books, C: Clock, W: Write>(
     match feed(office, at, event, output) {
         Ok(answer) => Ok(round.note(at, &answer, office.notes())),
         Err(fault) => {
-            round.latest = latest_behind(fault, at, round.latest);
+            round.latest = latest_after(fault, at, round.latest);
             Err(fault)
         }
     }

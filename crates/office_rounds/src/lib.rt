@@ -12,6 +12,6 @@ mod round_end;
 mod steps;
 
 pub use device_rounds::{Round, Stage, Sum};
-pub use driver::{Happening, Witness, turn};
+pub use driver::{DeviceEvent, Observer, turn};
 pub use fault::RoundFault;
 pub use round::{MOST_TAKES, round_over};

@@ -8,7 +8,7 @@ ghost use Rattle.office_rounds.specs.Rounds.{IsToldOf};
 ghost use Rattle.office_rounds.specs.Stepping.{IsNew};
 
 use crate::fault::RoundFault;
-use crate::fed_events::{feed, latest_behind};
+use crate::fed_events::{feed, latest_after};
 use crate::progress::Progress;
 use crate::round_end::close;
 use crate::steps::{start, turn};
@@ -43,7 +43,7 @@ fn connect<B: Books, C: Clock, W: Write>(
             Ok(())
         }
         Err(fault) => {
-            round.latest = latest_behind(fault, at, round.latest);
+            round.latest = latest_after(fault, at, round.latest);
             Err(fault)
         }
     }

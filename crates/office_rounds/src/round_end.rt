@@ -29,8 +29,8 @@ fn gone_at(latest: u64, moment: u64) -> u64
 }
 
 // The fault that is told: that a writing has failed now, or the one that broke the round off.
-fn fault_behind(cause: RoundFault, fault: RoundFault) -> RoundFault
-    ensures { result ≡ stepping.fault_behind cause fault }
+fn fault_after(cause: RoundFault, fault: RoundFault) -> RoundFault
+    ensures { result ≡ stepping.fault_after cause fault }
 {
     match fault {
         RoundFault::Refused(_) => cause,
@@ -67,7 +67,7 @@ fn end_printed<B: Books, W: Write>(
 {
     match feed(office, at, gone, output) {
         Ok(_) => cause,
-        Err(fault) => fault_behind(cause, fault),
+        Err(fault) => fault_after(cause, fault),
     }
 }
 

@@ -170,7 +170,7 @@ fn follow<L: Link, B: Books, C: Clock, W: Write>(
     Ok(false)
 }
 
-// Does what is next behind an event that the link has brought: it was the end, or so many polls have ended with it.
+// Does what is next after an event that the link has brought: it was the end, or so many polls have ended with it.
 fn go_on<L: Link, B: Books, C: Clock, W: Write>(
     is_end: bool,
     endings: u64,
@@ -196,7 +196,7 @@ fn go_on<L: Link, B: Books, C: Clock, W: Write>(
     follow(round, link, office, clock, output)
 }
 
-// Feeds what the link has brought, and does what is next behind it.
+// Feeds what the link has brought, and does what is next after it.
 fn feed_taken<L: Link, B: Books, C: Clock, W: Write>(
     event: &Event,
     round: &mut Progress,
@@ -218,7 +218,7 @@ fn feed_taken<L: Link, B: Books, C: Clock, W: Write>(
     }
 }
 
-/// A turn of a round: what the link brings is fed, and what is next behind it. It answers whether the round is over.
+/// A turn of a round: what the link brings is fed, and what is next after it. It answers whether the round is over.
 pub(crate) fn turn<L: Link, B: Books, C: Clock, W: Write>(
     alloc: Global,
     round: &mut Progress,

@@ -110,8 +110,8 @@ found_step n true m (Some o) polls xs e none rest = ap (λ ys. o ∷ ys) (e ∙ 
 found_step n false m None polls xs e none rest = e ∙ rest
 found_step n false m (Some o) polls xs e none rest = e ∙ rest
 
-none_behind : (n m : ℕ) (polls : List Ended) → times n (m ∷ numbers_in polls) ≤ 1 → (m == n) ≡ true → pick n (ends_in polls) ≡ []
-none_behind n m polls l here =
+none_after : (n m : ℕ) (polls : List Ended) → times n (m ∷ numbers_in polls) ≤ 1 → (m == n) ≡ true → pick n (ends_in polls) ≡ []
+none_after n m polls l here =
     let split = times_split n polls in
     let one : one_if (m == n) ≡ 1 = ap one_if here in
     none_if_empty (pick n (ends_in polls)) (omega arith)
@@ -119,9 +119,9 @@ none_behind n m polls l here =
 pub picked_is : (n : ℕ) (polls : List Ended) → times n (numbers_in polls) ≤ 1 → pick n (ends_in polls) ≡ option_to_list (outcome_from n polls)
 picked_is n [] l = refl
 picked_is n ((m, None) ∷ polls) l =
-    found_step n (m == n) m None polls (pick n (ends_in polls)) refl (none_behind n m polls l) (picked_is n polls (omega arith))
+    found_step n (m == n) m None polls (pick n (ends_in polls)) refl (none_after n m polls l) (picked_is n polls (omega arith))
 picked_is n ((m, Some o) ∷ polls) l =
-    found_step n (m == n) m (Some o) polls (pick n (ends_in polls)) refl (none_behind n m polls l) (picked_is n polls (omega arith))
+    found_step n (m == n) m (Some o) polls (pick n (ends_in polls)) refl (none_after n m polls l) (picked_is n polls (omega arith))
 
 -- The polls without outcome, by a test of their numbers.
 one_there : (m : ℕ) (xs : List ℕ) → 1 ≤ times m (m ∷ xs)

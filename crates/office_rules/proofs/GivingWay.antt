@@ -14,7 +14,7 @@ use Rattle.office_rules.specs.Intervals.{rows_of_opening}
 use Rattle.office_rules.specs.Meters.{opened, installed, journal_of, rows_of, installation_of, place_in}
 use Rattle.office_rules.specs.Voids.{VoidedEntriesGiveWay}
 use Rattle.office_rules.proofs.Journals.{installed_fits, well}
-use Rattle.office_rules.proofs.Stepping.{installation_by, named, own_line, installed_so, line_behind}
+use Rattle.office_rules.proofs.Stepping.{installation_by, named, own_line, installed_so, line_after}
 
 -- an installation whose counter stands there, with this energy
 abbrev stood : Opening → journal.Journal → Last → ℕ → Installation
@@ -28,7 +28,7 @@ voided_entries_give_way law v facts o h there =
     let fits : journals.VoidFits (installed o) (journal.rows_of (opened o) lines) v.place = own_line facts v.meter line o h.0.0 there in
     let a : journal.Around = fits.around in
     let changed = law (installed o) lines v.place a (well facts o h.1 own) (fits, installed_fits facts o h.1 own) fits.there in
-    let is : journal_of (fact.Void v ∷ facts) o.meter ≡ line ∷ lines = line_behind facts v.meter line o (named facts v.meter o there) in
+    let is : journal_of (fact.Void v ∷ facts) o.meter ≡ line ∷ lines = line_after facts v.meter line o (named facts v.meter o there) in
     let last : Last = if is_some a.next then books.last_in (installed o) lines else last_before (opened o) a in
     let at : (installation_of (fact.Void v ∷ facts) o).last ≡ books.last_in (installed o) (line ∷ lines) =
     ap (λ (row : Installation). row.last) (ap (installation_by o) is) in

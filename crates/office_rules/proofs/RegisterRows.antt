@@ -38,7 +38,7 @@ abbrev NeverFall : List Share → Type 0
 NeverFall [] = Unit {0}
 NeverFall (row ∷ rows) = From row.start rows × NeverFall rows
 
--- quarter hours that begin before n, and that end behind n
+-- quarter hours that begin before n, and that end after n
 abbrev Before : ℕ → List Share → Type 0
 Before n [] = Unit {0}
 Before n (row ∷ rows) = (row.start % 900 ≡ 0) × (row.start < n) × Before n rows
@@ -102,11 +102,11 @@ before_within opened last (row ∷ rows) h =
     let here = All-head (LiesWithin opened last) row rows h in
     (here.quarter, here.before, before_within opened last rows (All-tail (LiesWithin opened last) row rows h))
 
-behind_within : (opened last : ℕ) (rows : List Share) → All (LiesWithin opened last) rows → Behind opened rows
-behind_within opened last [] h = tt
-behind_within opened last (row ∷ rows) h =
+after_within : (opened last : ℕ) (rows : List Share) → All (LiesWithin opened last) rows → Behind opened rows
+after_within opened last [] h = tt
+after_within opened last (row ∷ rows) h =
     let here = All-head (LiesWithin opened last) row rows h in
-    (here.quarter, here.behind, behind_within opened last rows (All-tail (LiesWithin opened last) row rows h))
+    (here.quarter, here.behind, after_within opened last rows (All-tail (LiesWithin opened last) row rows h))
 
 -- what is said of the rows of an installation
 record IsFine (facts : List Fact) (o : Opening) : Type 0 where
@@ -165,7 +165,7 @@ all_never_fall law facts (o ∷ os) h turn =
     subst NeverFall (sym (one_more facts o os))
     (never_append o.at (rows_in_turn facts os) (rows_of_opening facts o) (all_never_fall law facts os h turn.2) this.never_fall
     (all_before law facts o.at os h turn.2 (last_over facts o.at os turn.1))
-    (behind_within o.at (last_at facts o) (rows_of_opening facts o) this.within))
+    (after_within o.at (last_at facts o) (rows_of_opening facts o) this.within))
 
 -- an installation without rows has no energy; one with rows has gone on since its opening
 rows_go_on : (opened last : ℕ) (rows : List Share) → All (LiesWithin opened last) rows → energy_of rows ≤ 4 * 10 ^ 18

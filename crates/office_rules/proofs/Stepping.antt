@@ -68,7 +68,7 @@ openings_begin o facts h =
 pub named : (facts : List Fact) (m : List ℕ) (o : Opening) → opening_of facts m ≡ Some o → o.meter ≡ m
 named facts m o there = same_text o.meter m (find_passes (λ (x : Opening). same x.meter m) (openings_in facts) o there)
 
--- a line of the meter, behind its journal
+-- a line of the meter, after its journal
 pub own_line : (facts : List Fact) (meter : List ℕ) (line : journal.Line) (o : Opening) → LineFits facts meter line → opening_of facts meter ≡ Some o
     → journals.Fits (installed o) (journal_of facts o.meter) line
 own_line facts meter line o fits there =
@@ -77,9 +77,9 @@ own_line facts meter line o fits there =
 pub installed_so : (facts : List Fact) (meter : List ℕ) (o : Opening) → opening_of facts meter ≡ Some o → IsInstalled facts o
 installed_so facts meter o there = ap (opening_of facts) (named facts meter o there) ∙ there
 
-pub line_behind : (facts : List Fact) (meter : List ℕ) (line : journal.Line) (o : Opening) → o.meter ≡ meter
+pub line_after : (facts : List Fact) (meter : List ℕ) (line : journal.Line) (o : Opening) → o.meter ≡ meter
     → cons_option (cond (same meter o.meter) (Some line) None) (journal_of facts o.meter) ≡ line ∷ journal_of facts o.meter
-line_behind facts meter line o is =
+line_after facts meter line o is =
     let e : same meter o.meter ≡ true = ap (same meter) is ∙ same_itself meter in
     ap (λ b. cons_option (cond b (Some line) None) (journal_of facts o.meter)) e
 
@@ -99,7 +99,7 @@ entries_move_on law b facts o h there =
     let own = installed_so facts b.meter o there in
     let fits = own_line facts b.meter line o h.0.0 there in
     let on = law (installed o) lines b.kind b.entry (well facts o h.1 own) (fits, installed_fits facts o h.1 own) in
-    let is : journal_of (fact.Entry b ∷ facts) o.meter ≡ line ∷ lines = line_behind facts b.meter line o (named facts b.meter o there) in
+    let is : journal_of (fact.Entry b ∷ facts) o.meter ≡ line ∷ lines = line_after facts b.meter line o (named facts b.meter o there) in
     record {
       unended = fits.0;
       goes_on = on;

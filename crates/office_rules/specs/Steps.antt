@@ -64,11 +64,11 @@ abbrev pub step_from : Installation → Entry → Step
 step_from row e = step_to row.opening.range row.last e
 
 -- One more entry is booked where the counter of the meter, which is still open, stands. The installation moves on to it, a
--- row stands behind the others, and the interval rows grow by the shares of the step: these are joined to the last row, or
+-- row stands after the others, and the interval rows grow by the shares of the step: these are joined to the last row, or
 -- added each to the row of its interval.
 pub record MovesOn (booked : BookedEntry) (facts : List Fact) (opening : Opening) : Type 0 where
   pub unended : (installation_of facts opening).ended ≡ false
-  pub goes_on : journals.GoesOn (installed opening) (journal_of facts opening.meter) booked.kind
+  pub goes_on : journals.ContinuesJournal (installed opening) (journal_of facts opening.meter) booked.kind
       booked.entry
   pub installation : installation_of (fact.Entry booked ∷ facts) opening
       ≡ moved_by booked.kind booked.entry (installation_of facts opening)

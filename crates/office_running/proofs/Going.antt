@@ -16,8 +16,8 @@ use Rattle.office_http.specs.Connections.Connections.{Request, ServesUpTo}
 use Rattle.office_http.proofs.ConnectionsLemmas.Served.{handled}
 use Rattle.office_rounds.specs.declared.device_rounds.round.Round.{Round}
 use Rattle.run_status.specs.RunHttp.Answer as asking
-use Rattle.run_status.specs.declared.run_http.answer.Asked.{Asked}
-use Rattle.run_status.specs.declared.run_http.answer.Asked.TheVariants.{Open, Replied, Failed}
+use Rattle.run_status.specs.declared.run_http.answer.PeerReply.{PeerReply}
+use Rattle.run_status.specs.declared.run_http.answer.PeerReply.TheVariants.{Open, Replied, Failed}
 use Rattle.office_rounds.specs.Driver.Going.{Start, TakesTurn, scene}
 use Rattle.office_rounds.specs.Driver.Showing.{Shown}
 use Rattle.office_program.specs.Texts.OpenedOffice.{Opens}
@@ -32,10 +32,10 @@ goes_none ledger office = record {
   zone = refl;
 }
 
-behind_both : (past : History) (later earlier : List Step)
+after_both : (past : History) (later earlier : List Step)
     → history_behind past (later ++ earlier) ≡ history_behind (history_behind past earlier) later
-behind_both past [] earlier = refl
-behind_both past (one ∷ later) earlier = ap (λ h. with_step h one) (behind_both past later earlier)
+after_both past [] earlier = refl
+after_both past (one ∷ later) earlier = ap (λ h. with_step h one) (after_both past later earlier)
 
 -- What comes comes one after the other.
 pub goes_both : {B : Type 0} (ledger : B → Ledger) (a b c : Office B) → Goes ledger a b → Goes ledger b c → Goes ledger a c
@@ -47,7 +47,7 @@ goes_both ledger a b c first next = record {
         steps = then.steps ++ one.steps;
         stands =
             let P : History → Type 0 = λ h. Stands ledger h c in
-            subst P (sym (behind_both past then.steps one.steps)) then.stands;
+            subst P (sym (after_both past then.steps one.steps)) then.stands;
       };
   clean = λ clean. first.clean (next.clean clean);
   zone = next.zone ∙ first.zone;
@@ -57,23 +57,23 @@ abbrev of_events : List Answered → List Step
 of_events [] = []
 of_events (one ∷ earlier) = Fed one ∷ of_events earlier
 
-behind_events : (past : History) (fed : List Answered) → history_behind past (of_events fed) ≡ telling.history_behind past fed
-behind_events past [] = refl
-behind_events past (one ∷ earlier) = ap (λ h. with_answer h one.at one.event one.result) (behind_events past earlier)
+after_events : (past : History) (fed : List Answered) → history_behind past (of_events fed) ≡ telling.history_behind past fed
+after_events past [] = refl
+after_events past (one ∷ earlier) = ap (λ h. with_answer h one.at one.event one.result) (after_events past earlier)
 
 -- a turn of the devices
 pub goes_turn : {B V : Type 0} (ledger : B → Ledger) (sees : V → Shown → V → Type 0) (at : ℕ) (old new : Office B) (begun : Start V)
-    (failures : ℕ) (turned : List Round) (witness : V)
-    → After ledger old new (λ past. TakesTurn ledger sees past begun at (scene new failures turned witness))
+    (failures : ℕ) (turned : List Round) (observer : V)
+    → After ledger old new (λ past. TakesTurn ledger sees past begun at (scene new failures turned observer))
     → rounds.Lasts ledger old new → Goes ledger old new
-goes_turn ledger sees at old new begun failures turned witness turns lasts = record {
+goes_turn ledger sees at old new begun failures turned observer turns lasts = record {
   stands = λ past stands clean.
       let takes = turns past stands clean in
       record {
         steps = of_events takes.fed;
         stands =
             let P : History → Type 0 = λ h. Stands ledger h new in
-            subst P (sym (behind_events past takes.fed)) takes.going.leaves.stands;
+            subst P (sym (after_events past takes.fed)) takes.going.leaves.stands;
       };
   clean = lasts.clean;
   zone = lasts.zone;
@@ -83,12 +83,12 @@ abbrev of_requests : List Request → List Step
 of_requests [] = []
 of_requests (one ∷ earlier) = Asks one ∷ of_requests earlier
 
-behind_requests : (past : History) (asked : List Request)
+after_requests : (past : History) (asked : List Request)
     → history_behind past (of_requests asked) ≡ serving.history_behind past asked
-behind_requests past [] = refl
-behind_requests past (one ∷ earlier) = ap (λ h. with_asked h one.at one.asked) (behind_requests past earlier)
+after_requests past [] = refl
+after_requests past (one ∷ earlier) = ap (λ h. with_asked h one.at one.asked) (after_requests past earlier)
 
-asked_once : {B : Type 0} (ledger : B → Ledger) (at : ℕ) (old new : Office B) (request : List ℕ) (asked : Asked)
+asked_once : {B : Type 0} (ledger : B → Ledger) (at : ℕ) (old new : Office B) (request : List ℕ) (asked : PeerReply)
     → asking.Asks ledger at old new request asked → After ledger old new (λ past. ServesUpTo 1 ledger past new)
 asked_once ledger at old new request Open h = handled ledger at old new _ _ h.1.handles
 asked_once ledger at old new request (Replied reply) (inl h) = handled ledger at old new _ _ h.handles
@@ -98,7 +98,7 @@ asked_once ledger at old new request Failed (reply, inr (inl h)) = handled ledge
 asked_once ledger at old new request Failed (reply, inr (inr h)) = handled ledger at old new _ _ h.handles
 
 -- a request of a peer
-pub goes_asked : {B : Type 0} (ledger : B → Ledger) (at : ℕ) (old new : Office B) (request : List ℕ) (asked : Asked)
+pub goes_asked : {B : Type 0} (ledger : B → Ledger) (at : ℕ) (old new : Office B) (request : List ℕ) (asked : PeerReply)
     → asking.Asks ledger at old new request asked → http.Lasts ledger old new → Goes ledger old new
 goes_asked ledger at old new request asked asks lasts = record {
   stands = λ past stands clean.
@@ -107,7 +107,7 @@ goes_asked ledger at old new request asked asks lasts = record {
         steps = of_requests served.requests;
         stands =
             let P : History → Type 0 = λ h. Stands ledger h new in
-            subst P (sym (behind_requests past served.requests)) served.stands;
+            subst P (sym (after_requests past served.requests)) served.stands;
       };
   clean = lasts.clean;
   zone = lasts.zone;
@@ -125,7 +125,7 @@ reads_stand old new past keeps stands = record {
   };
 }
 
--- A run behind an opening.
+-- A run after an opening.
 pub ran_opened : {B : Type 0} (ledger : B → Ledger) (past : History) (moments later : Option (List ℕ)) (office new : Office B) (books : B)
     → books ≡ books_in new → ((ledger (books_in office)).is_clean → Opens ledger past moments later office) → Goes ledger office new
     → (ledger books).is_clean → BooksRun (ledger books) past

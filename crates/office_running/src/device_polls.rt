@@ -8,7 +8,7 @@ use mio::{Registry, Token};
 use office_books::Books;
 use office_core::Office;
 use office_events::Piece;
-use office_rounds::{Happening, Round, Stage, turn};
+use office_rounds::{DeviceEvent, Round, Stage, turn};
 use poll_core::Closing;
 use run_schedule::Phase;
 use std::alloc::{AllocError, Global};
@@ -127,7 +127,7 @@ impl Polling {
             if self.rounds[place].stage == Stage::Off {
                 self.finish(place, voice, moment);
             } else {
-                let frames = voice.desk.take_outgoing(place);
+                let frames = voice.monitor.take_outgoing(place);
                 self.slots[place].send_more(&frames);
             }
         }
@@ -142,14 +142,14 @@ impl Polling {
     /// Feeds what happens to the office, and what the rounds of the devices wish then.
     pub(crate) fn feed<B: Books>(
         &mut self,
-        happening: Happening,
+        device_event: DeviceEvent,
         office: &mut Office<B>,
         voice: &mut Voice,
         moment: u64,
     )
         ensures { Goes B.ledger office.old office.new }
     {
-        turn(&mut self.rounds, happening, office, moment, voice);
+        turn(&mut self.rounds, device_event, office, moment, voice);
         self.settle_all(voice, moment);
     }
 
@@ -160,7 +160,7 @@ impl Polling {
         seen: &Seen,
         voice: &mut Voice,
         moment: u64,
-    ) -> Option<Happening> {
+    ) -> Option<DeviceEvent> {
         match seen {
             Seen::Nothing => None,
             Seen::Stands => {
@@ -168,7 +168,7 @@ impl Polling {
                     let every = self.every;
                     self.slots[place].timing.stand(every, moment);
                 }
-                Some(Happening::Stands(place))
+                Some(DeviceEvent::Connected(place))
             }
             _ => {
                 self.fail(place, voice, moment);
@@ -178,7 +178,7 @@ impl Polling {
     }
 
     // What a look at the connection of a place sees, as it happens to the office.
-    fn look(&mut self, place: usize, voice: &mut Voice, moment: u64) -> Option<Happening> {
+    fn look(&mut self, place: usize, voice: &mut Voice, moment: u64) -> Option<DeviceEvent> {
         if place >= self.slots.len() {
             return None;
         }
@@ -189,23 +189,23 @@ impl Polling {
         }
         match seen {
             Seen::Nothing | Seen::Stands => None,
-            Seen::Bytes(bytes) => Some(Happening::Came(place, Piece::new(bytes))),
-            Seen::Closed => Some(Happening::Ended(place, Closing::Gone)),
-            Seen::Failed => Some(Happening::Ended(place, Closing::Failed)),
+            Seen::Bytes(bytes) => Some(DeviceEvent::Received(place, Piece::new(bytes))),
+            Seen::Closed => Some(DeviceEvent::Closed(place, Closing::Gone)),
+            Seen::Failed => Some(DeviceEvent::Closed(place, Closing::Failed)),
         }
     }
 
     // What the device of a place does that takes too long.
-    fn expire(&mut self, place: usize, voice: &mut Voice, moment: u64) -> Option<Happening> {
+    fn expire(&mut self, place: usize, voice: &mut Voice, moment: u64) -> Option<DeviceEvent> {
         if place < self.slots.len() && self.slots[place].timing.phase == Phase::Connecting {
             self.fail(place, voice, moment);
             return None;
         }
-        Some(Happening::Ended(place, Closing::Failed))
+        Some(DeviceEvent::Closed(place, Closing::Failed))
     }
 
     // What happens at a place.
-    fn happening(&mut self, place: usize, voice: &mut Voice, moment: u64) -> Option<Happening> {
+    fn device_event(&mut self, place: usize, voice: &mut Voice, moment: u64) -> Option<DeviceEvent> {
         if place >= self.slots.len() {
             return None;
         }
@@ -229,8 +229,8 @@ impl Polling {
     )
         ensures { Goes B.ledger office.old office.new }
     {
-        if let Some(happening) = self.happening(place, voice, moment) {
-            self.feed(happening, office, voice, moment);
+        if let Some(device_event) = self.device_event(place, voice, moment) {
+            self.feed(device_event, office, voice, moment);
         }
     }
 }

@@ -177,7 +177,7 @@ impl Slot {
         }
     }
 
-    /// Sends frames behind what is to be sent. Where that fails, the next look tells.
+    /// Sends frames after what is to be sent. Where that fails, the next look tells.
     pub(crate) fn send_more(&mut self, frames: &[u8]) {
         let done = self.unsent.put(frames);
         if done.is_err() || !self.send() {

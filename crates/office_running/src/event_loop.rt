@@ -10,9 +10,9 @@ use crate::voice::Voice;
 use mio::{Events, Poll, Token};
 use office_books::Books;
 use office_core::Office;
-use office_rounds::Happening;
+use office_rounds::DeviceEvent;
 use poll_core::Closing;
-use run_schedule::{MOST_PEERS, Watch};
+use run_schedule::{MOST_PEERS, SteadyClock};
 use socket_link::Clock;
 use std::alloc::{AllocError, Global};
 use std::io::{ErrorKind, Write};
@@ -32,7 +32,7 @@ struct Running {
     polling: Polling,
     serving: Serving,
     voice: Voice,
-    watch: Watch,
+    steady_clock: SteadyClock,
     /// The moment of the latest tick.
     ticked: u64,
 }
@@ -94,7 +94,7 @@ impl Running {
             polling,
             serving,
             voice,
-            watch: Watch::new(now),
+            steady_clock: SteadyClock::new(now),
             ticked: now,
         })
     }
@@ -105,7 +105,7 @@ impl Running {
         clock: &mut C,
         output: &mut W,
     ) -> Result<u64, RunFault> {
-        let reading = self.watch.read(clock.now());
+        let reading = self.steady_clock.read(clock.now());
         let moment = reading.moment;
         if let Some(seconds) = reading.set_back {
             if writeln!(output, "{moment} clock set back {seconds}").is_err() {
@@ -141,7 +141,7 @@ impl Running {
     {
         if self.ticked < moment {
             self.polling
-                .feed(Happening::Second, office, &mut self.voice, moment);
+                .feed(DeviceEvent::Tick, office, &mut self.voice, moment);
             self.begin_second(rt, moment);
         }
     }
@@ -180,7 +180,7 @@ impl Running {
     {
         for place in 0..self.polling.count() {
             self.polling.feed(
-                Happening::Ended(place, Closing::Gone),
+                DeviceEvent::Closed(place, Closing::Gone),
                 office,
                 &mut self.voice,
                 moment,

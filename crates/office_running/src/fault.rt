@@ -1,5 +1,5 @@
 //! Why a run ended.
-use command_io::Status;
+use command_io::ExitStatus;
 use std::alloc::AllocError;
 use std::error::Error;
 use std::fmt;
@@ -9,7 +9,7 @@ use std::fmt::{Display, Formatter};
 #[derive(Clone, Copy, Debug, PartialEq, Eq)]
 pub enum RunFault {
     /// The office was not opened, as was printed, and the command ends so.
-    Unopened(Status),
+    Unopened(ExitStatus),
     /// The port can't be listened on.
     Port,
     /// The system can't tell which sockets are ready.

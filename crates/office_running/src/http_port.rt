@@ -9,7 +9,7 @@ use mio::{Interest, Registry, Token};
 use office_books::Books;
 use office_core::Office;
 use run_schedule::{MOST_PEERS, PEER_SECONDS, Peers, place_for};
-use run_status::{Asked, Own, ask, own_route, reply_own};
+use run_status::{PeerReply, StatusRoute, ask, status_route, reply_status};
 use std::alloc::{AllocError, Global};
 use std::io::ErrorKind;
 use std::net::{Net, SocketAddr};
@@ -170,12 +170,12 @@ impl Serving {
     }
 
     // The reply of a route that is answered by what was counted.
-    fn reply_own(&self, own: Own, voice: &Voice) -> Asked {
+    fn reply_status(&self, route: StatusRoute, voice: &Voice) -> PeerReply {
         let mut text = Vec::new(self.alloc);
-        let desk = &voice.desk;
-        match reply_own(self.alloc, &mut text, own, &desk.counts, &desk.states) {
-            Ok(()) => Asked::Replied(text),
-            Err(_) => Asked::Failed,
+        let monitor = &voice.monitor;
+        match reply_status(self.alloc, &mut text, route, &monitor.counts, &monitor.states) {
+            Ok(()) => PeerReply::Replied(text),
+            Err(_) => PeerReply::Failed,
         }
     }
 
@@ -187,11 +187,11 @@ impl Serving {
         office: &mut Office<B>,
         voice: &Voice,
         moment: u64,
-    ) -> Asked
+    ) -> PeerReply
         ensures { Goes B.ledger office.old office.new }
     {
-        match own_route(request) {
-            Some(own) => self.reply_own(own, voice),
+        match status_route(request) {
+            Some(route) => self.reply_status(route, voice),
             None => ask(self.alloc, request, office, moment),
         }
     }

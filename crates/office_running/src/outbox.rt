@@ -52,7 +52,7 @@ impl Outbox {
         self.bytes.len() <= self.written
     }
 
-    /// Puts bytes behind those that it has.
+    /// Puts bytes after those that it has.
     pub(crate) fn put(&mut self, bytes: &[u8]) -> Result<(), AllocError> {
         if self.is_written() {
             self.bytes.clear();

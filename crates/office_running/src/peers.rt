@@ -2,7 +2,7 @@
 use crate::outbox::{MOST_CALLS, Outbox, Went, went_by};
 use http_request::{MOST_BYTES, MOST_ROOM};
 use mio::net::TcpStream;
-use run_status::Asked;
+use run_status::PeerReply;
 use std::alloc::Global;
 use std::io::Read;
 use std::net::Shutdown;
@@ -122,14 +122,14 @@ impl Peer {
     }
 
     /// Takes what came of what was asked.
-    pub(crate) fn take(&mut self, asked: Asked) {
+    pub(crate) fn take(&mut self, asked: PeerReply) {
         match asked {
-            Asked::Open => self.over = self.ended,
-            Asked::Replied(reply) => {
+            PeerReply::Open => self.over = self.ended,
+            PeerReply::Replied(reply) => {
                 self.over = reply.is_empty();
                 self.reply = Outbox::of(reply);
             }
-            Asked::Failed => self.over = true,
+            PeerReply::Failed => self.over = true,
         }
     }
 

@@ -1,8 +1,8 @@
 //! What is kept and told of what the office is fed.
 use office_events::{Answer, Event, Name, Note, Refusal};
-use office_rounds::{Sum, Witness};
+use office_rounds::{Sum, Observer};
 use poll_core::Closing;
-use run_status::{Desk, put, put_head, put_lines, put_sum};
+use run_status::{RunMonitor, put, put_head, put_lines, put_sum};
 use script_text::write_note;
 use std::alloc::{AllocError, Global};
 use std::{io, mem};
@@ -23,7 +23,7 @@ pub(crate) enum Standing {
 /// is left out, or is cut off.
 #[derive(Drop)]
 pub(crate) struct Voice {
-    pub(crate) desk: Desk,
+    pub(crate) monitor: RunMonitor,
     /// Whether the office has stopped.
     pub(crate) stopped: bool,
     alloc: Global,
@@ -32,7 +32,7 @@ pub(crate) struct Voice {
     lines: Vec<u8>,
 }
 
-// How a device stands behind a round whose polls ended so.
+// How a device stands after a round whose polls ended so.
 fn standing_by(sum: Sum) -> Standing {
     if sum.answered > 0 {
         Standing::Answers
@@ -80,7 +80,7 @@ impl Voice {
         verbose: bool,
     ) -> Result<Voice, AllocError> {
         Ok(Voice {
-            desk: Desk::new(alloc, &names)?,
+            monitor: RunMonitor::new(alloc, &names)?,
             stopped: false,
             alloc,
             names,
@@ -117,7 +117,7 @@ impl Voice {
         }
     }
 
-    /// Tells how the polls of a round ended, and how the device stands behind it.
+    /// Tells how the polls of a round ended, and how the device stands after it.
     pub(crate) fn tell_round(
         &mut self,
         at: u64,
@@ -142,10 +142,10 @@ impl Voice {
     }
 }
 
-impl Witness for Voice {
+impl Observer for Voice {
     ghost sees = { λ _ _ _. Unit {0} };
 
-    fn see(
+    fn observe(
         &mut self,
         place: Option<usize>,
         at: u64,
@@ -164,6 +164,6 @@ impl Witness for Voice {
         if matches!(answer, Err(Refusal::Stopped)) {
             self.stopped = true;
         }
-        self.desk.see(place, at, event, answer, notes, frames);
+        self.monitor.observe(place, at, event, answer, notes, frames);
     }
 }

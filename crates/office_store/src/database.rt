@@ -11,7 +11,7 @@ ghost use Rattle.store_files.specs.Upgrade.{IsFile, OpensFile};
 ghost use Rattle.store_files.specs.Layouts.{no_schema, schema_of, version_of, IsNamedAs};
 ghost use Rattle.store_files.specs.NewFile.{Makes};
 ghost use Rattle.store_files.specs.Meta.{Meta, IsMarked};
-ghost use Rattle.store_files.specs.OpenedFile.{Tells};
+ghost use Rattle.store_files.specs.OpenedFile.{TellsOpening};
 ghost use Rattle.store_files.specs.Zones.{IsZone};
 ghost use Rattle.office_store.specs.Made.{HandsBackUntouched, connection_in, told_by};
 ghost use Rattle.office_store.specs.Database.{HasFile, HoldsAlone, KeepsFile};
@@ -74,7 +74,7 @@ impl<S: Alter> SqlBooks<S> {
             → connection.in_transaction ≡ false → IsTrue (state S.Store connection).is_open
             → (layout : TheLayout) (content : Content)
             → AreTablesIn (schema_of layout) (state S.Store connection).committed content
-            → (m : Meta) → IsMarked m content → Tells (version_of layout) m (told_by result) }
+            → (m : Meta) → IsMarked m content → TellsOpening (version_of layout) m (told_by result) }
         ensures opened { HasCleanDisk (state S.Store (connection_in result))
             → (layout : TheLayout) (zone : List ℕ) (content : Content)
             → (IsTrue (state S.Store connection).is_open

@@ -169,7 +169,7 @@ meter m1 last 14 sf 0 at 1800 total 4000 open
 end 2
 ",
     ),
-    // It turned over behind the voided one.
+    // It turned over after the voided one.
     (
         COUNTER,
         "1000 install r m1 4294967200 0 100000
@@ -273,7 +273,7 @@ end 1
     ),
 ];
 
-/// What is printed of a script behind what went before it, over new books.
+/// What is printed of a script after what went before it, over new books.
 fn behind(alloc: Global, before: &str, script: &str) -> Result<Vec<u8>, Fail> {
     let mut office = after(alloc, before)?;
     play(alloc, &mut office, script)

@@ -2,7 +2,7 @@
 use crate::links::{SECOND_REPLY, first_reply};
 use crate::offices::{Tried, list, office_with};
 use office_events::{Name, Piece};
-use office_rounds::{Happening, Round, Witness, turn};
+use office_rounds::{DeviceEvent, Round, Observer, turn};
 use poll_core::Closing;
 use std::alloc::Global;
 use std::process::Abort;
@@ -35,7 +35,7 @@ const NAMES: [&[u8]; 2] = [b"inv", b"two"];
 pub(crate) struct Bench<W> {
     pub(crate) office: Tried,
     pub(crate) rounds: Vec<Round>,
-    pub(crate) witness: W,
+    pub(crate) observer: W,
 }
 
 fn rounds(alloc: Global) -> Option<Vec<Round>> {
@@ -65,33 +65,33 @@ fn bytes(alloc: Global, step: Step) -> Option<Piece> {
     Some(Piece::new(bytes.ok()?))
 }
 
-fn happening(alloc: Global, step: Step) -> Option<Happening> {
+fn device_event(alloc: Global, step: Step) -> Option<DeviceEvent> {
     match step {
-        Step::Stands(place) => Some(Happening::Stands(place)),
+        Step::Stands(place) => Some(DeviceEvent::Connected(place)),
         Step::First(place) | Step::Second(place) | Step::Came(place, _) => {
-            Some(Happening::Came(place, bytes(alloc, step)?))
+            Some(DeviceEvent::Received(place, bytes(alloc, step)?))
         }
-        Step::Ended(place, closing) => Some(Happening::Ended(place, closing)),
-        Step::Tick => Some(Happening::Second),
+        Step::Ended(place, closing) => Some(DeviceEvent::Closed(place, closing)),
+        Step::Tick => Some(DeviceEvent::Tick),
     }
 }
 
 /// Both devices, after all this has happened, and who has seen it.
-pub(crate) fn play<W: Witness + Drop>(
+pub(crate) fn play<W: Observer + Drop>(
     rt: &impl Abort,
     alloc: Global,
     moments: &[Moment],
-    mut witness: W,
+    mut observer: W,
 ) -> Bench<W> {
     let mut office = office(rt, alloc);
     let mut rounds = rounds(alloc).expect(rt, "rounds");
     for &(at, step) in moments {
-        let happening = happening(alloc, step).expect(rt, "a happening");
-        turn(&mut rounds, happening, &mut office, at, &mut witness);
+        let device_event = device_event(alloc, step).expect(rt, "a happening");
+        turn(&mut rounds, device_event, &mut office, at, &mut observer);
     }
     Bench {
         office,
         rounds,
-        witness,
+        observer,
     }
 }

@@ -4,16 +4,16 @@ use crate::offices::inv;
 use office_events::{Answer, Event, Name, Refusal};
 use office_rounds::Sum;
 use poll_core::Closing;
-use run_status::{Desk, put_lines, put_sum};
+use run_status::{RunMonitor, put_lines, put_sum};
 use std::alloc::{AllocError, Global};
 use std::process::Abort;
 use std::str;
 
 // Both devices after all this, at a desk.
-fn polled(rt: &impl Abort, alloc: Global, moments: &[Moment]) -> Bench<Desk> {
+fn polled(rt: &impl Abort, alloc: Global, moments: &[Moment]) -> Bench<RunMonitor> {
     let names = [inv(), Name::new(b"two")];
-    let desk = Desk::new(alloc, &names).expect(rt, "a desk");
-    play(rt, alloc, moments, desk)
+    let monitor = RunMonitor::new(alloc, &names).expect(rt, "a desk");
+    play(rt, alloc, moments, monitor)
 }
 
 const STANDS: Moment = (1001, Step::Stands(0));
@@ -21,26 +21,26 @@ const STANDS: Moment = (1001, Step::Stands(0));
 #[test]
 fn frames_wait_for_their_device(rt: HostRuntime) {
     let mut polled = polled(&rt, rt.alloc(), &[STANDS]);
-    let frames = polled.witness.take_outgoing(0);
+    let frames = polled.observer.take_outgoing(0);
     let wanted: &[u8] = b"\x00\x00\x00\x00\x00\x06\x01\x03\x00\x00\x00\x7d";
     assert_eq!(rt; frames.as_slice(), wanted);
-    assert!(rt; polled.witness.take_outgoing(0).is_empty());
-    assert!(rt; polled.witness.take_outgoing(1).is_empty());
-    assert!(rt; polled.witness.take_outgoing(2).is_empty());
+    assert!(rt; polled.observer.take_outgoing(0).is_empty());
+    assert!(rt; polled.observer.take_outgoing(1).is_empty());
+    assert!(rt; polled.observer.take_outgoing(2).is_empty());
 }
 
 #[test]
 fn frames_of_an_ended_connection_are_dropped(rt: HostRuntime) {
     let moments = [STANDS, (1002, Step::Ended(0, Closing::Failed))];
     let mut polled = polled(&rt, rt.alloc(), &moments);
-    assert!(rt; polled.witness.take_outgoing(0).is_empty());
-    assert_eq!(rt; polled.witness.counts.lost, 1);
-    assert_eq!(rt; polled.witness.counts.refusals, 0);
+    assert!(rt; polled.observer.take_outgoing(0).is_empty());
+    assert_eq!(rt; polled.observer.counts.lost, 1);
+    assert_eq!(rt; polled.observer.counts.refusals, 0);
 }
 
 // Whether a device is connected, by its place.
-fn is_connected(polled: &Bench<Desk>, place: usize) -> Option<bool> {
-    let state = polled.witness.states.get(place)?;
+fn is_connected(polled: &Bench<RunMonitor>, place: usize) -> Option<bool> {
+    let state = polled.observer.states.get(place)?;
     Some(state.connected)
 }
 
@@ -53,7 +53,7 @@ fn a_desk_knows_who_is_connected(rt: HostRuntime) {
     let moments = [STANDS, (1006, Step::Tick), (1011, Step::Tick)];
     let after = polled(&rt, rt.alloc(), &moments);
     assert_eq!(rt; is_connected(&after, 0), Some(false));
-    assert_eq!(rt; after.witness.counts.silent, 2);
+    assert_eq!(rt; after.observer.counts.silent, 2);
 }
 
 // A frame whose unit is another's, and then the end.

@@ -66,7 +66,7 @@ mod stopped_office;
 #[cfg(test)]
 mod turns;
 #[cfg(test)]
-mod witness;
+mod observer;
 #[cfg(test)]
 mod writers;
 

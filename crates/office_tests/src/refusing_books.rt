@@ -48,7 +48,7 @@ fn refuse_call(rt: &impl Abort, alloc: Global, input: &[u8], number: u64) -> End
 }
 
 // The polls that the broken rounds leave, each refused call in turn, without those that are like the ones before.
-fn left_behind(rt: &impl Abort, alloc: Global) -> Vec<Ends> {
+fn left_after(rt: &impl Abort, alloc: Global) -> Vec<Ends> {
     let input = replies(alloc).expect(rt, "replies");
     let mut left = Vec::new(alloc);
     for number in 1..1000 {
@@ -80,6 +80,6 @@ static LEFT: [Ends; 4] = [
 /// adds nothing; where a reply was settled, the office stops, and the restart loses the poll.
 #[test]
 fn failing_books_break_the_round_off(rt: HostRuntime) {
-    let left = left_behind(&rt, rt.alloc());
+    let left = left_after(&rt, rt.alloc());
     assert_eq!(rt; left.as_slice(), LEFT.as_slice());
 }

@@ -6,14 +6,14 @@ use crate::writers::Narrow;
 use mb_wire::{Link, MemoryLink};
 use office_events::{Name, Refusal};
 use office_rounds::{RoundFault, round_over};
-use socket_link::ListedClock;
+use socket_link::FixedClock;
 use std::alloc::Global;
 use std::process::Abort;
 
 #[test]
 fn an_unknown_device_is_refused(rt: HostRuntime) {
     let mut office = listed(&rt, rt.alloc());
-    let mut clock = ListedClock::new(&[1000]);
+    let mut clock = FixedClock::new(&[1000]);
     for name in [Name::new(b"none"), Name::new(b"9")] {
         let mut output = Narrow { room: 0 };
         let mut link = IdleLink::new();
@@ -102,7 +102,7 @@ fn print_into(rt: &impl Abort, alloc: Global, input: &[u8], room: usize) -> Ends
     let mut office = listed(rt, alloc);
     let mut given = [0; 24];
     let mut link = MemoryLink::new(input, &mut given, 259, None);
-    let mut clock = ListedClock::new(&[1000]);
+    let mut clock = FixedClock::new(&[1000]);
     let mut output = Narrow { room };
     let done = round_over(
         alloc,

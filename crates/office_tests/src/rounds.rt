@@ -4,7 +4,7 @@ use crate::offices::{Tried, inv, list, office_with};
 use mb_wire::{Link, MemoryLink};
 use office_rounds::{RoundFault, round_over};
 use poll_core::{LostCause, Outcome};
-use socket_link::ListedClock;
+use socket_link::FixedClock;
 use std::alloc::Global;
 use std::process::Abort;
 use std::str;
@@ -49,7 +49,7 @@ pub(crate) fn round<L: Link>(
     link: &mut L,
     moments: &[u64],
 ) -> Done {
-    let mut clock = ListedClock::new(moments);
+    let mut clock = FixedClock::new(moments);
     let mut printed = Vec::new(alloc);
     let done = round_over(alloc, link, office, inv(), &mut clock, &mut printed);
     Done { done, printed }

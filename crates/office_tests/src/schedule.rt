@@ -1,7 +1,7 @@
 //! When devices are due.
-use run_schedule::{Phase, Timing, Watch, next_due, next_pause, retry_at, round_until};
+use run_schedule::{Phase, Timing, SteadyClock, next_due, next_pause, retry_at, round_until};
 
-// The last is a quarter of an hour behind 2023-11-14 22:13:20 UTC, which is no multiple.
+// The last is a quarter of an hour after 2023-11-14 22:13:20 UTC, which is no multiple.
 #[test]
 fn a_device_is_due_at_multiples(rt: HostRuntime) {
     let cases = [
@@ -44,7 +44,7 @@ fn a_round_lasts_a_minute_at_least(rt: HostRuntime) {
 // The clock is set back by 40 seconds, and catches up.
 #[test]
 fn a_clock_that_is_set_back_is_told_once(rt: HostRuntime) {
-    let mut watch = Watch::new(1000);
+    let mut steady_clock = SteadyClock::new(1000);
     let cases = [
         (1001, 1001, None),
         (961, 1001, Some(40)),
@@ -53,7 +53,7 @@ fn a_clock_that_is_set_back_is_told_once(rt: HostRuntime) {
         (1000, 1002, Some(2)),
     ];
     for (now, moment, told) in cases {
-        let reading = watch.read(now);
+        let reading = steady_clock.read(now);
         assert_eq!(rt; reading.moment, moment);
         assert_eq!(rt; reading.set_back, told);
     }

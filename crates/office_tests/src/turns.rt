@@ -1,6 +1,6 @@
 //! Turns over made-up happenings.
 use crate::benches::{Bench, Moment, Step, play};
-use crate::witness::Seen;
+use crate::observer::Seen;
 use office_rounds::Stage;
 use poll_core::Closing;
 use std::alloc::Global;
@@ -64,7 +64,7 @@ static TURNS: [(&[Moment], &str); 6] = [
         ],
         "",
     ),
-    // a moment before the latest breaks the round off; the hub itself never feeds one: `Watch` sees to that
+    // a moment before the latest breaks the round off; the hub itself never feeds one: `SteadyClock` sees to that
     (
         &[(1001, Step::Stands(0)), (999, Step::First(0))],
         "0C 0S 0B! 0F! ",
@@ -75,7 +75,7 @@ static TURNS: [(&[Moment], &str); 6] = [
 fn turns_feed_what_rounds_wish(rt: HostRuntime) {
     for (moments, text) in TURNS {
         let bench = seen(&rt, rt.alloc(), moments);
-        assert_eq!(rt; bench.witness.text.as_str(), text);
+        assert_eq!(rt; bench.observer.text.as_str(), text);
     }
 }
 
@@ -88,8 +88,8 @@ static TO_ITS_END: [Moment; 3] = [
 #[test]
 fn a_device_is_polled_to_its_end(rt: HostRuntime) {
     let bench = seen(&rt, rt.alloc(), &TO_ITS_END);
-    assert_eq!(rt; bench.witness.text.as_str(), "0C 0S 0Ba 0S 0Ba 0G ");
-    assert_eq!(rt; bench.witness.frames, 24);
+    assert_eq!(rt; bench.observer.text.as_str(), "0C 0S 0Ba 0S 0Ba 0G ");
+    assert_eq!(rt; bench.observer.frames, 24);
 }
 
 static COME_AGAIN: [Moment; 3] = [

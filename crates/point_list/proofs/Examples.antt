@@ -37,8 +37,8 @@ digit_first = refl
 last_address : number_within 0 65535 (codes "65535") ≡ Some 65535
 last_address = refl
 
-behind_the_last_address : number_within 0 65535 (codes "65536") ≡ None
-behind_the_last_address = refl
+after_the_last_address : number_within 0 65535 (codes "65536") ≡ None
+after_the_last_address = refl
 
 one_register_at_the_last_address : reaches_past (Some 65535) (Some kind.Uint16) ≡ false
 one_register_at_the_last_address = refl

@@ -148,7 +148,7 @@ fn chain_points(alloc: Global, chain: &Chain<'_>) -> Result<Vec<ListedPoint>, Al
     Ok(points)
 }
 
-// The row behind the most that may be.
+// The row after the most that may be.
 fn too_many(alloc: Global) -> Result<FaultyRows, AllocError>
     ensures { IfOk result (λ rows. rows ≡ record { row = 514; fault = RowFault.TooMany } ∷ []) }
 {

@@ -7,7 +7,7 @@ use Rattle.std.proofs.lemmas.List.Elements.{filter_agree}
 use Rattle.std.proofs.lemmas.Bool.{eq-eqb, ne_eqb}
 use Rattle.mb_wire.specs.Frames.{Reads, IsOwn, tid_of}
 use Rattle.std.specs.Option.{option_map}
-use Rattle.mb_wire.specs.Reader.{Buffered, Fields, fields_of, Tells, buffered_after, ended}
+use Rattle.mb_wire.specs.Reader.{Buffered, Fields, fields_of, TellsFraming, buffered_after, ended}
 use Rattle.mb_wire.specs.declared.frames.Framing.{Framing}
 use Rattle.mb_wire.specs.declared.frames.Framing.TheVariants.{Need, Whole, Foreign, Garbled}
 use Rattle.poll_core.proofs.Filters.{filter-none, filter-all}
@@ -133,19 +133,19 @@ goes_quietly what old piece at n ps mid buffered f (inr e) strays h =
     let P : Framing → Type 0 = λ w. FeedsOn mid.rest (take n (slice_at at piece)) (ended w f) buffered.rest in
     goes_on old piece at n ps ps None mid buffered strays (quiet _ _ buffered ps (subst P e h))
 
-pub goes_past : (what : Framing) (old piece : List ℕ) (at n : ℕ) (ps : List Poll) (mid buffered : Buffered) (f : List ℕ) → what ≡ Foreign → Strays old piece at ps mid → FeedsOn mid.rest (take n (slice_at at piece)) (ended what f) buffered.rest → Tells what f → Finds old (take (at + n) piece) ps None buffered ps
+pub goes_past : (what : Framing) (old piece : List ℕ) (at n : ℕ) (ps : List Poll) (mid buffered : Buffered) (f : List ℕ) → what ≡ Foreign → Strays old piece at ps mid → FeedsOn mid.rest (take n (slice_at at piece)) (ended what f) buffered.rest → TellsFraming what f → Finds old (take (at + n) piece) ps None buffered ps
 goes_past what old piece at n ps mid buffered f e strays h tells =
     let P : Framing → Type 0 = λ w. FeedsOn mid.rest (take n (slice_at at piece)) (ended w f) buffered.rest in
-    let Q : Framing → Type 0 = λ w. Tells w f in
+    let Q : Framing → Type 0 = λ w. TellsFraming w f in
     let foreign = subst Q e tells in
     let by = FindsBy-foreign f ps foreign.1 in
     goes_on old piece at n ps ps None mid buffered strays
     record { ended = f ∷ []; feeds = subst P e h; told = by.0; others_are = by.1 }
 
-pub goes_framed : (what : Framing) (old piece : List ℕ) (at n : ℕ) (ps qs : List Poll) (o : Option Poll) (mid buffered : Buffered) (f : List ℕ) → what ≡ Whole → Strays old piece at ps mid → FeedsOn mid.rest (take n (slice_at at piece)) (ended what f) buffered.rest → Tells what f → buffered ≡ buffered_after what f → ((g : List ℕ) → buffered.frame ≡ Some g → IsOwn g → FindsBy g ps o qs) → Finds old (take (at + n) piece) ps o buffered qs
+pub goes_framed : (what : Framing) (old piece : List ℕ) (at n : ℕ) (ps qs : List Poll) (o : Option Poll) (mid buffered : Buffered) (f : List ℕ) → what ≡ Whole → Strays old piece at ps mid → FeedsOn mid.rest (take n (slice_at at piece)) (ended what f) buffered.rest → TellsFraming what f → buffered ≡ buffered_after what f → ((g : List ℕ) → buffered.frame ≡ Some g → IsOwn g → FindsBy g ps o qs) → Finds old (take (at + n) piece) ps o buffered qs
 goes_framed what old piece at n ps qs o mid buffered f e strays h tells after found =
     let P : Framing → Type 0 = λ w. FeedsOn mid.rest (take n (slice_at at piece)) (ended w f) buffered.rest in
-    let Q : Framing → Type 0 = λ w. Tells w f in
+    let Q : Framing → Type 0 = λ w. TellsFraming w f in
     let whole = subst Q e tells in
     let has : buffered.frame ≡ Some f = ap (λ (x : Buffered). x.frame) after ∙ ap (λ w. (buffered_after w f).frame) e in
     let by = found f has whole.1 in

@@ -120,9 +120,9 @@ still_free t es (Close m c ∷ starts) id h others free = absurd (let f : false 
 apart_ids : (n j k : ℕ) → j < k → k < 65536 → (n + k) % 65536 ≢ (n + j) % 65536
 apart_ids n j k less few same = omega arith
 
--- a start behind so many others, that fits, isn't refused
-fits_behind : (t w m : ℕ) (es starts : List Event) → AreStarts starts → length starts < 65536 → start_fits w (pending t es) (next_id es) (is_over es) (length starts) ≡ true → last_moment (es ++ starts) ≤ m → start_fault t w (es ++ starts) m ≡ None
-fits_behind t w m es starts h few fits late =
+-- a start after so many others, that fits, isn't refused
+fits_after : (t w m : ℕ) (es starts : List Event) → AreStarts starts → length starts < 65536 → start_fits w (pending t es) (next_id es) (is_over es) (length starts) ≡ true → last_moment (es ++ starts) ≤ m → start_fault t w (es ++ starts) m ≡ None
+fits_after t w m es starts h few fits late =
     let k = length starts in
     let ps = pending t es in
     let n = next_id es in
@@ -155,8 +155,8 @@ busy_fault w n l m ps over busy = some_if (leb w (length ps)) _ _ (ap is_some (c
 pub over_fault : (w n l m : ℕ) (ps : List Poll) (over : Bool) → over ≡ true → IsSome (least_fault w ps n l over m)
 over_fault w n l m ps over h = some_if (leb w (length ps)) _ _ (some_if (list_any (has_id n) ps) _ _ (some_if (ltb m l) _ _ (ap is_some (cond-true _ _ _ h))))
 
-behind_full : (t w m : ℕ) (es starts : List Event) → AreStarts starts → start_fits w (pending t es) (next_id es) (is_over es) (length starts) ≡ false → IsSome (start_fault t w (es ++ starts) m)
-behind_full t w m es starts h fits =
+after_full : (t w m : ℕ) (es starts : List Event) → AreStarts starts → start_fits w (pending t es) (next_id es) (is_over es) (length starts) ≡ false → IsSome (start_fault t w (es ++ starts) m)
+after_full t w m es starts h fits =
     let k = length starts in
     let ps = pending t es in
     let id = (next_id es + k) % 65536 in
@@ -176,10 +176,10 @@ ready_is : (t w : ℕ) (es : List Event) (id count : ℕ) → id ≡ next_id es 
 ready_is t w es id count next few succeed no_more =
     record {
       next = next;
-      succeed = λ starts m h less late. fits_behind t w m es starts h (omega arith) (succeed (length starts) less) late;
+      succeed = λ starts m h less late. fits_after t w m es starts h (omega arith) (succeed (length starts) less) late;
       no_more = λ starts m h all.
           let e : start_fits w (pending t es) (next_id es) (is_over es) (length starts) ≡ false = ap (start_fits w (pending t es) (next_id es) (is_over es)) all ∙ no_more in
-          behind_full t w m es starts h e;
+          after_full t w m es starts h e;
     }
 
 -- by what the session holds

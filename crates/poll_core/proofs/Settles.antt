@@ -99,7 +99,7 @@ pub some_case : (x : Option LostCause) → is_some x ≡ true → (c : LostCause
 some_case None h = absurd (cc)
 some_case (Some c) h = (c, refl)
 
--- nothing is owed: the session stands behind the event
+-- nothing is owed: the session stands after the event
 pub done : (t m n w : ℕ) (r : Buffered) (ps qs : List Poll) (x : Option LostCause) (es : List Event) (e : Event) (told : List (ℕ × Settlement)) → Mid t m n r.rest ps x es e told → TellsOwed m x ps None qs → Stands (record { timeout = t; window = w; last = m; next = n; reader = r; polls = qs; ending = x; settling = None }) (es ++ e ∷ []) × (told ≡ outcomes_at t es e)
 done t m n w r ps qs x es e told mid h = (
   record {
@@ -295,7 +295,7 @@ ending_at-garbled : (es : List Event) (m : ℕ) (p q : List ℕ) → is_garbled 
 unfolding ending_at
 ending_at-garbled es m p q g h = ap (λ b. cond (b && not (is_garbled (stream es))) (Some Garbled) None) (h ∙ sym g)
 
--- more bytes change nothing behind a bad length, nor where no poll waits
+-- more bytes change nothing after a bad length, nor where no poll waits
 same_at : (one : OneReading) → (t m : ℕ) (p q : List ℕ) (es : List Event) → (is_closed es ≡ true → pending t es ≡ []) → (is_garbled (stream es ++ p) || is_closed es) ≡ true → (outcomes_at t es (Piece m (p ++ q)) ≡ outcomes_at t es (Piece m p)) × (pending t (es ++ Piece m (p ++ q) ∷ []) ≡ pending t (es ++ Piece m p ∷ [])) × ((is_garbled (stream es ++ (p ++ q)) || is_closed es) ≡ true)
 same_at one t m p q es none over =
     let e = Piece m p in

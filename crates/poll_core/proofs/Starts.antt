@@ -22,7 +22,7 @@ next_id-start es m n u span =
     let e : length (filter is_start (es ++ Start m n u span ∷ [])) ≡ k + 1 = ap length (filter-append is_start es (Start m n u span ∷ [])) ∙ length-append (filter is_start es) (Start m n u span ∷ []) in
     ap (λ x. x % 65536) e ∙ omega arith
 
--- the session stands behind the start
+-- the session stands after the start
 pub starts : (s : State) (es : List Event) (m n u : ℕ) (span : Span) (poll : Poll) → Stands s es → s.ending ≡ None → poll ≡ record { number = n; id = s.next; unit = u; span = span; deadline = m + s.timeout } → Stands (record { timeout = s.timeout; window = s.window; last = m; next = (s.next + 1) % 65536; reader = s.reader; polls = s.polls ++ poll ∷ []; ending = s.ending; settling = s.settling }) (es ++ Start m n u span ∷ [])
 starts s es m n u span poll h going poll_is =
     let e = Start m n u span in
@@ -49,7 +49,7 @@ refused s es m fault e h =
     ∙ ap (λ l. least_fault s.window (pending s.timeout es) (next_id es) l (is_some s.ending) m) h.last
     ∙ ap (λ o. least_fault s.window (pending s.timeout es) (next_id es) (last_moment es) o m) h.over
 
--- polls apart stay so behind a poll whose id is free
+-- polls apart stay so after a poll whose id is free
 pub apart_push : (ps : List Poll) (p : Poll) → AreApart ps → filter (has_id p.id) ps ≡ [] → AreApart (ps ++ p ∷ [])
 apart_push ps p h free = λ id.
     let split : filter (has_id id) (ps ++ p ∷ []) ≡ filter (has_id id) ps ++ filter (has_id id) (p ∷ []) = filter-append (has_id id) ps (p ∷ []) in

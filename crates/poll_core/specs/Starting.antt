@@ -38,7 +38,7 @@ abbrev pub AsksFor : (tid unit : ℕ) → Span → (buffer : List ℕ) → ℕ �
 AsksFor tid unit span buffer n =
     take n buffer ≡ spelling tid unit (request_bytes (request_of span))
 
--- whether a start fits behind so many others: the session goes on, there is room, and no poll that waits has its id
+-- whether a start fits after so many others: the session goes on, there is room, and no poll that waits has its id
 abbrev pub start_fits : ℕ → List Poll → ℕ → Bool → ℕ → Bool
 start_fits window polls next over before =
     not over && nat_lt (length polls + before) window

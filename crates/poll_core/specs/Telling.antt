@@ -44,7 +44,7 @@ IsCall call session moment =
     (session.settling ≡ None) ⊎ ((session.settling ≡ Some call) × (session.last ≡ moment))
 
 -- What a call does that brings an event, or more bytes of a piece: an outcome more is told, and a poll less waits.
-pub record Tells (old new : State) (before after : List ℕ → Event)
+pub record TellsOfCall (old new : State) (before after : List ℕ → Event)
     (settled : Option (ℕ × Settlement)) : Type 0 where
   pub timeout : new.timeout ≡ old.timeout
   pub window : new.window ≡ old.window
@@ -57,10 +57,10 @@ pub record Tells (old new : State) (before after : List ℕ → Event)
 -- by a piece at a moment, of which these bytes were taken
 abbrev pub TellsPiece : State → State → ℕ → List ℕ → Option (ℕ × Settlement) → Type 0
 TellsPiece old new moment taken =
-    Tells old new (λ bytes. Piece moment bytes) (λ bytes. Piece moment (bytes ++ taken))
+    TellsOfCall old new (λ bytes. Piece moment bytes) (λ bytes. Piece moment (bytes ++ taken))
 
 abbrev pub TellsEvent : State → State → Event → Option (ℕ × Settlement) → Type 0
-TellsEvent old new event = Tells old new (λ _. event) (λ _. event)
+TellsEvent old new event = TellsOfCall old new (λ _. event) (λ _. event)
 
 -- a call takes bytes of a piece, or is refused and changes nothing
 abbrev pub TakesPiece : State → (moment : ℕ) → (piece : List ℕ) → Result Turn ClockBack → State

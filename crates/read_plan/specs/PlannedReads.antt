@@ -38,7 +38,7 @@ pub record IsPlan (plan : Planned) : Type 0 where
   pub inside : All (λ item. item.end ≤ ADDRESSES) plan.items
   pub rule : FollowsRule plan.items (read_runs plan.reads)
 
--- the point of a number stands so many registers behind the first of a read
+-- the point of a number stands so many registers after the first of a read
 abbrev pub StandsAt : Planned → (point read offset : ℕ) → Type 0
 StandsAt plan point read offset = (d : PlannedRead)
     → (slice_index_or plan.reads read d).span.address + offset ≡ slice_index plan.starts point

@@ -1,3 +1,3 @@
 pub mod Pauses
 pub mod Timings
-pub mod Watches
+pub mod SteadyClocks

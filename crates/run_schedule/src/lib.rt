@@ -6,5 +6,5 @@ mod timing;
 
 pub use http_peers::{Admission, MOST_PEERS, Peers, place_for};
 pub use timing::{
-    MOST_EVERY, PEER_SECONDS, Phase, Timing, Watch, next_due, next_pause, retry_at, round_until,
+    MOST_EVERY, PEER_SECONDS, Phase, Timing, SteadyClock, next_due, next_pause, retry_at, round_until,
 };

@@ -5,10 +5,10 @@ mod grid;
 mod limits;
 mod pauses;
 mod timing;
-mod watch;
+mod steady_clock;
 
 pub use grid::next_due;
 pub use limits::{CONNECT_SECONDS, LEAST_ROUND, MOST_EVERY, PEER_SECONDS, round_until, until};
 pub use pauses::{MOST_PAUSE, next_pause, retry_at};
 pub use timing::{Phase, Timing};
-pub use watch::{Reading, Watch};
+pub use steady_clock::{ClockReading, SteadyClock};

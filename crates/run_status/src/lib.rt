@@ -5,6 +5,6 @@ mod monitor;
 mod run_http;
 mod status;
 
-pub use monitor::{Desk, put_head, put_lines, put_sum};
-pub use run_http::{Asked, Own, ask, own_route, reply_own};
+pub use monitor::{RunMonitor, put_head, put_lines, put_sum};
+pub use run_http::{PeerReply, StatusRoute, ask, status_route, reply_status};
 pub use status::{Counts, DeviceState, put, put_metrics, put_status};

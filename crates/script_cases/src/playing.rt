@@ -1,12 +1,12 @@
 //! A case, played.
 use crate::case_kind::{Command, Kind};
-use command_io::Status;
+use command_io::ExitStatus;
 use interval_core::Zone;
 use script_run::{Loopback, loop_text, replay};
 use std::io::{self, ErrorKind, Write};
 use sunspec_text::{chain_text, plan_text};
 
-/// What a case prints: its text as a whole, or each line behind the first by itself.
+/// What a case prints: its text as a whole, or each line after the first by itself.
 pub(crate) fn play<'r>(
     rt: &'r HostRuntime,
     loopback: &mut Loopback<'r, HostRuntime>,
@@ -16,7 +16,7 @@ pub(crate) fn play<'r>(
     let mut printed = Vec::new(rt.alloc());
     let zone = zone_of(text);
     if kind.by_lines {
-        for line in behind_first(text).split_inclusive(|byte| *byte == b'\n') {
+        for line in after_first(text).split_inclusive(|byte| *byte == b'\n') {
             play_text(rt, loopback, kind.command, zone, line, &mut printed)?;
         }
     } else if kind.command == Command::Plan {
@@ -25,7 +25,7 @@ pub(crate) fn play<'r>(
             loopback,
             kind.command,
             zone,
-            behind_first(text),
+            after_first(text),
             &mut printed,
         )?;
     } else {
@@ -46,9 +46,9 @@ fn play_text<'r>(
     let before = printed.len();
     let status = carry_out(rt, loopback, command, zone, text, printed)?;
     let ended = if is_refused(printed.get(before..).unwrap_or(b"")) {
-        Status::Refused
+        ExitStatus::Refused
     } else {
-        Status::Fine
+        ExitStatus::Fine
     };
     if status != ended {
         printed.extend_from_slice(b"and its status is another\n")?;
@@ -63,7 +63,7 @@ fn carry_out<'r>(
     zone: &str,
     text: &[u8],
     printed: &mut Vec<u8>,
-) -> io::Result<Status> {
+) -> io::Result<ExitStatus> {
     let mut input = text;
     match command {
         Command::Replay => {
@@ -94,15 +94,15 @@ fn read_zone(text: &str) -> io::Result<Zone> {
 
 // The zone that the second line names, as `# zone TEXT`.
 fn zone_of(text: &[u8]) -> &str {
-    let second = behind_first(text).split(|byte| *byte == b'\n').next();
+    let second = after_first(text).split(|byte| *byte == b'\n').next();
     match second.and_then(|line| line.strip_prefix(b"# zone ".as_slice())) {
         Some(zone) => str::from_utf8(zone).unwrap_or("UTC0"),
         None => "UTC0",
     }
 }
 
-// A text behind its first line.
-fn behind_first(text: &[u8]) -> &[u8] {
+// A text after its first line.
+fn after_first(text: &[u8]) -> &[u8] {
     match text.iter().position(|byte| *byte == b'\n') {
         Some(at) => text.get(at + 1..).unwrap_or(b""),
         None => b"",

@@ -35,8 +35,8 @@ some_bytes hex (Some (byte ∷ bytes)) is h = (byte ∷ bytes, is, omega arith)
 abbrev Pair : Type 0
 Pair = Option (List ℕ) × List ℕ
 
-abbrev piece_behind : Option (List ℕ) → List (List ℕ) → Option Pair
-piece_behind device words = made {X = Pair} (Hex ∷ []) (λ values. (device, values.0)) words
+abbrev piece_after : Option (List ℕ) → List (List ℕ) → Option Pair
+piece_after device words = made {X = Pair} (Hex ∷ []) (λ values. (device, values.0)) words
 
 abbrev piece_alone : List (List ℕ) → Option (List ℕ)
 piece_alone words = made {X = List ℕ} (Hex ∷ []) (λ values. values.0) words
@@ -44,7 +44,7 @@ piece_alone words = made {X = List ℕ} (Hex ∷ []) (λ values. values.0) words
 abbrev with_device : Option (List ℕ) → List ℕ → Pair
 with_device device piece = (device, piece)
 
-only_piece : (device : Option (List ℕ)) (hex bytes : List ℕ) → bytes_of hex ≡ Some bytes → piece_behind device (hex ∷ []) ≡ Some (with_device device bytes)
+only_piece : (device : Option (List ℕ)) (hex bytes : List ℕ) → bytes_of hex ≡ Some bytes → piece_after device (hex ∷ []) ≡ Some (with_device device bytes)
 only_piece device hex bytes h =
     let alone : piece_alone (hex ∷ []) ≡ Some bytes = spelled_made {X = List ℕ} (Hex ∷ []) (λ values. values.0) (bytes, tt) (hex ∷ []) (h, tt) in
     made_again {X = List ℕ} {Y = Pair} (Hex ∷ []) (λ values. values.0) (with_device device) (hex ∷ []) bytes alone
@@ -54,7 +54,7 @@ pub piece_said : (words behind rest : List (List ℕ)) (device : Option (List �
 piece_said words behind (word ∷ rest) device hex first next none some = cc none
 piece_said words behind [] device hex first next none some =
     let bytes = some_bytes hex (bytes_of hex) refl some in
-    let said : device_bytes_said words ≡ piece_behind device behind =
-    ap (λ (o : Option (Option (List ℕ) × List (List ℕ))). o >>= (λ first. piece_behind first.0 first.1)) (sym first) in
-    let here : piece_behind device behind ≡ piece_behind device (hex ∷ []) = ap (λ (behind : List (List ℕ)). piece_behind device behind) next in
+    let said : device_bytes_said words ≡ piece_after device behind =
+    ap (λ (o : Option (Option (List ℕ) × List (List ℕ))). o >>= (λ first. piece_after first.0 first.1)) (sym first) in
+    let here : piece_after device behind ≡ piece_after device (hex ∷ []) = ap (λ (behind : List (List ℕ)). piece_after device behind) next in
     (device, bytes.0, said ∙ here ∙ only_piece device hex bytes.0 bytes.1, bytes.2)

@@ -15,7 +15,7 @@ abbrev pub closing_word : Closing → List ℕ
 closing_word closing.Gone = codes "gone"
 closing_word closing.Failed = codes "failed"
 
--- What stands behind the moment of a command. A list and a start are no such commands: a line has the bytes of a list, which may have
+-- What stands after the moment of a command. A list and a start are no such commands: a line has the bytes of a list, which may have
 -- faults, and the numbers of a start, which may be no registers that can be read.
 abbrev pub command_form : Command → Option (List Field)
 command_form (command.AddDevice c) =
@@ -49,7 +49,7 @@ command_form (command.StartRound c) =
 command_form (command.PutList c) = None
 command_form (command.StartPoll c) = None
 
--- What stands behind the moment of an event. No line asks under a name and a number of its own.
+-- What stands after the moment of an event. No line asks under a name and a number of its own.
 abbrev pub event_form : Event → Option (List Field)
 event_form (event.Connected device) = Some (Word (codes "connect") ∷ Of AnyName device ∷ [])
 event_form (event.Bytes device piece) =

@@ -29,7 +29,7 @@ made [] make words = nothing_more words >>= λ none. Some (make none)
 made (kind ∷ kinds) make words =
     first_value kind words >>= λ first. made kinds (λ values. make (first.0, values)) first.1
 
--- the words behind the word that says what happens
+-- the words after the word that says what happens
 abbrev pub kinds_of : Verb → List Kind
 kinds_of verb.Device = AnyName ∷ Number ∷ Number ∷ Number ∷ []
 kinds_of verb.List = AnyName ∷ Hex ∷ []
@@ -116,7 +116,7 @@ line_of verb.Tick at v = line.Event at event.Tick
 line_of verb.Gone at v = line.Event at (event.Gone v.0 closing.Gone)
 line_of verb.Failed at v = line.Event at (event.Gone v.0 closing.Failed)
 
--- the line of a verb, where the words behind it say one
+-- the line of a verb, where the words after it say one
 abbrev pub said_by : Verb → (at : ℕ) → List (List ℕ) → Option ScriptLine
 said_by verb.Device at words = made (kinds_of verb.Device) (line_of verb.Device at) words
 said_by verb.List at words = made (kinds_of verb.List) (line_of verb.List at) words

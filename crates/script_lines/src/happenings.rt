@@ -1,4 +1,4 @@
-//! The forms of what happens at devices, of a tick, and of questions, behind the words that name them.
+//! The forms of what happens at devices, of a tick, and of questions, after the words that name them.
 ghost use Rattle.std.specs.Prelude.{◌≡◌};
 ghost use Rattle.script_lines.specs.LineReader.{asked_by, said_by, said_last};
 ghost use Rattle.script_lines.specs.declared.script.ScriptLine.TheVariants as line;
@@ -10,7 +10,7 @@ use crate::verbs::Question;
 use office_events::Event;
 use poll_core::Closing;
 
-/// The line of an event, behind whose words none is left.
+/// The line of an event, after whose words none is left.
 pub(crate) fn event_line(at: u64, event: Event, words: &mut Words<'_>) -> Option<ScriptLine>
     ensures { result ≡ said_last (line.Event at event) words.old }
 {

@@ -1,14 +1,14 @@
 //! Inputs of megabytes, and what is given out of many lines.
 use crate::replays::zone;
 use crate::streams::{Kept, Slow};
-use command_io::{MOST_BYTES, ReadFault, Status, read_whole};
+use command_io::{MOST_BYTES, ReadFault, ExitStatus, read_whole};
 use script_run::replay;
 use std::alloc::{AllocError, Global};
 use std::io::ErrorKind;
 use std::test::Fail;
 
-// So many empty lines, and a text behind them.
-fn behind_lines(alloc: Global, count: usize, text: &str) -> Result<String, AllocError> {
+// So many empty lines, and a text after them.
+fn after_lines(alloc: Global, count: usize, text: &str) -> Result<String, AllocError> {
     let mut all = String::new(alloc);
     for _line in 0..count {
         all.push('\n')?;
@@ -23,18 +23,18 @@ static LAST_BYTES: [(&str, &str); 2] = [("x", "bad line 4194304\n"), ("x\n", "to
 #[test]
 fn inputs_of_4194304_bytes_are_run(rt: HostRuntime) -> Result<(), Fail> {
     for (text, output) in &LAST_BYTES {
-        let all = behind_lines(rt.alloc(), MOST_BYTES - 1, text)?;
+        let all = after_lines(rt.alloc(), MOST_BYTES - 1, text)?;
         let mut input = all.as_bytes();
         let ended = replay(rt.alloc(), zone()?, &mut input, Vec::new(rt.alloc()));
         assert_eq!(rt; ended.output.as_slice(), output.as_bytes());
-        assert_eq!(rt; ended.status, Status::Refused);
+        assert_eq!(rt; ended.status, ExitStatus::Refused);
     }
     Ok(())
 }
 
 #[test]
 fn no_more_reads_are_made_than_bytes_fit(rt: HostRuntime) -> Result<(), Fail> {
-    let text = behind_lines(rt.alloc(), MOST_BYTES, "\n")?;
+    let text = after_lines(rt.alloc(), MOST_BYTES, "\n")?;
     let mut slow = Slow::of(text.as_bytes(), 0, ErrorKind::Other);
     let fault = read_whole(rt.alloc(), &mut slow).err();
     assert_eq!(rt; fault, Some(ReadFault::TooLong));
@@ -58,7 +58,7 @@ fn whole_lines_are_given_out(rt: HostRuntime) -> Result<(), Fail> {
     let mut input = text.as_bytes();
     let kept = Kept::new(rt.alloc(), usize::MAX, 8192);
     let ended = replay(rt.alloc(), zone()?, &mut input, kept);
-    assert_eq!(rt; ended.status, Status::Fine);
+    assert_eq!(rt; ended.status, ExitStatus::Fine);
     assert_eq!(rt; ended.output.got.len(), 20_000);
     assert_eq!(rt; ended.output.calls, 3);
     Ok(())

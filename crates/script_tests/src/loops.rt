@@ -1,7 +1,7 @@
 //! Writers that fail, and connections that can't be made.
 use crate::replays::zone;
 use crate::streams::Kept;
-use command_io::Status;
+use command_io::ExitStatus;
 use mb_wire::MemoryLink;
 use script_run::{Connects, Ends, Loopback, loop_text};
 use std::io::{self, ErrorKind};
@@ -38,16 +38,16 @@ const PRINTED: &str = "\
     bad line 6\n";
 
 // How many bytes are written before a write fails: up to the end of each line, and all.
-static ENDS: [(usize, Status); 9] = [
-    (0, Status::Failed),
-    (3, Status::Failed),
-    (14, Status::Failed),
-    (17, Status::Failed),
-    (20, Status::Failed),
-    (59, Status::Failed),
-    (75, Status::Failed),
-    (78, Status::Failed),
-    (89, Status::Refused),
+static ENDS: [(usize, ExitStatus); 9] = [
+    (0, ExitStatus::Failed),
+    (3, ExitStatus::Failed),
+    (14, ExitStatus::Failed),
+    (17, ExitStatus::Failed),
+    (20, ExitStatus::Failed),
+    (59, ExitStatus::Failed),
+    (75, ExitStatus::Failed),
+    (78, ExitStatus::Failed),
+    (89, ExitStatus::Refused),
 ];
 
 #[test]
@@ -60,7 +60,7 @@ fn a_writer_that_fails_ends_the_run(rt: HostRuntime) -> Result<(), Fail> {
         assert_eq!(rt; kept.got.len(), *room);
         let whole = kept.is_whole(&rt, PRINTED);
         assert_eq!(rt; ended, *status, "{room}");
-        assert_eq!(rt; whole, *status == Status::Refused, "{room}");
+        assert_eq!(rt; whole, *status == ExitStatus::Refused, "{room}");
     }
     Ok(())
 }
@@ -70,7 +70,7 @@ fn a_connection_that_cannot_be_made_ends_the_run(rt: HostRuntime) -> Result<(), 
     let mut printed = Vec::new(rt.alloc());
     let mut input = SCRIPT.as_bytes();
     let ended = loop_text(rt.alloc(), zone()?, &mut input, &mut Broken, &mut printed);
-    assert_eq!(rt; ended, Status::Failed);
+    assert_eq!(rt; ended, ExitStatus::Failed);
     assert_eq!(rt; printed.as_slice(), b"ok\nrefused 12\nok\n".as_slice());
     Ok(())
 }

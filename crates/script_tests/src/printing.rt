@@ -1,6 +1,6 @@
 //! Chains and plans over streams that fail.
 use crate::streams::{Kept, Slow};
-use command_io::Status;
+use command_io::ExitStatus;
 use point_list::read_list;
 use std::alloc::Global;
 use std::io::{ErrorKind, Read, Write};
@@ -15,7 +15,7 @@ enum Task {
 }
 
 impl Task {
-    fn carry_out<R: Read, W: Write>(self, alloc: Global, input: &mut R, output: &mut W) -> Status {
+    fn carry_out<R: Read, W: Write>(self, alloc: Global, input: &mut R, output: &mut W) -> ExitStatus {
         match self {
             Task::Chain => chain_text(alloc, input, output),
             Task::Plan => plan_text(alloc, input, output),
@@ -66,12 +66,12 @@ const FAULTY_PRINTED: &str = "\
     row 4 fault 5\n\
     row 5 fault 4\n";
 
-static CASES: [(Task, &str, &str, Status); 5] = [
-    (Task::Chain, METER, METER_PRINTED, Status::Fine),
-    (Task::Chain, "", "fault 1\n", Status::Refused),
-    (Task::Plan, LIST, LIST_PRINTED, Status::Fine),
-    (Task::Plan, FAULTY, FAULTY_PRINTED, Status::Refused),
-    (Task::Plan, "", "row 1 fault 2\n", Status::Refused),
+static CASES: [(Task, &str, &str, ExitStatus); 5] = [
+    (Task::Chain, METER, METER_PRINTED, ExitStatus::Fine),
+    (Task::Chain, "", "fault 1\n", ExitStatus::Refused),
+    (Task::Plan, LIST, LIST_PRINTED, ExitStatus::Fine),
+    (Task::Plan, FAULTY, FAULTY_PRINTED, ExitStatus::Refused),
+    (Task::Plan, "", "row 1 fault 2\n", ExitStatus::Refused),
 ];
 
 #[test]
@@ -94,7 +94,7 @@ fn each_failing_read_ends_it(rt: HostRuntime) {
                 let mut slow = Slow::of(text.as_bytes(), failing, kind);
                 let mut printed = Vec::new(rt.alloc());
                 let ended = task.carry_out(rt.alloc(), &mut slow, &mut printed);
-                assert_eq!(rt; ended, Status::Failed);
+                assert_eq!(rt; ended, ExitStatus::Failed);
                 assert!(rt; printed.is_empty());
                 assert_eq!(rt; slow.calls, failing);
             }
@@ -111,7 +111,7 @@ fn each_failing_write_ends_it(rt: HostRuntime) {
             let mut kept = Kept::new(rt.alloc(), failing, 8192);
             let ended = task.carry_out(rt.alloc(), &mut input, &mut kept);
             whole = kept.is_whole(&rt, output);
-            let wanted = if whole { *status } else { Status::Failed };
+            let wanted = if whole { *status } else { ExitStatus::Failed };
             assert_eq!(rt; ended, wanted);
         }
         assert!(rt; whole);
@@ -141,7 +141,7 @@ fn each_failing_write_of_a_list_is_told(rt: HostRuntime) -> Result<(), Fail> {
             let mut kept = Kept::new(rt.alloc(), failing, 8192);
             let ended = print_plan(rt.alloc(), &list, &mut kept);
             let whole = kept.is_whole(&rt, output);
-            assert_eq!(rt; ended == Status::Fine, whole);
+            assert_eq!(rt; ended == ExitStatus::Fine, whole);
         }
     }
     Ok(())

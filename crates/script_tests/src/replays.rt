@@ -1,6 +1,6 @@
 //! Scripts over streams that fail.
 use crate::streams::{Kept, Slow};
-use command_io::Status;
+use command_io::ExitStatus;
 use interval_core::Zone;
 use script_run::replay;
 use std::io::ErrorKind;
@@ -32,10 +32,10 @@ pub(crate) fn zone() -> Result<Zone, Fail> {
     }
 }
 
-static SCRIPTS: [(&str, &str, Status); 3] = [
-    ("", "", Status::Fine),
-    (READING, READING_PRINTED, Status::Fine),
-    ("x", "bad line 1\n", Status::Refused),
+static SCRIPTS: [(&str, &str, ExitStatus); 3] = [
+    ("", "", ExitStatus::Fine),
+    (READING, READING_PRINTED, ExitStatus::Fine),
+    ("x", "bad line 1\n", ExitStatus::Refused),
 ];
 
 #[test]
@@ -55,7 +55,7 @@ fn each_failing_read_ends_a_script(rt: HostRuntime) -> Result<(), Fail> {
         for failing in 1..READING.len() + 2 {
             let mut slow = Slow::of(READING.as_bytes(), failing, kind);
             let ended = replay(rt.alloc(), zone()?, &mut slow, Vec::new(rt.alloc()));
-            assert_eq!(rt; ended.status, Status::Failed);
+            assert_eq!(rt; ended.status, ExitStatus::Failed);
             assert!(rt; ended.output.is_empty());
             assert_eq!(rt; slow.calls, failing);
         }
@@ -71,7 +71,7 @@ fn each_failing_write_ends_a_script(rt: HostRuntime) -> Result<(), Fail> {
             let kept = Kept::new(rt.alloc(), failing, most);
             let ended = replay(rt.alloc(), zone()?, &mut input, kept);
             let whole = ended.output.is_whole(&rt, READING_PRINTED);
-            assert_eq!(rt; ended.status == Status::Fine, whole);
+            assert_eq!(rt; ended.status == ExitStatus::Fine, whole);
         }
     }
     Ok(())

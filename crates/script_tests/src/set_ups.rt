@@ -1,19 +1,19 @@
 //! Texts that set a stand-in up.
-use command_io::Status;
+use command_io::ExitStatus;
 use mb_device::{Kind, Trick};
 use script_run::{Setup, SetupParts, set_up};
 use std::alloc::Global;
 use std::test::Fail;
 
 // What a text prints, and the status that ends it, if it does.
-fn run(alloc: Global, text: &str) -> (Result<Setup, Status>, Vec<u8>) {
+fn run(alloc: Global, text: &str) -> (Result<Setup, ExitStatus>, Vec<u8>) {
     let mut printed = Vec::new(alloc);
     let set = set_up(alloc, &mut text.as_bytes(), &mut printed);
     (set, printed)
 }
 
 // Texts, what they print, and the status that ends them, if one does.
-static TEXTS: [(&str, &str, Option<Status>); 18] = [
+static TEXTS: [(&str, &str, Option<ExitStatus>); 18] = [
     ("", "", None),
     ("# nothing\n\narea coil 0 65536\n", "", None),
     ("area holding 5 0\n", "refused 12\n", None),
@@ -54,16 +54,16 @@ static TEXTS: [(&str, &str, Option<Status>); 18] = [
     ),
     ("trick 0 drop\ntrick 1 cut 259\ntrick 1 twice\n", "", None),
     ("area coil 0 1\r\nset coil 0 1", "", None),
-    ("x", "bad line 1\n", Some(Status::Refused)),
+    ("x", "bad line 1\n", Some(ExitStatus::Refused)),
     (
         "set holding 0 1\n#\narea holding 0\narea holding 0 1\n",
         "refused 12\nbad line 3\n",
-        Some(Status::Refused),
+        Some(ExitStatus::Refused),
     ),
-    ("area register 0 1\n", "bad line 1\n", Some(Status::Refused)),
-    ("trick 1 cut 260\n", "bad line 1\n", Some(Status::Refused)),
-    ("1000 tick\n", "bad line 1\n", Some(Status::Refused)),
-    ("area  holding 0 1\n", "bad line 1\n", Some(Status::Refused)),
+    ("area register 0 1\n", "bad line 1\n", Some(ExitStatus::Refused)),
+    ("trick 1 cut 260\n", "bad line 1\n", Some(ExitStatus::Refused)),
+    ("1000 tick\n", "bad line 1\n", Some(ExitStatus::Refused)),
+    ("area  holding 0 1\n", "bad line 1\n", Some(ExitStatus::Refused)),
 ];
 
 #[test]

@@ -13,8 +13,8 @@ appends_both (Some xs) (Some ys) None x y z first second joined = absurd second
 appends_both (Some xs) (Some ys) (Some zs) x y z first second joined =
     second ∙ ap (λ (front : List ℕ). front ++ y) first ∙ append_assoc xs x y ∙ ap (λ (more : List ℕ). xs ++ more) joined
 
-part_behind : (a b c : Option (List ℕ)) (x y z : List ℕ) → Appends a b x → GotPart y b c → x ++ y ≡ z → GotPart z a c
-part_behind a b c x y z first second joined = (
+part_after : (a b c : Option (List ℕ)) (x y z : List ℕ) → Appends a b x → GotPart y b c → x ++ y ≡ z → GotPart z a c
+part_after a b c x y z first second joined = (
   x ++ second.0,
   second.1,
   sym joined ∙ ap (λ (more : List ℕ). x ++ more) second.2 ∙ sym (append_assoc x second.0 second.1),
@@ -25,7 +25,7 @@ part_behind a b c x y z first second joined = (
 pub got_both : {X E : Type 0} (result : Result X E) (a b c : Option (List ℕ)) (x y z : List ℕ) → Appends a b x → GotText result y b c → x ++ y ≡ z
     → GotText result z a c
 got_both (Ok done) a b c x y z first second joined = appends_both a b c x y z first second joined
-got_both (Err error) a b c x y z first second joined = part_behind a b c x y z first second joined
+got_both (Err error) a b c x y z first second joined = part_after a b c x y z first second joined
 
 -- a part of the first text is a part of both
 pub got_first : {X E : Type 0} (result : Result X E) (a b : Option (List ℕ)) (x y z : List ℕ) → IsErr result → GotPart x a b → x ++ y ≡ z → GotText result z a b
@@ -47,7 +47,7 @@ pub got_some : {X Y E : Type 0} (f : X → List ℕ) (xs : List X) (i : ℕ) (x 
 got_some f xs i x result a b c inside is failed first second =
     let rest = flat_map f (drop (suc i) xs) in
     let next : f x ++ rest ≡ f (get_or xs i x) ++ rest = ap (λ (item : _). f item ++ rest) is in
-    got_first result a c (flat_map f (take i xs) ++ f x) rest (flat_map f xs) failed (part_behind a b c (flat_map f (take i xs)) (f x) _ first second refl)
+    got_first result a c (flat_map f (take i xs) ++ f x) rest (flat_map f xs) failed (part_after a b c (flat_map f (take i xs)) (f x) _ first second refl)
     (append_assoc (flat_map f (take i xs)) (f x) rest ∙ ap (λ (more : List ℕ). flat_map f (take i xs) ++ more) next ∙ all_of f xs i x inside)
 
 same_inside : {X : Type 0} (xs : List X) (i : ℕ) (d e : X) → i < length xs → get_or xs i d ≡ get_or xs i e

@@ -1,11 +1,11 @@
 -- Links that were just made.
 use Rattle.std.specs.Prelude.{◌≡◌, ℕ, None}
 use Rattle.socket_link.specs.declared.counts.Counts.{Counts}
-use Rattle.socket_link.specs.declared.hurried_link.HurriedLink.{HurriedLink}
+use Rattle.socket_link.specs.declared.deadline_link.DeadlineLink.{DeadlineLink}
 use Rattle.socket_link.specs.declared.socket.SocketLink.{SocketLink}
 
 -- the last moment at which a link in haste works
-abbrev pub until_of : {L C : Type 0} → HurriedLink L C → ℕ
+abbrev pub until_of : {L C : Type 0} → DeadlineLink L C → ℕ
 until_of link = link.until
 
 -- no call was made yet
@@ -18,5 +18,5 @@ pub record CountsNothing (counts : Counts) : Type 0 where
 abbrev pub IsFresh : {S : Type 0} → SocketLink S → Type 0
 IsFresh link = CountsNothing link.counts
 
-abbrev pub IsFreshHaste : {L C : Type 0} → HurriedLink L C → Type 0
+abbrev pub IsFreshHaste : {L C : Type 0} → DeadlineLink L C → Type 0
 IsFreshHaste link = CountsNothing link.counts

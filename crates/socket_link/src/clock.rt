@@ -4,14 +4,14 @@ use std::time::{SystemTime, UNIX_EPOCH};
 /// A clock, in whole seconds since 1970-01-01 UTC.
 pub trait Clock {
     ghost use Rattle.std.specs.Prelude.{ℕ, List, Option, None};
-    ghost use Rattle.socket_link.specs.Clocks.{Tells};
+    ghost use Rattle.socket_link.specs.Clocks.{TellsMoment};
 
     // The moments that it will tell from here on, where they are known.
     ghost moments: { Self → Option (List ℕ) } = { λ _. None };
 
     /// The moment. One that can't be read is told as 0.
     fn now(&mut self) -> u64
-        ensures { Tells (moments self.old) (moments self.new) result };
+        ensures { TellsMoment (moments self.old) (moments self.new) result };
 }
 
 /// The clock of the system, which may be set back.
@@ -41,22 +41,22 @@ impl<R: std::rt::Clock + Drop> Clock for SystemClock<R> {
 /// A clock that tells the moments of a list, one after the other, and then the last of them again and again. Where there
 /// is none it tells 0.
 #[derive(Drop)]
-pub struct ListedClock<'a> {
+pub struct FixedClock<'a> {
     moments: &'a [u64],
 }
 
-impl<'a> ListedClock<'a> {
+impl<'a> FixedClock<'a> {
     ghost use Rattle.std.specs.Prelude.{◌≡◌};
     ghost use Rattle.socket_link.specs.Clocks.{moments_in};
 
-    pub fn new(moments: &'a [u64]) -> ListedClock<'a>
+    pub fn new(moments: &'a [u64]) -> FixedClock<'a>
         ensures { moments_in result ≡ moments.entry.now }
     {
-        ListedClock { moments }
+        FixedClock { moments }
     }
 }
 
-impl Clock for ListedClock<'_> {
+impl Clock for FixedClock<'_> {
     ghost use Rattle.std.specs.Prelude.{Some};
 
     ghost moments = { λ clock. Some clock.moments.now };

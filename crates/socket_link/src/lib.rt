@@ -3,9 +3,9 @@
 
 mod clock;
 mod counts;
-mod hurried_link;
+mod deadline_link;
 mod socket;
 
-pub use clock::{Clock, ListedClock, SystemClock};
-pub use hurried_link::HurriedLink;
+pub use clock::{Clock, FixedClock, SystemClock};
+pub use deadline_link::DeadlineLink;
 pub use socket::SocketLink;

@@ -55,7 +55,7 @@ fn stop_each(
     Err(Fail::from("it stops each time"))
 }
 
-/// How many steps go before each one that books something. The step behind the first four connects the device, and books
+/// How many steps go before each one that books something. The step after the first four connects the device, and books
 /// nothing.
 static BOOKING: [usize; 7] = [0, 1, 2, 3, 5, 6, 7];
 

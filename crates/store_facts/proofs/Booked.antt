@@ -55,11 +55,11 @@ joined_there share (row ∷ rows) apart h =
           cond-false _ _ _ off ∙ ap₂ ◌∷◌ (sym (cond-false _ _ _ off)) (joined_there share rows apart.1 more)
     ]
 
--- it is not: the share stands behind the others
-stands_behind : (share : Share) (rows : List Share) → list_any (has_start share.start) rows ≡ false → journal.with_share share rows ≡ rows ++ share ∷ []
-stands_behind share [] h = refl
-stands_behind share (row ∷ rows) h =
-    let parts = neither _ _ h in cond-false _ _ _ parts.0 ∙ ap (λ rs. row ∷ rs) (stands_behind share rows parts.1)
+-- it is not: the share stands after the others
+stands_after : (share : Share) (rows : List Share) → list_any (has_start share.start) rows ≡ false → journal.with_share share rows ≡ rows ++ share ∷ []
+stands_after share [] h = refl
+stands_after share (row ∷ rows) h =
+    let parts = neither _ _ h in cond-false _ _ _ parts.0 ∙ ap (λ rs. row ∷ rs) (stands_after share rows parts.1)
 
 any_grown : (share : Share) (start : ℕ) (rows : List Share) → list_any (has_start start) (map (grown share) rows) ≡ list_any (has_start start) rows
 any_grown share start rows =
@@ -75,19 +75,19 @@ any_last : {X : Type 0} (q : X → Bool) (xs : List X) (x : X) → list_any q xs
 any_last q [] x h e = ap (λ b. b || false) e
 any_last q (y ∷ xs) x h e = let parts = neither _ _ h in ap₂ ◌||◌ parts.0 (any_last q xs x parts.1 e)
 
-apart_behind : (share : Share) (rows : List Share) → AreApart rows → list_any (has_start share.start) rows ≡ false → AreApart (rows ++ share ∷ [])
-apart_behind share [] h none = (refl, tt)
-apart_behind share (row ∷ rows) h none =
+apart_after : (share : Share) (rows : List Share) → AreApart rows → list_any (has_start share.start) rows ≡ false → AreApart (rows ++ share ∷ [])
+apart_after share [] h none = (refl, tt)
+apart_after share (row ∷ rows) h none =
     let parts = neither _ _ none in
     let off : row.start == share.start ≡ false = parts.0 in
     let turned : share.start == row.start ≡ false = grind (arith, nat_tests, off) in
-    (any_last (has_start row.start) rows share h.0 turned, apart_behind share rows h.1 parts.1)
+    (any_last (has_start row.start) rows share h.0 turned, apart_after share rows h.1 parts.1)
 
 pub apart_with : (share : Share) (rows : List Share) → AreApart rows → AreApart (journal.with_share share rows)
 apart_with share rows h =
     elim (cases_Bool (list_any (has_start share.start) rows)) [
       | inl there ↦ subst AreApart (sym (joined_there share rows h there)) (apart_grown share rows h)
-      | inr none ↦ subst AreApart (sym (stands_behind share rows none)) (apart_behind share rows h none)
+      | inr none ↦ subst AreApart (sym (stands_after share rows none)) (apart_after share rows h none)
     ]
 
 -- ---- the rows of the table
@@ -163,7 +163,7 @@ booked_one meter share rows shares apart are =
           let here : IsPermutation (new ∷ filter (is_of meter) rows) (all ++ new ∷ []) =
           IsPermutation-trans _ _ _ (IsPermutation-cons new _ _ are) last in
           subst (λ l. AreRowsOf meter l (journal.with_share share shares)) (sym changed)
-          (subst (AreRowsOf meter (new ∷ rows)) (sym (stands_behind share shares none))
+          (subst (AreRowsOf meter (new ∷ rows)) (sym (stands_after share shares none))
           (subst (λ l. IsPermutation l (map (interval_of meter) (shares ++ share ∷ []))) (sym left)
           (subst (IsPermutation (new ∷ filter (is_of meter) rows)) (sym right) here)))
     ]

@@ -29,7 +29,7 @@ use Rattle.store_facts.specs.Intervals.Trees as interval_tree
 use Rattle.store_facts.specs.Intervals.StepShares.{BooksShares}
 use Rattle.store_devices.specs.Polls.Trees as poll_tree
 use Rattle.store_devices.specs.Polls.Rows.{poll_columns, outcome_columns, hold_columns, reply_columns}
-use Rattle.store_facts.specs.Rows.{placed, added, registered, installed_row, ranged, voided, started, outcome_row, held_row, kept, entered, entry_row, opening_row, scale_behind, entered_rows}
+use Rattle.store_facts.specs.Rows.{placed, added, registered, installed_row, ranged, voided, started, outcome_row, held_row, kept, entered, entry_row, opening_row, scale_after, entered_rows}
 use Rattle.store_facts.specs.Tables.{meta_tree, meta_columns, AreOf}
 use Rattle.store_facts.specs.Recording.{next_place}
 use Rattle.store_facts.proofs.Placed.{greatest}
@@ -44,14 +44,14 @@ few_entered o [] n numbered h = (h, tt)
 few_entered o (row ∷ rows) n numbered h =
     let place = numbered.0 in (omega (arith, h, place), few_entered o rows n numbered.1 (omega (arith, h)))
 
--- the place behind the last entry is that of a new row
+-- the place after the last entry is that of a new row
 pub entries_count : (o : Opening) (rows : List journal.EntryRow) (passes : Entered → Bool) (entered_all : List Entered) (last : Option ℕ) → AreNumbered rows
     → IsPermutation (filter passes entered_all) (entered_rows o rows)
     → IsLast passes (λ e n. n ≡ entry_place e) entry_place entered_all last → next_place last ≡ length rows + 2
 entries_count o [] passes all last numbered are h = greatest entry_place passes all (entered o.meter (opening_row o)) [] last are tt h
 entries_count o (row ∷ rows) passes all last numbered are h =
     let place = numbered.0 in
-    let behind = greatest entry_place passes all (entered o.meter (entry_row (scale_behind o (row ∷ rows)) row)) (entered_rows o rows) last are
+    let behind = greatest entry_place passes all (entered o.meter (entry_row (scale_after o (row ∷ rows)) row)) (entered_rows o rows) last are
     (few_entered o rows row.place numbered.1 (omega (arith, place))) h in
     omega (arith, behind, place)
 
@@ -63,7 +63,7 @@ pub entry_recorded : EntriesMoveOn → OtherMetersStay → MetersAreKept → Ins
     → AreOf zone facts content → AreLawful (fact.Entry booked ∷ facts) → opening_of facts booked.meter ≡ Some o
     → ((place : ℕ) → installed_row (fact.Entry booked ∷ facts) place o ≡ change (installed_row facts place o))
     → (let row = new_row (rows_of facts o) booked.kind booked.entry in
-    Edits entry_tree.entries entry_columns (with_row (entered booked.meter (entry_row (scale_behind o (row ∷ rows_of facts o)) row))) content one)
+    Edits entry_tree.entries entry_columns (with_row (entered booked.meter (entry_row (scale_after o (row ∷ rows_of facts o)) row))) content one)
     → BooksShares booked.meter (shares_of (step_from (installation_of facts o) booked.entry)) one two
     → Edits meter_tree.installations installed_columns (changed_where (is_meter booked.meter) change) two after
     → AreOf zone (fact.Entry booked ∷ facts) after
@@ -71,7 +71,7 @@ entry_recorded moves others sums limits booked zone facts o change content one t
     let f = fact.Entry booked in
     let on = moves booked facts o lawful there in
     let row = new_row (rows_of facts o) booked.kind booked.entry in
-    let new = entered booked.meter (entry_row (scale_behind o (row ∷ rows_of facts o)) row) in
+    let new = entered booked.meter (entry_row (scale_after o (row ∷ rows_of facts o)) row) in
     let spares = λ (x : Opening) (off : same booked.meter x.meter ≡ false). others f facts x (cond-false _ _ _ off) in
     let found = λ (m : List ℕ). let is : opening_of (f ∷ facts) m ≡ opening_of facts m = refl in is in
     let late = λ (t : ℕ) (x : t ≢ 14) (y : t ≢ 7). m.others t y ∙ b.others t x in
@@ -89,7 +89,7 @@ entry_recorded moves others sums limits booked zone facts o change content one t
           (b.others 7 (λ is. omega (arith, is)) ∙ e.others 7 (λ is. omega (arith, is))) a.installations));
       ranges = stay meter_tree.ranges ranged_columns (map ranged (openings_in facts)) content after (far 18 (λ is. omega (arith, is)) (λ is. omega (arith, is)) (λ is. omega (arith, is))) a.ranges;
       entries = entries_stay (f ∷ facts) (f ∷ facts) one after (late 9 (λ is. omega (arith, is)) (λ is. omega (arith, is))) (λ meter. refl)
-          (entry_added f facts booked.meter found spares o there row new content one on.rows (ap (λ name. entered name (entry_row (scale_behind o (row ∷ rows_of facts o)) row) ∷ entered_rows o (rows_of facts o)) (named facts booked.meter o there)) refl e a.entries);
+          (entry_added f facts booked.meter found spares o there row new content one on.rows (ap (λ name. entered name (entry_row (scale_after o (row ∷ rows_of facts o)) row) ∷ entered_rows o (rows_of facts o)) (named facts booked.meter o there)) refl e a.entries);
       voids = stay entry_tree.voids voided_columns (map voided (voids_in facts)) content after (far 20 (λ is. omega (arith, is)) (λ is. omega (arith, is)) (λ is. omega (arith, is))) a.voids;
       polls = stay poll_tree.polls poll_columns (map started (polls_in facts)) content after (far 11 (λ is. omega (arith, is)) (λ is. omega (arith, is)) (λ is. omega (arith, is))) a.polls;
       holds = stay poll_tree.holds hold_columns (placed held_row (holds_in facts)) content after (far 12 (λ is. omega (arith, is)) (λ is. omega (arith, is)) (λ is. omega (arith, is))) a.holds;

@@ -20,7 +20,7 @@ use Rattle.store_devices.specs.Polls.Trees as poll_tree
 use Rattle.store_devices.specs.Polls.Rows.{Held, poll_columns, outcome_columns, hold_columns, hold_place, reply_columns}
 use Rattle.store_facts.specs.Rows.{placed, added, registered, installed_as, installed_row, ranged, voided, started, outcome_row, held_row, kept, entered_rows, entries_at, entries_of}
 use Rattle.store_facts.specs.Tables.{meta_tree, meta_columns, AreOf}
-use Rattle.store_facts.specs.Recording.{Records, IsBehind}
+use Rattle.store_facts.specs.Recording.{Records, IsAfter}
 use Rattle.store_facts.proofs.Placed.{last_counts}
 use Rattle.store_facts.proofs.Recorded.{stay, points_stay, entries_stay, intervals_stay}
 
@@ -37,8 +37,8 @@ module _ (f : Fact) (facts : List Fact) (stays : (o : Opening) → Stays f facts
   installed_same : (openings : List Opening) → placed (installed_row (f ∷ facts)) openings ≡ placed (installed_row facts) openings
   installed_same openings = λ i. placed (λ place o. installed_as place ((stays o).installation i)) openings
 
--- a held reading, at the place behind the last
-pub hold_recorded : HoldsChangeNothing → (reading : HeldReading) (place : ℕ) (content after : Content) → IsBehind poll_tree.holds hold_columns every hold_place place content
+-- a held reading, at the place after the last
+pub hold_recorded : HoldsChangeNothing → (reading : HeldReading) (place : ℕ) (content after : Content) → IsAfter poll_tree.holds hold_columns every hold_place place content
     → Edits poll_tree.holds hold_columns (with_row (held_row place reading)) content after → Records (fact.Hold reading) content after
 hold_recorded law reading place content after behind e zone facts a lawful =
     let f = fact.Hold reading in

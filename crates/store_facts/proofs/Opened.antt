@@ -25,7 +25,7 @@ use Rattle.store_devices.specs.Polls.Trees as poll_tree
 use Rattle.store_devices.specs.Polls.Rows.{poll_columns, outcome_columns, hold_columns, reply_columns}
 use Rattle.store_facts.specs.Rows.{begun, placed, added, registered, installed_as, installed_row, ranged, voided, started, outcome_row, held_row, kept, entered, opening_row, entered_rows, entries_at, entries_of, interval_of}
 use Rattle.store_facts.specs.Tables.{meta_tree, meta_columns, AreEntries, AreIntervals, AreOf}
-use Rattle.store_facts.specs.Recording.{IsBehind}
+use Rattle.store_facts.specs.Recording.{IsAfter}
 use Rattle.store_facts.proofs.Placed.{last_counts}
 use Rattle.store_facts.proofs.Recorded.{stay, points_stay, entries_stay, intervals_stay}
 
@@ -70,10 +70,10 @@ module _ (facts : List Fact) (o : Opening) (begins : Begins facts o) (new : open
       still None = refl
       still (Some x) = refl
 
--- An installation, at the place behind the last, with its range and its opening.
+-- An installation, at the place after the last, with its range and its opening.
 pub opening_recorded : OpeningsBegin → (o : Opening) (place : ℕ) (zone : List ℕ) (facts : List Fact) (content one two after : Content)
     → AreOf zone facts content → AreLawful (fact.Opening o ∷ facts)
-    → IsBehind meter_tree.installations installed_columns every installed_place place content
+    → IsAfter meter_tree.installations installed_columns every installed_place place content
     → Edits meter_tree.installations installed_columns (with_row (installed_as place (begun o))) content one
     → Edits meter_tree.ranges ranged_columns (with_row (ranged o)) one two
     → Edits entry_tree.entries entry_columns (with_row (entered o.meter (opening_row o))) two after

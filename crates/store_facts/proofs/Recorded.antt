@@ -24,7 +24,7 @@ use Rattle.store_devices.specs.Polls.Trees as poll_tree
 use Rattle.store_devices.specs.Polls.Rows.{poll_columns, outcome_columns, hold_columns, reply_columns}
 use Rattle.store_facts.specs.Rows.{placed, placed_on, listed, interval_of, added, registered, installed_row, ranged, voided, started, outcome_row, held_row, kept, points_of, entries_of}
 use Rattle.store_facts.specs.Tables.{meta_tree, meta_columns, ArePoints, AreEntries, AreIntervals, AreOf}
-use Rattle.store_facts.specs.Recording.{Records, IsBehind}
+use Rattle.store_facts.specs.Recording.{Records, IsAfter}
 use Rattle.store_facts.proofs.Placed.{last_counts}
 
 pub stay : {X : Type 0} (tree : ℕ) (columns : X → Row) (rows : List X) (content after : Content) → after tree ≡ content tree → HasRows tree columns rows content → HasRows tree columns rows after
@@ -54,8 +54,8 @@ intervals_stay facts others content after same of a = record {
   each = λ meter. subst (λ rs. IsPermutation (filter (is_interval_of meter) a.rows) (map (interval_of meter) rs)) (sym (of meter)) (a.each meter);
 }
 
--- a device, at the place behind the last
-pub device_recorded : (device : Device) (place : ℕ) (content after : Content) → IsBehind list_tree.devices device_columns every device_place place content
+-- a device, at the place after the last
+pub device_recorded : (device : Device) (place : ℕ) (content after : Content) → IsAfter list_tree.devices device_columns every device_place place content
     → Edits list_tree.devices device_columns (with_row (added place device)) content after → Records (fact.Device device) content after
 device_recorded device place content after behind e zone facts a lawful = record {
   lawful = lawful;
@@ -78,8 +78,8 @@ device_recorded device place content after behind e zone facts a lawful = record
   replies = stay poll_tree.replies reply_columns (map kept (replies_in facts)) content after (e.others 16 (λ is. omega (arith, is))) a.replies;
 }
 
--- a register, at the place behind the last
-pub register_recorded : (register : Register) (place : ℕ) (content after : Content) → IsBehind list_tree.registers register_columns every register_place place content
+-- a register, at the place after the last
+pub register_recorded : (register : Register) (place : ℕ) (content after : Content) → IsAfter list_tree.registers register_columns every register_place place content
     → Edits list_tree.registers register_columns (with_row (registered place register)) content after → Records (fact.Register register) content after
 register_recorded register place content after behind e zone facts a lawful = record {
   lawful = lawful;

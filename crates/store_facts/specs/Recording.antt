@@ -18,15 +18,15 @@ RecordsAll fs content after =
     (zone : List ℕ) (facts : List Fact) → AreOf zone facts content → AreLawful (reverse fs ++ facts)
     → AreOf zone (reverse fs ++ facts) after
 
--- the place behind the last
+-- the place after the last
 abbrev pub next_place : Option ℕ → ℕ
 next_place None = 1
 next_place (Some place) = place + 1
 
--- The place is behind that of the last row that passes, whatever rows the table has.
-abbrev pub IsBehind : {X : Type 0} → (tree : ℕ) → (columns : X → Row) → (passes : X → Bool)
+-- The place is after that of the last row that passes, whatever rows the table has.
+abbrev pub IsAfter : {X : Type 0} → (tree : ℕ) → (columns : X → Row) → (passes : X → Bool)
     → (key : X → ℕ) → (place : ℕ) → Content → Type 0
-IsBehind {X} tree columns passes key place content =
+IsAfter {X} tree columns passes key place content =
     (rows : List X) → HasRows tree columns rows content
     → (last : Option ℕ) × (place ≡ next_place last) × IsLast passes (λ x n. n ≡ key x) key rows last
 
@@ -34,4 +34,4 @@ IsBehind {X} tree columns passes key place content =
 pub record IsNext {X : Type 0} (tree : ℕ) (columns : X → Row) (passes : X → Bool) (key : X → ℕ)
     (place : ℕ) (content after : Content) : Type 0 where
   pub same : after ≡ content
-  pub behind : IsBehind tree columns passes key place content
+  pub behind : IsAfter tree columns passes key place content

@@ -178,7 +178,7 @@ abbrev pub after_of : Entry → ℕ
 after_of (entry.Step at raw rolls) = 0
 after_of (entry.Change at before after sf) = after
 
--- an entry, and the scale behind it
+-- an entry, and the scale after it
 abbrev pub entry_row : (sf : ℤ) → journal.EntryRow → EntryRow
 entry_row sf row = record {
   place = row.place;
@@ -205,15 +205,15 @@ opening_row opening =
 abbrev pub entered : (meter : List ℕ) → EntryRow → Entered
 entered meter row = record { meter = meter; entry = row }
 
--- the scale behind the entries that stand
-abbrev pub scale_behind : Opening → List journal.EntryRow → ℤ
-scale_behind opening rows = (last_of (opened opening) (entries_in rows)).sf
+-- the scale after the entries that stand
+abbrev pub scale_after : Opening → List journal.EntryRow → ℤ
+scale_after opening rows = (last_of (opened opening) (entries_in rows)).sf
 
--- The opening and these rows after it, each with the scale behind it, the latest first.
+-- The opening and these rows after it, each with the scale after it, the latest first.
 abbrev pub entered_rows : Opening → List journal.EntryRow → List Entered
 entered_rows opening [] = entered opening.meter (opening_row opening) ∷ []
 entered_rows opening (row ∷ rows) =
-    entered opening.meter (entry_row (scale_behind opening (row ∷ rows)) row)
+    entered opening.meter (entry_row (scale_after opening (row ∷ rows)) row)
     ∷ entered_rows opening rows
 
 -- the entries of a meter

@@ -78,7 +78,7 @@ fn kind(kind: EntryKind) -> store_tables::EntryKind
     }
 }
 
-/// An entry at a place, and the scale factor behind it.
+/// An entry at a place, and the scale factor after it.
 pub fn entry_row(of: EntryKind, entry: Entry, place: u64, sf: &i16) -> EntryRow
     ensures row { result ≡ rows.entry_row sf.now
         (record { place = place; kind = of; entry = entry; stands = true }) }

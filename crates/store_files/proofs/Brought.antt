@@ -24,22 +24,22 @@ abbrev SetsVersion : Content → Content → Type 0
 SetsVersion = Edits meta meta_columns (changed_where every (with_version 3))
 
 -- the rows of a file without the tables that are to come
-abbrev behind_second : Content → Content
-behind_second content = with_rows 20 [] content
+abbrev after_second : Content → Content
+after_second content = with_rows 20 [] content
 
-abbrev behind_first : Content → Content
-behind_first content = with_rows 18 [] (behind_second content)
+abbrev after_first : Content → Content
+after_first content = with_rows 18 [] (after_second content)
 
 -- ---- version 2
 
-second_same : (content : Content) (t : ℕ) → HasTree (first_tables 12).tables t → behind_second content t ≡ content t
+second_same : (content : Content) (t : ℕ) → HasTree (first_tables 12).tables t → after_second content t ≡ content t
 second_same content t there = with_others 20 [] content t (λ is. has_not (first_tables 12).tables 20 refl (subst (HasTree (first_tables 12).tables) is there))
 
-second_none : (content : Content) (t : ℕ) → HasTree (drop 12 books_schema.tables) t → behind_second content t ≡ []
-second_none content t (inl is) = subst (λ n. behind_second content n ≡ []) (sym is) (with_here 20 [] content)
+second_none : (content : Content) (t : ℕ) → HasTree (drop 12 books_schema.tables) t → after_second content t ≡ []
+second_none content t (inl is) = subst (λ n. after_second content n ≡ []) (sym is) (with_here 20 [] content)
 second_none content t (inr none) = absurd none
 
-has_second : (db : Database) (content : Content) → AreTablesIn (first_tables 12) db content → HasFirst 12 db (behind_second content)
+has_second : (db : Database) (content : Content) → AreTablesIn (first_tables 12) db content → HasFirst 12 db (after_second content)
 has_second db content has = record {
   schema = has.schema;
   rows = λ t there. subst (IsPermutation _) (sym (second_same content t there)) (has.rows t there);
@@ -56,7 +56,7 @@ set version zone content after marked sets = sets.rows (record { version = versi
 pub brought_second : {E D : Type 0} (a b c : State) (x : ℕ) (r : Result ℕ E) → StepsTo {X = ℕ} {E = D} a b (Ok x) (Grows 12 13) → StepsTo b c r (Turns SetsVersion) → StepsTo a c r BringsSecond
 brought_second a b c x r one two =
     goes_then a b c x r (Grows 12 13) (Turns SetsVersion) BringsSecond one two (λ grows sets zone content file.
-    let start = behind_second content in
+    let start = after_second content in
     let last = sets start (grows start (has_second a.now content file.tables)) in (
       last.0,
       record {
@@ -70,17 +70,17 @@ brought_second a b c x r one two =
 
 -- ---- version 1
 
-first_same : (content : Content) (t : ℕ) → HasTree (first_tables 11).tables t → behind_first content t ≡ content t
+first_same : (content : Content) (t : ℕ) → HasTree (first_tables 11).tables t → after_first content t ≡ content t
 first_same content t there =
-    with_others 18 [] (behind_second content) t (λ is. has_not (first_tables 11).tables 18 refl (subst (HasTree (first_tables 11).tables) is there))
+    with_others 18 [] (after_second content) t (λ is. has_not (first_tables 11).tables 18 refl (subst (HasTree (first_tables 11).tables) is there))
     ∙ with_others 20 [] content t (λ is. has_not (first_tables 11).tables 20 refl (subst (HasTree (first_tables 11).tables) is there))
 
-first_none : (content : Content) (t : ℕ) → HasTree (drop 11 books_schema.tables) t → behind_first content t ≡ []
-first_none content t (inl is) = subst (λ n. behind_first content n ≡ []) (sym is) (with_here 18 [] (behind_second content))
-first_none content t (inr (inl is)) = subst (λ n. behind_first content n ≡ []) (sym is) (with_others 18 [] (behind_second content) 20 (λ e. absurd (omega arith)) ∙ with_here 20 [] content)
+first_none : (content : Content) (t : ℕ) → HasTree (drop 11 books_schema.tables) t → after_first content t ≡ []
+first_none content t (inl is) = subst (λ n. after_first content n ≡ []) (sym is) (with_here 18 [] (after_second content))
+first_none content t (inr (inl is)) = subst (λ n. after_first content n ≡ []) (sym is) (with_others 18 [] (after_second content) 20 (λ e. absurd (omega arith)) ∙ with_here 20 [] content)
 first_none content t (inr (inr none)) = absurd none
 
-has_first : (db : Database) (content : Content) → AreTablesIn (first_tables 11) db content → HasFirst 11 db (behind_first content)
+has_first : (db : Database) (content : Content) → AreTablesIn (first_tables 11) db content → HasFirst 11 db (after_first content)
 has_first db content has = record {
   schema = has.schema;
   rows = λ t there. subst (IsPermutation _) (sym (first_same content t there)) (has.rows t there);
@@ -107,7 +107,7 @@ brought_first {E} {D} {F} shown a b c d x r one two three =
     let Between : Database → Database → Type 0 = λ old new. (start : Content) → HasFirst 11 old start → (next : Content) × GivesRanges shown start next × AreTables new next in
     let first : StepsTo {X = Unit {0}} {E = F} a c (Ok tt) Between = goes_then a b c x (Ok tt) (Grows 11 13) (Turns (GivesRanges shown)) Between one two (λ grows gives start has. gives start (grows start has)) in
     goes_then a c d tt r Between (Turns SetsVersion) (BringsFirst shown) first three (λ between sets zone content file shows.
-    let start = behind_first content in
+    let start = after_first content in
     let next = between start (has_first a.now content file.tables) in
     let last = sets next.0 next.2 in (
       last.0,
@@ -115,9 +115,9 @@ brought_first {E} {D} {F} shown a b c d x r one two three =
         marked = set 1 zone next.0 last.0 (subst (IsPermutation _) (sym (next.1.others 0 (λ e. absurd (omega arith)))) file.marked) last.1;
         with_ranges = λ is are.
             subst (IsPermutation _) (sym (last.1.others 18 (λ e. absurd (omega arith))))
-            (ranges_are shown is (next.0 18) (shows is are) (next.1.rows [] (subst (IsPermutation []) (sym (with_here 18 [] (behind_second content))) (IsPermutation-refl []))));
-        with_voids = last.1.others 20 (λ e. absurd (omega arith)) ∙ (next.1.others 20 (λ e. absurd (omega arith)) ∙ (with_others 18 [] (behind_second content) 20 (λ e. absurd (omega arith)) ∙ with_here 20 [] content));
-        others = λ t off on away. last.1.others t off ∙ (next.1.others t on ∙ (with_others 18 [] (behind_second content) t on ∙ with_others 20 [] content t away));
+            (ranges_are shown is (next.0 18) (shows is are) (next.1.rows [] (subst (IsPermutation []) (sym (with_here 18 [] (after_second content))) (IsPermutation-refl []))));
+        with_voids = last.1.others 20 (λ e. absurd (omega arith)) ∙ (next.1.others 20 (λ e. absurd (omega arith)) ∙ (with_others 18 [] (after_second content) 20 (λ e. absurd (omega arith)) ∙ with_here 20 [] content));
+        others = λ t off on away. last.1.others t off ∙ (next.1.others t on ∙ (with_others 18 [] (after_second content) t on ∙ with_others 20 [] content t away));
       },
       last.2,
     ))

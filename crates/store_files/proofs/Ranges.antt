@@ -14,15 +14,15 @@ use Rattle.store_tables.specs.Meters.Rows.{Ranged, ranged_columns}
 use Rattle.store_tables.specs.Meters.Trees.{ranges}
 use Rattle.store_files.specs.Upgrade.{text_in, range_in, with_ranges, GivesRanges}
 
-one_behind : (shown : List Row) (row : Row) (rs : List Ranged) → IsPermutation (with_ranges (shown ++ row ∷ []) rs) (range_in row ∷ with_ranges shown rs)
-one_behind shown row rs =
+one_after : (shown : List Row) (row : Row) (rs : List Ranged) → IsPermutation (with_ranges (shown ++ row ∷ []) rs) (range_in row ∷ with_ranges shown rs)
+one_after shown row rs =
     subst (λ xs. IsPermutation xs (range_in row ∷ with_ranges shown rs))
     (sym (ap (λ xs. xs ++ rs) (map-append range_in shown (row ∷ [])) ∙ append_assoc (map range_in shown) (range_in row ∷ []) rs))
     (IsPermutation-middle (map range_in shown) (range_in row) rs)
 
 one_more : (shown : List Row) (row : Row) (x y z : Content) → GivesRanges shown x y → Edits ranges ranged_columns (with_row (range_in row)) y z → GivesRanges (shown ++ row ∷ []) x z
 one_more shown row x y z first next = record {
-  rows = λ xs has. IsPermutation-trans _ _ _ (IsPermutation-map ranged_columns _ _ (one_behind shown row xs)) (next.rows (with_ranges shown xs) (first.rows xs has));
+  rows = λ xs has. IsPermutation-trans _ _ _ (IsPermutation-map ranged_columns _ _ (one_after shown row xs)) (next.rows (with_ranges shown xs) (first.rows xs has));
   others = λ t off. next.others t off ∙ first.others t off;
 }
 

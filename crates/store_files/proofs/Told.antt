@@ -12,14 +12,14 @@ use Rattle.store_files.specs.declared.layouts.Layout.TheVariants.{First, Second,
 use Rattle.store_files.specs.Layouts.{names_of, schema_of}
 use Rattle.store_files.specs.Meta.{Meta}
 use Rattle.store_files.specs.Zones.{IsZone}
-use Rattle.store_files.specs.OpenedFile.{Tells}
+use Rattle.store_files.specs.OpenedFile.{TellsOpening}
 
 apart_from : (e d f g : OpenFault) → (e ≡ d) ⊎ (e ≡ f) → d ≢ g → f ≢ g → e ≢ g
 apart_from e d f g (inl is) off away same = off (sym is ∙ same)
 apart_from e d f g (inr is) off away same = away (sym is ∙ same)
 
 -- the store's faults tell nothing of the file
-pub tells_fault : (version : ℕ) (m : Meta) (e : OpenFault) → (e ≡ Store) ⊎ (e ≡ Memory) → Tells version m (Err e)
+pub tells_fault : (version : ℕ) (m : Meta) (e : OpenFault) → (e ≡ Store) ⊎ (e ≡ Memory) → TellsOpening version m (Err e)
 tells_fault version m e is =
     let no_zone : e ≢ NoZone = apart_from e Store Memory NoZone is (λ s. absurd cc) (λ s. absurd cc) in
     record {
@@ -30,9 +30,9 @@ tells_fault version m e is =
       none = λ out. tt;
     }
 
-pub tells_err : (version : ℕ) (m : Meta) (e : OpenFault) (r : Result Zone OpenFault) → IsErrAnd r (λ d. d ≡ e) → Tells version m (Err e) → Tells version m r
+pub tells_err : (version : ℕ) (m : Meta) (e : OpenFault) (r : Result Zone OpenFault) → IsErrAnd r (λ d. d ≡ e) → TellsOpening version m (Err e) → TellsOpening version m r
 tells_err version m e (Ok z) fails it = absurd fails
-tells_err version m e (Err d) fails it = subst (λ f. Tells version m (Err f)) (sym fails) it
+tells_err version m e (Err d) fails it = subst (λ f. TellsOpening version m (Err f)) (sym fails) it
 
 none_of : (P : Type 0) (Q : Zone → Type 0) (r : Result Zone OpenFault) → (P → ⊥) → IfOk r (λ z. Q z × P) → OnOk r ⊥
 none_of P Q (Ok z) out h = out h.1
@@ -40,7 +40,7 @@ none_of P Q (Err e) out h = tt
 
 -- the version is this, and the zone was read
 pub tells_zone : (version : ℕ) (m : Meta) (r : Result Zone OpenFault) → m.version ≡ version → IfErr r (λ e. e ≢ NotOurs) → IfOk r (λ z. HasRule m.zone z × IsZone m.zone)
-    → (IsUtf8 m.zone → IsZone m.zone → IfErr r (λ e. e ≢ NoZone)) → Tells version m r
+    → (IsUtf8 m.zone → IsZone m.zone → IfErr r (λ e. e ≢ NoZone)) → TellsOpening version m r
 tells_zone version m r same ours zone rule = record {
   other = λ off. absurd (off same);
   ours = λ is. ours;

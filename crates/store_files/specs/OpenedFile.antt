@@ -18,7 +18,7 @@ ShowsMeta content old new rows =
     IsUnchanged old new × ((m : Meta) → IsMarked m content → rows.items ≡ meta_shown m ∷ [])
 
 -- A file that tells another version is not opened, nor one whose zone is none. A file of this version is ours, and its zone is answered.
-pub record Tells (version : ℕ) (m : Meta) (result : Result Zone OpenFault) : Type 0 where
+pub record TellsOpening (version : ℕ) (m : Meta) (result : Result Zone OpenFault) : Type 0 where
   pub other : m.version ≢ version → OnOk result ⊥ × IfErr result (λ e. e ≢ NoZone)
   pub ours : m.version ≡ version → IfErr result (λ e. e ≢ NotOurs)
   pub zone : IfOk result (HasRule m.zone)
@@ -31,4 +31,4 @@ pub record FindsZone (layout : Layout) (content : Content) (old new : State)
   pub kept : KeepsCommit old new
   pub unchanged : OnOk result (IsUnchanged old new)
   pub survives : Survives old new (λ _. ⊥)
-  pub told : (m : Meta) → IsMarked m content → Tells (version_of layout) m result
+  pub told : (m : Meta) → IsMarked m content → TellsOpening (version_of layout) m result

@@ -10,7 +10,7 @@ ghost use Rattle.store_files.specs.Layouts.{version_of, schema_of, IsNamedAs};
 ghost use Rattle.store_files.specs.Meta.{Meta, meta_shown, IsMarked};
 ghost use Rattle.store_files.specs.Zones.{IsZone};
 ghost use Rattle.store_files.specs.Upgrade.{IsFile, OpensFile, IsOpenTo};
-ghost use Rattle.store_files.specs.OpenedFile.{ShowsMeta, Tells, FindsZone};
+ghost use Rattle.store_files.specs.OpenedFile.{ShowsMeta, TellsOpening, FindsZone};
 
 use crate::faults::{OpenFault, fault_of};
 use crate::layouts::{Layout, layout_of};
@@ -18,7 +18,7 @@ use crate::upgrade::bring;
 use crate::zones::zone_of;
 use interval_core::Zone;
 use sqlite::{Alter, Connection, Error, Row};
-use store_tables::{RowFault, text, touch, whole};
+use store_tables::{RowFault, text, check_open, whole};
 
 /// The rows of `meta`.
 fn meta_rows<S: Alter>(conn: &mut Connection<S>) -> Result<Vec<Row>, Error>
@@ -61,7 +61,7 @@ fn told_zone(row: &Row) -> Result<Zone, OpenFault>
 
 /// The zone that the rows of `meta` tell, if they tell this version.
 fn zone_in(rows: &[Row], version: u64) -> Result<Zone, OpenFault>
-    ensures tells { (m : Meta) → rows.now ≡ meta_shown m ∷ [] → Tells version m result }
+    ensures tells { (m : Meta) → rows.now ≡ meta_shown m ∷ [] → TellsOpening version m result }
 {
     match rows {
         [row] => {
@@ -112,7 +112,7 @@ fn open_settled<S: Alter>(conn: &mut Connection<S>, layout: Layout) -> Result<Zo
     ensures clean { HasCleanDisk (state S.Store conn.new) → HasCleanDisk (state S.Store conn.old) }
     ensures told { HasCleanDisk (state S.Store conn.new) → (content : Content)
         → AreTablesIn (schema_of layout) (state S.Store conn.old).now content
-        → (m : Meta) → IsMarked m content → Tells (version_of layout) m result }
+        → (m : Meta) → IsMarked m content → TellsOpening (version_of layout) m result }
     ensures opened { HasCleanDisk (state S.Store conn.new) → (zone : _) (content : Content)
         → IsOpenTo layout zone content (state S.Store conn.old)
         → OpensFile layout zone content (state S.Store conn.old) (state S.Store conn.new) result }
@@ -133,14 +133,14 @@ fn open_as<S: Alter>(conn: &mut Connection<S>, found: Layout) -> Result<Zone, Op
     ensures told { HasCleanDisk (state S.Store conn.new) → IsTrue (state S.Store conn.old).is_open
         → (layout : TheLayout) (content : Content)
         → AreTablesIn (schema_of layout) (state S.Store conn.old).committed content
-        → (m : Meta) → IsMarked m content → Tells (version_of layout) m result }
+        → (m : Meta) → IsMarked m content → TellsOpening (version_of layout) m result }
     ensures opened { HasCleanDisk (state S.Store conn.new)
         → (layout : TheLayout) (zone : _) (content : Content)
         → (IsTrue (state S.Store conn.old).is_open
         → IsFile layout zone (state S.Store conn.old).committed content)
         → OpensFile layout zone content (state S.Store conn.old) (state S.Store conn.new) result }
 {
-    match touch(conn) {
+    match check_open(conn) {
         Ok(()) => open_settled(conn, found),
         Err(error) => Err(fault_of(error)),
     }
@@ -162,7 +162,7 @@ pub fn open<S: Alter>(conn: &mut Connection<S>) -> Result<Zone, OpenFault>
         → IsTrue (state S.Store conn.old).is_open
         → (layout : TheLayout) (content : Content)
         → AreTablesIn (schema_of layout) (state S.Store conn.old).committed content
-        → (m : Meta) → IsMarked m content → Tells (version_of layout) m result }
+        → (m : Meta) → IsMarked m content → TellsOpening (version_of layout) m result }
     ensures opened { HasCleanDisk (state S.Store conn.new)
         → (layout : TheLayout) (zone : _) (content : Content)
         → (IsTrue (state S.Store conn.old).is_open

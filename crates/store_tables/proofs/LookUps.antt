@@ -12,7 +12,7 @@ use Rattle.store_tables.specs.declared.faults.RowFault.{RowFault}
 use Rattle.store_tables.specs.declared.faults.RowFault.TheVariants.{Sql, Damaged}
 use Rattle.store_tables.specs.Answer.{AreFound}
 use Rattle.store_tables.specs.Columns.{whole_in, first_of, first_in, or_damaged, and_then}
-use Rattle.store_tables.specs.Asking.{Asks, Tells, ShowsFirst, ReadsRow, LooksUp}
+use Rattle.store_tables.specs.Asking.{Asks, TellsAnswer, ShowsFirst, ReadsRow, LooksUp}
 
 module _ {S A X : Type 0} (g : Ghosts S) (old new : Held S) (tree : ℕ) (columns : X → Row) (IsSound : X → Type 0) (Answers : List X → A → Type 0) (asks : Asks g old new) where
   -- the query failed
@@ -20,7 +20,7 @@ module _ {S A X : Type 0} (g : Ghosts S) (old new : Held S) (tree : ℕ) (column
   refused e = record { asks = asks; answer = λ clean content has rows of. tt; fault = λ clean content has rows of sound is. let f = is in cc }
 
 module _ {S A X : Type 0} (g : Ghosts S) (old new : Held S) (tree : ℕ) (columns : X → Row) (IsSound : X → Type 0) (asks : Asks g old new) (passes : X → Bool) (Later : X → X → Type 0) (shown : X → Row)
-    (items : List Row) (shows : Tells {E = Error} g old new tree columns (Ok items) (ShowsFirst passes Later shown)) (Answers : List X → Option A → Type 0) where
+    (items : List Row) (shows : TellsAnswer {E = Error} g old new tree columns (Ok items) (ShowsFirst passes Later shown)) (Answers : List X → Option A → Type 0) where
   is_empty : (rows : List Row) → slice_get rows 0 ≡ None → rows ≡ []
   is_empty [] e = refl
   is_empty (r ∷ rows) e = absurd (let f = e in cc)
@@ -75,7 +75,7 @@ module _ {S A X : Type 0} (g : Ghosts S) (old new : Held S) (tree : ℕ) (column
 -- ---- the number of the first row
 
 module _ {S X : Type 0} (g : Ghosts S) (old new : Held S) (tree : ℕ) (columns : X → Row) (IsSound : X → Type 0) (asks : Asks g old new) (passes : X → Bool) (Later : X → X → Type 0) (shown : X → Row)
-    (items : List Row) (shows : Tells {E = Error} g old new tree columns (Ok items) (ShowsFirst passes Later shown)) (Answers : List X → Option ℕ → Type 0) (low high : ℕ) (of : X → ℕ)
+    (items : List Row) (shows : TellsAnswer {E = Error} g old new tree columns (Ok items) (ShowsFirst passes Later shown)) (Answers : List X → Option ℕ → Type 0) (low high : ℕ) (of : X → ℕ)
     (reads : (row : Row) (r : Result ℕ RowFault) → r ≡ or_damaged (whole_in low high (column row 0)) → ReadsRow row shown (λ x n. n ≡ of x) IsSound r)
     (none : (xs found : List X) → AreFound passes Later xs found → slice_get found 0 ≡ None → Answers xs None)
     (some : (xs found : List X) (x : X) (n : ℕ) → AreFound passes Later xs found → slice_get found 0 ≡ Some x → n ≡ of x → Answers xs (Some n)) where

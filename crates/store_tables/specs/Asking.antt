@@ -43,9 +43,9 @@ ShowsFirst {X} passes Later shown rows answer =
     (found : List X) × AreFound passes Later rows found × (answer ≡ take 1 (map shown found))
 
 -- The answer is told of the rows of one table, whatever they are.
-abbrev pub Tells : {S A E X : Type 0} → Ghosts S → (old new : Held S) → (tree : ℕ)
+abbrev pub TellsAnswer : {S A E X : Type 0} → Ghosts S → (old new : Held S) → (tree : ℕ)
     → (columns : X → Row) → (result : Result A E) → (Answers : List X → A → Type 0) → Type 0
-Tells {S} {A} {E} {X} g old new tree columns result Answers =
+TellsAnswer {S} {A} {E} {X} g old new tree columns result Answers =
     HasCleanDisk (state g new) → (content : Content) → AreTables (state g old).now content
     → (rows : List X) → HasRows tree columns rows content → IfOk result (Answers rows)
 
@@ -54,7 +54,7 @@ abbrev pub TellsRows : {S E X Z : Type 0} → Ghosts S → (old new : Held S) �
     → (columns : X → Row) → (result : Result (Vec Row Z) E)
     → (Answers : List X → List Row → Type 0) → Type 0
 TellsRows {S} {E} {X} {Z} g old new tree columns result Answers =
-    Tells g old new tree columns result (λ rows answer. Answers rows answer.items)
+    TellsAnswer g old new tree columns result (λ rows answer. Answers rows answer.items)
 
 -- A row that stands for a value is read as that value. Damage is told only where the value is out of its ranges.
 pub record ReadsRow {A X : Type 0} (row : Row) (shown : X → Row) (IsSeen : X → A → Type 0)
@@ -67,7 +67,7 @@ pub record LooksUp {S A X : Type 0} (g : Ghosts S) (old new : Held S) (tree : �
     (IsSound : X → Type 0) (result : Result A RowFault) (Answers : List X → A → Type 0) : Type 0
   where
     pub asks : Asks g old new
-    pub answer : Tells g old new tree columns result Answers
+    pub answer : TellsAnswer g old new tree columns result Answers
     pub fault : HasCleanDisk (state g new) → (content : Content)
         → AreTables (state g old).now content
         → (rows : List X) → HasRows tree columns rows content → AllByRecursion IsSound rows

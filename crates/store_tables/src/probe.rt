@@ -6,7 +6,7 @@ ghost use Rattle.sqlite.specs.Held.{state};
 use sqlite::{Alter, Connection, Error};
 
 /// Answers only where the store is open, and then with no transaction under way: what is seen is what is committed.
-pub fn touch<S: Alter>(conn: &mut Connection<S>) -> Result<(), Error>
+pub fn check_open<S: Alter>(conn: &mut Connection<S>) -> Result<(), Error>
     requires { conn.old.in_transaction ≡ false }
     ensures autocommit { conn.new.in_transaction ≡ false }
     ensures opened { HasCleanDisk (state S.Store conn.new)

@@ -3,12 +3,12 @@ use sqlite::types::Value;
 use sqlite::{Connection, Error, Row};
 use std::alloc::Global;
 use std::test::Fail;
-use store_tables::{RowFault, number, scale, signed, text, touch, whole};
+use store_tables::{RowFault, number, scale, signed, text, check_open, whole};
 
 /// A row of numbers and a text.
 fn one_row(alloc: Global) -> Result<Row, Error> {
     let mut conn = Connection::open_in_memory(alloc)?;
-    touch(&mut conn)?;
+    check_open(&mut conn)?;
     conn.query_row("SELECT 65535, -3, 'kWh', -4", &[])
 }
 

@@ -53,7 +53,7 @@ fn the_latest_meter_of_a_register_is_found(rt: HostRuntime) -> Result<(), Fail> 
     Ok(())
 }
 
-/// An entry of m1 that stands behind this moment and energy, and before its closing.
+/// An entry of m1 that stands after this moment and energy, and before its closing.
 fn before_closing(before: (u64, u32, u64), row: EntryRow) -> Option<EntryPlace> {
     let (at, raw, total) = before;
     Some(EntryPlace {

@@ -51,7 +51,7 @@ pub(crate) fn are(seen: &Result<Seen, RowFault>, wanted: &[(u64, u64)]) -> bool 
     }
 }
 
-/// The quarter hours of the meter m1, of m0 behind it, and of the register of both.
+/// The quarter hours of the meter m1, of m0 after it, and of the register of both.
 pub(crate) static FIRST: [(u64, u64); 3] = [(900, 177_777), (1800, 111_111), (2700, 11_112)];
 
 pub(crate) static NEXT: [(u64, u64); 2] = [(2700, 40_000), (3600, 5000)];

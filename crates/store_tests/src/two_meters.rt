@@ -30,7 +30,7 @@ pub(crate) fn last(at: u64, raw: u32) -> Last {
     Last { at, raw, sf: 0 }
 }
 
-/// The meter m1 as it was opened, and m0 behind it.
+/// The meter m1 as it was opened, and m0 after it.
 fn opening() -> Option<Opening> {
     Some(Opening {
         meter: Name::new(b"m1")?,

@@ -4,7 +4,7 @@ use crate::facts::{device, opening, reading, register, void};
 use office_events::Fact;
 use std::test::Fail;
 
-/// Rows after the reading at 1900 was voided, behind which one at 2800 stands.
+/// Rows after the reading at 1900 was voided, after which one at 2800 stands.
 static BETWEEN: [&str; 7] = [
     "voids WHERE meter = 'm1' AND place = 2 AND moment = 4000",
     "entries WHERE meter = 'm1' AND place = 2 AND kind = 2 AND moment = 1900 AND raw = 5200 AND rolls = 0",
@@ -54,7 +54,7 @@ fn the_only_reading(rt: HostRuntime) -> Result<(), Fail> {
     Ok(())
 }
 
-/// Rows after the first reading behind a turn was voided: the next one turned over since the opening.
+/// Rows after the first reading after a turn was voided: the next one turned over since the opening.
 static TURNED: [&str; 4] = [
     "entries WHERE meter = 'm1' AND place = 2 AND raw = 10 AND rolls = 1",
     "entries WHERE meter = 'm1' AND place = 3 AND raw = 20 AND rolls = 1",
@@ -62,7 +62,7 @@ static TURNED: [&str; 4] = [
     "intervals WHERE meter = 'm1' AND start = 1800 AND mwh = 15000",
 ];
 
-fn voided_behind_a_turn() -> [Option<Fact>; 6] {
+fn voided_after_a_turn() -> [Option<Fact>; 6] {
     [
         device(),
         register(),
@@ -75,7 +75,7 @@ fn voided_behind_a_turn() -> [Option<Fact>; 6] {
 
 #[test]
 fn the_next_reading_turns_over(rt: HostRuntime) -> Result<(), Fail> {
-    let mut conn = booked(rt.alloc(), voided_behind_a_turn())?;
+    let mut conn = booked(rt.alloc(), voided_after_a_turn())?;
     stand(&rt, rt.alloc(), &mut conn, &TURNED);
     Ok(())
 }

@@ -2,7 +2,7 @@
 use Rattle.std.specs.Prelude.{ℕ, List, Option}
 use Rattle.sqlite.specs.Store.{Ghosts}
 use Rattle.sqlite.specs.Held.{Held}
-use Rattle.command_io.specs.declared.status.Status.{Status}
+use Rattle.command_io.specs.declared.status.ExitStatus.{ExitStatus}
 use Rattle.office_rules.specs.History.{History, facts_of}
 use Rattle.office_rules.specs.Lawfulness.{IsPast}
 use Rattle.office_books.specs.Ledgers.{Ledger}
@@ -12,8 +12,8 @@ use Rattle.office_store.specs.declared.books.SqlBooks.{SqlBooks}
 use Rattle.office_program.specs.Report.{TellsReport}
 use Rattle.office_program.specs.HttpPort.{TellsServing}
 use Rattle.office_program.specs.PortRound.{TellsPolling}
-use Rattle.office_program.specs.declared.http_port.Serving.{Serving}
-use Rattle.office_program.specs.declared.port_round.Polling.{Polling}
+use Rattle.office_program.specs.declared.http_port.ServeEnd.{ServeEnd}
+use Rattle.office_program.specs.declared.port_round.PollEnd.{PollEnd}
 
 module _ {S : Type 0} (g : Ghosts S) where
   -- The file of the connection has the facts of what was accepted before.
@@ -37,16 +37,16 @@ module _ {S : Type 0} (g : Ghosts S) where
 
   -- the report of a register, HTTP on a port, and a round, over such books
   abbrev pub Reports : (past : History) → (register : List ℕ)
-      → (moments later had holds : Option (List ℕ)) → Status → Type 0
+      → (moments later had holds : Option (List ℕ)) → ExitStatus → Type 0
   Reports past register moments later had holds status = OverBooks past (λ found left.
       TellsReport ledger_in past register moments later found left had holds status)
 
   abbrev pub Serves : (past : History) → (connections : ℕ)
-      → (moments later had holds : Option (List ℕ)) → Serving → Type 0
+      → (moments later had holds : Option (List ℕ)) → ServeEnd → Type 0
   Serves past connections moments later had holds end = OverBooks past (λ found left.
       TellsServing ledger_in past connections moments later found left had holds end)
 
   abbrev pub Polls : (past : History) → (device : List ℕ)
-      → (moments later had holds : Option (List ℕ)) → Polling → Type 0
+      → (moments later had holds : Option (List ℕ)) → PollEnd → Type 0
   Polls past device moments later had holds end = OverBooks past (λ found left.
       TellsPolling ledger_in past device moments later found left had holds end)

@@ -6,8 +6,8 @@ ghost use Rattle.store_files.specs.Layouts.{no_schema, IsNamedAs};
 ghost use Rattle.store_files.specs.Zones.{IsZone};
 ghost use Rattle.stored_office.specs.BooksFound.{HasPast, Reports, Serves, Polls};
 
-use command_io::Status;
-use office_program::{Polling, Serving, poll_books, report_books, serve_books};
+use command_io::ExitStatus;
+use office_program::{PollEnd, ServeEnd, poll_books, report_books, serve_books};
 use office_store::{OpenFault, SqlBooks};
 use socket_link::Clock;
 use sqlite::{Alter, Connection};
@@ -42,7 +42,7 @@ pub fn report_stored<S: Alter + Drop, C: Clock, W: Write>(
     register: &str,
     clock: &mut C,
     output: &mut W,
-) -> Result<Status, OpenFault>
+) -> Result<ExitStatus, OpenFault>
     ensures foreign { ((layout : TheLayout) → ¬ IsNamedAs connection.schema layout)
         → result ≡ Err OpenFault.NotOurs }
     ensures silent { IfErr result (λ fault. output.new ≡ output.old) }
@@ -69,7 +69,7 @@ pub fn serve_stored<R: Net, S: Alter + Drop, C: Clock, W: Write>(
     connections: u32,
     clock: &mut C,
     output: &mut W,
-) -> Result<Serving, OpenFault>
+) -> Result<ServeEnd, OpenFault>
     ensures foreign { ((layout : TheLayout) → ¬ IsNamedAs connection.schema layout)
         → result ≡ Err OpenFault.NotOurs }
     ensures silent { IfErr result (λ fault. output.new ≡ output.old) }
@@ -96,7 +96,7 @@ pub fn poll_stored<R: Net, S: Alter + Drop, C: Clock, W: Write>(
     place: (&str, u16),
     clock: &mut C,
     output: &mut W,
-) -> Result<Polling, OpenFault>
+) -> Result<PollEnd, OpenFault>
     ensures foreign { ((layout : TheLayout) → ¬ IsNamedAs connection.schema layout)
         → result ≡ Err OpenFault.NotOurs }
     ensures silent { IfErr result (λ fault. output.new ≡ output.old) }

@@ -1,4 +1,4 @@
--- Models that follow one another, and what is lacking behind them.
+-- Models that follow one another, and what is lacking after them.
 use Rattle.std.proofs.Common.{◌≡◌, ℕ, ◌+◌, ◌<◌, ◌≤◌, Bool, true, false, if◌then◌else◌, nat_le, nat_lt, ◌==◌, Option, Some, None, List, [], ◌∷◌, ◌++◌, length, arith, length-append, refl, sym, ◌∙◌, add-zero, zero-add, add-suc, add-one, suc-add}
 use Rattle.std.specs.List.{All}
 use Rattle.std.proofs.lemmas.List.Elements.{All-cons}
@@ -10,7 +10,7 @@ use Rattle.sun_chain.specs.declared.model.Model.{Model}
 use Rattle.sun_chain.specs.declared.fault.ChainFault.{ChainFault}
 use Rattle.sun_chain.specs.declared.fault.ChainFault.TheVariants.{NoMark, Unreadable, PastEnd, TooMany, Memory}
 
--- One more model behind the others.
+-- One more model after the others.
 pub follow_more : (word : Words) (from : ℕ) (models : List Model) (model : Model) → Follow word from models model.address → Stands word model →
     Follow word from (models ++ model ∷ []) (next_after model)
 follow_more word from [] model follow stands = (sym follow, stands, refl)
@@ -36,7 +36,7 @@ same_next word first other same stands other_stands =
     let lengths : first.length ≡ other.length = some_same first.length other.length (word (first.address + 1)) stands.length length_too in
     omega (arith, same, lengths)
 
--- No lawful list is longer than one behind which something is lacking.
+-- No lawful list is longer than one after which something is lacking.
 pub longest_from : (word : Words) (from before : ℕ) (models others : List Model) (next other_next : ℕ) (fault : ChainFault) →
     Follow word from models next → Follow word from others other_next → before + length others ≤ 64 →
     first_lack word (before + length models) next ≡ Some fault → length others ≤ length models
@@ -100,11 +100,11 @@ fails_by word base models next PastEnd lawful lack = lacks_by word base models n
 fails_by word base models next TooMany lawful lack = lacks_by word base models next TooMany lawful lack
 fails_by word base models next Memory lawful lack = tt
 
-pub fails_behind : (word : Words) (base : ℕ) (models : List Model) (count next : ℕ) (fault : ChainFault) → IsLawful word base models next →
+pub fails_after : (word : Words) (base : ℕ) (models : List Model) (count next : ℕ) (fault : ChainFault) → IsLawful word base models next →
     count ≡ length models → first_lack word count next ≡ Some fault → Fails word fault
-fails_behind word base models count next fault lawful counted lack = fails_by word base models next fault lawful (rw counted at lack)
+fails_after word base models count next fault lawful counted lack = fails_by word base models next fault lawful (rw counted at lack)
 
--- A lawful list with fewer than 64 models, and one that stands behind it.
+-- A lawful list with fewer than 64 models, and one that stands after it.
 pub lawful_more : (word : Words) (base : ℕ) (models : List Model) (next : ℕ) (model : Model) → IsLawful word base models next →
     model.address ≡ next → Stands word model → length models < 64 → IsLawful word base (models ++ model ∷ []) (next_after model)
 lawful_more word base models next model lawful at_next stands few = record {

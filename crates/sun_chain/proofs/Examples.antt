@@ -20,16 +20,16 @@ room_for_a_64th = refl
 no_room_for_a_65th : first_lack (everywhere 66) 64 40002 ≡ Some TooMany
 no_room_for_a_65th = refl
 
-an_end_behind_64 : first_lack (everywhere 0xFFFF) 64 40002 ≡ None
-an_end_behind_64 = refl
+an_end_after_64 : first_lack (everywhere 0xFFFF) 64 40002 ≡ None
+an_end_after_64 = refl
 
--- The last address, and the one behind it.
+-- The last address, and the one after it.
 
 an_end_at_the_last_address : first_lack (everywhere 0xFFFF) 0 65535 ≡ None
 an_end_at_the_last_address = refl
 
-an_end_behind_the_last_address : first_lack (everywhere 0xFFFF) 0 65536 ≡ Some PastEnd
-an_end_behind_the_last_address = refl
+an_end_after_the_last_address : first_lack (everywhere 0xFFFF) 0 65536 ≡ Some PastEnd
+an_end_after_the_last_address = refl
 
 a_model_without_room_for_its_length : first_lack (everywhere 1) 0 65535 ≡ Some PastEnd
 a_model_without_room_for_its_length = refl

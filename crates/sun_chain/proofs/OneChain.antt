@@ -41,26 +41,26 @@ same_models word from (first ∷ models) (other ∷ others) next other_next foll
     same_models word (next_after first) models others next other_next follow.2 other_too (omega arith) in
     (ap (λ (m : Model). m ∷ models) one ∙ ap (λ (ms : List Model). other ∷ ms) rest.0, rest.1)
 
--- No models reach behind the end.
-none_behind_end : (word : Words) (from : ℕ) (models others : List Model) (end other_next : ℕ) →
+-- No models reach after the end.
+none_after_end : (word : Words) (from : ℕ) (models others : List Model) (end other_next : ℕ) →
     Follow word from models end → word end ≡ Some 0xFFFF → Follow word from others other_next → length others ≤ length models
-none_behind_end word from models [] end other_next follow ends other_follow = omega arith
-none_behind_end word from [] (other ∷ others) end other_next follow ends other_follow =
+none_after_end word from models [] end other_next follow ends other_follow = omega arith
+none_after_end word from [] (other ∷ others) end other_next follow ends other_follow =
     let at_end : other.address ≡ end = other_follow.0 ∙ follow in
     let id : word end ≡ Some other.id = rw at_end at other_follow.1.id in
     absurd (other_follow.1.no_end (some_same other.id 0xFFFF (word end) id ends))
-none_behind_end word from (first ∷ models) (other ∷ others) end other_next follow ends other_follow =
+none_after_end word from (first ∷ models) (other ∷ others) end other_next follow ends other_follow =
     let same : next_after first ≡ next_after other = same_next word first other (follow.0 ∙ sym other_follow.0) follow.1 other_follow.1 in
     let other_too : Follow word (next_after first) others other_next = rw (← same) at other_follow.2 in
-    let rest : length others ≤ length models = none_behind_end word (next_after first) models others end other_next follow.2 ends other_too in
+    let rest : length others ≤ length models = none_after_end word (next_after first) models others end other_next follow.2 ends other_too in
     omega arith
 
 pub chain_is_one : ChainIsOne
 chain_is_one word base other_base models others end other_end chain other =
     let bases : base ≡ other_base = some_same base other_base (base_in word) chain.lawful.marked other.lawful.marked in
     let other_follow : Follow word (base + 2) others other_end = rw bases other.lawful.follow in
-    let no_more : length others ≤ length models = none_behind_end word (base + 2) models others end other_end chain.lawful.follow chain.ends other_follow in
-    let no_fewer : length models ≤ length others = none_behind_end word (base + 2) others models other_end end other_follow other.ends chain.lawful.follow in
+    let no_more : length others ≤ length models = none_after_end word (base + 2) models others end other_end chain.lawful.follow chain.ends other_follow in
+    let no_fewer : length models ≤ length others = none_after_end word (base + 2) others models other_end end other_follow other.ends chain.lawful.follow in
     let same : (models ≡ others) × (end ≡ other_end) = same_models word (base + 2) models others end other_end chain.lawful.follow other_follow (omega arith) in
     (bases, same.0, same.1)
 
@@ -76,7 +76,7 @@ chain_lacks_nothing word base models end fault chain lacks =
     let lawful : IsLawful word lacks.base models end = rw bases at chain.lawful in
     let no_more : length models ≤ length lacks.models = lacks.longest models end lawful in
     let no_fewer : length lacks.models ≤ length models =
-    none_behind_end word (lacks.base + 2) models lacks.models end lacks.next lawful.follow chain.ends lacks.lawful.follow in
+    none_after_end word (lacks.base + 2) models lacks.models end lacks.next lawful.follow chain.ends lacks.lawful.follow in
     let same : (models ≡ lacks.models) × (end ≡ lacks.next) =
     same_models word (lacks.base + 2) models lacks.models end lacks.next lawful.follow lacks.lawful.follow (omega arith) in
     let lack : first_lack word (length lacks.models) end ≡ Some fault = rw same.1 lacks.lack in

@@ -20,11 +20,11 @@ pub and-right : (a b : Bool) → a && b ≡ true → b ≡ true
 and-right true b both = both
 and-right false b both = absurd (true≢false (sym both))
 
-nothing_behind : (found : Option ℕ) → option_and_then (λ first. option_map (λ (rest : List ℕ). first ∷ rest) None) found ≡ None
-nothing_behind None = refl
-nothing_behind (Some word) = refl
+nothing_after : (found : Option ℕ) → option_and_then (λ first. option_map (λ (rest : List ℕ). first ∷ rest) None) found ≡ None
+nothing_after None = refl
+nothing_after (Some word) = refl
 
--- one word, and the ones behind it
+-- one word, and the ones after it
 words_in-suc : (word : Words) (start count : ℕ) → words_in word start (suc count) ≡ option_and_then (λ first. option_map (λ rest. first ∷ rest) (words_in word (start + 1) count)) (word start)
 unfolding words_in
 words_in-suc word start count = refl
@@ -71,4 +71,4 @@ words_in-past read words start (suc zero) many past =
     words_in-suc (cell read words) start 0 ∙ rw (get_or_past read start false (omega arith)) refl
 words_in-past read words start (suc (suc count)) many past =
     words_in-suc (cell read words) start (suc count)
-    ∙ rw (words_in-past read words (start + 1) (suc count) (omega arith) (omega arith)) (nothing_behind (cell read words start))
+    ∙ rw (words_in-past read words (start + 1) (suc count) (omega arith) (omega arith)) (nothing_after (cell read words start))

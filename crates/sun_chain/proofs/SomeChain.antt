@@ -10,19 +10,19 @@ use Rattle.sun_chain.specs.declared.fault.ChainFault.{ChainFault}
 use Rattle.sun_chain.specs.declared.fault.ChainFault.TheVariants.{NoMark, Unreadable, PastEnd, TooMany, Memory}
 use Rattle.sun_chain.proofs.Chains.{lawful_more, fails_by}
 
--- What stands at an address behind so many models: the end, one more model, or nothing, with what is lacking.
+-- What stands at an address after so many models: the end, one more model, or nothing, with what is lacking.
 data Next (word : Words) (count address : ℕ) : Type 0 where
   AtEnd : word address ≡ Some 0xFFFF → address ≤ 65535 → Next word count address
   AtModel : (model : Model) → model.address ≡ address → Stands word model → count < 64 → Next word count address
   Lacking : (fault : ChainFault) → fault ≢ Memory → first_lack word count address ≡ Some fault → Next word count address
 
--- The tests of an address, one behind another.
-behind_length : (word : Words) (count address id size : ℕ) → nat_lt 65535 address ≡ false → word address ≡ Some id → (id == 0xFFFF) ≡ false →
+-- The tests of an address, one after another.
+after_length : (word : Words) (count address id size : ℕ) → nat_lt 65535 address ≡ false → word address ≡ Some id → (id == 0xFFFF) ≡ false →
     nat_le 64 count ≡ false → nat_lt 65535 (address + 1) ≡ false → word (address + 1) ≡ Some size →
     (past : Bool) → nat_lt 65536 (address + 2 + size) ≡ past → Next word count address
-behind_length word count address id size in_space id_is other room behind size_is true past =
+after_length word count address id size in_space id_is other room behind size_is true past =
     Lacking PastEnd (λ e. cc) (rw (in_space, id_is) (rw (other, room, behind, size_is) (rw past refl)))
-behind_length word count address id size in_space id_is other room behind size_is false past =
+after_length word count address id size in_space id_is other room behind size_is false past =
     let model : Model = record { address = address; id = id; length = size } in
     let stands : Stands word model = record {
       id = id_is;
@@ -32,19 +32,19 @@ behind_length word count address id size in_space id_is other room behind size_i
     } in
     AtModel model refl stands (leb-false 64 count room)
 
-behind_id : (word : Words) (count address id : ℕ) → nat_lt 65535 address ≡ false → word address ≡ Some id → (id == 0xFFFF) ≡ false →
+after_id : (word : Words) (count address id : ℕ) → nat_lt 65535 address ≡ false → word address ≡ Some id → (id == 0xFFFF) ≡ false →
     nat_le 64 count ≡ false → nat_lt 65535 (address + 1) ≡ false → (found : Option ℕ) → word (address + 1) ≡ found → Next word count address
-behind_id word count address id in_space id_is other room behind None is =
+after_id word count address id in_space id_is other room behind None is =
     Lacking (Unreadable (address + 1)) (λ e. cc) (rw (in_space, id_is) (rw (other, room, behind, is) refl))
-behind_id word count address id in_space id_is other room behind (Some size) is =
-    behind_length word count address id size in_space id_is other room behind is (nat_lt 65536 (address + 2 + size)) refl
+after_id word count address id in_space id_is other room behind (Some size) is =
+    after_length word count address id size in_space id_is other room behind is (nat_lt 65536 (address + 2 + size)) refl
 
 with_length : (word : Words) (count address id : ℕ) → nat_lt 65535 address ≡ false → word address ≡ Some id → (id == 0xFFFF) ≡ false →
     nat_le 64 count ≡ false → (past : Bool) → nat_lt 65535 (address + 1) ≡ past → Next word count address
 with_length word count address id in_space id_is other room true past =
     Lacking PastEnd (λ e. cc) (rw (in_space, id_is) (rw (other, room, past) refl))
 with_length word count address id in_space id_is other room false past =
-    behind_id word count address id in_space id_is other room past (word (address + 1)) refl
+    after_id word count address id in_space id_is other room past (word (address + 1)) refl
 
 with_room : (word : Words) (count address id : ℕ) → nat_lt 65535 address ≡ false → word address ≡ Some id → (id == 0xFFFF) ≡ false →
     (many : Bool) → nat_le 64 count ≡ many → Next word count address

@@ -58,8 +58,8 @@ cell-splice read words new s n marks copied at fits sized size copies marked =
     rw (get_or-splice_within s n read marks at false start from (omega arith), get_or-splice_within s n words copied at 0 start_too from (omega arith), mark, copies, behind) (rw (inside, before_end) refl))
     (λ (above : s + n ≤ at).
     let inside : nat_le s at ≡ true = le-leb s at from in
-    let behind_end : nat_lt at (s + n) ≡ false = le-ltb at (s + n) above in
-    rw (get_or-splice_above s n read marks at false fits marks_size above, get_or-splice_above s n words copied at 0 (omega arith) copied_size above, behind) (rw (inside, behind_end) refl))
+    let after_end : nat_lt at (s + n) ≡ false = le-ltb at (s + n) above in
+    rw (get_or-splice_above s n read marks at false fits marks_size above, get_or-splice_above s n words copied at 0 (omega arith) copied_size above, behind) (rw (inside, after_end) refl))
     (cases_lt at (s + n)))
     (cases_lt at s)
 

@@ -23,7 +23,7 @@ tables_are_lawful id = tests (id == 1) (nat_le 101 id && nat_le id 103) (nat_le 
     tests false false true = refl
     tests false false false = refl
 
--- Points behind an address are behind each lower one.
+-- Points after an address are after each lower one.
 in_order_from_less : (from later : ℕ) (points : List Named) → from ≤ later → StandInOrder later points → StandInOrder from points
 in_order_from_less from later [] below stand = tt
 in_order_from_less from later (point ∷ points) below stand =

@@ -33,19 +33,19 @@ Follow word from [] next = from ≡ next
 Follow word from (model ∷ models) next =
     (model.address ≡ from) × Stands word model × Follow word (next_after model) models next
 
--- what stands at an address behind so many models: a model, or the end, where none is found
+-- what stands at an address after so many models: a model, or the end, where none is found
 abbrev pub IsNext : Words → (count address : ℕ) → Option Model → Type 0
 IsNext word count address found =
     MatchOption found ((word address ≡ Some 0xFFFF) × (address ≤ 65535))
     (λ model. (model.address ≡ address) × Stands word model × (count < 64))
 
--- at most 64 models from behind the mark on
+-- at most 64 models from after the mark on
 pub record IsLawful (word : Words) (base : ℕ) (models : List Model) (next : ℕ) : Type 0 where
   pub marked : base_in word ≡ Some base
   pub follow : Follow word (base + 2) models next
   pub few : length models ≤ 64
 
--- a chain: its models, and the address of the end's ID behind them
+-- a chain: its models, and the address of the end's ID after them
 pub record IsChain (word : Words) (base : ℕ) (models : List Model) (end : ℕ) : Type 0 where
   pub lawful : IsLawful word base models end
   pub ends : word end ≡ Some 0xFFFF

@@ -13,7 +13,7 @@ word_in image address =
     then Some (slice_index image.words.items address)
     else None
 
--- words put at an address and the ones behind it, in place of what stood there
+-- words put at an address and the ones after it, in place of what stood there
 abbrev pub put_words : Words → ℕ → List ℕ → Words
 put_words word address words at =
     if nat_le address at && nat_lt at (address + length words)

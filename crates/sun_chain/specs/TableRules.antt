@@ -7,11 +7,11 @@ use Rattle.sun_points.specs.declared.point_type.PointType.TheVariants.{Int16, Ui
 use Rattle.sun_chain.specs.Tables.{Row, table_of}
 use Rattle.sun_chain.specs.Points.{Named}
 
--- the register behind a point's last one
+-- the register after a point's last one
 abbrev pub end_of_row : Row → ℕ
 end_of_row row = row.offset + registers_of row.ty
 
--- each point begins at or behind the end of the one before, and the first at or behind this register
+-- each point begins at or after the end of the one before, and the first at or after this register
 abbrev pub ascends_from : ℕ → List Row → Bool
 ascends_from from [] = true
 ascends_from from (row ∷ rows) = nat_le from row.offset && ascends_from (end_of_row row) rows
@@ -40,7 +40,7 @@ abbrev pub has_its_scale : List Row → Row → Bool
 has_its_scale rows row =
     unwrap_or (option_map (λ offset. list_any (is_scale_point offset) rows) row.scale) true
 
--- a table for models of this length: behind the ID and the length, its points stand in order, inside the model, with their scale points
+-- a table for models of this length: after the ID and the length, its points stand in order, inside the model, with their scale points
 abbrev pub is_lawful_table : ℕ → List Row → Bool
 is_lawful_table length rows =
     ascends_from 2 rows && list_all (lies_inside length) rows && list_all (has_its_scale rows) rows
@@ -57,7 +57,7 @@ length_of_known id =
 abbrev pub TablesAreLawful : Type 0
 TablesAreLawful = (id : ℕ) → IsTrue (is_lawful_table (length_of_known id) (table_of id))
 
--- each point begins at or behind the end of the one before, and the first at or behind this address
+-- each point begins at or after the end of the one before, and the first at or after this address
 abbrev pub StandInOrder : ℕ → List Named → Type 0
 StandInOrder from [] = Unit {0}
 StandInOrder from (point ∷ points) =

@@ -25,12 +25,12 @@ id_lack word count address (Some id) =
     else if nat_lt 65535 (address + 1) then Some PastEnd
     else length_lack address (word (address + 1))
 
--- what is lacking at an address behind so many models: nothing where a model stands there, or the end
+-- what is lacking at an address after so many models: nothing where a model stands there, or the end
 abbrev pub first_lack : Words → ℕ → ℕ → Option ChainFault
 first_lack word count address =
     if nat_lt 65535 address then Some PastEnd else id_lack word count address (word address)
 
--- the first lack behind the longest lawful list of models
+-- the first lack after the longest lawful list of models
 pub record Lacks (word : Words) (fault : ChainFault) : Type 0 where
   pub base : ℕ
   pub models : List Model

@@ -62,7 +62,7 @@ fn is_marked_at(image: &Image, base: u16) -> bool
     image.word(base) == Some(0x5375) && image.word(base + 1) == Some(0x6E53)
 }
 
-// The model that stands at an address behind so many models, or none where the end stands there.
+// The model that stands at an address after so many models, or none where the end stands there.
 fn model_at(image: &Image, count: usize, address: u32) -> Result<Option<Model>, ChainFault>
     ensures stands { IfOk result (IsNext (word_in image.now) count address) }
     ensures lack { IfErr result

@@ -34,7 +34,7 @@ impl Image {
         }
     }
 
-    /// Puts words at an address and the ones behind it, in place of what stood there.
+    /// Puts words at an address and the ones after it, in place of what stood there.
     pub fn put(&mut self, address: u16, words: &[u16]) -> Result<(), ImageFault>
         ensures past_end { (result ≡ Err ImageFault.PastEnd)
             ↔ (65536 < address + length words.now) }

@@ -12,7 +12,7 @@ pub struct Model {
 impl Model {
     ghost use Rattle.sun_chain.specs.Chain.{next_after};
 
-    /// The address behind its last register.
+    /// The address after its last register.
     pub fn next(&self) -> u32
         ensures { result ≡ next_after self.now }
     {

@@ -1,4 +1,4 @@
--- Zeros behind a number.
+-- Zeros after a number.
 use Rattle.std.proofs.Common.{◌≡◌, ℕ, zero, suc, ◌+◌, ◌*◌, ◌/◌, ◌%◌, ◌^◌, ◌<◌, ◌≤◌, List, [], ◌∷◌, ◌++◌, take, replicate, sym, ◌∙◌, ap, arith, append_assoc, append-nil, mul-one, pow-suc, lt_of_le_of_lt, le-mul_of_pos_right, lit<, le_of_lt, mul-le-mul}
 use Rattle.std.proofs.Math.Nat.{one-le-pow, pow-le-pow_right}
 use Rattle.std.specs.Fmt.{decimal}
@@ -13,7 +13,7 @@ decimal-times_ten n some fits =
     ∙ ap (λ (m : ℕ). decimal m ++ (48 + n * 10 % 10) ∷ []) front
     ∙ ap (λ (d : ℕ). decimal n ++ d ∷ []) last
 
--- A number other than 0 times a power of ten has that many zeros behind it.
+-- A number other than 0 times a power of ten has that many zeros after it.
 pub decimal-times_power : (k n : ℕ) → 0 < n → n * 10 ^ k < 10 ^ 64 → decimal (n * 10 ^ k) ≡ decimal n ++ replicate k 48
 decimal-times_power zero n some fits = rw mul-one (sym (append-nil (decimal n)))
 decimal-times_power (suc k) n some fits =
@@ -25,7 +25,7 @@ decimal-times_power (suc k) n some fits =
     ∙ ap (λ (ds : List ℕ). ds ++ replicate k 48) (decimal-times_ten n some fits_ten)
     ∙ append_assoc (decimal n) (48 ∷ []) (replicate k 48)
 
--- A number other than 0, and some of ten zeros behind it.
+-- A number other than 0, and some of ten zeros after it.
 pub zeros-written : (n zeros : ℕ) {count : ℕ} → zeros ≤ 10 → 0 < n → n < 2 ^ 64 → count ≡ zeros →
     decimal n ++ take count (replicate 10 48) ≡ decimal (n * 10 ^ zeros)
 zeros-written n zeros few some fits count_is =

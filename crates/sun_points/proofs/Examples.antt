@@ -24,9 +24,9 @@ a_decimal_of_zero : scaled_text (pos 0) (negsuc 0) ≡ codes "0.0"
 unfolding digits
 a_decimal_of_zero = refl
 
-no_zeros_behind_zero : scaled_text (pos 0) (pos 2) ≡ codes "0"
+no_zeros_after_zero : scaled_text (pos 0) (pos 2) ≡ codes "0"
 unfolding digits
-no_zeros_behind_zero = refl
+no_zeros_after_zero = refl
 
 thousands : scaled_text (pos 12) (pos 3) ≡ codes "12000"
 unfolding digits

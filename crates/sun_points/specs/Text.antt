@@ -18,6 +18,6 @@ shown_byte b =
     if nat_le 0x20 b && nat_le b 0x7E then b ∷ []
     else codes "\\x" ++ digit_glyph true (b / 16) ∷ digit_glyph true (b % 16) ∷ []
 
--- a text stands in 125 registers at most, the most that one read can ask for: what is behind them is not of it
+-- a text stands in 125 registers at most, the most that one read can ask for: what is after them is not of it
 abbrev pub shown_text : List ℕ → List ℕ
 shown_text words = flat_map shown_byte (text_bytes (take 125 words))

@@ -1,7 +1,7 @@
 //! The commands, over the streams and sockets of the process.
 use crate::offices::{create, report, round, run, serve};
 use crate::run_words::settings_of;
-use command_io::{Buffered, Status};
+use command_io::{Buffered, ExitStatus};
 use command_words::CommandLine;
 use interval_core::Zone;
 use script_run::{Loopback, SetupParts, loop_text, replay, set_up};
@@ -105,9 +105,9 @@ fn stand_in<'a>(rt: &HostRuntime, host: &'a str, port: u16, connections: u32) ->
 }
 
 // The status of a command once all that it printed was given out.
-fn flushed<W: Write>(status: Status, output: &mut Buffered<W>) -> Status {
+fn flushed<W: Write>(status: ExitStatus, output: &mut Buffered<W>) -> ExitStatus {
     match output.flush() {
         Ok(()) => status,
-        Err(_) => Status::Failed,
+        Err(_) => ExitStatus::Failed,
     }
 }

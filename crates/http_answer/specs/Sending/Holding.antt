@@ -6,7 +6,7 @@ use Rattle.http_answer.specs.declared.sending.outbox.Outbox.{Outbox}
 abbrev pub buffered_in : Outbox → List ℕ
 buffered_in outbox = take outbox.filled outbox.buffered
 
--- how far what was put to an outbox has come, behind what was given to its link
+-- how far what was put to an outbox has come, after what was given to its link
 abbrev pub progress : (given : Option (List ℕ)) → Outbox → Progress
 progress given outbox = record {
   given = given;

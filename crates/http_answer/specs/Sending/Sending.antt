@@ -15,20 +15,20 @@ pub record Sends (base given : Option (List ℕ)) (buffered : List ℕ) (failed 
   pub came : Appends base given sent
   pub whole : failed ≡ false → left ≡ buffered
 
--- How far what was put has come: what was given to the link, what is buffered behind that, and whether a give
+-- How far what was put has come: what was given to the link, what is buffered after that, and whether a give
 -- has failed.
 pub record Progress : Type 0 where
   pub given : Option (List ℕ)
   pub buffered : List ℕ
   pub failed : Bool
 
--- bytes are put behind all that was put before
-abbrev pub PutsBehind : Progress → Progress → List ℕ → Type 0
-PutsBehind old new bytes =
+-- bytes are put after all that was put before
+abbrev pub PutsAfter : Progress → Progress → List ℕ → Type 0
+PutsAfter old new bytes =
     (base : Option (List ℕ)) (all : List ℕ) → Sends base old.given old.buffered old.failed all
     → Sends base new.given new.buffered new.failed (all ++ bytes)
 
--- nothing is put behind all that was put before
+-- nothing is put after all that was put before
 abbrev pub PutsNothing : Progress → Progress → Type 0
 PutsNothing old new =
     (base : Option (List ℕ)) (all : List ℕ) → Sends base old.given old.buffered old.failed all
@@ -60,7 +60,7 @@ pub record OnlyGives (old new : Outgoing) : Type 0 where
   pub takes : new.takes ≡ old.takes
   pub last : new.last ≡ old.last
 
--- bytes are put behind all that was put before
+-- bytes are put after all that was put before
 pub record Puts (old new : Outgoing) (bytes : List ℕ) : Type 0 where
   pub put : (base : Option (List ℕ)) (all : List ℕ) → HasPut base old all
       → HasPut base new (all ++ bytes)

@@ -38,7 +38,7 @@ fn give_all<L: Link>(link: &mut L, bytes: &[u8]) -> Result<(), LinkFailed>
 }
 
 impl Outbox {
-    ghost use Rattle.http_answer.specs.Sending.Sending.{PutsBehind, PutsNothing};
+    ghost use Rattle.http_answer.specs.Sending.Sending.{PutsAfter, PutsNothing};
     ghost use Rattle.http_answer.specs.Sending.Holding.{buffered_in, progress};
 
     // Holds nothing.
@@ -113,7 +113,7 @@ impl Outbox {
     fn pass<L: Link>(&mut self, link: &mut L, bytes: &[u8])
         requires works { self.old.failed ≡ false }
         requires empty { buffered_in self.old ≡ [] }
-        ensures sends { PutsBehind (progress (L.given link.old) self.old)
+        ensures sends { PutsAfter (progress (L.given link.old) self.old)
             (progress (L.given link.new) self.new) bytes.now }
         ensures failures { L.failed link.new ≡ risen self.new.failed (L.failed link.old) }
         ensures remaining { Keeps (L.remaining link.old) (L.remaining link.new) }
@@ -123,9 +123,9 @@ impl Outbox {
         self.failed = give_all(link, bytes).is_err();
     }
 
-    // Puts bytes behind those put before.
+    // Puts bytes after those put before.
     pub(crate) fn put<L: Link>(&mut self, link: &mut L, bytes: &[u8])
-        ensures sends { PutsBehind (progress (L.given link.old) self.old)
+        ensures sends { PutsAfter (progress (L.given link.old) self.old)
             (progress (L.given link.new) self.new) bytes.now }
         ensures stays { self.old.failed ≡ true → self.new.failed ≡ true }
         ensures failures { L.failed link.new

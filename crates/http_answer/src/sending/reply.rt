@@ -3,45 +3,45 @@ ghost use Rattle.std.specs.Prelude.{◌++◌, decimal};
 ghost use Rattle.http_answer.specs.Sending.Sending.{Puts};
 ghost use Rattle.http_answer.specs.Sending.Replies.{json_reply, status_line, text_head};
 
-use crate::sending::outlet::Outlet;
+use crate::sending::writer::ReplyWriter;
 use http_request::Status;
 use itoa::Buffer;
 use mb_wire::Link;
 
 // Puts a number in decimal digits.
-fn put_number<L: Link>(number: u64, outlet: &mut Outlet<'_, L>)
-    ensures { Puts outlet.old outlet.new (decimal number) }
+fn put_number<L: Link>(number: u64, writer: &mut ReplyWriter<'_, L>)
+    ensures { Puts writer.old writer.new (decimal number) }
 {
     let mut buffer = Buffer::new();
-    outlet.put(buffer.format(number).as_bytes());
+    writer.put(buffer.format(number).as_bytes());
 }
 
 // Puts the status line.
-fn put_status<L: Link>(status: Status, outlet: &mut Outlet<'_, L>)
-    ensures { Puts outlet.old outlet.new (status_line status) }
+fn put_status<L: Link>(status: Status, writer: &mut ReplyWriter<'_, L>)
+    ensures { Puts writer.old writer.new (status_line status) }
 {
-    outlet.put(b"HTTP/1.1 ");
-    put_number(u64::from(status.number()), outlet);
-    outlet.put(b" ");
-    outlet.put(status.reason());
-    outlet.put(b"\r\n");
+    writer.put(b"HTTP/1.1 ");
+    put_number(u64::from(status.number()), writer);
+    writer.put(b" ");
+    writer.put(status.reason());
+    writer.put(b"\r\n");
 }
 
 /// Puts a reply with a body of JSON.
-pub fn put_json<L: Link>(status: Status, body: &[u8], outlet: &mut Outlet<'_, L>)
-    ensures { Puts outlet.old outlet.new (json_reply status body.now) }
+pub fn put_json<L: Link>(status: Status, body: &[u8], writer: &mut ReplyWriter<'_, L>)
+    ensures { Puts writer.old writer.new (json_reply status body.now) }
 {
-    put_status(status, outlet);
-    outlet.put(b"Content-Type: application/json\r\nContent-Length: ");
-    put_number(body.len() as u64, outlet);
-    outlet.put(b"\r\nConnection: close\r\n\r\n");
-    outlet.put(body);
+    put_status(status, writer);
+    writer.put(b"Content-Type: application/json\r\nContent-Length: ");
+    put_number(body.len() as u64, writer);
+    writer.put(b"\r\nConnection: close\r\n\r\n");
+    writer.put(body);
 }
 
-/// Puts the head of a reply of text. The lines of the text follow, by `Outlet::put`.
-pub fn put_text_head<L: Link>(outlet: &mut Outlet<'_, L>)
-    ensures { Puts outlet.old outlet.new text_head }
+/// Puts the head of a reply of text. The lines of the text follow, by `ReplyWriter::put`.
+pub fn put_text_head<L: Link>(writer: &mut ReplyWriter<'_, L>)
+    ensures { Puts writer.old writer.new text_head }
 {
-    put_status(Status::Fine, outlet);
-    outlet.put(b"Content-Type: text/plain\r\nConnection: close\r\n\r\n");
+    put_status(Status::Fine, writer);
+    writer.put(b"Content-Type: text/plain\r\nConnection: close\r\n\r\n");
 }

@@ -4,8 +4,8 @@ use Rattle.std.specs.declared.option.Option.{Option}
 use Rattle.std.specs.Io.KnownBytes.{Keeps}
 use Rattle.std.proofs.KnownBytes.{Consumes-kept, Consumes-trans}
 use Rattle.http_request.specs.Head.Heads.{IsOpenHead, Looks, is_open}
-use Rattle.http_request.specs.declared.head.head.Look.{Look}
-use Rattle.http_request.specs.declared.head.head.Look.TheVariants.{Open, TooLarge, NoHead, Whole}
+use Rattle.http_request.specs.declared.head.head.HeadState.{HeadState}
+use Rattle.http_request.specs.declared.head.head.HeadState.TheVariants.{Open, TooLarge, NoHead, Whole}
 use Rattle.http_request.specs.Reading.HeadAndBody.{ReadsHead, TakesWhatLacks}
 use Rattle.http_request.specs.Reading.Taking.{Came, TakesOn, brought}
 use Rattle.http_request.specs.declared.reading.inbox.TakeFault.{TakeFault}
@@ -20,11 +20,11 @@ Came-then a b c r s t x y = record {
 }
 
 -- the look at bytes that go on
-pub look-open : (bytes : List ℕ) (look : Look) → Looks bytes look → is_open look ≡ true → IsOpenHead bytes
-look-open bytes Open h e = h
-look-open bytes TooLarge h e = cc e
-look-open bytes NoHead h e = cc e
-look-open bytes (Whole at) h e = cc e
+pub head_state-open : (bytes : List ℕ) (head_state : HeadState) → Looks bytes head_state → is_open head_state ≡ true → IsOpenHead bytes
+head_state-open bytes Open h e = h
+head_state-open bytes TooLarge h e = cc e
+head_state-open bytes NoHead h e = cc e
+head_state-open bytes (Whole at) h e = cc e
 
 came-kept : (old mid new : List ℕ) (r s t : Option (List ℕ)) → Came old mid r s → new ≡ mid → Keeps s t → Came old new r t
 came-kept old mid new r s t came same kept = record {
@@ -33,16 +33,16 @@ came-kept old mid new r s t came same kept = record {
   consumed = Consumes-kept r s t came.chunk came.consumed kept;
 }
 
--- a take failed behind what goes on
-pub fails_behind : (fault : TakeFault) (old mid new : List ℕ) (r s t : Option (List ℕ)) → Came old mid r s → TakesOn {X = Unit {0}} (Err fault) mid new s t → IsOpenHead mid → ReadsHead (Err fault) old new r t
-fails_behind Read old mid new r s t came on goes_on = (came-kept old mid new r s t came on.0 on.1, subst IsOpenHead (sym on.0) goes_on, tt)
-fails_behind Short old mid new r s t came on goes_on = (came-kept old mid new r s t came on.0 on.1, subst IsOpenHead (sym on.0) goes_on, on.2)
-fails_behind TurnsUsed old mid new r s t came on goes_on = (came-kept old mid new r s t came on.0 on.1, subst IsOpenHead (sym on.0) goes_on, tt)
+-- a take failed after what goes on
+pub fails_after : (fault : TakeFault) (old mid new : List ℕ) (r s t : Option (List ℕ)) → Came old mid r s → TakesOn {X = Unit {0}} (Err fault) mid new s t → IsOpenHead mid → ReadsHead (Err fault) old new r t
+fails_after Read old mid new r s t came on goes_on = (came-kept old mid new r s t came on.0 on.1, subst IsOpenHead (sym on.0) goes_on, tt)
+fails_after Short old mid new r s t came on goes_on = (came-kept old mid new r s t came on.0 on.1, subst IsOpenHead (sym on.0) goes_on, on.2)
+fails_after TurnsUsed old mid new r s t came on goes_on = (came-kept old mid new r s t came on.0 on.1, subst IsOpenHead (sym on.0) goes_on, tt)
 
--- one take behind what goes on
-pub stops_behind : (GoesOn : List ℕ → Type 0) (old mid new : List ℕ) (last : Option LastTake) (earlier chunk : List ℕ) → mid ≡ old ++ earlier → GoesOn mid
+-- one take after what goes on
+pub stops_after : (GoesOn : List ℕ → Type 0) (old mid new : List ℕ) (last : Option LastTake) (earlier chunk : List ℕ) → mid ≡ old ++ earlier → GoesOn mid
     → new ≡ mid ++ chunk → length new ≡ length mid + brought last → TakesWhatLacks GoesOn old new last
-stops_behind GoesOn old mid new last earlier chunk came goes_on is size = record {
+stops_after GoesOn old mid new last earlier chunk came goes_on is size = record {
   earlier = earlier;
   chunk = chunk;
   goes_on = subst GoesOn came goes_on;

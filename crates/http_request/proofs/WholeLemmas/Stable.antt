@@ -1,4 +1,4 @@
--- A head stays where more bytes come behind it.
+-- A head stays where more bytes come after it.
 use Rattle.std.proofs.Common.{◌≡◌, ◌∙◌, ℕ, ◌+◌, ◌-◌, ◌<◌, ◌≤◌, List, [], ◌∷◌, ◌++◌, length, take, drop, map, Option, inl, inr, refl, sym, ap, subst, arith, append_assoc, length-drop, length-append}
 use Rattle.std.specs.Prelude.{All}
 use Rattle.std.proofs.lemmas.List.{drop-append-le, take-append-le}
@@ -17,7 +17,7 @@ use Rattle.http_request.specs.declared.reading.inbox.Inbox.{Inbox}
 use Rattle.mb_wire.specs.declared.link.LastTake.{LastTake}
 use Rattle.http_request.specs.HeadTests.{start_at}
 use Rattle.http_request.specs.Routing.Routes.{Table}
-use Rattle.http_request.specs.Whole.Whole.{GoesOn, IsWhole, LacksBody, body_size}
+use Rattle.http_request.specs.Whole.Whole.{IsUnfinished, IsWhole, LacksBody, body_size}
 
 span_stays : (a b : List ℕ) (s : Span) → IsWithin (length a) s → span_bytes (a ++ b) s ≡ span_bytes a s
 span_stays a b s h =
@@ -74,7 +74,7 @@ head_stays a b at x =
       },
     )
 
--- the size that the head wants, behind what came later
+-- the size that the head wants, after what came later
 size_stays : (table : Table) (mid new seen : List ℕ) (s t : Option (List ℕ)) (at : Head) (size : ℕ) → seen ≡ mid → size ≡ body_size table (start_at seen at) → IsHeadAt mid at → Came mid new s t → size ≡ body_size table (start_at new at)
 size_stays table mid new seen s t at size same is head came =
     is ∙ ap (λ b. body_size table (start_at b at)) same ∙ ap (body_size table) (sym (start_stays mid came.chunk at head)) ∙ ap (λ b. body_size table (start_at b at)) (sym came.bytes)
@@ -105,7 +105,7 @@ lacks_still table mid earlier seen at size same is head few =
     record { at = at; head = head_stays mid earlier at head; body = omega (arith, few, start) }
 
 -- reading a head stops at once, and no body belongs to it
-pub stops_at_head : (table : Table) (old new : Inbox) (was now : Option LastTake) → StopsAtOnce IsOpenHead old new was now → StopsAtOnce (GoesOn table) old new was now
+pub stops_at_head : (table : Table) (old new : Inbox) (was now : Option LastTake) → StopsAtOnce IsOpenHead old new was now → StopsAtOnce (IsUnfinished table) old new was now
 stops_at_head table old new was now (inl none) = inl none
 stops_at_head table old new was now (inr some) = inr record {
   earlier = some.earlier;
@@ -118,7 +118,7 @@ stops_at_head table old new was now (inr some) = inr record {
 -- reading a head stops at once, and so does reading its body
 pub stops_at_body : (table : Table) (old mid new : Inbox) (seen chunk : List ℕ) (was then now : Option LastTake) (at : Head) (size : ℕ) → bytes_in mid ≡ bytes_in old ++ chunk → IsHeadAt (bytes_in mid) at
     → seen ≡ bytes_in mid → size ≡ body_size table (start_at seen at) → StopsAtOnce IsOpenHead old mid was then → StopsAtOnce (λ bytes. length bytes < at.len + size) mid new then now
-    → StopsAtOnce (GoesOn table) old new was now
+    → StopsAtOnce (IsUnfinished table) old new was now
 stops_at_body table old mid new seen chunk was then now at size came head same is (inl none) (inl also) = inl record {
   takes = also.takes ∙ none.takes;
   bytes = also.bytes ∙ none.bytes;
@@ -136,7 +136,7 @@ stops_at_body table old mid new seen chunk was then now at size came head same i
     inr record {
       earlier = chunk ++ last.earlier;
       chunk = last.chunk;
-      goes_on = subst (GoesOn table) order (inr (lacks_still table (bytes_in mid) last.earlier seen at size same is head last.goes_on));
+      goes_on = subst (IsUnfinished table) order (inr (lacks_still table (bytes_in mid) last.earlier seen at size same is head last.goes_on));
       bytes = last.bytes ∙ ap (λ t. t ++ last.chunk) order;
       size = last.size;
     }

@@ -4,8 +4,8 @@ use Rattle.httparse.specs.Grammar.{ReadsRequest, RequestHead}
 use Rattle.httparse.specs.Spans.{AreFieldsAt, IsHeaderWithin, IsWithin, span_bytes}
 use Rattle.http_request.specs.Head.Lines.{has_head_end, lines_of_head}
 use Rattle.http_request.specs.declared.head.head.Head.{Head}
-use Rattle.http_request.specs.declared.head.head.Look.{Look}
-use Rattle.http_request.specs.declared.head.head.Look.TheVariants.{Open, TooLarge, NoHead, Whole}
+use Rattle.http_request.specs.declared.head.head.HeadState.{HeadState}
+use Rattle.http_request.specs.declared.head.head.HeadState.TheVariants.{Open, TooLarge, NoHead, Whole}
 
 -- the first n bytes are this head, which has at most 64 headers in at most 8,192 bytes
 pub record IsHead (bytes : List ℕ) (n : ℕ) (h : RequestHead) : Type 0 where
@@ -34,7 +34,7 @@ pub record IsOpenHead (bytes : List ℕ) : Type 0 where
   pub goes_on : has_head_end (front_of bytes) ≡ false
   pub size : length bytes < 8192
 
--- Past the limits: a head that does not end in its first 8,192 bytes, or that has more than 64 lines behind
+-- Past the limits: a head that does not end in its first 8,192 bytes, or that has more than 64 lines after
 -- its first.
 abbrev pub is_past_limits : List ℕ → Bool
 is_past_limits bytes =
@@ -60,14 +60,14 @@ IsHeadAt bytes at =
     ((h : RequestHead) × (IsHead bytes at.len h × Covers bytes at h)) × IsPlaced bytes at
 
 -- what a look found
-abbrev pub Looks : List ℕ → Look → Type 0
+abbrev pub Looks : List ℕ → HeadState → Type 0
 Looks bytes Open = IsOpenHead bytes
 Looks bytes TooLarge = IsBadHead bytes × (is_past_limits bytes ≡ true)
 Looks bytes NoHead = IsBadHead bytes × (is_past_limits bytes ≡ false)
 Looks bytes (Whole at) = IsHeadAt bytes at
 
 -- the head is still to come
-abbrev pub is_open : Look → Bool
+abbrev pub is_open : HeadState → Bool
 is_open Open = true
 is_open TooLarge = false
 is_open NoHead = false

@@ -3,7 +3,7 @@ use Rattle.std.specs.Prelude.{ℕ, ◌==◌, Bool, true, false, if◌then◌else
 use Rattle.std.specs.List.{list_any}
 
 -- The lines that a line feed ended, each without it; the first begins with the bytes of `line`. What comes
--- behind the last line feed is no line yet.
+-- after the last line feed is no line yet.
 abbrev pub ended_lines : List ℕ → List ℕ → List (List ℕ)
 ended_lines line [] = []
 ended_lines line (b ∷ bytes) =
@@ -15,7 +15,7 @@ is_empty_line [] = true
 is_empty_line (b ∷ []) = b == 13
 is_empty_line (b ∷ c ∷ line) = false
 
--- an empty line stands behind one that is not empty
+-- an empty line stands after one that is not empty
 abbrev pub is_ended : List (List ℕ) → Bool
 is_ended [] = false
 is_ended (line ∷ lines) =

@@ -2,7 +2,7 @@
 use Rattle.std.specs.Prelude.{◌≡◌, ◌<◌, ◌≤◌, ℕ, false, ◌⊎◌, List, ◌++◌, length, Option, Result, Ok, Err}
 use Rattle.std.specs.Io.KnownBytes.{IsAtEnd}
 use Rattle.http_request.specs.Head.Heads.{IsOpenHead, Looks, is_open}
-use Rattle.http_request.specs.declared.head.head.Look.{Look}
+use Rattle.http_request.specs.declared.head.head.HeadState.{HeadState}
 use Rattle.http_request.specs.Reading.Taking.{Came, brought, bytes_in}
 use Rattle.mb_wire.specs.declared.link.LastTake.{LastTake}
 use Rattle.http_request.specs.declared.reading.inbox.Inbox.{Inbox}
@@ -16,10 +16,10 @@ EndsAt Short after = IsAtEnd after
 EndsAt TurnsUsed after = Unit {0}
 
 -- A head or a bad one was read; or taking failed, and what was read until then goes on.
-abbrev pub ReadsHead : Result Look TakeFault → List ℕ → List ℕ → Option (List ℕ) → Option (List ℕ)
+abbrev pub ReadsHead : Result HeadState TakeFault → List ℕ → List ℕ → Option (List ℕ) → Option (List ℕ)
     → Type 0
-ReadsHead (Ok look) old new before after =
-    Came old new before after × Looks new look × (is_open look ≡ false)
+ReadsHead (Ok head_state) old new before after =
+    Came old new before after × Looks new head_state × (is_open head_state ≡ false)
 ReadsHead (Err fault) old new before after =
     Came old new before after × IsOpenHead new × EndsAt fault after
 

@@ -30,7 +30,7 @@ pub record CountsTakes {X : Type 0} (result : Result X TakeFault) (old new : Inb
   pub counts : (base : ℕ) → IsCounted base before old → IsCounted base after new
   pub used : result ≡ Err TurnsUsed → new.takes ≡ 100000
 
--- bytes came behind those buffered, and the link has them no more
+-- bytes came after those buffered, and the link has them no more
 pub record Came (old new : List ℕ) (before after : Option (List ℕ)) : Type 0 where
   pub chunk : List ℕ
   pub bytes : new ≡ old ++ chunk

@@ -3,8 +3,8 @@ use Rattle.std.specs.Prelude.{◌≡◌, ◌+◌, ◌<◌, ◌≤◌, ◌⊎◌,
 use Rattle.httparse.specs.Grammar.{RequestHead}
 use Rattle.http_request.specs.Head.Heads.{IsHead, IsHeadAt, IsOpenHead, Looks}
 use Rattle.http_request.specs.declared.head.head.Head.{Head}
-use Rattle.http_request.specs.declared.head.head.Look.{Look}
-use Rattle.http_request.specs.declared.head.head.Look.TheVariants.{Open, TooLarge, NoHead, Whole}
+use Rattle.http_request.specs.declared.head.head.HeadState.{HeadState}
+use Rattle.http_request.specs.declared.head.head.HeadState.TheVariants.{Open, TooLarge, NoHead, Whole}
 use Rattle.http_request.specs.Reading.HeadAndBody.{EndsAt}
 use Rattle.http_request.specs.Reading.Taking.{Came}
 use Rattle.http_request.specs.declared.reading.inbox.TakeFault.{TakeFault}
@@ -43,26 +43,26 @@ pub record LacksBody (table : Table) (bytes : List ℕ) : Type 0 where
   pub body : length bytes < at.len + body_size table (start_at bytes at)
 
 -- what was read goes on: it holds no whole request yet, and no bad head
-abbrev pub GoesOn : Table → List ℕ → Type 0
-GoesOn table bytes = IsOpenHead bytes ⊎ LacksBody table bytes
+abbrev pub IsUnfinished : Table → List ℕ → Type 0
+IsUnfinished table bytes = IsOpenHead bytes ⊎ LacksBody table bytes
 
 -- a look at what was read finds a whole request, or a bad head
-abbrev pub Holds : Table → List ℕ → Look → Type 0
+abbrev pub Holds : Table → List ℕ → HeadState → Type 0
 Holds table bytes Open = ⊥
 Holds table bytes TooLarge = Looks bytes TooLarge
 Holds table bytes NoHead = Looks bytes NoHead
 Holds table bytes (Whole at) = IsWhole table bytes at
 
 -- A whole request or a bad head was read; or taking failed, and neither was.
-abbrev pub ReadsRequest : Table → Result Look TakeFault → List ℕ → List ℕ → Option (List ℕ)
+abbrev pub ReadsRequest : Table → Result HeadState TakeFault → List ℕ → List ℕ → Option (List ℕ)
     → Option (List ℕ) → Type 0
-ReadsRequest table (Ok look) old new before after = Came old new before after × Holds table new look
+ReadsRequest table (Ok head_state) old new before after = Came old new before after × Holds table new head_state
 ReadsRequest table (Err fault) old new before after =
-    Came old new before after × GoesOn table new × EndsAt fault after
+    Came old new before after × IsUnfinished table new × EndsAt fault after
 
 -- What a whole request asks for, or the status that answers it: 431 for a head past the limits, 400 for what
 -- is no head, else that of the first test of the head that fails.
-abbrev pub TestsRequest : Table → List ℕ → Look → Result Ask Status → Type 0
+abbrev pub TestsRequest : Table → List ℕ → HeadState → Result Ask Status → Type 0
 TestsRequest table bytes Open result = ⊥
 TestsRequest table bytes TooLarge result = result ≡ Err FieldsTooLarge
 TestsRequest table bytes NoHead result = result ≡ Err BadRequest

@@ -25,7 +25,7 @@ pub struct Head {
 
 /// What was read so far holds of a head.
 #[derive(Clone, Copy)]
-pub enum Look {
+pub enum HeadState {
     /// None yet, and its end has not come.
     Open,
     /// One past the limits: more than 8,192 bytes or 64 headers.
@@ -36,14 +36,14 @@ pub enum Look {
     Whole(Head),
 }
 
-impl Look {
+impl HeadState {
     ghost use Rattle.http_request.specs.Head.Heads.{is_open};
 
     /// Whether a head is still to come.
     pub fn is_open(&self) -> bool
         ensures { result ≡ is_open self.now }
     {
-        matches!(self, Look::Open)
+        matches!(self, HeadState::Open)
     }
 }
 
@@ -80,22 +80,22 @@ fn front_of(bytes: &[u8]) -> &[u8]
 }
 
 /// Looks for a head in what was read so far.
-pub fn look_at(bytes: &[u8]) -> Look
+pub fn parse_head(bytes: &[u8]) -> HeadState
     ensures { Looks bytes.now result }
 {
     if let Some(head) = head_of(bytes) {
-        return Look::Whole(head);
+        return HeadState::Whole(head);
     }
     let front = front_of(bytes);
     if has_head_end(front) {
         if head_line_count(front) > MOST_HEADERS + 1 {
-            Look::TooLarge
+            HeadState::TooLarge
         } else {
-            Look::NoHead
+            HeadState::NoHead
         }
     } else if bytes.len() >= MOST_BYTES {
-        Look::TooLarge
+        HeadState::TooLarge
     } else {
-        Look::Open
+        HeadState::Open
     }
 }

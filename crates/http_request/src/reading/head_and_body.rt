@@ -7,11 +7,11 @@ ghost use Rattle.http_request.specs.Reading.HeadAndBody.{ReadsHead, ReadsUpTo, S
 ghost use Rattle.http_request.specs.Head.Heads.{IsOpenHead};
 
 use crate::reading::inbox::{Inbox, TakeFault};
-use crate::head::{Look, look_at};
+use crate::head::{HeadState, parse_head};
 use mb_wire::Link;
 
 /// Takes until what was taken holds a head, or a bad one. The look that it answers is not Open.
-pub fn read_head<L: Link>(inbox: &mut Inbox<'_>, link: &mut L) -> Result<Look, TakeFault>
+pub fn read_head<L: Link>(inbox: &mut Inbox<'_>, link: &mut L) -> Result<HeadState, TakeFault>
     requires { 8192 ≤ room_of inbox.old }
     ensures reads { ReadsHead result (bytes_in inbox.old) (bytes_in inbox.new)
         (L.remaining link.old) (L.remaining link.new) }
@@ -23,9 +23,9 @@ pub fn read_head<L: Link>(inbox: &mut Inbox<'_>, link: &mut L) -> Result<Look, T
     ensures failures { L.failed link.new ≡ risen (is_read_fault result) (L.failed link.old) }
 {
     'takes: loop {
-        let look = look_at(inbox.bytes());
-        if !look.is_open() {
-            return Ok(look);
+        let head_state = parse_head(inbox.bytes());
+        if !head_state.is_open() {
+            return Ok(head_state);
         }
         inbox.take_more(link)?;
     }

@@ -34,15 +34,15 @@ of_turned (y ∷ ys) x h =
     (Contains-push_cases (reverse ys) y x (subst (λ zs. Contains zs x) (reverse_cons y ys) h))
 
 -- an opening at a place of the facts is recorded
-behind_option : {X : Type 0} (o : Option X) (ys : List X) (x : X) → Contains ys x → Contains (cons_option o ys) x
-behind_option None ys x h = h
-behind_option (Some y) ys x h = in_tail y ys x h
+after_option : {X : Type 0} (o : Option X) (ys : List X) (x : X) → Contains ys x → Contains (cons_option o ys) x
+after_option None ys x h = h
+after_option (Some y) ys x h = in_tail y ys x h
 
 opening_there : (facts : List Fact) (i : ℕ) (o : Opening) → opening_at facts i ≡ Some o → Contains (openings_in facts) o
 opening_there [] i o is = absurd (cc)
 opening_there (f ∷ facts) zero o is =
     subst (λ (found : Option Opening). Contains (cons_option found (openings_in facts)) o) (sym is) (is_head o (openings_in facts) o refl)
-opening_there (f ∷ facts) (suc i) o is = behind_option (as_opening f) (openings_in facts) o (opening_there facts i o is)
+opening_there (f ∷ facts) (suc i) o is = after_option (as_opening f) (openings_in facts) o (opening_there facts i o is)
 
 pub recorded_at : (known facts : List Fact) (place : ℕ) (o : Opening) → facts ≡ reverse known → opening_at facts place ≡ Some o → Contains (openings_in known) o
 recorded_at known facts place o is found =

@@ -31,7 +31,7 @@ use Rattle.office_rules.specs.Laws.{IsRecorded, JournalsFit}
 use Rattle.office_rules.specs.Ranges.{InstallationsAreInRange, IsInRange}
 use Rattle.office_rules.specs.Steps.{Stays, OtherMetersStay, HoldsChangeNothing, OpeningsBegin, EntriesMoveOn, moved_by}
 use Rattle.office_rules.proofs.Journals.{by_name, none_and_some}
-use Rattle.office_rules.proofs.Stepping.{named as named_so, own_line, line_behind}
+use Rattle.office_rules.proofs.Stepping.{named as named_so, own_line, line_after}
 use Rattle.memory_books.specs.declared.tables.keys.Key.{Key}
 use Rattle.memory_books.specs.declared.tables.meter.Meter.{Meter}
 use Rattle.memory_books.specs.declared.tables.meters.Meters.{Meters}
@@ -178,7 +178,7 @@ struck_one fit kept ranges facts v lawful (Some m) after (n, there, has) is =
     let later : List Fact = fact.Void v ∷ facts in
     let line : journal.Line = journal.Voided v.place in
     let lines : journal.Journal = journal_of facts o.meter in
-    let behind : journal_of later o.meter ≡ line ∷ lines = line_behind facts v.meter line o (named_so facts v.meter o is.there) in
+    let behind : journal_of later o.meter ≡ line ∷ lines = line_after facts v.meter line o (named_so facts v.meter o is.there) in
     let fits : VoidFits (installed o) (rows_of facts o) v.place = own_line facts v.meter line o lawful.0.0 is.there in
     let numbered : lists.AreNumbered (rows_of facts o) = rows_numbered (opened o) lines in
     let inside = row_inside v.place (rows_of facts o) fits.around numbered fits.there in

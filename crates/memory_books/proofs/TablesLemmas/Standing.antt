@@ -30,7 +30,7 @@ agree_first : {X : Type 0} (g k : ℕ → Option X) (n : ℕ) (xs : List ℕ) �
 agree_first g k n [] same h = refl
 agree_first g k n (x ∷ xs) same h = same x h.0
 
--- with one fact more, the earlier ones stand where they stood, and it is behind them
+-- with one fact more, the earlier ones stand where they stood, and it is after them
 earlier_stand : (f : Fact) (known : List Fact) (i : ℕ) → i < length known → slice_get (reverse (f ∷ known)) i ≡ slice_get (reverse known) i
 earlier_stand f known i h =
     ap (λ (fs : List Fact). slice_get fs i) (reverse_cons f known)

@@ -13,31 +13,31 @@ use Rattle.office_books.specs.Rows.{TakesAll}
 use Rattle.office_books.proofs.Handing.{takes_more, takes_both}
 use Rattle.memory_books.specs.Tables.IntervalRows.{TookBut, Passes}
 
--- shares behind the last of some rows
-behind_last : (done : List Share) (row : Share) (shares : List Share) → with_shares (done ++ row ∷ []) shares ≡ done ++ with_shares (row ∷ []) shares
-behind_last [] row shares = refl
-behind_last (first ∷ []) row shares = refl
-behind_last (first ∷ next ∷ done) row shares = ap (λ (rs : List Share). first ∷ rs) (behind_last (next ∷ done) row shares)
+-- shares after the last of some rows
+after_last : (done : List Share) (row : Share) (shares : List Share) → with_shares (done ++ row ∷ []) shares ≡ done ++ with_shares (row ∷ []) shares
+after_last [] row shares = refl
+after_last (first ∷ []) row shares = refl
+after_last (first ∷ next ∷ done) row shares = ap (λ (rs : List Share). first ∷ rs) (after_last (next ∷ done) row shares)
 
-behind_done : (done : List Share) (waits : Option Share) (shares : List Share) → (waits ≡ None → done ≡ [])
+after_done : (done : List Share) (waits : Option Share) (shares : List Share) → (waits ≡ None → done ≡ [])
     → with_shares (done ++ option_to_list waits) shares ≡ done ++ with_shares (option_to_list waits) shares
-behind_done done None shares alone =
+after_done done None shares alone =
     let none : done ≡ [] = alone refl in
     ap (λ (ds : List Share). with_shares (ds ++ []) shares) none ∙ sym (ap (λ (ds : List Share). ds ++ with_shares [] shares) none)
-behind_done done (Some row) shares alone = behind_last done row shares
+after_done done (Some row) shares alone = after_last done row shares
 
 no_done : (done rows : List Share) (waits : Option Share) → rows ≡ done ++ option_to_list waits → (waits ≡ None → rows ≡ []) → waits ≡ None → done ≡ []
 no_done [] rows waits is none w = refl
 no_done (first ∷ done) rows waits is none w = absurd (let e : first ∷ (done ++ option_to_list waits) ≡ [] = sym is ∙ none w in cc)
 
--- rows with more shares behind them
+-- rows with more shares after them
 pub took_more : {S : Type 0} (takes : S → Share → S → Type 0) (before now after : S) (waited waits : Option Share) (rows shares : List Share)
     → TookBut takes before now waited rows → Passes takes now after waited waits shares → TookBut takes before after waits (with_shares rows shares)
 took_more takes before now after waited waits rows shares took passes = record {
   done = took.done ++ passes.done;
   took = takes_both takes before now after took.done passes.done took.took passes.took;
   rows_are = ap (λ (rs : List Share). with_shares rs shares) took.rows_are
-      ∙ behind_done took.done waited shares (no_done took.done rows waited took.rows_are took.none)
+      ∙ after_done took.done waited shares (no_done took.done rows waited took.rows_are took.none)
       ∙ ap (λ (rs : List Share). took.done ++ rs) (sym passes.rows_are) ∙ sym (append_assoc took.done passes.done (option_to_list waits));
   none = λ w.
       let was = passes.none w in
@@ -72,7 +72,7 @@ goes_by_next takes before now after waited waits next shares left rest share is 
   took = takes_both takes before now after goes.done passes.done goes.took passes.took;
   rows_are = ap (λ (rs : List Share). joined_all rs rest)
       (append_assoc goes.done passes.done (option_to_list next) ∙ ap (λ (rs : List Share). goes.done ++ rs) passes.rows_are
-      ∙ sym (behind_done goes.done waits (share ∷ []) (λ w. (goes.none w).0)))
+      ∙ sym (after_done goes.done waits (share ∷ []) (λ w. (goes.none w).0)))
       ∙ ap (joined_all (goes.done ++ option_to_list waits)) (sym is) ∙ goes.rows_are;
   none = λ w. absurd (let e : share ∷ [] ≡ [] = (passes.none w).1 in cc);
 }

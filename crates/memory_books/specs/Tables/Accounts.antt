@@ -26,7 +26,7 @@ pub record HasNumbers (opening : Opening) : Type 0 where
 abbrev pub HaveAccount : Installed → List EntryRow → Type 0
 HaveAccount meter rows = HasAccount meter (entries_in (latest_first rows))
 
--- where they can, and the numbers are in their ranges, this is the installation behind the rows
+-- where they can, and the numbers are in their ranges, this is the installation after the rows
 abbrev pub StandsBehind : Opening → List EntryRow → (ended : Bool) → Option Installation → Type 0
 StandsBehind opening rows ended row =
     HasNumbers opening → HaveAccount (installed opening) rows

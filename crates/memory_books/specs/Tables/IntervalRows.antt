@@ -23,7 +23,7 @@ pub record TookBut {S : Type 0} (takes : S → Share → S → Type 0) (before a
   pub rows_are : rows ≡ done ++ option_to_list waits
   pub none : waits ≡ None → rows ≡ []
 
--- With shares behind the row that waits, the sink took all rows but the last, which waits now.
+-- With shares after the row that waits, the sink took all rows but the last, which waits now.
 pub record Passes {S : Type 0} (takes : S → Share → S → Type 0) (before after : S)
     (waited waits : Option Share) (shares : List Share) : Type 0 where
   pub done : List Share

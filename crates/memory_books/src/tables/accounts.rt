@@ -1,4 +1,4 @@
-//! Where a meter stands behind rows that may be any.
+//! Where a meter stands after rows that may be any.
 ghost use Rattle.std.specs.Prelude.{◌≡◌, ◌≤◌, IsTrue, IfSome};
 ghost use Rattle.meter_journal.specs.Books as books;
 ghost use Rattle.office_books.specs.Sound.{IsSound};
@@ -11,7 +11,7 @@ use energy_core::{
     Last, MAX_RANGE, MIN_RANGE, Ranged, Terms, accounts_are_sound, enter, entered_is_booked,
 };
 use interval_core::Share;
-use meter_journal::{EntryRow, Installed, Tally, tally_behind};
+use meter_journal::{EntryRow, Installed, Tally, tally_after};
 use office_books::{RowSink, is_sound};
 use office_events::{Installation, Opening};
 
@@ -92,7 +92,7 @@ fn has_numbers(opening: &Opening) -> bool
     is_sound(&begun(opening))
 }
 
-/// An installation behind these rows, if they have an account.
+/// An installation after these rows, if they have an account.
 pub(crate) fn standing(opening: &Opening, rows: &[EntryRow], ended: bool) -> Option<Installation>
     ensures found { StandsBehind opening.now rows.now ended result }
     ensures sound { IfSome result IsSound }
@@ -105,7 +105,7 @@ pub(crate) fn standing(opening: &Opening, rows: &[EntryRow], ended: bool) -> Opt
     if !have_account(&meter, rows) {
         return None;
     }
-    let tally = tally_behind(&meter, rows);
+    let tally = tally_after(&meter, rows);
     Some(Installation {
         opening: *opening,
         last: tally.last,

@@ -15,7 +15,7 @@ use interval_core::{Share, Shares, shares_add_up};
 use meter_journal::{EntryRow, Installed, Tally, join};
 use office_books::RowSink;
 
-/// Takes one more share behind the row that waits, and hands that on where it is done.
+/// Takes one more share after the row that waits, and hands that on where it is done.
 fn hand_share<K: RowSink<Share>>(waits: &mut Option<Share>, share: Share, sink: &mut K)
     requires { ForSome waits.old (λ row. row.mwh + share.mwh < 2 ^ 64) }
     ensures passes { Passes K.takes sink.old sink.new waits.old waits.new (share ∷ []) }

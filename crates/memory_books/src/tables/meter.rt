@@ -16,7 +16,7 @@ use crate::tables::accounts::{begun, hand_on, opened, standing};
 use energy_core::Last;
 use interval_core::Share;
 use meter_journal::{
-    EntryKind, EntryRow, find_row, journals_are_kept, places_were_kept, row_behind, strike,
+    EntryKind, EntryRow, find_row, journals_are_kept, places_were_kept, row_after, strike,
 };
 use office_books::{RowSink, enter, is_sound};
 use office_events::{BookedEntry, EntryPlace, Installation, Opening};
@@ -116,7 +116,7 @@ impl Meter {
         ensures ok { OnOk result (HasEntered booked.now self.old self.new) }
         ensures err { OnErr result (IsSame self.old self.new) }
     {
-        let row = row_behind(&self.rows, booked.kind, booked.entry);
+        let row = row_after(&self.rows, booked.kind, booked.entry);
         self.rows.push(row)?;
         self.row = moved(&self.row, booked);
         Ok(())

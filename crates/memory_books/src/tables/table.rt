@@ -20,7 +20,7 @@ pub(crate) trait Table: Drop {
     /// It says what these facts say, the latest first.
     ghost says: { Self → List Fact → Type 0 };
 
-    /// Adds the fact at this place, from 0 on, behind those before it. For want of memory nothing changes.
+    /// Adds the fact at this place, from 0 on, after those before it. For want of memory nothing changes.
     fn put(&mut self, place: usize, fact: &Fact) -> Result<(), AllocError>
         ensures ok { (known : List Fact) → AreLawful (fact.now ∷ known) → length known ≡ place
             → says self.old known

@@ -209,13 +209,13 @@ no_register (fact.Poll poll) told = absurd told
 no_register (fact.Outcome ended) told = refl
 no_register (fact.Reply reply) told = absurd told
 
-poll_behind : (draft : Draft) (recorded : List Fact) (number : ℕ) → AreTold draft.facts.items → poll_of (so_far draft recorded) number ≡ poll_of recorded number
-poll_behind draft recorded number told =
+poll_after : (draft : Draft) (recorded : List Fact) (number : ℕ) → AreTold draft.facts.items → poll_of (so_far draft recorded) number ≡ poll_of recorded number
+poll_after draft recorded number told =
     ap (λ ps. find (λ (p : Poll). p.number == number) ps) (told_skipped as_poll no_poll draft.facts.items recorded told)
 
-registers_behind : (draft : Draft) (recorded : List Fact) (device : List ℕ) → AreTold draft.facts.items
+registers_after : (draft : Draft) (recorded : List Fact) (device : List ℕ) → AreTold draft.facts.items
     → registers_of (so_far draft recorded) device ≡ registers_of recorded device
-registers_behind draft recorded device told =
+registers_after draft recorded device told =
     ap (λ rs. reverse (filter (λ (r : Register). same r.device device) rs)) (told_skipped as_register no_register draft.facts.items recorded told)
 
 no_row : (recorded : List Fact) (o : Option Poll) → None ≡ option_map (poll_row recorded) o → o ≡ None
@@ -232,7 +232,7 @@ pub reply_to_none : (holds : List Fact → Type 0) (clean : Type 0) (draft : Dra
     → Grows holds clean draft draft (λ facts. with_reply at (poll_of facts number) words facts) (λ facts. reply_notes at (poll_of facts number) words facts)
 reply_to_none holds clean draft at number words found = λ recorded h c told lawful.
     let none : poll_of (so_far draft recorded) number ≡ None =
-    poll_behind draft recorded number told ∙ no_row recorded (poll_of recorded number) (found recorded h c) in
+    poll_after draft recorded number told ∙ no_row recorded (poll_of recorded number) (found recorded h c) in
     record {
       facts = ap (λ o. with_reply at o words (so_far draft recorded)) (sym none);
       notes = sym (append-nil draft.notes.items) ∙ ap (λ o. draft.notes.items ++ reply_notes at o words (so_far draft recorded)) (sym none);
@@ -247,8 +247,8 @@ pub reply_to : (holds mid : List Fact → Type 0) (clean : Type 0) (old new : Dr
     → Grows holds clean old new (λ facts. with_reply at (poll_of facts number) words facts) (λ facts. reply_notes at (poll_of facts number) words facts)
 reply_to holds mid clean old new at number words row rs found known kept on = λ recorded h c told lawful.
     let F : List Fact = so_far old recorded in
-    let p : poll_of F number ≡ Some row.poll = poll_behind old recorded number told ∙ its_row recorded row (poll_of recorded number) (found recorded h c) in
-    let r : rs ≡ registers_of F row.poll.device = known recorded h c ∙ sym (registers_behind old recorded row.poll.device told) in
+    let p : poll_of F number ≡ Some row.poll = poll_after old recorded number told ∙ its_row recorded row (poll_of recorded number) (found recorded h c) in
+    let r : rs ≡ registers_of F row.poll.device = known recorded h c ∙ sym (registers_after old recorded row.poll.device told) in
     let is : with_registers at row.poll words rs F ≡ with_reply at (poll_of F number) words F =
     ap (λ xs. with_registers at row.poll words xs F) r ∙ ap (λ o. with_reply at o words F) (sym p) in
     let told_so : registers_notes at row.poll words rs F ≡ reply_notes at (poll_of F number) words F =

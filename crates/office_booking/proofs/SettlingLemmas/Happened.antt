@@ -92,7 +92,7 @@ lawful_next law past slots at e s next =
     law (Fed at e ∷ past) (record { new = is_new (facts_of past) e s; right = next.accepted }, next.is_past.accepted)
     (puts_nothing e s, next.is_past.planned)
 
--- A draft of an event: behind it stand the facts of the event.
+-- A draft of an event: after it stand the facts of the event.
 pub record DraftStands (past : History) (at : ℕ) (e : Event) (draft : Draft) : Type 0 where
   pub facts : so_far draft (facts_of past) ≡ facts_of (Fed at e ∷ past)
   pub notes : draft.notes.items ≡ notes_of (next_poll (facts_of past)) at e (slots_of past) (facts_of past)

@@ -14,7 +14,7 @@ use Rattle.office_rules.specs.Lawful.{AreLawful}
 use Rattle.office_books.specs.declared.faults.BooksFault.{BooksFault}
 use Rattle.office_books.specs.Faults.{faults_after}
 use Rattle.office_books.proofs.Moving.{settles}
-use Rattle.office_books.specs.Ledgers.{Ledger, GoesOn, OnlyReads, Books, Moves, with_facts}
+use Rattle.office_books.specs.Ledgers.{Ledger, LedgerGoesOn, OnlyReads, Books, Moves, with_facts}
 
 -- all facts are booked, or none
 pub moves_booked : (old new : Ledger) (facts known : List Fact) (result : Result (Unit {0}) BooksFault) → Books old new facts result
@@ -46,7 +46,7 @@ moves_nothing old facts known none =
       goes = record { clean = λ clean. clean; faults = refl; zone = refl };
     }
 
--- What the books hold behind the facts of an event, and that these are lawful.
+-- What the books hold after the facts of an event, and that these are lawful.
 abbrev pub Leads : Ledger → (clean : Type 0) → (facts known later : List Fact) → Type 0
 Leads old clean facts known later = old.holds known → clean → (with_facts facts known ≡ later) × AreLawful (with_facts facts known)
 
@@ -54,7 +54,7 @@ Leads old clean facts known later = old.holds known → clean → (with_facts fa
 pub moves_after : {T U : Type 0} (old mid new : Ledger) (facts known later : List Fact) (x : T) (r : Result U BooksFault)
     → OnlyReads old mid (Ok x) → Leads old mid.is_clean facts known later
     → (AreLawful (with_facts facts known) → Moves mid new known (with_facts facts known) r)
-    → (mid.holds known → OnErr r (new.holds known)) → GoesOn mid new r → Moves old new known later r
+    → (mid.holds known → OnErr r (new.holds known)) → LedgerGoesOn mid new r → Moves old new known later r
 moves_after old mid new facts known later x r reads leads moves refused goes = record {
   holds = λ h clean.
       let there = leads h (goes.clean clean) in

@@ -1,4 +1,4 @@
--- Installations behind the facts of a draft.
+-- Installations after the facts of a draft.
 use Rattle.std.proofs.Common.{◌≡◌, ℕ, ◌+◌, ◌<◌, Bool, true, false, cond, List, [], ◌∷◌, ◌++◌, reverse, take, length, get_or, refl, sym, ap, subst, ◌∙◌, Option, Some, None, suc, arith}
 use Rattle.std.specs.List.{cons_option, find, Contains}
 use Rattle.std.specs.Option.{option_map, option_and_then}
@@ -104,9 +104,9 @@ goes_on laws (fact.Poll poll) facts o told h recorded low = absurd told
 goes_on laws (fact.Outcome ended) facts o told h recorded low = refl
 goes_on laws (fact.Reply reply) facts o told h recorded low = absurd told
 
--- behind the first facts of a draft it stands so
-abbrev pub StandsBehindFirst : Installation → List Fact → ℕ → Installation → Type 0
-StandsBehindFirst row facts i behind = (known : List Fact) → AreTold facts → AreLawful (reverse facts ++ known)
+-- after the first facts of a draft it stands so
+abbrev pub StandsAfterFirst : Installation → List Fact → ℕ → Installation → Type 0
+StandsAfterFirst row facts i behind = (known : List Fact) → AreTold facts → AreLawful (reverse facts ++ known)
     → IsIn known row → behind ≡ installation_of (reverse (take i facts) ++ known) row.opening
 
 still_recorded : (facts known : List Fact) (o : Opening) → AreTold facts → IsRecorded known o → IsRecorded (reverse facts ++ known) o
@@ -118,8 +118,8 @@ reverse_more facts i x less is =
     ap reverse (take_more facts i x less ∙ ap (λ y. take i facts ++ y ∷ []) (sym is)) ∙ reverse-append (take i facts) (x ∷ [])
 
 pub one_fact_more : Laws → (row : Installation) (facts : List Fact) (i : ℕ) (behind new : Installation) (x : Fact)
-    → i < length facts → x ≡ get_or facts i x → IsSound behind → StandsBehindFirst row facts i behind → new ≡ installation_with x behind
-    → StandsBehindFirst row facts (i + 1) new
+    → i < length facts → x ≡ get_or facts i x → IsSound behind → StandsAfterFirst row facts i behind → new ≡ installation_with x behind
+    → StandsAfterFirst row facts (i + 1) new
 one_fact_more laws row facts i behind new x less is sound stands with_it = λ known told lawful at_first.
     let first : List Fact = reverse (take i facts) ++ known in
     let more : reverse (take (i + 1) facts) ++ known ≡ x ∷ first = ap (λ fs. fs ++ known) (reverse_more facts i x less is) in
@@ -143,23 +143,23 @@ found_contains p [] x h = absurd (cc)
 found_contains p (y ∷ ys) x h = found_step p (p y) y x ys (found_contains p ys x) h
 
 -- what is told installs nothing
-installed_behind : (facts known : List Fact) (register : List ℕ) → AreTold facts → installed_at (reverse facts ++ known) register ≡ installed_at known register
-installed_behind facts known register told =
+installed_after : (facts known : List Fact) (register : List ℕ) → AreTold facts → installed_at (reverse facts ++ known) register ≡ installed_at known register
+installed_after facts known register told =
     ap (λ os. find (λ (o : Opening). same o.register register) os) (told_openings facts known told)
 
--- a register without a meter has none behind what is told
+-- a register without a meter has none after what is told
 pub none_open : (facts known : List Fact) (register : List ℕ) → AreTold facts → None ≡ installation_at known register
     → None ≡ open_at (reverse facts ++ known) register
 none_open facts known register told none =
     none_by (installed_at known register) none
-    ∙ ap (λ o. option_and_then if_open (option_map (installation_of (reverse facts ++ known)) o)) (sym (installed_behind facts known register told))
+    ∙ ap (λ o. option_and_then if_open (option_map (installation_of (reverse facts ++ known)) o)) (sym (installed_after facts known register told))
   where
     none_by : (o : Option Opening) → None ≡ option_map (installation_of known) o
         → None ≡ option_and_then if_open (option_map (installation_of (reverse facts ++ known)) o)
     none_by None h = refl
     none_by (Some opening) h = absurd (cc)
 
--- the installation at a register, behind what is told
+-- the installation at a register, after what is told
 found_open : (facts known : List Fact) (register : List ℕ) (row new : Installation) (found : Option Opening) → AreTold facts → AreLawful (reverse facts ++ known)
     → StandsBehind row facts new → installed_at known register ≡ found → Some row ≡ option_map (installation_of known) found
     → if_open new ≡ open_at (reverse facts ++ known) register
@@ -176,9 +176,9 @@ found_open facts known register row new (Some o) told lawful stands there is =
     } in
     let new_is : new ≡ installation_of F o = stands known told lawful at_first ∙ ap (installation_of F) opening_is in
     ap if_open new_is
-    ∙ ap (λ x. option_and_then if_open (option_map (installation_of F) x)) (sym (installed_behind facts known register told ∙ there))
+    ∙ ap (λ x. option_and_then if_open (option_map (installation_of F) x)) (sym (installed_after facts known register told ∙ there))
 
-pub open_behind : (facts known : List Fact) (register : List ℕ) (row new : Installation) → AreTold facts → AreLawful (reverse facts ++ known)
+pub open_after : (facts known : List Fact) (register : List ℕ) (row new : Installation) → AreTold facts → AreLawful (reverse facts ++ known)
     → StandsBehind row facts new → Some row ≡ installation_at known register → if_open new ≡ open_at (reverse facts ++ known) register
-open_behind facts known register row new told lawful stands is =
+open_after facts known register row new told lawful stands is =
     found_open facts known register row new (installed_at known register) told lawful stands refl is

@@ -1,4 +1,4 @@
--- Look-ups behind facts that are told.
+-- Look-ups after facts that are told.
 use Rattle.std.proofs.Common.{◌≡◌, ℕ, ◌<◌, length, get_or, arith, List, [], ◌∷◌, ◌++◌, reverse, take, drop, refl, ap, subst, sym, ◌∙◌, Option, None, append_assoc, zero, suc}
 use Rattle.std.specs.List.{cons_option, filter_map}
 use Rattle.std.proofs.lemmas.List.{reverse-append, take-append-drop}

@@ -4,14 +4,14 @@ use Rattle.std.proofs.lemmas.List.{append-nil, take_rest, take_all, take-append-
 use Rattle.std.proofs.Math.Seq.{take-add}
 use Rattle.poll_core.specs.Settling.{Event, Piece, Settlement, moment_of, outcomes_at}
 use Rattle.poll_core.specs.Standing.{State, Stands, Within, Before, After, owed}
-use Rattle.poll_core.specs.Telling.{Tells as TellsOn, IsCall}
+use Rattle.poll_core.specs.Telling.{TellsOfCall as TellsOn, IsCall}
 use Rattle.poll_core.specs.declared.outcome.Call.{Call}
 use Rattle.office_events.specs.declared.facts.Fact.{Fact}
 use Rattle.office_rules.specs.History.{with_outcome, with_outcomes}
 use Rattle.office_rules.specs.Notes.{outcome_notes, outcomes_notes}
 use Rattle.office_booking.specs.declared.settling.drafts.Draft.{Draft}
 use Rattle.office_booking.specs.Settling.Drafts.{Grows}
-use Rattle.office_booking.specs.Settling.Settling.{SettlesNothing, Tells}
+use Rattle.office_booking.specs.Settling.Settling.{SettlesNothing, TellsSettled}
 use Rattle.office_booking.proofs.SettlingLemmas.Growing.{stays, grows_like, grows_then, before_outcome}
 
 outcomes-append : (at : ℕ) (xs ys : List (ℕ × Settlement)) (facts : List Fact)
@@ -85,7 +85,7 @@ turns holds mid clean later unchanged changed old between new before after call 
 -- nothing more was told
 pub ends : (holds : List Fact → Type 0) (clean unchanged : Type 0) (old between new : State) (before after : Event) (call : Call) (first draft : Draft)
     → Turned holds clean unchanged old between before call first draft → moment_of after ≡ moment_of before → Called between new before after None
-    → Tells holds clean old new after first draft
+    → TellsSettled holds clean old new after first draft
 ends holds clean unchanged old between new before after call first draft t same called =
     let timeout : new.timeout ≡ old.timeout = called.timeout ∙ t.timeout in
     record {

@@ -21,7 +21,7 @@ use Rattle.office_booking.specs.declared.sessions.slots.Slot.{Slot}
 use Rattle.office_booking.specs.Sessions.Keeping.{KeepsSlot, KeepsSlots}
 use Rattle.office_rules.specs.Lawfulness.{IsPast}
 use Rattle.office_books.specs.declared.faults.BooksFault.{BooksFault}
-use Rattle.office_books.specs.Ledgers.{Ledger, GoesOn, Moves, with_facts}
+use Rattle.office_books.specs.Ledgers.{Ledger, LedgerGoesOn, Moves, with_facts}
 use Rattle.office_booking.specs.declared.commands.effects.Done.{Done}
 
 -- the event asks a command
@@ -50,7 +50,7 @@ pub record Tries (old new : Ledger) (facts : List Fact)
       → AreLawful (with_facts facts known)
       → old.may_leave left
       → OnErr result (new.may_leave left ⊎ new.may_leave (left ++ with_facts facts known ∷ []))
-  pub goes : GoesOn old new result
+  pub goes : LedgerGoesOn old new result
 
 -- a slot once a command started its reads there, and all of them
 abbrev pub started_on : (number at : ℕ) → List ReadSpan → Command → sessions.Slot
@@ -67,7 +67,7 @@ abbrev pub slots_obeyed : (number at : ℕ) → List ReadSpan → Command → Li
 slots_obeyed number at spans c slots =
     map (slot_obeyed number at spans c) slots ++ slots_added (Some c)
 
--- the facts that a command adds, and what is kept of the request behind them
+-- the facts that a command adds, and what is kept of the request after them
 abbrev pub facts_obeyed : (at : ℕ) → List sessions.Slot → List Fact → Command
     → (replies : List Fact) → List Fact
 facts_obeyed at slots known c replies =
@@ -151,14 +151,14 @@ abbrev pub start_answer : (at : ℕ) → sessions.Slot → List Fact → Command
 start_answer at slot known c =
     answer.Started (next_poll known) (length (sends_by at slot known c)) (reads_in_all known c)
 
--- Where the facts after a start are lawful, its polls are booked, and what is kept of the request behind them.
+-- Where the facts after a start are lawful, its polls are booked, and what is kept of the request after them.
 abbrev pub BooksStart : (at : ℕ) → Command → (replies : List Fact) → (old new : Ledger)
     → Result Done BooksFault → sessions.Slot → (known : List Fact) → Type 0
 BooksStart at c replies old new result slot known =
     let later = facts_started at slot known c replies in
     AreLawful later → Moves old new known later result
 
--- The slot then stands behind them, the start is answered, and its frames are to be sent.
+-- The slot then stands after them, the start is answered, and its frames are to be sent.
 abbrev pub StandsStarted : (at : ℕ) → Command → (old new : Ledger) → (after : Slot)
     → Result Done BooksFault → sessions.Slot → (known : List Fact) → Type 0
 StandsStarted at c old new after result slot known =

@@ -1,4 +1,4 @@
--- An installation behind facts that are not booked yet.
+-- An installation after facts that are not booked yet.
 use Rattle.std.specs.Prelude.{◌≡◌, ◌+◌, List, ◌++◌, reverse, Result, Ok, Err, if◌then◌else◌}
 use Rattle.energy_core.specs.Admission.{entered}
 use Rattle.energy_core.specs.declared.entries.Last.{Last}
@@ -37,7 +37,7 @@ pub record IsIn (facts : List Fact) (row : Installation) : Type 0 where
   pub recorded : IsRecorded facts row.opening
   pub stands : row ≡ installation_of facts row.opening
 
--- behind these facts it stands so
+-- after these facts it stands so
 abbrev pub StandsBehind : Installation → (facts : List Fact) → Installation → Type 0
 StandsBehind row facts behind =
     (known : List Fact) → AreTold facts → AreLawful (reverse facts ++ known) → IsIn known row

@@ -50,9 +50,9 @@ Adds old new before after result more tells =
     OnOk result (Grows old.holds new.is_clean before after more tells)
 
 -- What is answered is what the facts say, those of the draft being in front.
-abbrev pub FindsBehind : {T : Type 0} → (old new : Ledger) → Draft → Result T BooksFault
+abbrev pub FindsAfter : {T : Type 0} → (old new : Ledger) → Draft → Result T BooksFault
     → (List Fact → T → Type 0) → Type 0
-FindsBehind old new draft result says =
+FindsAfter old new draft result says =
     (known : List Fact) → old.holds known → new.is_clean → AreTold draft.facts.items
     → AreLawful (so_far draft known) → IfOk result (says (so_far draft known))
 

@@ -20,7 +20,7 @@ pub record IsNext (past : History) (slots : List Slot) (at : ℕ) (e : Event) : 
   pub accepted : refusal_of past at e ≡ None
 
 -- What it settles is booked all at once and told. At Ok the slots stand where the event leaves them, the notes are the
--- event's, and the books move to the facts behind it; where the call fails they stay, or a stop may leave the later facts.
+-- event's, and the books move to the facts after it; where the call fails they stay, or a stop may leave the later facts.
 pub record Settles (past : History) (at : ℕ) (e : Event) (old new : Ledger) (after : List Slot)
     (result : Result (Vec Note Global) BooksFault) : Type 0 where
   pub slots : OnOk result (KeepsSlots after (slots_of (Fed at e ∷ past)))

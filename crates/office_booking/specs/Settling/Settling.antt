@@ -54,7 +54,7 @@ pub record SettlesNothing (kept : State) (happening : session.Event) : Type 0 wh
   pub nothing : session.outcomes_at kept.timeout events happening ≡ []
 
 -- what an event on the session settles is told to its end
-pub record Tells (holds : List Fact → Type 0) (clean : Type 0) (before after : State)
+pub record TellsSettled (holds : List Fact → Type 0) (clean : Type 0) (before after : State)
     (happening : session.Event) (first last : Draft) : Type 0 where
   pub timeout : after.timeout ≡ before.timeout
   pub window : after.window ≡ before.window
@@ -70,7 +70,7 @@ abbrev pub TellsAll : {T : Type 0} → (old new : Ledger) → (before after : St
     → (first last : Draft) → Result T BooksFault → Type 0
 TellsAll old new before after happening first last result =
     before.last ≤ session.moment_of happening
-    → OnOk result (Tells old.holds new.is_clean before after happening first last)
+    → OnOk result (TellsSettled old.holds new.is_clean before after happening first last)
 
 -- The same of an event of the office, where it reaches the session; else nothing changes.
 abbrev pub TellsReached : {T : Type 0} → (old new : Ledger) → (before after : State)

@@ -8,7 +8,7 @@ ghost use Rattle.office_rules.specs.Sessions as sessions;
 ghost use Rattle.office_rules.specs.History.{kind_of};
 ghost use Rattle.office_rules.specs.Refusals.{is_start};
 ghost use Rattle.office_booking.specs.Sessions.Ranges.{IsCommandInRange};
-ghost use Rattle.office_books.specs.Ledgers.{GoesOn, Moves};
+ghost use Rattle.office_books.specs.Ledgers.{LedgerGoesOn, Moves};
 ghost use Rattle.office_booking.specs.Commands.Effects.{MovesOnBy, Tries};
 
 use crate::commands::additions::facts_by;
@@ -19,7 +19,7 @@ use office_events::{Answer, Command, Fact};
 use crate::starting::Outgoing;
 use std::alloc::{AllocError, Global};
 
-/// The facts of a command, and what is kept of the request behind them.
+/// The facts of a command, and what is kept of the request after them.
 fn with_reply(facts: Vec<Fact>, reply: Option<Fact>) -> Result<Vec<Fact>, AllocError>
     ensures { IfOk result (λ all. all.items ≡ facts.items ++ option_to_list reply) }
 {
@@ -30,7 +30,7 @@ fn with_reply(facts: Vec<Fact>, reply: Option<Fact>) -> Result<Vec<Fact>, AllocE
     Ok(all)
 }
 
-/// Books the facts of a command, and what is kept of the request behind them.
+/// Books the facts of a command, and what is kept of the request after them.
 pub fn book<B: Books>(
     books: &mut B,
     facts: Vec<Fact>,
@@ -55,7 +55,7 @@ pub fn record<B: Books>(
     requires no_start { is_start command.now ≡ false }
     ensures books { MovesOnBy moment command.now (option_to_list reply) (B.ledger books.old)
         (B.ledger books.new) result }
-    ensures goes { GoesOn (B.ledger books.old) (B.ledger books.new) result }
+    ensures goes { LedgerGoesOn (B.ledger books.old) (B.ledger books.new) result }
     ensures answer { IfOk result (λ done. done.answer ≡ answers.Done (kind_of command.now)) }
     ensures sent { IfOk result (λ done. done.outgoing ≡ []) }
 {

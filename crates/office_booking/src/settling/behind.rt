@@ -1,8 +1,8 @@
-//! Installations as they stand behind a draft.
+//! Installations as they stand after a draft.
 ghost use Rattle.std.specs.Prelude.{◌≡◌};
 ghost use Rattle.office_rules.specs.Meters.{open_at};
 ghost use Rattle.office_books.specs.Sound.{IsSound, ReadsInstallation};
-ghost use Rattle.office_booking.specs.Settling.Drafts.{FindsBehind};
+ghost use Rattle.office_booking.specs.Settling.Drafts.{FindsAfter};
 ghost use Rattle.office_booking.specs.Settling.Behind.{installation_with, StandsBehind};
 
 use crate::settling::drafts::Draft;
@@ -23,7 +23,7 @@ fn with_fact(row: &Installation, fact: &Fact) -> Installation
     }
 }
 
-/// An installation behind these facts.
+/// An installation after these facts.
 fn with_facts(row: &Installation, facts: &[Fact]) -> Installation
     requires { IsSound row.now }
     ensures sound { IsSound result }
@@ -41,13 +41,13 @@ fn with_facts(row: &Installation, facts: &[Fact]) -> Installation
     behind
 }
 
-/// The installation that is open at a register behind the draft.
+/// The installation that is open at a register after the draft.
 pub fn open_installation<B: Books>(
     books: &mut B,
     draft: &Draft,
     register: &Name,
 ) -> Result<Option<Installation>, BooksFault>
-    ensures found { FindsBehind (B.ledger books.old) (B.ledger books.new) draft.now result
+    ensures found { FindsAfter (B.ledger books.old) (B.ledger books.new) draft.now result
         (λ facts row. row ≡ open_at facts register.now) }
     ensures reads { ReadsInstallation (B.ledger books.old) (B.ledger books.new) result }
 {

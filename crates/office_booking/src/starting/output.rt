@@ -31,7 +31,7 @@ impl Outgoing {
         }
     }
 
-    /// Adds bytes behind those that are there.
+    /// Adds bytes after those that are there.
     pub(crate) fn add(&mut self, frame: &[u8])
         requires { length self.old + length frame.now ≤ 260 }
         ensures { self.new ≡ self.old ++ frame.now }

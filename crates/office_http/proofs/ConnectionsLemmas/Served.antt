@@ -63,10 +63,10 @@ pub handled : {B : Type 0} (ledger : B → Ledger) (at : ℕ) (old new : Office 
     → Handles ledger at old new link result → After ledger old new (λ past. ServesUpTo 1 ledger past new)
 handled ledger at old new link result h past stands clean = does ledger past at old new link h.read result h.does stands clean
 
-behind_both : (past : History) (later earlier : List Request)
+after_both : (past : History) (later earlier : List Request)
     → history_behind past (later ++ earlier) ≡ history_behind (history_behind past earlier) later
-behind_both past [] earlier = refl
-behind_both past (one ∷ later) earlier = ap (λ h. with_asked h one.at one.asked) (behind_both past later earlier)
+after_both past [] earlier = refl
+after_both past (one ∷ later) earlier = ap (λ h. with_asked h one.at one.asked) (after_both past later earlier)
 
 -- Requests come one after the other.
 pub one_more : {B : Type 0} (n : ℕ) (ledger : B → Ledger) (past : History) (old new : Office B) → ServesUpTo n ledger past old
@@ -78,7 +78,7 @@ one_more n ledger past old new first next clean =
       few = omega (arith, first.few, then.few, length-append then.requests first.requests);
       stands =
           let P : History → Type 0 = λ h. Stands ledger h new in
-          subst P (sym (behind_both past then.requests first.requests)) then.stands;
+          subst P (sym (after_both past then.requests first.requests)) then.stands;
     }
 
 pub more : {B : Type 0} (m n : ℕ) (ledger : B → Ledger) (past : History) (office : Office B) → m ≤ n → ServesUpTo m ledger past office

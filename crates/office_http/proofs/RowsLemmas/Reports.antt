@@ -34,7 +34,7 @@ none_put before after few same = record {
   counts = ap (λ (r : Report). r.count) same ∙ counted_none before.count few;
 }
 
--- rows behind others
+-- rows after others
 pub later_put : {T : Type 0} (line : T → List ℕ) (before after : Report) (rows : List T) → 0 < before.count → before.count ≤ 18446744073709551615
     → TakesAll (λ old row new. PutsLine (line row) old new) before rows after → RowsPut (flat_map line rows) (length rows) before after
 later_put line before after [] begun few took = none_put before after few took

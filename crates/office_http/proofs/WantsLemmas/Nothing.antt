@@ -5,8 +5,8 @@ use Rattle.http_commands.specs.declared.fault.CommandFault.{CommandFault}
 use Rattle.http_commands.specs.declared.fault.CommandFault.TheVariants.{Memory}
 use Rattle.http_request.specs.Head.Heads.{IsBadHead}
 use Rattle.http_request.specs.declared.head.head.Head.{Head}
-use Rattle.http_request.specs.declared.head.head.Look.{Look}
-use Rattle.http_request.specs.declared.head.head.Look.TheVariants as look
+use Rattle.http_request.specs.declared.head.head.HeadState.{HeadState}
+use Rattle.http_request.specs.declared.head.head.HeadState.TheVariants as head_state
 use Rattle.http_request.specs.Asking.{TestsHead}
 use Rattle.http_request.specs.HeadTests.{Start, head_fault, start_at}
 use Rattle.http_request.specs.declared.ask.Ask.TheVariants.{Command as AskedCommand, Question}
@@ -36,31 +36,31 @@ start_is table bytes at asked whole asks = (one_request table bytes asks.start (
 body_is : (table : Table) (bytes : List ℕ) (at : Head) (asked : Asked) → IsWhole table bytes at → (asks : AsksOffice table bytes asked) → asks.body ≡ body_of table bytes at
 body_is table bytes at asked whole asks = (one_request table bytes asks.start (start_at bytes at) asks.body (body_of table bytes at) asks.holds (request_of_whole table bytes at whole)).one_body
 
-pub where_a_test_fails : (table : Table) (bytes : List ℕ) (seen : Look) (status : Status) → Holds table bytes seen → TestsRequest table bytes seen (Err status) → AsksNothing table bytes
-where_a_test_fails table bytes look.Open status holds tests = absurd holds
-where_a_test_fails table bytes look.TooLarge status holds tests = in_bad_head table bytes holds.0
-where_a_test_fails table bytes look.NoHead status holds tests = in_bad_head table bytes holds.0
-where_a_test_fails table bytes (look.Whole at) status holds tests = λ asked asks.
+pub where_a_test_fails : (table : Table) (bytes : List ℕ) (seen : HeadState) (status : Status) → Holds table bytes seen → TestsRequest table bytes seen (Err status) → AsksNothing table bytes
+where_a_test_fails table bytes head_state.Open status holds tests = absurd holds
+where_a_test_fails table bytes head_state.TooLarge status holds tests = in_bad_head table bytes holds.0
+where_a_test_fails table bytes head_state.NoHead status holds tests = in_bad_head table bytes holds.0
+where_a_test_fails table bytes (head_state.Whole at) status holds tests = λ asked asks.
     let same = start_is table bytes at asked holds asks in
     let fails : head_fault table asks.start ≡ Some status = ap (head_fault table) same ∙ tests in
     cc (fails, asks.leads.passes)
 
-pub in_a_question : (table : Table) (bytes : List ℕ) (seen : Look) (found : Found) → Holds table bytes seen → TestsRequest table bytes seen (Ok (Question found)) → AsksNothing table bytes
-in_a_question table bytes look.Open found holds tests = absurd holds
-in_a_question table bytes look.TooLarge found holds tests = cc tests
-in_a_question table bytes look.NoHead found holds tests = cc tests
-in_a_question table bytes (look.Whole at) found holds tests = λ asked asks.
+pub in_a_question : (table : Table) (bytes : List ℕ) (seen : HeadState) (found : Found) → Holds table bytes seen → TestsRequest table bytes seen (Ok (Question found)) → AsksNothing table bytes
+in_a_question table bytes head_state.Open found holds tests = absurd holds
+in_a_question table bytes head_state.TooLarge found holds tests = cc tests
+in_a_question table bytes head_state.NoHead found holds tests = cc tests
+in_a_question table bytes (head_state.Whole at) found holds tests = λ asked asks.
     let same = start_is table bytes at asked holds asks in
     let route : route_in table asks.start.target ≡ Some found.route = ap (λ (s : Start). route_in table s.target) same ∙ tests.1.0.route in
     let is : asks.route ≡ found.route = cc (route, asks.leads.leads) in
     let question : is_question asks.route ≡ true = ap is_question is ∙ tests.1.1 in
     cc (question, asks.leads.changes)
 
-pub asks_a_question : (table : Table) (bytes : List ℕ) (seen : Look) (found : Found) → Holds table bytes seen → TestsRequest table bytes seen (Ok (Question found)) → is_question found.route ≡ true
-asks_a_question table bytes look.Open found holds tests = absurd holds
-asks_a_question table bytes look.TooLarge found holds tests = cc tests
-asks_a_question table bytes look.NoHead found holds tests = cc tests
-asks_a_question table bytes (look.Whole at) found holds tests = tests.1.1
+pub asks_a_question : (table : Table) (bytes : List ℕ) (seen : HeadState) (found : Found) → Holds table bytes seen → TestsRequest table bytes seen (Ok (Question found)) → is_question found.route ≡ true
+asks_a_question table bytes head_state.Open found holds tests = absurd holds
+asks_a_question table bytes head_state.TooLarge found holds tests = cc tests
+asks_a_question table bytes head_state.NoHead found holds tests = cc tests
+asks_a_question table bytes (head_state.Whole at) found holds tests = tests.1.1
 
 -- the body of the request that was found gives what the one that is asked gives
 gives_again : (table : Table) (bytes : List ℕ) (at : Head) (found : Found) (posted : Posted) (asked : Asked) → IsWhole table bytes at

@@ -14,13 +14,13 @@ pub record Request : Type 0 where
   pub asked : Option Asked
   pub asks : Asks read asked
 
--- what the office has accepted behind these requests, the latest first: each is accepted, refused or answered from what
+-- what the office has accepted after these requests, the latest first: each is accepted, refused or answered from what
 -- was kept, as its definition says
 abbrev pub history_behind : (past : History) → List Request → History
 history_behind past [] = past
 history_behind past (one ∷ earlier) = with_asked (history_behind past earlier) one.at one.asked
 
--- The office stands behind at most so many requests. One that could not be answered, since the store or memory failed or
+-- The office stands after at most so many requests. One that could not be answered, since the store or memory failed or
 -- the office had stopped, is none of them.
 pub record ServesUpTo {B : Type 0} (most : ℕ) (ledger : B → Ledger) (past : History)
     (office : Office B) : Type 0 where

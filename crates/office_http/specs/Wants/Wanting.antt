@@ -60,14 +60,14 @@ IsNoCommand table bytes why = (why ≡ Memory) ⊎ IsToldOff table bytes (reply_
 
 -- what is wanted of the office
 abbrev pub Wants : Table → (bytes : List ℕ) → Want → Type 0
-Wants table bytes (want.Nothing status) = IsToldOff table bytes (reply_bytes (fault status))
+Wants table bytes (want.Rejected status) = IsToldOff table bytes (reply_bytes (fault status))
 Wants table bytes (want.Answer found) = IsQuestion table bytes found
 Wants table bytes (want.Refused why) = IsNoCommand table bytes why
 Wants table bytes (want.Command asked) = IsAskedFor table bytes asked
 
 -- the faulty rows of a list are few
 abbrev pub HasFewFaults : Want → Type 0
-HasFewFaults (want.Nothing status) = Unit {0}
+HasFewFaults (want.Rejected status) = Unit {0}
 HasFewFaults (want.Answer found) = Unit {0}
 HasFewFaults (want.Refused why) = HasFewRows (Err why)
 HasFewFaults (want.Command asked) = Unit {0}

@@ -6,7 +6,7 @@ ghost use Rattle.office_http.specs.Connections.Connections.{ServesUpTo};
 use crate::handle;
 use office_books::Books;
 use office_core::Office;
-use socket_link::{Clock, HurriedLink, SocketLink};
+use socket_link::{Clock, DeadlineLink, SocketLink};
 use std::alloc::Global;
 use std::io::{self, ErrorKind, Read, Write};
 use std::net::{OpenListener, OpenStream};
@@ -30,7 +30,7 @@ fn serve_connection<S: Read + Write + OpenStream + Drop, B: Books, C: Clock>(
         return;
     };
     let until = moment.saturating_add(MOST_SECONDS);
-    let mut link = HurriedLink::new(&mut socket, clock, until);
+    let mut link = DeadlineLink::new(&mut socket, clock, until);
     if handle(alloc, &mut link, office, moment).is_ok() {
         socket.end();
     }

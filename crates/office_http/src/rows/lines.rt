@@ -5,7 +5,7 @@ ghost use Rattle.interval_core.specs.Lines.{share_line};
 ghost use Rattle.interval_core.specs.Report.{day_line};
 ghost use Rattle.office_http.specs.Rows.Reports.{EndsReport, PutsLine, Report, head_before};
 
-use http_answer::{Outlet, put_day, put_end, put_refusal, put_share, put_text_head};
+use http_answer::{ReplyWriter, put_day, put_end, put_refusal, put_share, put_text_head};
 use interval_core::{DayTotal, Share};
 use mb_wire::Link;
 use office_books::RowSink;
@@ -15,61 +15,61 @@ use std::marker::Model;
 /// Puts a line for each row that it takes, and the head of the reply before the first.
 #[derive(Drop)]
 pub struct RowLines<'l, L: Link> {
-    outlet: Outlet<'l, L>,
+    writer: ReplyWriter<'l, L>,
     count: u64,
 }
 
 impl<'l, L: Link> Model for RowLines<'l, L> {
     ghost Value = { Report };
 
-    ghost view = { λ lines. record { out = lines.outlet; count = lines.count } };
+    ghost view = { λ lines. record { out = lines.writer; count = lines.count } };
 }
 
 /// An outlet to which a reply was put.
 #[derive(Drop)]
 pub struct Replied<'l, L: Link> {
-    pub outlet: Outlet<'l, L>,
+    pub writer: ReplyWriter<'l, L>,
     /// Why the reply is cut off, if it is.
     pub cut: Option<Refusal>,
 }
 
 // Puts the head of the reply before the first line.
-fn put_head<L: Link>(count: u64, outlet: &mut Outlet<'_, L>)
-    ensures { Puts outlet.old outlet.new (head_before count) }
+fn put_head<L: Link>(count: u64, writer: &mut ReplyWriter<'_, L>)
+    ensures { Puts writer.old writer.new (head_before count) }
 {
     if count == 0 {
-        put_text_head(outlet);
+        put_text_head(writer);
     }
 }
 
 impl<'l, L: Link> RowLines<'l, L> {
     /// No row was put yet.
-    pub fn new(outlet: Outlet<'l, L>) -> RowLines<'l, L>
-        ensures { result ≡ record { out = outlet.entry; count = 0 } }
+    pub fn new(writer: ReplyWriter<'l, L>) -> RowLines<'l, L>
+        ensures { result ≡ record { out = writer.entry; count = 0 } }
     {
-        RowLines { outlet, count: 0 }
+        RowLines { writer, count: 0 }
     }
 
     /// Ends the report: with the count of its rows, or where it was refused by that refusal, if no row was put before.
     pub fn end(self, answer: Result<(), Refusal>) -> Replied<'l, L>
-        ensures { EndsReport self.entry answer result.outlet result.cut }
+        ensures { EndsReport self.entry answer result.writer result.cut }
     {
-        let RowLines { mut outlet, count } = self;
+        let RowLines { mut writer, count } = self;
         match answer {
             Ok(()) => {
-                put_head(count, &mut outlet);
-                put_end(count, &mut outlet);
-                Replied { outlet, cut: None }
+                put_head(count, &mut writer);
+                put_end(count, &mut writer);
+                Replied { writer, cut: None }
             }
             Err(why) => {
                 if count > 0 {
                     return Replied {
-                        outlet,
+                        writer,
                         cut: Some(why),
                     };
                 }
-                put_refusal(why, &mut outlet);
-                Replied { outlet, cut: None }
+                put_refusal(why, &mut writer);
+                Replied { writer, cut: None }
             }
         }
     }
@@ -79,8 +79,8 @@ impl<'l, L: Link> RowSink<Share> for RowLines<'l, L> {
     ghost takes = { λ old row new. PutsLine (share_line row) old new };
 
     fn put(&mut self, row: Share) {
-        put_head(self.count, &mut self.outlet);
-        put_share(&row, &mut self.outlet);
+        put_head(self.count, &mut self.writer);
+        put_share(&row, &mut self.writer);
         self.count = self.count.saturating_add(1);
     }
 }
@@ -89,8 +89,8 @@ impl<'l, L: Link> RowSink<DayTotal> for RowLines<'l, L> {
     ghost takes = { λ old row new. PutsLine (day_line row) old new };
 
     fn put(&mut self, row: DayTotal) {
-        put_head(self.count, &mut self.outlet);
-        put_day(&row, &mut self.outlet);
+        put_head(self.count, &mut self.writer);
+        put_day(&row, &mut self.writer);
         self.count = self.count.saturating_add(1);
     }
 }

@@ -7,7 +7,7 @@ use office_events::Asked;
 #[derive(Drop)]
 pub enum Want<'b> {
     /// It fails a test of its head.
-    Nothing(Status),
+    Rejected(Status),
     /// It asks a question.
     Answer(Found<'b>),
     /// It asks for a command, and its body gives none, or memory is wanting.

@@ -13,7 +13,7 @@ use http_answer::{
     questions_are_replied_to,
 };
 use http_commands::{CommandFault, command_in};
-use http_request::{Ask, Found, Head, Look, Posted, Route, ask_in, body_in};
+use http_request::{Ask, Found, Head, HeadState, Posted, Route, ask_in, body_in};
 use matchit::Router;
 use std::alloc::Global;
 
@@ -51,23 +51,23 @@ fn wanted_command<'b>(
 }
 
 /// What a whole request wants of an office. Want of memory comes before the office is asked.
-pub fn wanted<'b>(alloc: Global, router: &Router<Route>, bytes: &'b [u8], look: &Look) -> Want<'b>
-    requires { Holds router.now bytes.now look.now }
+pub fn wanted<'b>(alloc: Global, router: &Router<Route>, bytes: &'b [u8], head_state: &HeadState) -> Want<'b>
+    requires { Holds router.now bytes.now head_state.now }
     ensures wants { Wants router.now bytes.now result }
     ensures few { HasFewFaults result }
 {
-    match ask_in(router, bytes, look) {
+    match ask_in(router, bytes, head_state) {
         Err(status) => {
-            faults_are_replied_to(router, bytes, look, status);
-            Want::Nothing(status)
+            faults_are_replied_to(router, bytes, head_state, status);
+            Want::Rejected(status)
         }
         Ok(Ask::Question(found)) => {
-            questions_are_replied_to(router, bytes, look, &found);
+            questions_are_replied_to(router, bytes, head_state, &found);
             Want::Answer(found)
         }
-        Ok(Ask::Command(found, posted)) => match look {
-            Look::Whole(head) => wanted_command(alloc, router, bytes, head, &found, &posted),
-            Look::TooLarge | Look::NoHead | Look::Open => unreachable!(),
+        Ok(Ask::Command(found, posted)) => match head_state {
+            HeadState::Whole(head) => wanted_command(alloc, router, bytes, head, &found, &posted),
+            HeadState::TooLarge | HeadState::NoHead | HeadState::Open => unreachable!(),
         },
     }
 }

@@ -8,8 +8,8 @@ use Rattle.office_books.specs.Rows.{TakesAll}
 use Rattle.office_program.specs.Texts.Lines.{counted}
 use Rattle.office_program.specs.Texts.Lines.{HasWritten, WritesLine}
 use Rattle.office_program.specs.declared.texts.lines.DayLines.{DayLines}
-use Rattle.command_io.specs.declared.status.Status.{Status}
-use Rattle.command_io.specs.declared.status.Status.TheVariants.{Failed}
+use Rattle.command_io.specs.declared.status.ExitStatus.{ExitStatus}
+use Rattle.command_io.specs.declared.status.ExitStatus.TheVariants.{Failed}
 use Rattle.office_program.specs.Texts.EndTexts.{IsTold}
 use Rattle.sun_points.specs.Writing.{GotPart}
 
@@ -116,9 +116,9 @@ all_written contents line (row ∷ rows) from to works fits took =
     (λ failed. written_no_more contents (line row) (flat_map line rows) (suc (length rows)) from took.0 to failed first
     (all_dropped contents line rows took.0 to failed took.2))
 
--- the lines of rows, and what came behind them
+-- the lines of rows, and what came after them
 pub told_part : {W T : Type 0} (contents : W → Option (List ℕ)) (line : T → List ℕ) (rows : List T) (last : List ℕ)
-    (from to : DayLines W) (meant : Status) (o o' : W) → from.failed ≡ false → from.count ≡ 0 → TakesAll (TakesLine contents line) from rows to
+    (from to : DayLines W) (meant : ExitStatus) (o o' : W) → from.failed ≡ false → from.count ≡ 0 → TakesAll (TakesLine contents line) from rows to
     → to.failed ≡ true → from.output.now ≡ o → o' ≡ to.output.now
     → IsTold (flat_map line rows ++ last) meant Failed (contents o) (contents o')
 told_part contents line rows last from to meant o o' works none took failed start end =
@@ -128,14 +128,14 @@ told_part contents line rows last from to meant o o' works none took failed star
     let begun : GotPart (flat_map line rows ++ last) (contents o) (contents to.output.now) = rw (sym start) part in
     inr (refl, rw end begun)
 
-told_behind : (x y : List ℕ) (meant status : Status) (a b c : Option (List ℕ)) → Appends a b x → IsTold y meant status b c
+told_after : (x y : List ℕ) (meant status : ExitStatus) (a b c : Option (List ℕ)) → Appends a b x → IsTold y meant status b c
     → IsTold (x ++ y) meant status a c
-told_behind x y meant status a b c first (inl told) = inl (told.0, Appends-trans a b c x y first told.1)
-told_behind x y meant status a b c first (inr part) = inr (part.0, behind x y a b c first part.1)
+told_after x y meant status a b c first (inl told) = inl (told.0, Appends-trans a b c x y first told.1)
+told_after x y meant status a b c first (inr part) = inr (part.0, behind x y a b c first part.1)
 
--- the lines of all days, and a last text behind them
+-- the lines of all days, and a last text after them
 pub told_all : {W T : Type 0} (contents : W → Option (List ℕ)) (line : T → List ℕ) (rows : List T) (last : ℕ → List ℕ)
-    (from to : DayLines W) (meant status : Status) (o o' : W) → from.failed ≡ false → from.count ≡ 0
+    (from to : DayLines W) (meant status : ExitStatus) (o o' : W) → from.failed ≡ false → from.count ≡ 0
     → TakesAll (TakesLine contents line) from rows to → to.failed ≡ false → from.output.now ≡ o
     → IsTold (last to.count) meant status (contents to.output.now) (contents o')
     → IsTold (flat_map line rows ++ last (counted (length rows))) meant status (contents o) (contents o')
@@ -146,7 +146,7 @@ told_all contents line rows last from to meant status o o' works none took still
     whole.1 ∙ ap (λ n. counted (n + length rows)) none ∙ ap counted (let e : 0 + length rows ≡ length rows = omega arith in e) in
     let first : Appends (contents o) (contents to.output.now) (flat_map line rows) = rw (sym start) whole.0 in
     let P : ℕ → Type 0 = λ n. IsTold (flat_map line rows ++ last n) meant status (contents o) (contents o') in
-    subst P count (told_behind (flat_map line rows) (last to.count) meant status _ _ _ first told)
+    subst P count (told_after (flat_map line rows) (last to.count) meant status _ _ _ first told)
 
 pub same_output : {W T : Type 0} (contents : W → Option (List ℕ)) (line : T → List ℕ) (rows : List T) (from to : DayLines W)
     → from.failed ≡ false → from.count ≡ 0 → TakesAll (TakesLine contents line) from rows to

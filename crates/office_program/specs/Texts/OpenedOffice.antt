@@ -2,8 +2,8 @@
 use Rattle.std.specs.Prelude.{ℕ, List, ◌∷◌, Option, Result, IfOk, IfErr, MatchResult}
 use Rattle.std.specs.declared.io.Write as writers
 use Rattle.socket_link.specs.declared.clock.Clock as a_clock
-use Rattle.command_io.specs.declared.status.Status.{Status}
-use Rattle.command_io.specs.declared.status.Status.TheVariants.{Refused}
+use Rattle.command_io.specs.declared.status.ExitStatus.{ExitStatus}
+use Rattle.command_io.specs.declared.status.ExitStatus.TheVariants.{Refused}
 use Rattle.office_events.specs.declared.refusals.Refusal.{Refusal}
 use Rattle.office_rules.specs.History.{History, Opened}
 use Rattle.office_books.specs.Ledgers.{Ledger}
@@ -18,12 +18,12 @@ use Rattle.office_program.specs.Texts.EndTexts.{IsTold}
 use Rattle.office_program.specs.Texts.Passing.{Lasts}
 use Rattle.office_program.specs.declared.texts.opened_office.Unopened.{Unopened}
 
--- The office stands behind its opening: what waited is lost.
+-- The office stands after its opening: what waited is lost.
 pub record Opens {B : Type 0} (ledger : B → Ledger) (past : History)
     (moments later : Option (List ℕ))
     (office : Office B) : Type 0 where
   pub at : ℕ
-  pub timed : clocks.Tells moments later at
+  pub timed : clocks.TellsMoment moments later at
   pub stands : Stands ledger (Opened at ∷ past) office
 
 -- So it does, unless a wrong answer of a store was taken as true.
@@ -34,10 +34,10 @@ OpensWhereClean ledger past moments later office =
 
 -- The opening is refused as its definition says, or failed outside; the books stand as they did, and the reason is printed.
 pub record TellsUnopened (past : History) (moments later : Option (List ℕ)) (old new : Ledger)
-    (status : Status)
+    (status : ExitStatus)
     (had holds : Option (List ℕ)) : Type 0 where
   pub at : ℕ
-  pub timed : clocks.Tells moments later at
+  pub timed : clocks.TellsMoment moments later at
   pub why : Refusal
   pub refused : IsNotOpened past at old new why
   pub told : IsTold (refused_line why) Refused status had holds
@@ -50,7 +50,7 @@ TellsWhereClean ledger past moments later books had holds unopened =
     (ledger unopened.books).is_clean → TellsUnopened past moments later (ledger books)
     (ledger unopened.books) unopened.status had holds
 
--- Over books that stand behind what was accepted before an office is opened so.
+-- Over books that stand after what was accepted before an office is opened so.
 abbrev pub OpensOver : {B C : Type 0} → stores.Ghosts B → a_clock.Ghosts C → (books : B)
     → (before after : C) → Result (Office B) (Unopened B) → Type 0
 OpensOver b c books before after result =

@@ -2,8 +2,8 @@
 use Rattle.std.specs.Prelude.{◌≡◌, ℕ, List, map, Option, Result, Ok, Err}
 use Rattle.std.specs.Option.{option_and_then}
 use Rattle.std.specs.declared.io.Write as writers
-use Rattle.command_io.specs.declared.status.Status.{Status}
-use Rattle.command_io.specs.declared.status.Status.TheVariants.{Fine, Refused}
+use Rattle.command_io.specs.declared.status.ExitStatus.{ExitStatus}
+use Rattle.command_io.specs.declared.status.ExitStatus.TheVariants.{Fine, Refused}
 use Rattle.interval_core.specs.Days.{account_of}
 use Rattle.interval_core.specs.declared.totals.DayTotal.{DayTotal}
 use Rattle.interval_core.specs.declared.zone.Zone.{Zone}
@@ -18,10 +18,10 @@ use Rattle.office_core.specs.Taking.{failures_of}
 use Rattle.office_core.specs.declared.office.Office.{Office}
 use Rattle.interval_core.specs.Lines.{days_text, end_line}
 use Rattle.script_text.specs.AnswerText.{refused_line}
-use Rattle.office_program.specs.Texts.EndTexts.{Tells}
+use Rattle.office_program.specs.Texts.EndTexts.{TellsEnd}
 
 -- a report that is told is a success, and one that is refused is a refusal
-abbrev pub meant_by : Result (Unit {0}) Refusal → Status
+abbrev pub meant_by : Result (Unit {0}) Refusal → ExitStatus
 meant_by (Ok done) = Fine
 meant_by (Err why) = Refused
 
@@ -42,7 +42,7 @@ IsReport zone past register (Err why) text = text ≡ refused_line why
 -- memory failed or the office had stopped, over the count of the books' failures before and after.
 pub record ReportPrints (zone : Zone) (past : History) (register : Option (List ℕ))
     (before after : ℕ)
-    (text : List ℕ) (meant : Status) : Type 0 where
+    (text : List ℕ) (meant : ExitStatus) : Type 0 where
   pub reply : Result (Unit {0}) Refusal
   pub answer : IsFound (is_there (option_and_then (register_of (facts_of past)) register)) before
       after reply
@@ -51,9 +51,9 @@ pub record ReportPrints (zone : Zone) (past : History) (register : Option (List 
 
 -- It is printed so by an office over what it had accepted, or a part of it, since a write failed.
 abbrev pub ReportsDays : {B W : Type 0} → stores.Ghosts B → writers.Ghosts W
-    → (register : Option (List ℕ)) → (old new : Office B) → (had holds : W) → Status → Type 0
+    → (register : Option (List ℕ)) → (old new : Office B) → (had holds : W) → ExitStatus → Type 0
 ReportsDays b w register old new had holds status = After b.ledger old new
-    (λ past. Tells (ReportPrints (b.ledger (books_in old)).zone past register
+    (λ past. TellsEnd (ReportPrints (b.ledger (books_in old)).zone past register
     (failures_of b.ledger old) (failures_of b.ledger new))
     status (w.contents had) (w.contents holds))
 

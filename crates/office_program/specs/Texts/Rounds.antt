@@ -4,15 +4,15 @@ use Rattle.std.specs.Io.KnownBytes.{Appends}
 use Rattle.std.specs.declared.io.Write as writers
 use Rattle.mb_wire.specs.declared.link.Link as links
 use Rattle.socket_link.specs.declared.clock.Clock as clocks
-use Rattle.command_io.specs.declared.status.Status.{Status}
-use Rattle.command_io.specs.declared.status.Status.TheVariants as status
+use Rattle.command_io.specs.declared.status.ExitStatus.{ExitStatus}
+use Rattle.command_io.specs.declared.status.ExitStatus.TheVariants as status
 use Rattle.office_rules.specs.History.{History}
 use Rattle.office_books.specs.Ledgers.{Ledger}
 use Rattle.office_books.specs.declared.books.Books as stores
 use Rattle.office_core.specs.Standing.{After}
 use Rattle.office_core.specs.declared.office.Office.{Office}
 use Rattle.office_rounds.specs.Between.{passage_of}
-use Rattle.office_rounds.specs.Rounds.{Passage, desk, passage}
+use Rattle.office_rounds.specs.Rounds.{Passage, round_state, passage}
 use Rattle.office_rounds.specs.Rounds as one
 use Rattle.office_rounds.specs.declared.fault.RoundFault.{RoundFault}
 use Rattle.office_rounds.specs.declared.fault.RoundFault.TheVariants.{Refused, Link, Output, TurnsUsed}
@@ -33,10 +33,10 @@ IsRefusalTold (Err TurnsUsed) result old new = (result ≡ Err TurnsUsed) × (ne
 -- the passage of the round itself, which had printed so much
 abbrev pub without_cause : Passage → (printed : Option (List ℕ)) → Passage
 without_cause through printed =
-    passage through.begun (desk printed through.ended.moments through.ended.failures) through.from
+    passage through.begun (round_state printed through.ended.moments through.ended.failures) through.from
     through.to
 
--- A round, and behind what it printed the refusal that broke it off.
+-- A round, and after what it printed the refusal that broke it off.
 pub record PollsRound {B : Type 0} (ledger : B → Ledger) (device : Option (List ℕ)) (past : History)
     (through : Passage)
     (office : Office B) (result : Result (Unit {0}) RoundFault) : Type 0 where
@@ -54,7 +54,7 @@ PollsRoundOver l b c w device from to old new before after had holds result =
     (passage_of l b c w from to old new before after had holds) new result)
 
 -- how the command ends
-abbrev pub round_status : Result (Unit {0}) RoundFault → Status
+abbrev pub round_status : Result (Unit {0}) RoundFault → ExitStatus
 round_status (Ok x) = status.Fine
 round_status (Err (Refused why)) = status.Refused
 round_status (Err Link) = status.Failed

@@ -3,26 +3,26 @@ ghost use Rattle.std.specs.Prelude.{◌≡◌, is_ok, if◌then◌else◌};
 ghost use Rattle.office_program.specs.Texts.EndTexts.{IsTold};
 ghost use Rattle.script_text.specs.AnswerText.{refused_line};
 
-use command_io::Status;
+use command_io::ExitStatus;
 use office_events::Refusal;
 use script_text::write_refusal;
 use std::io::{self, Write};
 
 // How a command ends that has written its last text.
-pub(crate) fn ended(written: io::Result<()>, meant: Status) -> Status
-    ensures { result ≡ if is_ok written then meant else Status.Failed }
+pub(crate) fn ended(written: io::Result<()>, meant: ExitStatus) -> ExitStatus
+    ensures { result ≡ if is_ok written then meant else ExitStatus.Failed }
 {
     match written {
         Ok(()) => meant,
-        Err(_) => Status::Failed,
+        Err(_) => ExitStatus::Failed,
     }
 }
 
 /// Prints why the office refuses.
-pub(crate) fn print_refusal<W: Write>(why: Refusal, output: &mut W) -> Status
-    ensures { IsTold (refused_line why) Status.Refused result
+pub(crate) fn print_refusal<W: Write>(why: Refusal, output: &mut W) -> ExitStatus
+    ensures { IsTold (refused_line why) ExitStatus.Refused result
         (W.contents output.old) (W.contents output.new) }
 {
     let written = write_refusal(why, output);
-    ended(written, Status::Refused)
+    ended(written, ExitStatus::Refused)
 }

@@ -4,7 +4,7 @@ ghost use Rattle.office_core.specs.Standing.{IsFresh};
 ghost use Rattle.office_program.specs.Texts.OpenedOffice.{LastsInside, OpensOver, RefusesOver};
 
 use crate::texts::end_texts::print_refusal;
-use command_io::Status;
+use command_io::ExitStatus;
 use office_books::Books;
 use office_core::Office;
 use socket_link::Clock;
@@ -15,7 +15,7 @@ use std::io::Write;
 #[derive(Drop)]
 pub struct Unopened<B> {
     pub books: B,
-    pub status: Status,
+    pub status: ExitStatus,
 }
 
 /// Opens an office over books at the moment that the clock tells. Where that is refused, `refused N` is printed, and the
@@ -31,7 +31,7 @@ pub fn open_office<B: Books, C: Clock, W: Write>(
     ensures silent { IfOk result (λ office. output.new ≡ output.old) }
     ensures refused { RefusesOver B.Books C.Clock W.Write books clock.old clock.new
         output.old output.new result }
-    ensures ends { IfErr result (λ e. e.status ≢ Status.Fine) }
+    ensures ends { IfErr result (λ e. e.status ≢ ExitStatus.Fine) }
     ensures lasts { LastsInside B.ledger books result }
 {
     let moment = clock.now();

@@ -4,7 +4,7 @@ ghost use Rattle.office_program.specs.Texts.EndTexts.{IsTold};
 
 use crate::texts::end_texts::{ended, print_refusal};
 use crate::texts::lines::DayLines;
-use command_io::Status;
+use command_io::ExitStatus;
 use office_books::Books;
 use office_core::Office;
 use office_events::{Name, Refusal};
@@ -12,14 +12,14 @@ use script_text::write_end;
 use std::io::Write;
 
 // How many days there were, or why there are none.
-fn print_last<W: Write>(told: Result<(), Refusal>, count: u64, output: &mut W) -> Status
+fn print_last<W: Write>(told: Result<(), Refusal>, count: u64, output: &mut W) -> ExitStatus
     ensures { IsTold (last_line count told) (meant_by told) result
         (W.contents output.old) (W.contents output.new) }
 {
     match told {
         Ok(()) => {
             let written = write_end(count, output);
-            ended(written, Status::Fine)
+            ended(written, ExitStatus::Fine)
         }
         Err(why) => print_refusal(why, output),
     }
@@ -31,7 +31,7 @@ pub fn report_days<B: Books, W: Write>(
     office: &mut Office<B>,
     register: &Option<Name>,
     output: &mut W,
-) -> Status
+) -> ExitStatus
     ensures prints { ReportsDays B.Books W.Write register.now office.old office.new
         output.old output.new result }
     ensures asks { Asks B.ledger office.old office.new }
@@ -39,7 +39,7 @@ pub fn report_days<B: Books, W: Write>(
     let mut days = DayLines::to(output);
     let told = office.days(register, &mut days);
     if days.failed {
-        return Status::Failed;
+        return ExitStatus::Failed;
     }
     print_last(told, days.count, days.output)
 }

@@ -5,7 +5,7 @@ ghost use Rattle.office_program.specs.Texts.Rounds as rounds;
 ghost use Rattle.office_program.specs.Texts.Rounds.{IsRefusalTold, PollsRoundOver};
 
 use crate::texts::end_texts::print_refusal;
-use command_io::Status;
+use command_io::ExitStatus;
 use mb_wire::Link;
 use office_books::Books;
 use office_core::Office;
@@ -21,15 +21,15 @@ fn print_cause<W: Write>(done: Result<(), RoundFault>, output: &mut W) -> Result
 {
     match done {
         Err(RoundFault::Refused(why)) => match print_refusal(why, output) {
-            Status::Refused => done,
-            Status::Fine | Status::Failed => Err(RoundFault::Output),
+            ExitStatus::Refused => done,
+            ExitStatus::Fine | ExitStatus::Failed => Err(RoundFault::Output),
         },
         _ => done,
     }
 }
 
 /// Polls the whole plan of a device once, over a link that was just made, and prints what `round_over` prints; where the
-/// office refused an event, `refused N` behind it. `None` is a name that no device can have.
+/// office refused an event, `refused N` after it. `None` is a name that no device can have.
 pub fn poll_round<L: Link, B: Books, C: Clock, W: Write>(
     alloc: Global,
     link: &mut L,
@@ -52,12 +52,12 @@ pub fn poll_round<L: Link, B: Books, C: Clock, W: Write>(
 
 /// How the command of a round ends: a refusal of the office is one, and the link, the printing or the count of turns a
 /// failure.
-pub fn round_status(done: Result<(), RoundFault>) -> Status
+pub fn round_status(done: Result<(), RoundFault>) -> ExitStatus
     ensures { result ≡ rounds.round_status done }
 {
     match done {
-        Ok(()) => Status::Fine,
-        Err(RoundFault::Refused(_)) => Status::Refused,
-        Err(RoundFault::Link | RoundFault::Output | RoundFault::TurnsUsed) => Status::Failed,
+        Ok(()) => ExitStatus::Fine,
+        Err(RoundFault::Refused(_)) => ExitStatus::Refused,
+        Err(RoundFault::Link | RoundFault::Output | RoundFault::TurnsUsed) => ExitStatus::Failed,
     }
 }

@@ -17,7 +17,7 @@ use Rattle.office_rounds.specs.DeviceRounds.Rounds.{heard}
 use Rattle.office_rounds.specs.declared.device_rounds.round.Round.{Round}
 use Rattle.office_rounds.specs.Driver.Showing.{Shown, shown}
 use Rattle.office_rounds.specs.Driver.Turns.{AreNext, IsNext, Table, Wished, answered_for, first_wish, next_by, next_of, place_of, shown_of, table, table_after, table_behind, told, wished}
-use Rattle.office_rounds.specs.Driver.Going.{FeedsNext, Going, GoesOn, IsSettled, Scene, Start, TakesTurn, scene, start}
+use Rattle.office_rounds.specs.Driver.Going.{FeedsNext, Going, OfficeGoesOn, IsSettled, Scene, Start, TakesTurn, scene, start}
 
 is_next : (first : Option Wished) (rounds : List Round) (at : Table) (one : Wished) → table first rounds ≡ at
     → next_by first rounds ≡ Some one → next_of at ≡ Some one
@@ -50,7 +50,7 @@ pub feeds_next : {B V : Type 0} (ledger : B → Ledger) (sees : V → Shown → 
     → ((past : History) → Stands ledger past old.office → (ledger (books_in new.office)).is_clean
     → Stands ledger (with_answer past at e answer) new.office × IsAnswer past at e old.failures new.failures answer × IsTold past at e answer new.office)
     → mid ≡ answered_for place answer old.rounds → new.rounds ≡ map (heard notes) mid → notes ≡ notes_in new.office
-    → frames ≡ outgoing_in new.office → sees old.witness (shown place at e answer notes frames) new.witness
+    → frames ≡ outgoing_in new.office → sees old.observer (shown place at e answer notes frames) new.observer
     → FeedsNext ledger sees at (wished place e) old new
 feeds_next ledger sees at place e answer old new mid notes frames feeds mid_is new_is notes_are frames_are saw = λ past begun fed first going next clean.
     let so = feeds (history_behind past fed) going.leaves.stands clean in
@@ -64,9 +64,9 @@ feeds_next ledger sees at place e answer old new mid notes frames feeds mid_is n
         timed = (going.timed, refl);
         rounds = next_rounds first old.rounds mid new.rounds (table_behind past begun.table fed) place e answer notes _ going.rounds now mid_is new_is all_notes;
         shown = (
-          old.witness,
+          old.observer,
           going.shown,
-          next_shown sees old.witness new.witness (next_of (table_behind past begun.table fed)) place at e answer notes _ frames _ now all_notes all_frames saw,
+          next_shown sees old.observer new.observer (next_of (table_behind past begun.table fed)) place at e answer notes _ frames _ now all_notes all_frames saw,
         );
       },
     )
@@ -90,26 +90,26 @@ comes_none ledger sees at old = λ past begun fed going clean. record { fed = fe
 pub comes_one : {B V : Type 0} (ledger : B → Ledger) (sees : V → Shown → V → Type 0) (at steps : ℕ) (one : Wished) (old mid new : Scene B V)
     → Comes ledger sees at steps old mid → first_wish mid.rounds ≡ Some one → FeedsNext ledger sees at one mid new
     → ((ledger (books_in new.office)).is_clean → (ledger (books_in mid.office)).is_clean) → Comes ledger sees at (steps + 1) old new
-comes_one ledger sees at steps one old mid new comes wish feeds lasts = λ past begun fed going clean.
+comes_one ledger sees at steps one old mid new comes event_wanted feeds lasts = λ past begun fed going clean.
     let far = comes past begun fed going (lasts clean) in
-    let more = feeds past begun far.fed None far.going wish clean in
+    let more = feeds past begun far.fed None far.going event_wanted clean in
     let least : steps ≤ length far.fed = far.far in
     record { fed = more.0 ∷ far.fed; going = more.1; far = omega (arith, least) }
 
 pub settled_none : {B V : Type 0} (ledger : B → Ledger) (sees : V → Shown → V → Type 0) (at steps : ℕ) (old new : Scene B V)
-    → Comes ledger sees at steps old new → first_wish new.rounds ≡ None → GoesOn ledger sees at old new
+    → Comes ledger sees at steps old new → first_wish new.rounds ≡ None → OfficeGoesOn ledger sees at old new
 settled_none ledger sees at steps old new comes none = λ past begun fed going clean.
     let far = comes past begun fed going clean in (far.fed, far.going, inl none)
 
 pub settled_far : {B V : Type 0} (ledger : B → Ledger) (sees : V → Shown → V → Type 0) (at steps : ℕ) (old new : Scene B V)
-    → Comes ledger sees at steps old new → 256 ≤ steps → GoesOn ledger sees at old new
+    → Comes ledger sees at steps old new → 256 ≤ steps → OfficeGoesOn ledger sees at old new
 settled_far ledger sees at steps old new comes enough = λ past begun fed going clean.
     let far = comes past begun fed going clean in
     let least : steps ≤ length far.fed = far.far in (far.fed, far.going, inr (omega (arith, least, enough)))
 
 begins : {B V : Type 0} (ledger : B → Ledger) (sees : V → Shown → V → Type 0) (at : ℕ) (past : History) (first : Option Wished) (old : Scene B V)
     → Stands ledger past old.office
-    → Going ledger sees past (start old.failures (table first old.rounds) old.witness) at [] first old
+    → Going ledger sees past (start old.failures (table first old.rounds) old.observer) at [] first old
 begins ledger sees at past first old stands = record {
   leaves = record { stands = stands; answered = refl };
   next = tt;
@@ -120,27 +120,27 @@ begins ledger sees at past first old stands = record {
 
 -- what the rounds wish is fed from the beginning
 pub turns_on : {B V : Type 0} (ledger : B → Ledger) (sees : V → Shown → V → Type 0) (at : ℕ) (past : History) (old new : Scene B V)
-    → GoesOn ledger sees at old new → Stands ledger past old.office → (ledger (books_in new.office)).is_clean
-    → TakesTurn ledger sees past (start old.failures (table None old.rounds) old.witness) at new
+    → OfficeGoesOn ledger sees at old new → Stands ledger past old.office → (ledger (books_in new.office)).is_clean
+    → TakesTurn ledger sees past (start old.failures (table None old.rounds) old.observer) at new
 turns_on ledger sees at past old new goes stands clean =
-    let so = goes past (start old.failures (table None old.rounds) old.witness) [] (begins ledger sees at past None old stands) clean in
+    let so = goes past (start old.failures (table None old.rounds) old.observer) [] (begins ledger sees at past None old stands) clean in
     record { fed = so.0; going = so.1; settled = so.2 }
 
 -- or something that happened first
 pub turns_first : {B V : Type 0} (ledger : B → Ledger) (sees : V → Shown → V → Type 0) (at : ℕ) (past : History) (one : Wished) (old mid new : Scene B V)
-    → FeedsNext ledger sees at one old mid → GoesOn ledger sees at mid new
+    → FeedsNext ledger sees at one old mid → OfficeGoesOn ledger sees at mid new
     → ((ledger (books_in new.office)).is_clean → (ledger (books_in mid.office)).is_clean) → Stands ledger past old.office
     → (ledger (books_in new.office)).is_clean
-    → TakesTurn ledger sees past (start old.failures (table (Some one) old.rounds) old.witness) at new
+    → TakesTurn ledger sees past (start old.failures (table (Some one) old.rounds) old.observer) at new
 turns_first ledger sees at past one old mid new feeds goes lasts stands clean =
-    let begun = start old.failures (table (Some one) old.rounds) old.witness in
+    let begun = start old.failures (table (Some one) old.rounds) old.observer in
     let fed = feeds past begun [] (Some one) (begins ledger sees at past (Some one) old stands) refl (lasts clean) in
     let so = goes past begun (fed.0 ∷ []) fed.1 clean in
     record { fed = so.0; going = so.1; settled = so.2 }
 
 -- what is to be fed is spelled otherwise
-pub turns_as : {B V : Type 0} (ledger : B → Ledger) (sees : V → Shown → V → Type 0) (at : ℕ) (past : History) (failures : ℕ) (one other : Table) (witness : V)
-    (new : Scene B V) → one ≡ other → TakesTurn ledger sees past (start failures one witness) at new
-    → TakesTurn ledger sees past (start failures other witness) at new
-turns_as ledger sees at past failures one other witness new same takes =
-    let P : Table → Type 0 = λ t. TakesTurn ledger sees past (start failures t witness) at new in subst P same takes
+pub turns_as : {B V : Type 0} (ledger : B → Ledger) (sees : V → Shown → V → Type 0) (at : ℕ) (past : History) (failures : ℕ) (one other : Table) (observer : V)
+    (new : Scene B V) → one ≡ other → TakesTurn ledger sees past (start failures one observer) at new
+    → TakesTurn ledger sees past (start failures other observer) at new
+turns_as ledger sees at past failures one other observer new same takes =
+    let P : Table → Type 0 = λ t. TakesTurn ledger sees past (start failures t observer) at new in subst P same takes

@@ -68,14 +68,14 @@ leaving closing round = record round { stage = stages.left closing round.stage }
 abbrev pub broken_off : Round → Round
 broken_off round = record round { stage = Leaving closing.Failed }
 
--- behind a start replies are waited for; where none waits the device has none to give, and is gone
-abbrev pub stage_behind : List ℕ → Stage
-stage_behind polls = if length polls == 0 then Leaving closing.Gone else Waiting
+-- after a start replies are waited for; where none waits the device has none to give, and is gone
+abbrev pub stage_after : List ℕ → Stage
+stage_after polls = if length polls == 0 then Leaving closing.Gone else Waiting
 
 abbrev pub begun : (first count planned : ℕ) → Round → Round
 begun first count planned round = record {
   device = round.device;
-  stage = stage_behind (round.polls.items ++ numbers first count);
+  stage = stage_after (round.polls.items ++ numbers first count);
   polls = record { items = round.polls.items ++ numbers first count };
   started = min (round.started + count) (2 ^ 64 - 1);
   planned = planned;
@@ -122,7 +122,7 @@ going_on Waiting true round = gone_on round
 going_on Waiting false round = round
 going_on (Leaving closing) ended round = round
 
--- what is left of its polls, behind these notes
+-- what is left of its polls, after these notes
 abbrev pub polls_left : List Note → Round → List ℕ
 polls_left notes round = filter (waits notes) round.polls.items
 

@@ -6,7 +6,7 @@ use Rattle.office_core.specs.EventRun.{Answered}
 use Rattle.office_core.specs.Standing.{After, Stands, books_in}
 use Rattle.office_core.specs.Taking.{failures_of}
 use Rattle.office_core.specs.declared.office.Office.{Office}
-use Rattle.office_rounds.specs.Rounds.{IsFed, desk}
+use Rattle.office_rounds.specs.Rounds.{IsFed, round_state}
 use Rattle.office_rounds.specs.declared.device_rounds.round.Round.{Round}
 use Rattle.office_rounds.specs.Driver.Showing.{Shown}
 use Rattle.office_rounds.specs.Driver.Turns.{AreNext, AreShown, Table, Wished, first_wish, next_by, table, table_behind}
@@ -16,37 +16,37 @@ pub record Scene (B V : Type 0) : Type 0 where
   pub office : Office B
   pub failures : ℕ
   pub rounds : List Round
-  pub witness : V
+  pub observer : V
 
 abbrev pub scene : {B V : Type 0} → Office B → ℕ → List Round → V → Scene B V
-scene office failures rounds witness =
-    record { office = office; failures = failures; rounds = rounds; witness = witness }
+scene office failures rounds observer =
+    record { office = office; failures = failures; rounds = rounds; observer = observer }
 
 -- where a turn began: how often the books had failed, what was to be fed, and the witness
 pub record Start (V : Type 0) : Type 0 where
   pub failures : ℕ
   pub table : Table
-  pub witness : V
+  pub observer : V
 
 abbrev pub start : {V : Type 0} → ℕ → Table → V → Start V
-start failures at witness = record { failures = failures; table = at; witness = witness }
+start failures at observer = record { failures = failures; table = at; observer = observer }
 
 -- each came at this moment
 abbrev pub AreAt : ℕ → List Answered → Type 0
 AreAt at [] = Unit {0}
 AreAt at (one ∷ earlier) = AreAt at earlier × (one.at ≡ at)
 
--- The events that were fed came at one moment, each of them was next, the office stands behind them, each is accepted or
+-- The events that were fed came at one moment, each of them was next, the office stands after them, each is accepted or
 -- refused as the definitions say, and each was shown.
 pub record Going {B V : Type 0} (ledger : B → Ledger) (sees : V → Shown → V → Type 0)
     (past : History) (begun : Start V)
     (at : ℕ) (fed : List Answered) (first : Option Wished) (now : Scene B V) : Type 0 where
-  pub leaves : IsFed ledger past (desk None None begun.failures) (desk None None now.failures)
+  pub leaves : IsFed ledger past (round_state None None begun.failures) (round_state None None now.failures)
       now.office fed
   pub next : AreNext past begun.table fed
   pub timed : AreAt at fed
   pub rounds : table first now.rounds ≡ table_behind past begun.table fed
-  pub shown : AreShown sees begun.witness now.witness past begun.table fed
+  pub shown : AreShown sees begun.observer now.observer past begun.table fed
 
 -- One more event is fed, which is next, if no wrong answer of a store was taken as true until now.
 abbrev pub FeedsNext : {B V : Type 0} → (B → Ledger) → (V → Shown → V → Type 0) → (at : ℕ) → Wished
@@ -61,9 +61,9 @@ FeedsNext {B} {V} ledger sees at one old new =
 abbrev pub IsSettled : List Round → (before after : List Answered) → Type 0
 IsSettled rounds before after = (first_wish rounds ≡ None) ⊎ (256 ≤ length after)
 
-abbrev pub GoesOn : {B V : Type 0} → (B → Ledger) → (V → Shown → V → Type 0) → (at : ℕ)
+abbrev pub OfficeGoesOn : {B V : Type 0} → (B → Ledger) → (V → Shown → V → Type 0) → (at : ℕ)
     → (old new : Scene B V) → Type 0
-GoesOn {B} {V} ledger sees at old new =
+OfficeGoesOn {B} {V} ledger sees at old new =
     (past : History) (begun : Start V) (fed : List Answered)
     → Going ledger sees past begun at fed None old → (ledger (books_in new.office)).is_clean
     → (later : List Answered) × Going ledger sees past begun at later None new
@@ -79,10 +79,10 @@ FeedsOne ledger sees at one old new before after from to =
 abbrev pub Settles : {B V : Type 0} → (B → Ledger) → (V → Shown → V → Type 0) → (at : ℕ)
     → (old new : Office B) → (before after : List Round) → (from to : V) → Type 0
 Settles ledger sees at old new before after from to =
-    GoesOn ledger sees at (scene old (failures_of ledger old) before from)
+    OfficeGoesOn ledger sees at (scene old (failures_of ledger old) before from)
     (scene new (failures_of ledger new) after to)
 
--- What a turn does: it feeds what is next behind what happened, until nothing is.
+-- What a turn does: it feeds what is next after what happened, until nothing is.
 pub record TakesTurn {B V : Type 0} (ledger : B → Ledger) (sees : V → Shown → V → Type 0)
     (past : History) (begun : Start V)
     (at : ℕ) (now : Scene B V) : Type 0 where

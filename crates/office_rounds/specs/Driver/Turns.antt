@@ -16,8 +16,8 @@ use Rattle.office_rounds.specs.declared.device_rounds.round.Round.{Round}
 use Rattle.office_rounds.specs.declared.device_rounds.stage.Stage.{Stage}
 use Rattle.office_rounds.specs.declared.device_rounds.stage.Stage.TheVariants.{Off, Joining, Starting, Waiting, Leaving}
 use Rattle.office_rounds.specs.Driver.Showing.{Shown, shown}
-use Rattle.office_rounds.specs.declared.driver.happenings.Happening.{Happening}
-use Rattle.office_rounds.specs.declared.driver.happenings.Happening.TheVariants.{Stands, Came, Ended, Second}
+use Rattle.office_rounds.specs.declared.driver.device_events.DeviceEvent.{DeviceEvent}
+use Rattle.office_rounds.specs.declared.driver.device_events.DeviceEvent.TheVariants.{Connected, Received, Closed, Tick}
 
 -- an event that is to be fed, for the round of a place or for none
 pub record Wished : Type 0 where
@@ -87,7 +87,7 @@ table_after at answer notes = table None (told (place_of (next_of at)) answer no
 abbrev pub notes_of : (past : History) → List Answered → Answered → List Note
 notes_of past earlier one = notes_after (history_behind past earlier) one.at one.event one.result
 
--- the rounds behind what was fed
+-- the rounds after what was fed
 abbrev pub table_behind : (past : History) → Table → List Answered → Table
 table_behind past from [] = from
 table_behind past from (one ∷ earlier) =
@@ -98,7 +98,7 @@ abbrev pub IsNext : Option Wished → Event → Type 0
 IsNext None e = ⊥
 IsNext (Some one) e = e ≡ one.event
 
--- each event was next behind those before it
+-- each event was next after those before it
 abbrev pub AreNext : (past : History) → Table → List Answered → Type 0
 AreNext past from [] = Unit {0}
 AreNext past from (one ∷ earlier) =
@@ -141,8 +141,8 @@ abbrev pub brought : ℕ → List ℕ → List Round → Table
 brought place piece rounds = table (came place (slice_get rounds place) piece) rounds
 
 -- What happens is fed first, or changes what a round wishes.
-abbrev pub opened : Happening → List Round → Table
-opened (Stands place) rounds = table None (at_place place joined rounds)
-opened (Came place piece) rounds = brought place piece rounds
-opened (Ended place closing) rounds = table None (at_place place (leaving closing) rounds)
-opened Second rounds = table (Some (wished None event.Tick)) rounds
+abbrev pub opened : DeviceEvent → List Round → Table
+opened (Connected place) rounds = table None (at_place place joined rounds)
+opened (Received place piece) rounds = brought place piece rounds
+opened (Closed place closing) rounds = table None (at_place place (leaving closing) rounds)
+opened Tick rounds = table (Some (wished None event.Tick)) rounds

@@ -39,8 +39,8 @@ fn waits(notes: &[Note], poll: u64) -> bool
     !has_ended(notes, poll)
 }
 
-/// The polls that wait on, behind these notes.
-pub(crate) fn waiting_behind(polls: &Polls, notes: &[Note]) -> Polls
+/// The polls that wait on, after these notes.
+pub(crate) fn waiting_after(polls: &Polls, notes: &[Note]) -> Polls
     ensures { result.items ≡ filter (specs.waits notes.now) polls.now.items }
 {
     let mut left = Polls::new();

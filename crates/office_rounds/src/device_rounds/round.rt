@@ -1,5 +1,5 @@
 //! The round of one device: its stage, its polls that wait, how they ended.
-use crate::device_rounds::polls::{MOST_WAITING, Polls, Sum, add, waiting_behind};
+use crate::device_rounds::polls::{MOST_WAITING, Polls, Sum, add, waiting_after};
 use crate::device_rounds::stage::Stage;
 use office_events::{Answer, Command, Event, Name, Note, Refusal, StartRound};
 use poll_core::Closing;
@@ -39,7 +39,7 @@ impl Round {
     }
 
     /// What the office is to be told next, if anything.
-    pub fn wish(&self) -> Option<Event>
+    pub fn event_wanted(&self) -> Option<Event>
         ensures { result ≡ rounds.wish_of self.now }
     {
         match self.stage {
@@ -108,7 +108,7 @@ impl Round {
         }
     }
 
-    // Goes on behind the end of a poll.
+    // Goes on after the end of a poll.
     fn go_on(&mut self)
         ensures { self.new ≡ rounds.gone_on self.old }
     {
@@ -120,12 +120,12 @@ impl Round {
     }
 
     /// The office has told this.
-    pub fn hear(&mut self, notes: &[Note])
+    pub fn apply_notes(&mut self, notes: &[Note])
         ensures { self.new ≡ rounds.heard notes.now self.old }
     {
         let before = self.polls.len();
         self.sum.note_all(&self.polls, notes);
-        self.polls = waiting_behind(&self.polls, notes);
+        self.polls = waiting_after(&self.polls, notes);
         if matches!(self.stage, Stage::Waiting) && self.polls.len() < before {
             self.go_on();
         }

@@ -17,6 +17,6 @@ pub fn hear_all(rounds: &mut [Round], notes: &[Note])
     ensures { rounds.new ≡ map (heard notes.now) rounds.old }
 {
     for round in rounds.iter_mut() {
-        round.hear(notes);
+        round.apply_notes(notes);
     }
 }

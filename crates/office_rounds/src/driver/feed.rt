@@ -6,7 +6,7 @@ ghost use Rattle.office_rounds.specs.Driver.Turns.{answered_for, wished};
 ghost use Rattle.office_rounds.specs.Driver.Going.{FeedsOne};
 
 use crate::device_rounds::{Round, first_wishing, hear_all};
-use crate::driver::witness::Witness;
+use crate::driver::observer::Observer;
 use office_books::Books;
 use office_core::Office;
 use office_events::{Answer, Event, Refusal};
@@ -23,16 +23,16 @@ fn answer_for(rounds: &mut [Round], place: Option<usize>, answer: Result<Answer,
 }
 
 /// Feeds an event for the round of a place, or of none.
-pub(crate) fn feed_one<B: Books, V: Witness>(
+pub(crate) fn feed_one<B: Books, V: Observer>(
     rounds: &mut [Round],
     place: Option<usize>,
     event: &Event,
     office: &mut Office<B>,
     at: u64,
-    witness: &mut V,
+    observer: &mut V,
 )
     ensures feeds { FeedsOne B.ledger V.sees at (wished place event.now) office.old office.new
-        rounds.old rounds.new witness.old witness.new }
+        rounds.old rounds.new observer.old observer.new }
     ensures lasts { Lasts B.ledger office.old office.new }
 {
     let answer = office.feed(at, event);
@@ -40,7 +40,7 @@ pub(crate) fn feed_one<B: Books, V: Witness>(
     let notes = office.notes();
     let frames = office.outgoing();
     hear_all(rounds, notes);
-    witness.see(place, at, event, answer, notes, frames);
+    observer.observe(place, at, event, answer, notes, frames);
 }
 
 /// The place of the first round that wishes something, and what it wishes.
@@ -49,7 +49,7 @@ pub(crate) fn first_wish(rounds: &[Round]) -> Option<(usize, Event)>
 {
     let place = first_wishing(rounds)?;
     if place < rounds.len() {
-        let event = rounds[place].wish()?;
+        let event = rounds[place].event_wanted()?;
         return Some((place, event));
     }
     None

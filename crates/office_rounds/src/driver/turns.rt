@@ -7,33 +7,33 @@ ghost use Rattle.office_rounds.specs.DeviceRounds.Rounds.{joined, leaving};
 
 use crate::device_rounds::{Round, Stage};
 use crate::driver::feed::{feed_one, first_wish};
-use crate::driver::happenings::Happening;
-use crate::driver::witness::Witness;
+use crate::driver::device_events::DeviceEvent;
+use crate::driver::observer::Observer;
 use office_books::Books;
 use office_core::Office;
 use office_events::{Event, Name, Piece};
 use poll_core::Closing;
 
-/// How many wishes of the rounds a turn feeds at most, behind what happened; what is wished then stays wished, and the next
+/// How many wishes of the rounds a turn feeds at most, after what happened; what is wished then stays wished, and the next
 /// turn goes on.
 pub const MOST_STEPS: u32 = 256;
 
 // Feeds what the rounds wish, until they wish nothing.
-fn settle<B: Books, V: Witness>(
+fn settle<B: Books, V: Observer>(
     rounds: &mut [Round],
     office: &mut Office<B>,
     at: u64,
-    witness: &mut V,
+    observer: &mut V,
 )
     ensures settles { Settles B.ledger V.sees at office.old office.new
-        rounds.old rounds.new witness.old witness.new }
+        rounds.old rounds.new observer.old observer.new }
     ensures lasts { Lasts B.ledger office.old office.new }
 {
     for _step in 0..MOST_STEPS {
         let Some((place, event)) = first_wish(rounds) else {
             return;
         };
-        feed_one(rounds, Some(place), &event, office, at, witness);
+        feed_one(rounds, Some(place), &event, office, at, observer);
     }
 }
 
@@ -56,34 +56,34 @@ fn leave(rounds: &mut [Round], place: usize, closing: Closing)
 }
 
 // Feeds an event that happened, and then what the rounds wish.
-fn begin<B: Books, V: Witness>(
+fn begin<B: Books, V: Observer>(
     rounds: &mut [Round],
     place: Option<usize>,
     event: &Event,
     office: &mut Office<B>,
     at: u64,
-    witness: &mut V,
+    observer: &mut V,
 )
     ensures turns { Turns B.ledger V.sees at (table (Some (wished place event.now)) rounds.old)
-        office.old office.new rounds.new witness.old witness.new }
+        office.old office.new rounds.new observer.old observer.new }
     ensures lasts { Lasts B.ledger office.old office.new }
 {
-    feed_one(rounds, place, event, office, at, witness);
-    settle(rounds, office, at, witness);
+    feed_one(rounds, place, event, office, at, observer);
+    settle(rounds, office, at, observer);
 }
 
 // Feeds what the rounds wish.
-fn go_on<B: Books, V: Witness>(
+fn go_on<B: Books, V: Observer>(
     rounds: &mut [Round],
     office: &mut Office<B>,
     at: u64,
-    witness: &mut V,
+    observer: &mut V,
 )
     ensures turns { Turns B.ledger V.sees at (table None rounds.old)
-        office.old office.new rounds.new witness.old witness.new }
+        office.old office.new rounds.new observer.old observer.new }
     ensures lasts { Lasts B.ledger office.old office.new }
 {
-    settle(rounds, office, at, witness);
+    settle(rounds, office, at, observer);
 }
 
 // The name of the device whose replies are waited for, at a place.
@@ -101,50 +101,50 @@ fn waiting_at(rounds: &[Round], place: usize) -> Option<Option<Name>>
 }
 
 // Feeds bytes of a device whose replies are waited for; others are dropped.
-fn take_bytes<B: Books, V: Witness>(
+fn take_bytes<B: Books, V: Observer>(
     rounds: &mut [Round],
     place: usize,
     piece: Piece,
     office: &mut Office<B>,
     at: u64,
-    witness: &mut V,
+    observer: &mut V,
 )
     ensures turns { Turns B.ledger V.sees at (brought place piece rounds.old)
-        office.old office.new rounds.new witness.old witness.new }
+        office.old office.new rounds.new observer.old observer.new }
     ensures lasts { Lasts B.ledger office.old office.new }
 {
     match waiting_at(rounds, place) {
         Some(device) => {
             let event = Event::Bytes(device, piece);
-            begin(rounds, Some(place), &event, office, at, witness);
+            begin(rounds, Some(place), &event, office, at, observer);
         }
-        None => go_on(rounds, office, at, witness),
+        None => go_on(rounds, office, at, observer),
     }
 }
 
 /// A turn: what happens is fed to the office, and then what the rounds of the devices wish, the first of them first, until
 /// they wish nothing. All of it comes at one moment, in seconds since 1970-01-01 UTC.
-pub fn turn<B: Books, V: Witness>(
+pub fn turn<B: Books, V: Observer>(
     rounds: &mut [Round],
-    happening: Happening,
+    device_event: DeviceEvent,
     office: &mut Office<B>,
     at: u64,
-    witness: &mut V,
+    observer: &mut V,
 )
-    ensures turns { Turns B.ledger V.sees at (opened happening rounds.old)
-        office.old office.new rounds.new witness.old witness.new }
+    ensures turns { Turns B.ledger V.sees at (opened device_event rounds.old)
+        office.old office.new rounds.new observer.old observer.new }
     ensures lasts { Lasts B.ledger office.old office.new }
 {
-    match happening {
-        Happening::Stands(place) => {
+    match device_event {
+        DeviceEvent::Connected(place) => {
             join(rounds, place);
-            go_on(rounds, office, at, witness);
+            go_on(rounds, office, at, observer);
         }
-        Happening::Came(place, piece) => take_bytes(rounds, place, piece, office, at, witness),
-        Happening::Ended(place, closing) => {
+        DeviceEvent::Received(place, piece) => take_bytes(rounds, place, piece, office, at, observer),
+        DeviceEvent::Closed(place, closing) => {
             leave(rounds, place, closing);
-            go_on(rounds, office, at, witness);
+            go_on(rounds, office, at, observer);
         }
-        Happening::Second => begin(rounds, None, &Event::Tick, office, at, witness),
+        DeviceEvent::Tick => begin(rounds, None, &Event::Tick, office, at, observer),
     }
 }

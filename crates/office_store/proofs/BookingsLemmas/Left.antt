@@ -31,7 +31,7 @@ use Rattle.office_rules.specs.Meters.{opened, installed, journal_of, rows_of}
 use Rattle.office_rules.specs.Steps.{OtherMetersStay}
 use Rattle.office_rules.proofs.Journals.{installed_fits, well}
 use Rattle.office_rules.proofs.Lookups.{same_text, same_itself}
-use Rattle.office_rules.proofs.Stepping.{installation_by, named, own_line, installed_so, line_behind}
+use Rattle.office_rules.proofs.Stepping.{installation_by, named, own_line, installed_so, line_after}
 use Rattle.store_tables.specs.Content.{Content, HasRows, Edits, without_where, changed_where}
 use Rattle.store_devices.specs.Devices.Trees as list_tree
 use Rattle.store_devices.specs.Devices.Rows.{device_columns, register_columns}
@@ -216,7 +216,7 @@ module _ (v : VoidedEntry) (facts : List Fact) (lawful : AreLawful (fact.Void v 
   rows = rows_of facts o
 
   line_is : journal_of (f ∷ facts) o.meter ≡ journal.Voided v.place ∷ lines
-  line_is = line_behind facts v.meter (journal.Voided v.place) o (named facts v.meter o there)
+  line_is = line_after facts v.meter (journal.Voided v.place) o (named facts v.meter o there)
 
   spares : SparesOthers f facts v.meter
   spares = λ (x : Opening) (off : same v.meter x.meter ≡ false). others f facts x (cond-false _ _ _ off)

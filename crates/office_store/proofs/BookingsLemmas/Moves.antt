@@ -4,7 +4,7 @@ use Rattle.std.proofs.lemmas.Bool.{cond-true, cond-false}
 use Rattle.sqlite.specs.Order.{Row}
 use Rattle.energy_core.specs.declared.entries.Last.{Last}
 use Rattle.energy_core.specs.declared.entries.Step.{Step}
-use Rattle.energy_core.specs.Admission.{entered as entered_behind}
+use Rattle.energy_core.specs.Admission.{entered as entered_after}
 use Rattle.interval_core.specs.Share.{shares_of}
 use Rattle.meter_journal.specs.Books.{last_in}
 use Rattle.meter_journal.specs.Changes.{step_on}
@@ -27,7 +27,7 @@ use Rattle.store_tables.specs.Entries.Trees as entry_tree
 use Rattle.store_tables.specs.declared.entries.rows.EntryRow.{EntryRow}
 use Rattle.store_tables.specs.Entries.Rows.{Entered, entry_columns, entry_place, is_of}
 use Rattle.store_facts.specs.Intervals.StepShares.{BooksShares}
-use Rattle.store_facts.specs.Rows.{placed, installed_as, installed_row, last_row, ranged, entered, entry_row, scale_behind, entered_rows, entries_at}
+use Rattle.store_facts.specs.Rows.{placed, installed_as, installed_row, last_row, ranged, entered, entry_row, scale_after, entered_rows, entries_at}
 use Rattle.store_facts.specs.Recording.{Records, IsNext}
 use Rattle.store_facts.proofs.Energy.{found_recorded}
 use Rattle.store_facts.proofs.EntryRecorded.{entries_count, entry_recorded}
@@ -81,8 +81,8 @@ module _ (booked : BookedEntry) (facts : List Fact) (o : Opening) (on : MovesOn 
       let meter = installed o in
       let next = last_in meter (EnteredLine booked.kind booked.entry ∷ lines) in
       let step = step_on meter lines booked.entry in
-      let is : entered_behind standing.range standing.last.total (counter_of standing.last) booked.entry ≡ Ok (next, step) =
-      ap₂ (λ (range : ℕ) (last : LastRow). entered_behind range last.total (counter_of last) booked.entry) range_is last_is ∙ on.goes_on.booked in
+      let is : entered_after standing.range standing.last.total (counter_of standing.last) booked.entry ≡ Ok (next, step) =
+      ap₂ (λ (range : ℕ) (last : LastRow). entered_after range last.total (counter_of last) booked.entry) range_is last_is ∙ on.goes_on.booked in
       let made = advances next step is in
       (made.0 ∙ ap₂ (λ (last : Last) (total : ℕ). stands_at last (total + step.mwh)) on.goes_on.last (ap (λ (last : LastRow). last.total) last_is), made.1)
 
@@ -96,7 +96,7 @@ module _ (booked : BookedEntry) (facts : List Fact) (o : Opening) (on : MovesOn 
 
   pub same_row : (row : EntryRow) → standing.place ≡ length (rows_of facts o) + 2
       → row ≡ entry_row advance.last.sf (record { place = standing.place; kind = booked.kind; entry = booked.entry; stands = true })
-      → (let new = new_row (rows_of facts o) booked.kind booked.entry in row ≡ entry_row (scale_behind o (new ∷ rows_of facts o)) new)
+      → (let new = new_row (rows_of facts o) booked.kind booked.entry in row ≡ entry_row (scale_after o (new ∷ rows_of facts o)) new)
   same_row row place_is row_is =
       row_is ∙ ap₂ (λ (sf : ℤ) (place : ℕ). entry_row sf (record { place = place; kind = booked.kind; entry = booked.entry; stands = true }))
       (ap (λ (last : LastRow). last.sf) advanced.0) place_is

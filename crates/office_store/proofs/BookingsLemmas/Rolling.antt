@@ -20,12 +20,12 @@ use Rattle.office_events.specs.declared.facts.Opening.{Opening}
 use Rattle.office_rules.specs.Meters.{opened}
 use Rattle.office_rules.proofs.Lookups.{same_itself}
 use Rattle.store_tables.specs.Entries.Rows.{Entered, is_entry, rolled as with_rollovers}
-use Rattle.store_facts.specs.Rows.{rolls_of, entry_row, entered, opening_row, scale_behind, entered_rows}
+use Rattle.store_facts.specs.Rows.{rolls_of, entry_row, entered, opening_row, scale_after, entered_rows}
 use Rattle.store_queries.proofs.MeteringLemmas.Shapes.{IsBelow, below, FoundThere, found_rest, found_there}
 
 -- ---- the next row that stands
 
--- it is the only one at its place, and behind the one that is asked for
+-- it is the only one at its place, and after the one that is asked for
 pub record IsNextThere (place : ℕ) (next : EntryRow) (rows : List EntryRow) : Type 0 where
   pub each : AllByRecursion (FoundThere next.place next) rows
   pub stands : next.stands ≡ true
@@ -81,7 +81,7 @@ next_there place (row ∷ rows) around next numbered h is = elim (cases_Bool (ro
       (ap (λ (a : Around). a.next) passing ∙ is)
 ]
 
--- ---- the scale behind the rows
+-- ---- the scale after the rows
 
 sf_kept : (l m : Last) (e : Entry) → l.sf ≡ m.sf → (after l e).sf ≡ (after m e).sf
 sf_kept l m (entry.Step at raw rolls) is = is
@@ -112,7 +112,7 @@ module _ (o : Opening) where
 
   -- a row that stands as before, with an entry of the same scale
   same_scale : (b : Bool) (row now : EntryRow) (rows rest : List EntryRow) → row.stands ≡ b → now.stands ≡ b → ((l : Last) → (after l now.entry).sf ≡ (after l row.entry).sf)
-      → scale_behind o rest ≡ scale_behind o rows → scale_behind o (now ∷ rest) ≡ scale_behind o (row ∷ rows)
+      → scale_after o rest ≡ scale_after o rows → scale_after o (now ∷ rest) ≡ scale_after o (row ∷ rows)
   same_scale true row now rows rest was is keeps more =
       ap (λ es. (last_of (opened o) es).sf) (entries_standing now rest is) ∙ keeps (stood rest) ∙ sf_kept (stood rest) (stood rows) row.entry more
       ∙ sym (ap (λ es. (last_of (opened o) es).sf) (entries_standing row rows was))
@@ -121,13 +121,13 @@ module _ (o : Opening) where
 
   -- a reading that is struck
   struck_scale : (b : Bool) (row : EntryRow) (rows rest : List EntryRow) → row.stands ≡ b → is_read row.kind row.entry ≡ true
-      → scale_behind o rest ≡ scale_behind o rows → scale_behind o (struck row ∷ rest) ≡ scale_behind o (row ∷ rows)
+      → scale_after o rest ≡ scale_after o rows → scale_after o (struck row ∷ rest) ≡ scale_after o (row ∷ rows)
   struck_scale true row rows rest was read more =
       more ∙ sym (sf_read (stood rows) row.kind row.entry read) ∙ sym (ap (λ es. (last_of (opened o) es).sf) (entries_standing row rows was))
   struck_scale false row rows rest was read more = more ∙ sym (ap (λ es. (last_of (opened o) es).sf) (entries_struck row rows was))
 
-  rolled_scale : (b : Bool) (last : Last) (row : EntryRow) (rows rest : List EntryRow) → scale_behind o rest ≡ scale_behind o rows
-      → scale_behind o (cond b (record row { entry = with_rolls last row.entry }) row ∷ rest) ≡ scale_behind o (row ∷ rows)
+  rolled_scale : (b : Bool) (last : Last) (row : EntryRow) (rows rest : List EntryRow) → scale_after o rest ≡ scale_after o rows
+      → scale_after o (cond b (record row { entry = with_rolls last row.entry }) row ∷ rest) ≡ scale_after o (row ∷ rows)
   rolled_scale true last row rows rest more = same_scale row.stands row (record row { entry = with_rolls last row.entry }) rows rest refl refl (λ l. sf_rolled last l row.entry) more
   rolled_scale false last row rows rest more = same_scale row.stands row row rows rest refl refl (λ l. refl) more
 
@@ -135,20 +135,20 @@ module _ (o : Opening) where
   abbrev pub IsRead : (place : ℕ) → EntryRow → Type 0
   IsRead place row = row.place ≡ place → is_read row.kind row.entry ≡ true
 
-  next_scale : (b : Bool) (last : Last) (row : EntryRow) (rows rest : List EntryRow) → scale_behind o rest ≡ scale_behind o rows
-      → scale_behind o (cond b (rolled last row) row ∷ rest) ≡ scale_behind o (row ∷ rows)
+  next_scale : (b : Bool) (last : Last) (row : EntryRow) (rows rest : List EntryRow) → scale_after o rest ≡ scale_after o rows
+      → scale_after o (cond b (rolled last row) row ∷ rest) ≡ scale_after o (row ∷ rows)
   next_scale true last row rows rest more = rolled_scale (row.stands && is_reading row.kind) last row rows rest more
   next_scale false last row rows rest more = same_scale row.stands row row rows rest refl refl (λ l. refl) more
 
   changed_scale : (b : Bool) (place : ℕ) (next : Option EntryRow) (last : Last) (row : EntryRow) (rows rest : List EntryRow) → (row.place == place) ≡ b → IsRead place row
-      → scale_behind o rest ≡ scale_behind o rows → scale_behind o (changed_by place next last row ∷ rest) ≡ scale_behind o (row ∷ rows)
+      → scale_after o rest ≡ scale_after o rows → scale_after o (changed_by place next last row ∷ rest) ≡ scale_after o (row ∷ rows)
   changed_scale true place next last row rows rest at read more =
-      ap (λ (r : EntryRow). scale_behind o (r ∷ rest)) (at_void place next last row at) ∙ struck_scale row.stands row rows rest refl (read (eqb-true row.place place at)) more
+      ap (λ (r : EntryRow). scale_after o (r ∷ rest)) (at_void place next last row at) ∙ struck_scale row.stands row rows rest refl (read (eqb-true row.place place at)) more
   changed_scale false place next last row rows rest off read more =
-      ap (λ (r : EntryRow). scale_behind o (r ∷ rest)) (off_void place next last row off) ∙ next_scale (is_next next row) last row rows rest more
+      ap (λ (r : EntryRow). scale_after o (r ∷ rest)) (off_void place next last row off) ∙ next_scale (is_next next row) last row rows rest more
 
   pub same_scales : (place : ℕ) (next : Option EntryRow) (last : Last) (rows : List EntryRow) → AllByRecursion (IsRead place) rows
-      → scale_behind o (map (changed_by place next last) rows) ≡ scale_behind o rows
+      → scale_after o (map (changed_by place next last) rows) ≡ scale_after o rows
   same_scales place next last [] h = refl
   same_scales place next last (row ∷ rows) h =
       changed_scale (row.place == place) place next last row rows (map (changed_by place next last) rows) refl h.0 (same_scales place next last rows h.1)
@@ -165,8 +165,8 @@ module _ (o : Opening) where
     all_edited begin [] h e = ap (λ x. x ∷ []) begin
     all_edited begin (row ∷ rows) h e =
         let ch = changed_by place next last in
-        let scale : scale_behind o (ch row ∷ map ch rows) ≡ scale_behind o (row ∷ rows) = same_scales place next last (row ∷ rows) h in
-        ap₂ ◌∷◌ (ap (λ s. entered o.meter (entry_row s (ch row))) scale ∙ e.0 (scale_behind o (row ∷ rows))) (all_edited begin rows h.1 e.1)
+        let scale : scale_after o (ch row ∷ map ch rows) ≡ scale_after o (row ∷ rows) = same_scales place next last (row ∷ rows) h in
+        ap₂ ◌∷◌ (ap (λ s. entered o.meter (entry_row s (ch row))) scale ∙ e.0 (scale_after o (row ∷ rows))) (all_edited begin rows h.1 e.1)
 
   -- none comes next: nothing of the rows changes
   struck_or_not : (b : Bool) (last : Last) (row : EntryRow) (s : ℤ) → entry_row s (cond b (struck row) row) ≡ entry_row s row

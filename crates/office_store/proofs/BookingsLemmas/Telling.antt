@@ -15,14 +15,14 @@ use Rattle.office_rules.specs.Meters.{rows_of}
 use Rattle.office_rules.specs.Laws.{JournalsFit}
 use Rattle.office_rules.proofs.Lists.{reverse_cons}
 use Rattle.store_tables.specs.declared.faults.RowFault.{RowFault}
-use Rattle.store_tables.specs.Asking.{AsksInside, Tells, ReadsRow}
+use Rattle.store_tables.specs.Asking.{AsksInside, TellsAnswer, ReadsRow}
 use Rattle.store_tables.specs.Content.{Content, HasRows}
 use Rattle.store_tables.specs.Meters.Trees as meter_tree
 use Rattle.store_tables.specs.Meters.Rows.{ranged_columns, is_range_of, HasRange}
 use Rattle.store_tables.specs.declared.entries.rows.EntryRow as stored
 use Rattle.store_tables.specs.Entries.Rows.{Entered, entry_shown, IsRow, IsSoundEntered}
 use Rattle.store_facts.specs.Going.{Goes, Told}
-use Rattle.store_facts.specs.Rows.{ranged, entered, entry_row, opening_row, scale_behind, entered_rows}
+use Rattle.store_facts.specs.Rows.{ranged, entered, entry_row, opening_row, scale_after, entered_rows}
 use Rattle.store_facts.specs.Tables.{AreOf}
 use Rattle.store_facts.proofs.GoingLemmas.{of_answer, told_less}
 use Rattle.store_facts.proofs.Standing.{range_found}
@@ -40,7 +40,7 @@ pub record Says {A X : Type 0} (tree : ℕ) (columns : X → Row) (Answers : Lis
 
 -- one question
 pub said : {S A X : Type 0} (g : Ghosts S) (old new : Held S) (tree : ℕ) (columns : X → Row) (a : A) (Answers : List X → A → Type 0) (says : List Fact → A → Type 0)
-    → AsksInside {X = A} {E = Error} g old new (Ok a) → Tells {E = Error} g old new tree columns (Ok a) Answers
+    → AsksInside {X = A} {E = Error} g old new (Ok a) → TellsAnswer {E = Error} g old new tree columns (Ok a) Answers
     → ((zone : List ℕ) (facts : List Fact) (content : Content) → AreOf zone facts content → Says tree columns Answers (says facts) content)
     → Goes {X = A} {E = RowFault} (state g old) (state g new) (Ok a) (IsSaidIn (λ facts. says facts a))
 said g old new tree columns a Answers says asks tells speaks =
@@ -58,7 +58,7 @@ opening_first : (o : Opening) (rows : List EntryRow) → (es : List Entered) × 
 opening_first o [] = ([], refl)
 opening_first o (row ∷ rows) =
     let it = opening_first o rows in
-    let last = entered o.meter (entry_row (scale_behind o (row ∷ rows)) row) in
+    let last = entered o.meter (entry_row (scale_after o (row ∷ rows)) row) in
     (it.0 ++ last ∷ [], reverse_cons last (entered_rows o rows) ∙ ap (λ l. l ++ last ∷ []) it.1)
 
 -- where the first of these entries is

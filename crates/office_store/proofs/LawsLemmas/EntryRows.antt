@@ -17,7 +17,7 @@ use Rattle.office_rules.specs.Meters.{opened}
 use Rattle.store_tables.specs.declared.entries.rows.EntryKind.{EntryKind}
 use Rattle.store_tables.specs.declared.entries.rows.EntryKind.TheVariants as kind
 use Rattle.store_tables.specs.Entries.Rows.{Entered, entry_place}
-use Rattle.store_facts.specs.Rows.{kind_as, raw_of, rolls_of, after_of, entry_row, opening_row, entered, scale_behind, entered_rows}
+use Rattle.store_facts.specs.Rows.{kind_as, raw_of, rolls_of, after_of, entry_row, opening_row, entered, scale_after, entered_rows}
 use Rattle.office_store.proofs.LawsLemmas.Lists.{Among, InOrder, undone}
 use Rattle.office_store.proofs.LawsLemmas.Journals.{is_change, sets, IsFormed, StandsBy}
 use Rattle.office_store.proofs.LawsLemmas.Placed.{Falls}
@@ -45,7 +45,7 @@ HasScale (entry.Step at raw rolls) sf = Unit {0}
 HasScale (entry.Change at before new set) sf = set ≡ sf
 
 scale_by : (o : Opening) (place : ℕ) (k : journal.EntryKind) (e : Entry) (stands : Bool) (rows : List EntryRow) → (is_change e ≡ true → stands ≡ true)
-    → HasScale e (scale_behind o (record { place = place; kind = k; entry = e; stands = stands } ∷ rows))
+    → HasScale e (scale_after o (record { place = place; kind = k; entry = e; stands = stands } ∷ rows))
 scale_by o place k (entry.Step at raw rolls) stands rows h = tt
 scale_by o place k (entry.Change at before new set) stands rows h =
     let row : EntryRow = record { place = place; kind = k; entry = entry.Change at before new set; stands = stands } in
@@ -66,18 +66,18 @@ SameVoids lines others = (place : ℕ) → is_voided place lines ≡ is_voided p
 
 module _ (o : Opening) (lines others : Journal) (voids : SameVoids lines others) where
   abbrev row_in : EntryRow → List EntryRow → Entered
-  row_in a rows = entered o.meter (entry_row (scale_behind o (a ∷ rows)) a)
+  row_in a rows = entered o.meter (entry_row (scale_after o (a ∷ rows)) a)
 
   row_told : (a b : EntryRow) (xs ys : List EntryRow) → row_in a xs ≡ row_in b ys → IsFormed a → IsFormed b → StandsBy lines a → StandsBy others b → a ≡ b
   row_told a b xs ys e p q s t =
       let place : a.place ≡ b.place = λ i. (e i).entry.place in
       let kind : a.kind ≡ b.kind = undone kind_as kind_from kind_back _ _ (λ i. (e i).entry.kind) in
-      let sf : scale_behind o (a ∷ xs) ≡ scale_behind o (b ∷ ys) = λ i. (e i).entry.sf in
-      let mine : HasScale a.entry (scale_behind o (a ∷ xs)) = scale_by o a.place a.kind a.entry a.stands xs p.stands in
-      let theirs : HasScale b.entry (scale_behind o (a ∷ xs)) =
+      let sf : scale_after o (a ∷ xs) ≡ scale_after o (b ∷ ys) = λ i. (e i).entry.sf in
+      let mine : HasScale a.entry (scale_after o (a ∷ xs)) = scale_by o a.place a.kind a.entry a.stands xs p.stands in
+      let theirs : HasScale b.entry (scale_after o (a ∷ xs)) =
       scale_turned b.entry (sym sf) (scale_by o b.place b.kind b.entry b.stands ys q.stands) in
       let entry : a.entry ≡ b.entry =
-      entry_told a.kind a.entry b.entry (scale_behind o (a ∷ xs)) p.kind (ap sets kind ∙ q.kind) mine theirs
+      entry_told a.kind a.entry b.entry (scale_after o (a ∷ xs)) p.kind (ap sets kind ∙ q.kind) mine theirs
       (λ i. (e i).entry.moment) (λ i. (e i).entry.raw) (λ i. (e i).entry.rolls) (λ i. (e i).entry.after) in
       let stands : a.stands ≡ b.stands = s ∙ ap not (voids a.place ∙ ap (λ n. is_voided n others) place) ∙ sym t in
       λ i. record { place = place i; kind = kind i; entry = entry i; stands = stands i }
@@ -110,7 +110,7 @@ pub entries_fall : (o : Opening) (xs : List EntryRow) → AreNumbered xs → InO
 entries_fall o [] h = (tt, tt)
 entries_fall o (x ∷ xs) h = (
   let is = h.0 in
-      all_weaker (λ e. entry_place e ≤ length xs + 1) (Falls entry_place (entered o.meter (entry_row (scale_behind o (x ∷ xs)) x)))
+      all_weaker (λ e. entry_place e ≤ length xs + 1) (Falls entry_place (entered o.meter (entry_row (scale_after o (x ∷ xs)) x)))
       (λ e le. omega (arith, is)) (entered_rows o xs) (few o (length xs + 1) xs h.1 (omega arith)),
   entries_fall o xs h.1,
 )

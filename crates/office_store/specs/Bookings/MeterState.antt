@@ -3,7 +3,7 @@ use Rattle.std.specs.Prelude.{◌≡◌, ℕ, ◌+◌, true, Bool, List, Some, O
 use Rattle.energy_core.specs.declared.entries.Last.{Last}
 use Rattle.energy_core.specs.declared.entries.Step.{Step}
 use Rattle.energy_core.specs.declared.entries.Entry.{Entry}
-use Rattle.energy_core.specs.Admission.{entered as entered_behind}
+use Rattle.energy_core.specs.Admission.{entered as entered_after}
 use Rattle.interval_core.specs.Share.{shares_of}
 use Rattle.store_tables.specs.Answer.{IsFound}
 use Rattle.store_tables.specs.Content.{Content, HasRows, Edits, with_row, changed_where}
@@ -15,7 +15,7 @@ use Rattle.store_tables.specs.declared.entries.rows.EntryRow.{EntryRow}
 use Rattle.store_tables.specs.Entries.Rows.{entry_columns, entry_place, is_of}
 use Rattle.store_facts.specs.Intervals.StepShares.{BooksShares}
 use Rattle.store_facts.specs.Rows.{entered}
-use Rattle.store_facts.specs.Recording.{IsBehind}
+use Rattle.store_facts.specs.Recording.{IsAfter}
 use Rattle.office_store.specs.declared.bookings.meter_state.Standing.{Standing}
 use Rattle.office_store.specs.declared.bookings.meter_entries.Advance.{Advance}
 use Rattle.office_store.specs.Bookings.Places.{StandsThere}
@@ -24,7 +24,7 @@ use Rattle.office_store.specs.Bookings.Places.{StandsThere}
 pub record IsStanding (meter : List ℕ) (standing : Standing)
     (content after : Content) : Type 0 where
   pub same : after ≡ content
-  pub behind : IsBehind entry_tree.entries entry_columns (is_of meter) entry_place standing.place
+  pub behind : IsAfter entry_tree.entries entry_columns (is_of meter) entry_place standing.place
       content
   pub last : (rows : List Installed)
       → HasRows meter_tree.installations installed_columns rows content
@@ -43,7 +43,7 @@ stands_at last total = record { moment = last.at; raw = last.raw; sf = last.sf; 
 abbrev pub Advances : Standing → Entry → Advance → Type 0
 Advances standing e advance =
     (last : Last) (step : Step)
-    → entered_behind standing.range standing.last.total (counter_of standing.last) e
+    → entered_after standing.range standing.last.total (counter_of standing.last) e
     ≡ Ok (last, step)
     → (advance.last ≡ stands_at last (standing.last.total + step.mwh)) × (advance.step ≡ step)
 

@@ -1,4 +1,4 @@
--- What the tables are asked inside a transaction: the place behind the last row, and a row of a key.
+-- What the tables are asked inside a transaction: the place after the last row, and a row of a key.
 use Rattle.std.specs.Prelude.{◌≡◌, ℕ, ◌+◌, Bool, nat_le, List, Option, Some, None, Result, Ok, Err, ⊤, if◌then◌else◌}
 use Rattle.std.specs.List.{slice_get}
 use Rattle.sqlite.specs.Order.{Row, column}
@@ -18,7 +18,7 @@ one_on place = if nat_le greatest_place place then Err Damaged else Ok (place + 
 abbrev pub place_behind : Row → Result ℕ RowFault
 place_behind row = and_then (or_damaged (whole_in 1 greatest_place (column row 0))) one_on
 
--- the place behind the row that is shown, and 1 where none is
+-- the place after the row that is shown, and 1 where none is
 abbrev pub place_after : Option Row → Result ℕ RowFault
 place_after None = Ok 1
 place_after (Some row) = place_behind row

@@ -15,7 +15,7 @@ use crate::bookings::voids::enter_void;
 use office_events::Fact;
 use sqlite::{Alter, Connection, Transaction};
 use std::alloc::Global;
-use store_tables::{RowFault, touch};
+use store_tables::{RowFault, check_open};
 
 /// Enters a fact.
 fn enter_fact<S: Alter>(
@@ -89,6 +89,6 @@ pub fn book_facts<S: Alter>(
     if facts.is_empty() {
         return Ok(());
     }
-    touch(conn)?;
+    check_open(conn)?;
     commit_facts(alloc, conn, facts)
 }

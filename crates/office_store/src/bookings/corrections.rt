@@ -35,7 +35,7 @@ pub struct Account {
     pub shares: Vec<Share>,
 }
 
-/// The next entry that stands behind a voided one, if there is one, with the rollovers that it has then, and the account of
+/// The next entry that stands after a voided one, if there is one, with the rollovers that it has then, and the account of
 /// all entries that are left.
 #[derive(Debug, Drop)]
 pub struct Correction {
@@ -43,8 +43,8 @@ pub struct Correction {
     pub account: Account,
 }
 
-/// The rollovers of an entry behind where the counter stands.
-fn rolls_behind(last: &Last, entry: &Entry) -> u8
+/// The rollovers of an entry after where the counter stands.
+fn rolls_after(last: &Last, entry: &Entry) -> u8
     ensures { result ≡ rolls_of (with_rolls last.now entry.now) }
 {
     match *entry {
@@ -53,7 +53,7 @@ fn rolls_behind(last: &Last, entry: &Entry) -> u8
     }
 }
 
-/// The next entry that stands behind the one at a place.
+/// The next entry that stands after the one at a place.
 fn next_of(journal: &MeterJournal, place: u64) -> Result<Option<Rollover>, RowFault>
     requires numbered { AreNumbered (latest_first journal.now.rows.items) }
     ensures next { IfOk result (IsNextOf journal.now place) }
@@ -71,7 +71,7 @@ fn next_of(journal: &MeterJournal, place: u64) -> Result<Option<Rollover>, RowFa
     let last = last_behind(&journal.opening, &journal.rows[..found.index]);
     Ok(Some(Rollover {
         place: next.place,
-        rolls: rolls_behind(&last, &next.entry),
+        rolls: rolls_after(&last, &next.entry),
     }))
 }
 

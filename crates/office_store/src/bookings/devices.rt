@@ -12,7 +12,7 @@ use store_facts::{device_row, text};
 use store_devices::insert_device;
 use store_tables::RowFault;
 
-/// Enters a device, at the place behind the last.
+/// Enters a device, at the place after the last.
 pub fn enter_device<S: Alter>(tx: &mut Transaction<'_, S>, device: &Device) -> Result<(), RowFault>
     ensures same_reference { tx.new.conn.ghost_name ≡ tx.old.conn.ghost_name }
     ensures does { Goes (state S.Store tx.old.conn.now) (state S.Store tx.new.conn.now) result

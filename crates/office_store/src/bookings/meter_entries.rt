@@ -22,7 +22,7 @@ use office_rules::{
     voids_leave_no_trace,
 };
 use sqlite::{Alter, Transaction};
-use store_tables::{EntryRow, LATEST_MOMENT, LastRow, RowFault, end_installation, insert_entry, move_installation};
+use store_tables::{EntryRow, LATEST_MOMENT, LastRow, RowFault, end_installation, insert_entry, update_last};
 use store_facts::{book_step, entry_row, last_row, text};
 
 /// Where a meter stands after one more entry, and the step up to there.
@@ -112,7 +112,7 @@ pub fn settle<S: Alter>(
     ensures does { Goes (state S.Store tx.old.conn.now) (state S.Store tx.new.conn.now) result
         (Settles meter.now last is_closing) }
 {
-    move_installation(tx, meter, last)?;
+    update_last(tx, meter, last)?;
     if !is_closing {
         return Ok(());
     }
@@ -144,7 +144,7 @@ fn book_entry<S: Alter>(
     settle(tx, meter, advance.last, is_closing)
 }
 
-/// Enters an entry of a meter behind its others: its row, its step's energy interval by interval, and where the meter
+/// Enters an entry of a meter after its others: its row, its step's energy interval by interval, and where the meter
 /// stands then.
 pub fn enter_entry<S: Alter>(
     tx: &mut Transaction<'_, S>,

@@ -12,7 +12,7 @@ use sqlite::{Alter, Transaction};
 use store_tables::{RowFault, insert_entry, insert_installation, insert_range};
 use store_facts::{begun_row, is_sound_opening, opening_row, text};
 
-/// Enters a meter that was installed, at the place behind the last.
+/// Enters a meter that was installed, at the place after the last.
 pub fn enter_opening<S: Alter>(
     tx: &mut Transaction<'_, S>,
     opening: &Opening,

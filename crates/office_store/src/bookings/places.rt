@@ -1,4 +1,4 @@
-//! The place behind the last row of a table.
+//! The place after the last row of a table.
 ghost use Rattle.std.specs.Prelude.{◌≡◌, IfOk};
 ghost use Rattle.sqlite.specs.Held.{state};
 ghost use Rattle.store_tables.specs.Answer.{every};
@@ -20,7 +20,7 @@ use sqlite::{Alter, Row, Transaction};
 use store_tables::{GREATEST_PLACE, RowFault, last_entry_rows, last_installation_rows, whole};
 use store_devices::{last_device_rows, last_hold_rows, last_register_rows};
 
-/// The place behind the one that a row shows.
+/// The place after the one that a row shows.
 fn behind(row: &Row) -> Result<u64, RowFault>
     ensures next { result ≡ place_behind row.now }
     ensures sound { IfOk result IsPlace }
@@ -33,7 +33,7 @@ fn behind(row: &Row) -> Result<u64, RowFault>
     }
 }
 
-/// The place behind the last one, which the first of these rows shows, and 1 where there is none.
+/// The place after the last one, which the first of these rows shows, and 1 where there is none.
 fn next_place(rows: &[Row]) -> Result<u64, RowFault>
     ensures next { result ≡ next_in rows.now }
     ensures sound { IfOk result IsPlace }

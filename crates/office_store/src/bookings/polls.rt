@@ -43,7 +43,7 @@ pub fn enter_outcome<S: Alter>(
     Ok(())
 }
 
-/// Enters a held reading, at the place behind the last.
+/// Enters a held reading, at the place after the last.
 pub fn enter_hold<S: Alter>(tx: &mut Transaction<'_, S>, held: &HeldReading) -> Result<(), RowFault>
     ensures same_reference { tx.new.conn.ghost_name ≡ tx.old.conn.ghost_name }
     ensures does { Goes (state S.Store tx.old.conn.now) (state S.Store tx.new.conn.now) result

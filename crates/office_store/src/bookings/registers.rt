@@ -32,7 +32,7 @@ fn is_sound(source: ScaleSource) -> bool
     }
 }
 
-/// Enters a register, at the place behind the last.
+/// Enters a register, at the place after the last.
 pub fn enter_register<S: Alter>(
     tx: &mut Transaction<'_, S>,
     register: &Register,

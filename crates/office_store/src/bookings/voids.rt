@@ -17,7 +17,7 @@ use office_events::VoidedEntry;
 use office_rules::{journals_fit, other_meters_stay};
 use sqlite::{Alter, Transaction};
 use std::alloc::Global;
-use store_tables::{GREATEST_PLACE, LATEST_MOMENT, RowFault, insert_void, roll_entry};
+use store_tables::{GREATEST_PLACE, LATEST_MOMENT, RowFault, insert_void, set_rolls};
 use store_facts::{replace_shares, text};
 
 /// Says how many times the counter went past its range before the next entry.
@@ -34,7 +34,7 @@ fn roll_next<S: Alter>(
     let Some(rollover) = next else {
         return Ok(());
     };
-    roll_entry(tx, meter, rollover.place, rollover.rolls)?;
+    set_rolls(tx, meter, rollover.place, rollover.rolls)?;
     Ok(())
 }
 

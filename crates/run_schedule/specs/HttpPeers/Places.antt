@@ -43,12 +43,12 @@ IsOldest places (Some place) =
     × ((other later : ℕ) → IsSilentAt places other later → until ≤ later)
 
 -- the first free place, or where none is free that of the oldest connection that has not asked
-abbrev pub IsChosenBehind : (free : Option ℕ) → List Place → Option ℕ → Type 0
-IsChosenBehind (Some place) places chosen = chosen ≡ Some place
-IsChosenBehind None places chosen = IsOldest places chosen
+abbrev pub IsChosenAfter : (free : Option ℕ) → List Place → Option ℕ → Type 0
+IsChosenAfter (Some place) places chosen = chosen ≡ Some place
+IsChosenAfter None places chosen = IsOldest places chosen
 
 abbrev pub IsChosen : List Place → Option ℕ → Type 0
-IsChosen places chosen = IsChosenBehind (position is_free places) places chosen
+IsChosen places chosen = IsChosenAfter (position is_free places) places chosen
 
 -- the place of a new connection, which may last until this moment; one that had it is to be dropped
 abbrev pub Admits : (until : ℕ) → (old new : List Place) → Option Admission → Type 0

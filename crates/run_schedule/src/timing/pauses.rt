@@ -5,7 +5,7 @@ ghost use Rattle.run_schedule.specs.Timing.Pauses.{pause_after};
 /// The longest pause.
 pub const MOST_PAUSE: u64 = 60;
 
-/// The pause behind one more connection that failed, where the pause behind the one before was this, and 0 where that stood:
+/// The pause after one more connection that failed, where the pause after the one before was this, and 0 where that stood:
 /// a second, then twice the one before, and a minute at most.
 pub fn next_pause(before: u64) -> u64
     ensures { result ≡ pause_after before }

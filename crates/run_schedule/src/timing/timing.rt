@@ -20,7 +20,7 @@ pub struct Timing {
     pub phase: Phase,
     /// While it rests: the moment at which it is tried. Else: until when the connection may be made, or the round last.
     pub at: u64,
-    /// The pause behind the latest connection that failed; 0 where it stood.
+    /// The pause after the latest connection that failed; 0 where it stood.
     pub pause: u64,
 }
 

@@ -22,7 +22,7 @@ seen_at f xs place d inside = slice_get-map f xs place ∙ ap (option_map f) (sl
 pub seen_past : {X : Type 0} (f : X → List ℕ) (xs : List X) (place : ℕ) → length xs ≤ place → slice_get (map f xs) place ≡ None
 seen_past f xs place past = slice_get-map f xs place ∙ ap (option_map f) (slice_get_past xs place past)
 
--- frames are sent to a device where what is put behind its queue is written back
+-- frames are sent to a device where what is put after its queue is written back
 pub sent_there : {X : Type 0} (f : X → List ℕ) (xs : List X) (place : ℕ) (x d : X) (e : Event) (frames : List ℕ) → place < length xs
     → f x ≡ kept e (f (get_or xs place d)) ++ frames → map f (set xs place x) ≡ sent_to place e frames (map f xs)
 sent_there f xs place x d e frames inside is =

@@ -2,11 +2,11 @@
 use Rattle.std.specs.Prelude.{◌≡◌, ◌⊎◌, ℕ, Bool, true, false, if◌then◌else◌, List, [], ◌++◌, map, slice_get, slice_set, Option, Some, None}
 use Rattle.office_events.specs.declared.events.Event.{Event}
 use Rattle.office_events.specs.declared.events.Event.TheVariants as event
-use Rattle.run_status.specs.declared.monitor.desk.Desk.{Desk}
+use Rattle.run_status.specs.declared.monitor.run_monitor.RunMonitor.{RunMonitor}
 
 -- the bytes that are to be sent to each, by its place
-abbrev pub queues_of : Desk → List (List ℕ)
-queues_of desk = map (λ queue. queue.items) desk.outgoing.items
+abbrev pub queues_of : RunMonitor → List (List ℕ)
+queues_of monitor = map (λ queue. queue.items) monitor.outgoing.items
 
 -- a connection has ended
 abbrev pub is_end : Event → Bool
@@ -21,7 +21,7 @@ is_end (event.Asked asked) = false
 abbrev pub kept : Event → (queue : List ℕ) → List ℕ
 kept e queue = if is_end e then [] else queue
 
--- all of these frames, in order, behind what was there; or none of them, where there was no memory
+-- all of these frames, in order, after what was there; or none of them, where there was no memory
 abbrev pub IsPut : Event → (frames old new : List ℕ) → Type 0
 IsPut e frames old new = (new ≡ kept e old ++ frames) ⊎ (new ≡ kept e old ++ [])
 

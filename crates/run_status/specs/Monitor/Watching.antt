@@ -12,7 +12,7 @@ use Rattle.run_status.specs.declared.status.counts.Counts.{Counts}
 use Rattle.run_status.specs.declared.status.status.DeviceState.{DeviceState}
 use Rattle.office_rounds.specs.Driver.Showing.{Shown}
 use Rattle.run_status.specs.Monitor.Output.{IsSentFor, queues_of}
-use Rattle.run_status.specs.declared.monitor.desk.Desk.{Desk}
+use Rattle.run_status.specs.declared.monitor.run_monitor.RunMonitor.{RunMonitor}
 
 abbrev pub unconnected : (name : Option (List ℕ)) → DeviceState
 unconnected name = record { name = name; connected = false; latest = None }
@@ -67,7 +67,7 @@ counted (Ok given) notes counts = noted_all notes counts
 counted (Err why) notes counts = noted_all notes (refused counts)
 
 -- what a desk keeps
-pub record Keeps (old : Desk) (shown : Shown) (new : Desk) : Type 0 where
+pub record Keeps (old : RunMonitor) (shown : Shown) (new : RunMonitor) : Type 0 where
   pub counts : new.counts ≡ counted shown.answer shown.notes old.counts
   pub states : new.states.items
       ≡ followed_for shown.place shown.at shown.event shown.answer shown.notes old.states.items

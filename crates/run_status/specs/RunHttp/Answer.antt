@@ -7,8 +7,8 @@ use Rattle.office_http.specs.Exchange.{Handles, passage}
 use Rattle.office_http.specs.declared.fault.HandleFault.{HandleFault}
 use Rattle.office_http.specs.declared.fault.HandleFault.TheVariants as fault
 use Rattle.mb_wire.specs.declared.link.LastTake.{LastTake}
-use Rattle.run_status.specs.declared.run_http.answer.Asked.{Asked}
-use Rattle.run_status.specs.declared.run_http.answer.Asked.TheVariants.{Open, Replied, Failed}
+use Rattle.run_status.specs.declared.run_http.answer.PeerReply.{PeerReply}
+use Rattle.run_status.specs.declared.run_http.answer.PeerReply.TheVariants.{Open, Replied, Failed}
 
 -- it ends so, and has given this
 pub record Serves {B : Type 0} (ledger : B → Ledger) (at : ℕ) (old new : Office B)
@@ -21,7 +21,7 @@ pub record Serves {B : Type 0} (ledger : B → Ledger) (at : ℕ) (old new : Off
 -- Bytes that are open hold no whole request. Others are replied to, in whole, or up to where the
 -- books failed. Else there was no memory for the reply, or there were too many takes.
 abbrev pub Asks : {B : Type 0} → (B → Ledger) → (at : ℕ) → (old new : Office B)
-    → (request : List ℕ) → Asked → Type 0
+    → (request : List ℕ) → PeerReply → Type 0
 Asks ledger at old new request Open =
     (reply : List ℕ) × Serves ledger at old new request (Err fault.Short) reply
 Asks ledger at old new request (Replied reply) =

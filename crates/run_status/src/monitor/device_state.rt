@@ -1,4 +1,4 @@
-//! How a device stands behind an event that was fed for it.
+//! How a device stands after an event that was fed for it.
 ghost use Rattle.std.specs.Prelude.{◌≡◌};
 ghost use Rattle.std.specs.List.{list_any};
 ghost use Rattle.run_status.specs.Monitor.Watching as watching;
@@ -33,7 +33,7 @@ fn has_reading(notes: &[Note]) -> bool
     notes.iter().any(|note| is_reading(note))
 }
 
-// Whether a device is connected, behind an event that was accepted or refused.
+// Whether a device is connected, after an event that was accepted or refused.
 fn is_connected(before: bool, event: &Event, answer: Result<Answer, Refusal>) -> bool
     ensures { result ≡ watching.is_connected before event.now answer }
 {
@@ -48,7 +48,7 @@ fn is_connected(before: bool, event: &Event, answer: Result<Answer, Refusal>) ->
     }
 }
 
-/// The device behind it.
+/// The device after it.
 pub(crate) fn followed(
     state: DeviceState,
     at: u64,

@@ -18,7 +18,7 @@ fn is_end(event: &Event) -> bool
     }
 }
 
-/// Puts frames behind what is to be sent, where there is memory; what is left once a connection has ended is not sent.
+/// Puts frames after what is to be sent, where there is memory; what is left once a connection has ended is not sent.
 #[tactic(auto, using(crate::proofs::MonitorLemmas::Queues::put_or_not))]
 pub(crate) fn put_frames(queue: &mut Vec<u8>, event: &Event, frames: &[u8])
     ensures { sending.IsPut event.now frames.now queue.old.items queue.new.items }

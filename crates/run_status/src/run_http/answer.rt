@@ -10,7 +10,7 @@ use std::alloc::Global;
 
 /// What comes of the bytes of a peer.
 #[derive(Drop)]
-pub enum Asked {
+pub enum PeerReply {
     /// They hold no whole request yet: nothing was asked.
     Open,
     /// They were replied to so; where the books failed the reply is cut off.
@@ -21,17 +21,17 @@ pub enum Asked {
 
 /// Asks the office what bytes of a peer ask, at a moment in seconds since 1970-01-01 UTC. It may be called again with more
 /// bytes where they hold no whole request.
-pub fn ask<B: Books>(alloc: Global, request: &[u8], office: &mut Office<B>, moment: u64) -> Asked
+pub fn ask<B: Books>(alloc: Global, request: &[u8], office: &mut Office<B>, moment: u64) -> PeerReply
     ensures asks { Asks B.ledger moment office.old office.new request.now result }
     ensures lasts { Lasts B.ledger office.old office.new }
 {
     let mut link = ReplyLink::new(alloc, request);
     match handle(alloc, &mut link, office, moment) {
-        Ok(()) => Asked::Replied(link.into_reply()),
-        Err(HandleFault::Cut) => Asked::Replied(link.into_reply()),
-        Err(HandleFault::Short) => Asked::Open,
-        Err(HandleFault::Read) => Asked::Failed,
-        Err(HandleFault::Write) => Asked::Failed,
-        Err(HandleFault::TurnsUsed) => Asked::Failed,
+        Ok(()) => PeerReply::Replied(link.into_reply()),
+        Err(HandleFault::Cut) => PeerReply::Replied(link.into_reply()),
+        Err(HandleFault::Short) => PeerReply::Open,
+        Err(HandleFault::Read) => PeerReply::Failed,
+        Err(HandleFault::Write) => PeerReply::Failed,
+        Err(HandleFault::TurnsUsed) => PeerReply::Failed,
     }
 }

@@ -39,7 +39,7 @@ fn put_latest(text: &mut Vec<u8>, device: &DeviceState) -> Result<(), AllocError
     }
 }
 
-// Puts a device, behind what stands before it.
+// Puts a device, after what stands before it.
 fn put_device(text: &mut Vec<u8>, before: &[u8], device: &DeviceState) -> Result<(), AllocError>
     ensures { OnOk result (text.new.items ≡ json.with_device before.now text.old.items device.now) }
 {
@@ -53,7 +53,7 @@ fn put_device(text: &mut Vec<u8>, before: &[u8], device: &DeviceState) -> Result
     put(text, b"}")
 }
 
-// Puts devices, each behind a comma.
+// Puts devices, each after a comma.
 fn put_more_devices(text: &mut Vec<u8>, devices: &[DeviceState]) -> Result<(), AllocError>
     ensures { OnOk result (text.new.items ≡ json.with_more_devices text.old.items devices.now) }
 {

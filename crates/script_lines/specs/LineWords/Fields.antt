@@ -70,7 +70,7 @@ abbrev pub ◌>>=◌ : {X Y : Type 0} → Option X → (X → Option Y) → Opti
 None >>= goes_on = None
 Some x >>= goes_on = goes_on x
 
--- the value of the first word and the words behind it
+-- the value of the first word and the words after it
 abbrev pub first_value : (kind : Kind) → List (List ℕ) → Option (Value kind × List (List ℕ))
 first_value kind [] = option_map (λ value. (value, [])) (missing kind)
 first_value kind (word ∷ words) = option_map (λ value. (value, words)) (spelled kind word)

@@ -5,17 +5,17 @@ use Rattle.std.specs.Io.KnownBytes.{Appends}
 use Rattle.std.proofs.KnownBytes.{Appends-nil, Appends-trans}
 use Rattle.command_io.specs.Input.{EndsUnread, most_bytes, too_long}
 use Rattle.command_io.specs.Lines.{Line, speaking_lines}
-use Rattle.command_io.specs.declared.status.Status.{Status}
-use Rattle.command_io.specs.declared.status.Status.TheVariants.{Fine, Refused, Failed}
+use Rattle.command_io.specs.declared.status.ExitStatus.{ExitStatus}
+use Rattle.command_io.specs.declared.status.ExitStatus.TheVariants.{Fine, Refused, Failed}
 use Rattle.script_text.specs.AnswerText.{bad_line}
 use Rattle.script_run.specs.Bank.Settings.{Setting, IsUnset, takes}
 use Rattle.script_run.specs.Bank.Texts.{SetsUp, taken_text}
 use Rattle.script_run.specs.Bank.Running.{InputRuns, LineRan, LineRuns, SetUp, TextRuns}
 
--- Whatever the rest of the lines prints from here, all of them print it behind what was printed before.
+-- Whatever the rest of the lines prints from here, all of them print it after what was printed before.
 abbrev pub SoFar : Setting → List Line → Setting → List Line → List ℕ → Type 0
 SoFar start all now lines printed =
-    (rest : List ℕ) (ended : Result Setting Status) → SetsUp now lines rest ended → SetsUp start all (printed ++ rest) ended
+    (rest : List ℕ) (ended : Result Setting ExitStatus) → SetsUp now lines rest ended → SetsUp start all (printed ++ rest) ended
 
 pub record Ran (start : Setting) (all : List Line) (now : Setting) (lines : List Line) (o o' : Option (List ℕ)) : Type 0 where
   pub printed : List ℕ
@@ -52,7 +52,7 @@ all_ran start text now lines o o' at before = record {
       (before.so_far [] (Ok now) (subst (λ (ls : List Line). SetsUp now ls [] (Ok now)) (sym at) (refl, refl)));
 }
 
-pub stopped_by : (start : Setting) (text : List ℕ) (now next : Setting) (lines left : List Line) (first : Line) (status : Status)
+pub stopped_by : (start : Setting) (text : List ℕ) (now next : Setting) (lines left : List Line) (first : Line) (status : ExitStatus)
     (o m o' : Option (List ℕ)) → lines ≡ first ∷ left → LineRuns now first (Err status) next m o'
     → Ran start (speaking_lines text) now lines o m → TextRuns start text (Err status) next o o'
 stopped_by start text now next lines left first Fine o m o' at runs before = absurd runs
@@ -65,7 +65,7 @@ stopped_by start text now next lines left first Refused o m o' at runs before = 
 stopped_by start text now next lines left first Failed o m o' at runs before = tt
 
 -- an input that is a text, or too long for one
-pub input_ran : (begun : Setting) (text input printed : List ℕ) (ended : Result Setting Status) → IsUnset begun → text ≡ input → length text ≤ most_bytes
+pub input_ran : (begun : Setting) (text input printed : List ℕ) (ended : Result Setting ExitStatus) → IsUnset begun → text ≡ input → length text ≤ most_bytes
     → (o o' : Option (List ℕ)) → Appends o o' printed → SetsUp begun (speaking_lines text) printed ended → InputRuns input ended o o'
 input_ran begun text input printed ended unset same short o o' appended sets =
     let P : List ℕ → Type 0 = λ input. InputRuns input ended o o' in
@@ -101,7 +101,7 @@ refused_ran begun input o o' unset (inl long) = too_long_ran begun input o o' un
 refused_ran begun input o o' unset (inr failed) = absurd (let e : Refused ≡ Failed = failed.0 in cc)
 
 -- an input that was not read
-pub unread_ran : (begun : Setting) (input : Option (List ℕ)) (status : Status) (o o' : Option (List ℕ)) → IsUnset begun → (status ≡ Fine → ⊥)
+pub unread_ran : (begun : Setting) (input : Option (List ℕ)) (status : ExitStatus) (o o' : Option (List ℕ)) → IsUnset begun → (status ≡ Fine → ⊥)
     → IfSome input (λ all. EndsUnread all status o o') → SetUp input (Err status) o o'
 unread_ran begun input Fine o o' unset ends unread = absurd (ends refl)
 unread_ran begun input Refused o o' unset ends unread =

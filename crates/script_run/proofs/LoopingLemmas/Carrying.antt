@@ -23,7 +23,7 @@ use Rattle.script_run.specs.Replaying.TextRun.{IsCarriedOut, MayCarryOut, stage_
 use Rattle.script_run.specs.Replaying.Stages.{Stage}
 use Rattle.sun_points.specs.Writing.{GotText}
 use Rattle.script_run.specs.Looping.TextRun.{LineRuns}
-use Rattle.script_run.specs.Looping.Standings.{Carried, CarriedOut, Carries, CarriesOut, Desk, LoopStage, desk, stage_on}
+use Rattle.script_run.specs.Looping.Standings.{Carried, CarriedOut, Carries, CarriesOut, LoopState, LoopStage, loop_state, stage_on}
 
 -- a text that was written whole
 pub writing : (r : Result (Unit {0}) Error) (text : List ℕ) (office office' : Office ListBooks) (o o' : Option (List ℕ))
@@ -33,7 +33,7 @@ pub writing : (r : Result (Unit {0}) Error) (text : List ℕ) (office office' : 
 writing (Ok done) text office office' o o' P got carried = λ past stands. carried past stands got
 writing (Err error) text office office' o o' P got carried = tt
 
-pub writing_out : (r : Result (Unit {0}) Error) (text : List ℕ) (from to : Desk) (P : LoopStage → List ℕ → LoopStage → Type 0)
+pub writing_out : (r : Result (Unit {0}) Error) (text : List ℕ) (from to : LoopState) (P : LoopStage → List ℕ → LoopStage → Type 0)
     → GotText r text from.output to.output
     → ((past : History) → Stands ledger_of past from.office → Appends from.output to.output text → CarriedOut P past from to)
     → CarriesOut r (λ done. P) from to
@@ -41,7 +41,7 @@ writing_out (Ok done) text from to P got carried = λ past stands. carried past 
 writing_out (Err error) text from to P got carried = tt
 
 -- where only the script goes on
-pub out : (P : Stage → List ℕ → Stage → Type 0) (Q : LoopStage → List ℕ → LoopStage → Type 0) (past : History) (from to : Desk)
+pub out : (P : Stage → List ℕ → Stage → Type 0) (Q : LoopStage → List ℕ → LoopStage → Type 0) (past : History) (from to : LoopState)
     → Carried P past from.office to.office from.output to.output
     → ((printed : List ℕ) (after : History) → P (stage_of past from.office) printed (stage_of after to.office)
     → Q (stage_on past from) printed (stage_on after to))
@@ -71,7 +71,7 @@ as_script_may P past office office' ok o o' (inl done) = as_script P past office
 as_script_may P past office office' ok o o' (inr none) = absurd (let e = none.0 in cc)
 
 -- a line that is carried out as another is
-pub out_as : (P Q : LoopStage → List ℕ → LoopStage → Type 0) (past : History) (from to : Desk)
+pub out_as : (P Q : LoopStage → List ℕ → LoopStage → Type 0) (past : History) (from to : LoopState)
     → ((now : LoopStage) (printed : List ℕ) (next : LoopStage) → P now printed next → Q now printed next)
     → CarriedOut P past from to → CarriedOut Q past from to
 out_as P Q past from to turn done = record {
@@ -82,7 +82,7 @@ out_as P Q past from to turn done = record {
   stands = done.stands;
 }
 
-pub runs_as : (r : Result Bool Error) (P Q : LoopStage → List ℕ → LoopStage → Type 0) (Wrong Worse : Type 0) (from to : Desk)
+pub runs_as : (r : Result Bool Error) (P Q : LoopStage → List ℕ → LoopStage → Type 0) (Wrong Worse : Type 0) (from to : LoopState)
     → ((now : LoopStage) (printed : List ℕ) (next : LoopStage) → P now printed next → Q now printed next) → (Wrong → Worse)
     → LineRuns r P Wrong from to → LineRuns r Q Worse from to
 runs_as (Ok true) P Q Wrong Worse from to turn worse runs = λ past stands. out_as P Q past from to turn (runs past stands)
@@ -92,16 +92,16 @@ runs_as (Err error) P Q Wrong Worse from to turn worse runs = tt
 -- an event that a loop carries out as a script does
 pub plain_carried : (at : ℕ) (e : Event) (past : History) (office office' : Office ListBooks) (maps : Maps) (connected : Bool) (o o' : Option (List ℕ))
     → Carried (λ now printed next. EventPrints now at e printed next) past office office' o o'
-    → CarriedOut (PlainPrints at e) past (desk office maps connected o) (desk office' maps connected o')
+    → CarriedOut (PlainPrints at e) past (loop_state office maps connected o) (loop_state office' maps connected o')
 plain_carried at e past office office' maps connected o o' done =
-    out (λ now printed next. EventPrints now at e printed next) (PlainPrints at e) past (desk office maps connected o)
-    (desk office' maps connected o') done (λ printed after prints. record { prints = prints; by = record { maps = refl; connected = refl } })
+    out (λ now printed next. EventPrints now at e printed next) (PlainPrints at e) past (loop_state office maps connected o)
+    (loop_state office' maps connected o') done (λ printed after prints. record { prints = prints; by = record { maps = refl; connected = refl } })
 
 pub plain : (r : Result (Unit {0}) Error) (at : ℕ) (e : Event) (office office' : Office ListBooks) (maps : Maps) (connected : Bool)
     (o o' : Option (List ℕ))
     → ((past : History) → Stands ledger_of past office
     → IsCarriedOut (λ now printed next. EventPrints now at e printed next) past office office' r o o')
-    → CarriesOut r (λ done. PlainPrints at e) (desk office maps connected o) (desk office' maps connected o')
+    → CarriesOut r (λ done. PlainPrints at e) (loop_state office maps connected o) (loop_state office' maps connected o')
 plain (Ok done) at e office office' maps connected o o' feeds = λ past stands.
     plain_carried at e past office office' maps connected o o'
     (as_script (λ now printed next. EventPrints now at e printed next) past office office' done o o' (feeds past stands))
@@ -112,10 +112,10 @@ pub alike : (r : Result (Unit {0}) Error) (said : ScriptLine) (office office' : 
     (o o' : Option (List ℕ))
     → ((past : History) → Stands ledger_of past office
     → MayCarryOut (λ now printed next. LinePrints now said printed next) past office office' r o o')
-    → CarriesOut r (λ done. AlikePrints said) (desk office maps connected o) (desk office' maps connected o')
+    → CarriesOut r (λ done. AlikePrints said) (loop_state office maps connected o) (loop_state office' maps connected o')
 alike (Ok done) said office office' maps connected o o' carries = λ past stands.
-    out (λ now printed next. LinePrints now said printed next) (AlikePrints said) past (desk office maps connected o)
-    (desk office' maps connected o')
+    out (λ now printed next. LinePrints now said printed next) (AlikePrints said) past (loop_state office maps connected o)
+    (loop_state office' maps connected o')
     (as_script_may (λ now printed next. LinePrints now said printed next) past office office' done o o' (carries past stands))
     (λ printed after prints. record { prints = prints; by = record { maps = refl; connected = refl } })
 alike (Err error) said office office' maps connected o o' carries = tt
@@ -144,21 +144,21 @@ as_command at e asked round is same now printed next =
 pub happens_connected : (at : ℕ) (e : Event) (device : Option (List ℕ)) (past : History) (office office' : Office ListBooks) (maps : Maps)
     (connected : Bool) (o o' : Option (List ℕ)) → e ≡ event.Connected device
     → Carried (λ now printed next. EventPrints now at (event.Connected device) printed next) past office office' o o'
-    → CarriedOut (HappensPrints at e) past (desk office maps connected o) (desk office' maps true o')
+    → CarriedOut (HappensPrints at e) past (loop_state office maps connected o) (loop_state office' maps true o')
 happens_connected at e device past office office' maps connected o o' is done =
-    let P : Event → Type 0 = λ s. CarriedOut (HappensPrints at s) past (desk office maps connected o) (desk office' maps true o') in
+    let P : Event → Type 0 = λ s. CarriedOut (HappensPrints at s) past (loop_state office maps connected o) (loop_state office' maps true o') in
     subst P (sym is)
     (out (λ now printed next. EventPrints now at (event.Connected device) printed next) (HappensPrints at (event.Connected device)) past
-    (desk office maps connected o) (desk office' maps true o') done
+    (loop_state office maps connected o) (loop_state office' maps true o') done
     (λ printed after prints. record { prints = prints; maps = refl; connected = refl }))
 
 -- a line that was carried out, or is wrong
-pub line_done : (fine : Bool) (P : LoopStage → List ℕ → LoopStage → Type 0) (Wrong : Type 0) (from to : Desk) → fine ≡ true
+pub line_done : (fine : Bool) (P : LoopStage → List ℕ → LoopStage → Type 0) (Wrong : Type 0) (from to : LoopState) → fine ≡ true
     → LineRuns (Ok fine) P Wrong from to → (past : History) → Stands ledger_of past from.office → CarriedOut P past from to
 line_done true P Wrong from to is runs = runs
 line_done false P Wrong from to is runs = absurd (let e : false ≡ true = is in cc)
 
-pub line_wrong : (fine : Bool) (P : LoopStage → List ℕ → LoopStage → Type 0) (Wrong : Type 0) (from to : Desk) → fine ≡ false
+pub line_wrong : (fine : Bool) (P : LoopStage → List ℕ → LoopStage → Type 0) (Wrong : Type 0) (from to : LoopState) → fine ≡ false
     → LineRuns (Ok fine) P Wrong from to → Wrong × Appends from.output to.output []
 line_wrong false P Wrong from to is runs = runs
 line_wrong true P Wrong from to is runs = absurd (let e : true ≡ false = is in cc)

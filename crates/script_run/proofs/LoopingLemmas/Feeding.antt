@@ -22,7 +22,7 @@ use Rattle.script_run.specs.Replaying.Stages.{Stage, after_reply}
 use Rattle.script_run.specs.Looping.Answers.{AnswersPrint, FedAll, FedPrints, fed, fed_text, most_takes}
 use Rattle.mb_device.specs.StandIn.Exchanges.{Exchanged}
 use Rattle.script_run.specs.Looping.Lines.{StartsPrint}
-use Rattle.script_run.specs.Looping.Standings.{Carried, Carries, CarriedOut, CarriesOut, desk}
+use Rattle.script_run.specs.Looping.Standings.{Carried, Carries, CarriedOut, CarriesOut, loop_state}
 use Rattle.script_run.specs.declared.looping.answers.Came.{Came}
 
 -- The office has replied, and the script stands after it.
@@ -156,7 +156,7 @@ pub started : (at : ℕ) (device : Option (List ℕ)) (e : Event) (given : Answe
     → ((past : History) → Stands ledger_of past office
     → Replied past at e (Ok given) office mid × Appends o m (reply_text past at e (Ok given)))
     → Exchanged maps maps' → Carries r (λ done now printed next. AnswersPrint device at now printed next) mid office' m o'
-    → CarriesOut r (λ done now printed next. StartsPrint at device e now printed next) (desk office maps connected o) (desk office' maps' connected o')
+    → CarriesOut r (λ done now printed next. StartsPrint at device e now printed next) (loop_state office maps connected o) (loop_state office' maps' connected o')
 started at device e given office mid office' maps maps' connected o m o' (Ok done) begun exchanged carries = λ past stands.
     let replied = begun past stands in
     let rest = carries (with_answer past at e (Ok given)) replied.0.stands in
@@ -178,8 +178,8 @@ started at device e given office mid office' maps maps' connected o m o' (Err er
 pub not_started : (past : History) (at : ℕ) (device : Option (List ℕ)) (e : Event) (why : Refusal) (office office' : Office ListBooks)
     (maps : Maps) (connected : Bool) (o o' : Option (List ℕ)) → Replied past at e (Err why) office office'
     → Appends o o' (reply_text past at e (Err why))
-    → CarriedOut (λ now printed next. StartsPrint at device e now printed next) past (desk office maps connected o)
-    (desk office' maps connected o')
+    → CarriedOut (λ now printed next. StartsPrint at device e now printed next) past (loop_state office maps connected o)
+    (loop_state office' maps connected o')
 not_started past at device e why office office' maps connected o o' replied appended = record {
   printed = reply_text past at e (Err why);
   after = with_answer past at e (Err why);

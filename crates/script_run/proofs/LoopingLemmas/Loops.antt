@@ -4,8 +4,8 @@ use Rattle.std.specs.Io.KnownBytes.{Appends}
 use Rattle.std.proofs.KnownBytes.{Appends-nil, Appends-trans}
 use Rattle.command_io.specs.Input.{EndsUnread, TellsTooLong, most_bytes, too_long}
 use Rattle.command_io.specs.Lines.{Line, speaking_lines}
-use Rattle.command_io.specs.declared.status.Status.{Status}
-use Rattle.command_io.specs.declared.status.Status.TheVariants.{Fine, Refused, Failed}
+use Rattle.command_io.specs.declared.status.ExitStatus.{ExitStatus}
+use Rattle.command_io.specs.declared.status.ExitStatus.TheVariants.{Fine, Refused, Failed}
 use Rattle.interval_core.specs.declared.zone.Zone.{Zone}
 use Rattle.office_core.specs.Standing.{Stands}
 use Rattle.memory_books.specs.Listed.{ledger_of}
@@ -23,22 +23,22 @@ use Rattle.script_lines.specs.LineWords.Words.{words_of}
 use Rattle.script_run.specs.Looping.Lines.{AreWrong, WordsPrint}
 use Rattle.script_run.specs.Looping.Loops.{InputPrints, LoopPrints, TextPrints}
 use Rattle.script_run.specs.Looping.TextRun.{InputRuns, LinesRun, TellsText, TextRuns, Writes}
-use Rattle.script_run.specs.Looping.Standings.{CarriedOut, Desk, LoopStage, desk, stage_on}
+use Rattle.script_run.specs.Looping.Standings.{CarriedOut, LoopState, LoopStage, loop_state, stage_on}
 
--- Whatever the rest of the lines prints from here, all of them print it behind what was printed before.
+-- Whatever the rest of the lines prints from here, all of them print it after what was printed before.
 abbrev pub SoFar : (begin : LoopStage) → List Line → (now : LoopStage) → List Line → (printed : List ℕ) → Type 0
 SoFar begin all now lines printed =
-    (rest : List ℕ) (status : Status) → LoopPrints now lines rest status → LoopPrints begin all (printed ++ rest) status
+    (rest : List ℕ) (status : ExitStatus) → LoopPrints now lines rest status → LoopPrints begin all (printed ++ rest) status
 
 -- some lines were carried out: what they printed, and where the loop stands
-pub record Ran (begin : LoopStage) (all lines : List Line) (output : Option (List ℕ)) (here : Desk) : Type 0 where
+pub record Ran (begin : LoopStage) (all lines : List Line) (output : Option (List ℕ)) (here : LoopState) : Type 0 where
   pub printed : List ℕ
   pub past : History
   pub appended : Appends output here.output printed
   pub stands : Stands ledger_of past here.office
   pub so_far : SoFar begin all (stage_on past here) lines printed
 
-pub from_start : (past : History) (all lines : List Line) (here : Desk) → lines ≡ all → Stands ledger_of past here.office
+pub from_start : (past : History) (all lines : List Line) (here : LoopState) → lines ≡ all → Stands ledger_of past here.office
     → Ran (stage_on past here) all lines here.output here
 from_start past all lines here same stands = record {
   printed = [];
@@ -48,7 +48,7 @@ from_start past all lines here same stands = record {
   so_far = λ rest status more. subst (λ (ls : List Line). LoopPrints (stage_on past here) ls rest status) same more;
 }
 
-pub one_more : (begin : LoopStage) (all lines left : List Line) (first : Line) (output : Option (List ℕ)) (here there : Desk)
+pub one_more : (begin : LoopStage) (all lines left : List Line) (first : Line) (output : Option (List ℕ)) (here there : LoopState)
     → lines ≡ first ∷ left → (ran : Ran begin all lines output here) → CarriedOut (WordsPrint (words_of first.text)) ran.past here there
     → Ran begin all left output there
 one_more begin all lines left first output here there at ran done = record {
@@ -63,13 +63,13 @@ one_more begin all lines left first output here there at ran done = record {
       (inr (done.printed, rest, stage_on done.after there, done.prints, more, refl))));
 }
 
-pub ended : (begin : LoopStage) (all lines : List Line) (output : Option (List ℕ)) (here : Desk) → lines ≡ []
+pub ended : (begin : LoopStage) (all lines : List Line) (output : Option (List ℕ)) (here : LoopState) → lines ≡ []
     → (ran : Ran begin all lines output here) → LoopPrints begin all ran.printed Fine
 ended begin all lines output here at ran =
     subst (λ (text : List ℕ). LoopPrints begin all text Fine) (append-nil ran.printed)
     (ran.so_far [] Fine (subst (λ (ls : List Line). LoopPrints (stage_on ran.past here) ls [] Fine) (sym at) (refl, refl)))
 
-pub ended_badly : (begin : LoopStage) (all lines left : List Line) (bad : Line) (output : Option (List ℕ)) (here : Desk)
+pub ended_badly : (begin : LoopStage) (all lines left : List Line) (bad : Line) (output : Option (List ℕ)) (here : LoopState)
     → lines ≡ bad ∷ left → AreWrong here.connected (words_of bad.text) → (ran : Ran begin all lines output here)
     → LoopPrints begin all (ran.printed ++ bad_line bad.number) Refused
 ended_badly begin all lines left bad output here at wrong ran =
@@ -77,7 +77,7 @@ ended_badly begin all lines left bad output here at wrong ran =
     (subst (λ (ls : List Line). LoopPrints (stage_on ran.past here) ls (bad_line bad.number) Refused) (sym at) (inl (wrong, refl, refl)))
 
 -- how a wrong line ends a run
-pub stopped : (status : Status) (past : History) (all lines left : List Line) (bad : Line) (from here : Desk) (m o' : Option (List ℕ))
+pub stopped : (status : ExitStatus) (past : History) (all lines left : List Line) (bad : Line) (from here : LoopState) (m o' : Option (List ℕ))
     → lines ≡ bad ∷ left → AreWrong here.connected (words_of bad.text) × Appends here.output m [] → TellsText (bad_line bad.number) status m o'
     → Ran (stage_on past from) all lines from.output here → Writes (LoopPrints (stage_on past from) all) status from.output o'
 stopped Fine past all lines left bad from here m o' at wrong told ran = absurd told
@@ -90,8 +90,8 @@ stopped Refused past all lines left bad from here m o' at wrong told ran = (
 stopped Failed past all lines left bad from here m o' at wrong told ran = tt
 
 -- a text from its beginning
-pub text_from : (status : Status) (zone : Zone) (past : History) (text : List ℕ) (office : Office ListBooks) (maps : Maps) (o o' : Option (List ℕ))
-    → AreUnset maps → stage_of past office ≡ beginning zone → Stands ledger_of past office → LinesRun status text (desk office maps false o) o'
+pub text_from : (status : ExitStatus) (zone : Zone) (past : History) (text : List ℕ) (office : Office ListBooks) (maps : Maps) (o o' : Option (List ℕ))
+    → AreUnset maps → stage_of past office ≡ beginning zone → Stands ledger_of past office → LinesRun status text (loop_state office maps false o) o'
     → TextRuns zone text status o o'
 text_from Fine zone past text office maps o o' unset same stands runs =
     let ran = runs past stands in
@@ -103,32 +103,32 @@ text_from Refused zone past text office maps o o' unset same stands runs =
     (ran.0, ran.1, inr (maps, unset, subst P same ran.2))
 text_from Failed zone past text office maps o o' unset same stands runs = tt
 
-pub not_opened : (status : Status) (why : Refusal) (zone : Zone) (text : List ℕ) (o o' : Option (List ℕ)) → why ≡ refusal.Memory
+pub not_opened : (status : ExitStatus) (why : Refusal) (zone : Zone) (text : List ℕ) (o o' : Option (List ℕ)) → why ≡ refusal.Memory
     → TellsText (refused_line why) status o o' → TextRuns zone text status o o'
 not_opened Fine why zone text o o' is told = absurd told
 not_opened Refused why zone text o o' is told = (refused_line why, told, inl (ap refused_line is, refl))
 not_opened Failed why zone text o o' is told = tt
 
 -- an input that is a text, or too long for one
-short_prints : (zone : Zone) (input printed : List ℕ) (status : Status) → length input ≤ most_bytes → TextPrints zone input printed status
+short_prints : (zone : Zone) (input printed : List ℕ) (status : ExitStatus) → length input ≤ most_bytes → TextPrints zone input printed status
     → InputPrints zone input printed status
 short_prints zone input printed status short prints =
     record { long = λ long. absurd (omega (arith, short, long)); text = λ fits. prints }
 
-pub text_ran : (zone : Zone) (text input : List ℕ) (status : Status) (o o' : Option (List ℕ)) → text ≡ input → length text ≤ most_bytes
+pub text_ran : (zone : Zone) (text input : List ℕ) (status : ExitStatus) (o o' : Option (List ℕ)) → text ≡ input → length text ≤ most_bytes
     → TextRuns zone text status o o' → InputRuns zone input status o o'
 text_ran zone text input status o o' same short runs =
     let P : List ℕ → Type 0 = λ input. InputRuns zone input status o o' in
     subst P same (ran zone text status o o' short runs)
   where
-    ran : (zone : Zone) (text : List ℕ) (status : Status) (o o' : Option (List ℕ)) → length text ≤ most_bytes
+    ran : (zone : Zone) (text : List ℕ) (status : ExitStatus) (o o' : Option (List ℕ)) → length text ≤ most_bytes
         → TextRuns zone text status o o' → InputRuns zone text status o o'
     ran zone text Fine o o' short runs = (runs.0, runs.1, short_prints zone text runs.0 Fine short runs.2)
     ran zone text Refused o o' short runs = (runs.0, runs.1, short_prints zone text runs.0 Refused short runs.2)
     ran zone text Failed o o' short runs = tt
 
 -- an input that was not read
-pub unread_ran : (zone : Zone) (input : List ℕ) (status : Status) (o o' : Option (List ℕ)) → EndsUnread input status o o'
+pub unread_ran : (zone : Zone) (input : List ℕ) (status : ExitStatus) (o o' : Option (List ℕ)) → EndsUnread input status o o'
     → InputRuns zone input status o o'
 unread_ran zone input Fine o o' (inl long) = absurd long.1
 unread_ran zone input Refused o o' (inl long) =

@@ -1,13 +1,13 @@
--- What was written behind a buffer.
+-- What was written after a buffer.
 use Rattle.std.proofs.Common.{◌≡◌, ℕ, Option, Some, None, List, [], ◌++◌, refl, sym, ap, ◌∙◌, append_assoc, append-nil}
 use Rattle.std.specs.Io.KnownBytes.{Appends, Keeps, append_known}
-use Rattle.command_io.specs.declared.status.Status.{Status}
-use Rattle.command_io.specs.declared.status.Status.TheVariants.{Fine, Refused, Failed}
+use Rattle.command_io.specs.declared.status.ExitStatus.{ExitStatus}
+use Rattle.command_io.specs.declared.status.ExitStatus.TheVariants.{Fine, Refused, Failed}
 use Rattle.interval_core.specs.declared.zone.Zone.{Zone}
 use Rattle.script_run.specs.Replaying.TextRun.{HoldsPart, InputRuns, Replays}
 use Rattle.script_run.proofs.ReplayingLemmas.Scripts.{input_begun}
 
--- where nothing is buffered, the writer behind has all
+-- where nothing is buffered, the writer after has all
 pub given_out : (a b d : Option (List ℕ)) (buffered last text : List ℕ) → Appends a (append_known b buffered) text
     → Keeps (append_known b buffered) (append_known d last) → last ≡ [] → Appends a d text
 given_out None b d buffered last text wrote kept none = tt
@@ -31,7 +31,7 @@ from_empty (Some x) (Some y) buffered text none wrote =
     wrote ∙ ap (λ (front : List ℕ). front ++ text) (ap (λ (more : List ℕ). x ++ more) none ∙ append-nil x)
 
 -- a run over a buffer, whose bytes were given out at the end
-pub run_whole : (zone : Zone) (input : List ℕ) (status : Status) (a b d : Option (List ℕ)) (first buffered last : List ℕ) → first ≡ []
+pub run_whole : (zone : Zone) (input : List ℕ) (status : ExitStatus) (a b d : Option (List ℕ)) (first buffered last : List ℕ) → first ≡ []
     → InputRuns zone input status (append_known a first) (append_known b buffered) → Keeps (append_known b buffered) (append_known d last)
     → last ≡ [] → Replays zone input status a d
 run_whole zone input Fine a b d first buffered last none runs kept given =
@@ -42,7 +42,7 @@ run_whole zone input Failed a b d first buffered last none runs kept given =
     (runs.0, buffered_part a b d buffered last runs.0 (from_empty a _ first runs.0 none runs.1) kept, runs.2)
 
 -- and one whose bytes could not be given out
-pub run_part : (zone : Zone) (input : List ℕ) (status : Status) (a b d : Option (List ℕ)) (first buffered last : List ℕ) → first ≡ []
+pub run_part : (zone : Zone) (input : List ℕ) (status : ExitStatus) (a b d : Option (List ℕ)) (first buffered last : List ℕ) → first ≡ []
     → InputRuns zone input status (append_known a first) (append_known b buffered) → Keeps (append_known b buffered) (append_known d last)
     → Replays zone input Failed a d
 run_part zone input Fine a b d first buffered last none runs kept =

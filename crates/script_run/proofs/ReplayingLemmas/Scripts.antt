@@ -3,8 +3,8 @@ use Rattle.std.proofs.Common.{◌≡◌, ◌⊎◌, inl, inr, ℕ, Bool, false, 
 use Rattle.std.proofs.lemmas.List.Elements.{All-cons, All-nil}
 use Rattle.std.specs.Io.KnownBytes.{Appends}
 use Rattle.command_io.specs.Lines.{Line, speaking_lines}
-use Rattle.command_io.specs.declared.status.Status.{Status}
-use Rattle.command_io.specs.declared.status.Status.TheVariants.{Fine, Refused, Failed}
+use Rattle.command_io.specs.declared.status.ExitStatus.{ExitStatus}
+use Rattle.command_io.specs.declared.status.ExitStatus.TheVariants.{Fine, Refused, Failed}
 use Rattle.interval_core.specs.declared.zone.Zone.{Zone}
 use Rattle.office_events.specs.declared.refusals.Refusal.{Refusal}
 use Rattle.office_events.specs.declared.refusals.Refusal.TheVariants as refusal
@@ -33,10 +33,10 @@ use Rattle.script_run.specs.Replaying.TextRun.{InputRuns, LineRan, LineRuns, May
 use Rattle.script_run.specs.Replaying.Scripts.{ReplayBegins, ReplayPrints, ScriptBegins, ScriptPrints, TextBegins, TextPrints}
 use Rattle.script_run.specs.Replaying.Stages.{Fails, Stage, beginning}
 
--- Whatever the rest of the lines prints from here, all of them print it behind what was printed before; and so where the run
+-- Whatever the rest of the lines prints from here, all of them print it after what was printed before; and so where the run
 -- is broken off.
 pub record SoFar (zone : Zone) (all : List Line) (now : Stage) (lines : List Line) (printed : List ℕ) : Type 0 where
-  pub prints : (rest : List ℕ) (status : Status) → ScriptPrints now lines rest status
+  pub prints : (rest : List ℕ) (status : ExitStatus) → ScriptPrints now lines rest status
       → ScriptPrints (beginning zone) all (printed ++ rest) status
   pub begins : (rest : List ℕ) → ScriptBegins now lines rest → ScriptBegins (beginning zone) all (printed ++ rest)
 
@@ -134,7 +134,7 @@ refused_for_memory why old new before after goes not_opened =
         fails_in_memory {T = Unit {0}} (Err why) both
 
 -- how a line ends a run
-pub stopped_by : (zone : Zone) (text : List ℕ) (past : History) (line : Line) (office office' : Office ListBooks) (status : Status)
+pub stopped_by : (zone : Zone) (text : List ℕ) (past : History) (line : Line) (office office' : Office ListBooks) (status : ExitStatus)
     (lines left : List Line) (printed : List ℕ) (o m o' : Option (List ℕ)) → Appends o m printed → lines ≡ line ∷ left
     → SoFar zone (speaking_lines text) (stage_of past office) lines printed → LineRuns past line office office' (Err status) m o'
     → TextRuns zone text status o o'
@@ -183,18 +183,18 @@ bad_broken past line office o o' none got =
     (got.0, got.3, inr (bad_line line.number, (got.1, got.2), inl (record { none = none; text = refl })))
 
 -- what is printed whole is begun
-script_begun : (now : Stage) (lines : List Line) (printed : List ℕ) (status : Status) → ScriptPrints now lines printed status
+script_begun : (now : Stage) (lines : List Line) (printed : List ℕ) (status : ExitStatus) → ScriptPrints now lines printed status
     → ScriptBegins now lines printed
 script_begun now [] printed status prints = prints.0
 script_begun now (first ∷ lines) printed status (inl bad) = inl (inr (printed, ([], sym (append-nil printed)), inl bad.0))
 script_begun now (first ∷ lines) printed status (inr (here, rest, next, prints, more, is)) =
     inr (here, rest, next, prints, script_begun next lines rest status more, is)
 
-text_begun : (zone : Zone) (text printed : List ℕ) (status : Status) → TextPrints zone text printed status → TextBegins zone text printed
+text_begun : (zone : Zone) (text printed : List ℕ) (status : ExitStatus) → TextPrints zone text printed status → TextBegins zone text printed
 text_begun zone text printed status (inl (is, refused)) = inl ([], sym is ∙ sym (append-nil printed))
 text_begun zone text printed status (inr prints) = inr (script_begun (beginning zone) (speaking_lines text) printed status prints)
 
-pub input_begun : (zone : Zone) (input printed : List ℕ) (status : Status) → ReplayPrints zone input printed status
+pub input_begun : (zone : Zone) (input printed : List ℕ) (status : ExitStatus) → ReplayPrints zone input printed status
     → ReplayBegins zone input printed
 input_begun zone input printed status prints = record {
   long = λ long. ([], sym (prints.long long).1 ∙ sym (append-nil printed));
@@ -214,7 +214,7 @@ nothing_written zone input o o' none = (
 )
 
 -- an input that is a text, or too long for one
-short_prints : (zone : Zone) (input printed : List ℕ) (status : Status) → length input ≤ most_bytes → TextPrints zone input printed status
+short_prints : (zone : Zone) (input printed : List ℕ) (status : ExitStatus) → length input ≤ most_bytes → TextPrints zone input printed status
     → ReplayPrints zone input printed status
 short_prints zone input printed status short prints =
     record { long = λ long. absurd (omega (arith, short, long)); text = λ fits. prints }
@@ -223,19 +223,19 @@ short_begins : (zone : Zone) (input part : List ℕ) → length input ≤ most_b
 short_begins zone input part short begins =
     record { long = λ long. absurd (omega (arith, short, long)); text = λ fits. begins }
 
-pub text_ran : (zone : Zone) (text input : List ℕ) (status : Status) (o o' : Option (List ℕ)) → text ≡ input → length text ≤ most_bytes
+pub text_ran : (zone : Zone) (text input : List ℕ) (status : ExitStatus) (o o' : Option (List ℕ)) → text ≡ input → length text ≤ most_bytes
     → TextRuns zone text status o o' → InputRuns zone input status o o'
 text_ran zone text input status o o' same short runs =
     let P : List ℕ → Type 0 = λ input. InputRuns zone input status o o' in
     subst P same (ran zone text status o o' short runs)
   where
-    ran : (zone : Zone) (text : List ℕ) (status : Status) (o o' : Option (List ℕ)) → length text ≤ most_bytes
+    ran : (zone : Zone) (text : List ℕ) (status : ExitStatus) (o o' : Option (List ℕ)) → length text ≤ most_bytes
         → TextRuns zone text status o o' → InputRuns zone text status o o'
     ran zone text Fine o o' short runs = (runs.0, runs.1, short_prints zone text runs.0 Fine short runs.2)
     ran zone text Refused o o' short runs = (runs.0, runs.1, short_prints zone text runs.0 Refused short runs.2)
     ran zone text Failed o o' short runs = (runs.0, runs.1, short_begins zone text runs.0 short runs.2)
 
-long_told : (zone : Zone) (input : List ℕ) (status : Status) (o o' : Option (List ℕ)) → most_bytes < length input → TellsTooLong status o o'
+long_told : (zone : Zone) (input : List ℕ) (status : ExitStatus) (o o' : Option (List ℕ)) → most_bytes < length input → TellsTooLong status o o'
     → InputRuns zone input status o o'
 long_told zone input Fine o o' long told = absurd told
 long_told zone input Refused o o' long told =
@@ -244,12 +244,12 @@ long_told zone input Failed o o' long told =
     (told.0, told.3, record { long = λ again. (told.1, told.2); text = λ short. absurd (omega (arith, short, long)) })
 
 -- an input that was not read
-pub unread_ran : (zone : Zone) (input : List ℕ) (status : Status) (o o' : Option (List ℕ)) → EndsUnread input status o o'
+pub unread_ran : (zone : Zone) (input : List ℕ) (status : ExitStatus) (o o' : Option (List ℕ)) → EndsUnread input status o o'
     → InputRuns zone input status o o'
 unread_ran zone input status o o' (inl long) = long_told zone input status o o' long.0 long.1
 unread_ran zone input status o o' (inr (failed, none)) = unread status failed
   where
-    unread : (ended : Status) → ended ≡ Failed → InputRuns zone input ended o o'
+    unread : (ended : ExitStatus) → ended ≡ Failed → InputRuns zone input ended o o'
     unread Fine is = absurd (let e : Fine ≡ Failed = is in cc)
     unread Refused is = absurd (let e : Refused ≡ Failed = is in cc)
     unread Failed is = nothing_written zone input o o' none

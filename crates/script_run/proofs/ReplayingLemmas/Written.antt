@@ -115,7 +115,7 @@ all_written contents line (row ∷ rows) from to works fits took =
     (λ failed. written_no_more contents (line row) (flat_map line rows) (suc (length rows)) from took.0 to failed first
     (all_dropped contents line rows took.0 to failed took.2))
 
--- the lines of rows, and what came behind them
+-- the lines of rows, and what came after them
 pub got_part : {W T E : Type 0} (contents : W → Option (List ℕ)) (line : T → List ℕ) (rows : List T) (last : List ℕ)
     (from to : Rows W) (error : E) (o o' : W) → from.failed ≡ false → from.count ≡ 0 → TakesAll (TakesLine contents line) from rows to
     → to.failed ≡ true → from.output.now ≡ o → o' ≡ to.output.now

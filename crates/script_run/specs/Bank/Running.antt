@@ -5,15 +5,15 @@ use Rattle.std.specs.declared.result.Result.{Result}
 use Rattle.script_lines.specs.Bank.Forms.{IsBankLine}
 use Rattle.script_lines.specs.declared.bank.bank.BankLine.{BankLine}
 use Rattle.command_io.specs.Lines.{Line, speaking_lines}
-use Rattle.command_io.specs.declared.status.Status.{Status}
-use Rattle.command_io.specs.declared.status.Status.TheVariants.{Fine, Refused, Failed}
+use Rattle.command_io.specs.declared.status.ExitStatus.{ExitStatus}
+use Rattle.command_io.specs.declared.status.ExitStatus.TheVariants.{Fine, Refused, Failed}
 use Rattle.script_text.specs.AnswerText.{bad_line}
 use Rattle.script_lines.specs.LineWords.Words.{words_of}
 use Rattle.script_run.specs.Bank.Settings.{Setting, after_line, IsUnset, takes}
 use Rattle.script_run.specs.Bank.Texts.{InputSetsUp, IsBad, SetsUp, taken_text}
 
 -- a line was carried out, or memory or the writer failed
-abbrev pub Carries : Setting → BankLine → Result (Unit {0}) Status → Setting
+abbrev pub Carries : Setting → BankLine → Result (Unit {0}) ExitStatus → Setting
     → (output output' : Option (List ℕ)) → Type 0
 Carries now said (Ok done) next output output' =
     (next ≡ after_line now said) × Appends output output' (taken_text (takes now.maps said))
@@ -29,7 +29,7 @@ pub record LineRan (now : Setting) (line : Line) (next : Setting)
   pub after : next ≡ after_line now said
   pub appended : Appends output output' (taken_text (takes now.maps said))
 
-abbrev pub LineRuns : Setting → Line → Result (Unit {0}) Status → Setting
+abbrev pub LineRuns : Setting → Line → Result (Unit {0}) ExitStatus → Setting
     → (output output' : Option (List ℕ)) → Type 0
 LineRuns now line (Ok done) next output output' = LineRan now line next output output'
 LineRuns now line (Err Fine) next output output' = ⊥
@@ -43,7 +43,7 @@ pub record Writes (Prints : List ℕ → Type 0) (output output' : Option (List 
   pub appended : Appends output output' printed
   pub prints : Prints printed
 
-abbrev pub TextRuns : Setting → (text : List ℕ) → Result (Unit {0}) Status → Setting
+abbrev pub TextRuns : Setting → (text : List ℕ) → Result (Unit {0}) ExitStatus → Setting
     → (output output' : Option (List ℕ)) → Type 0
 TextRuns now text (Ok done) next output output' =
     Writes (λ printed. SetsUp now (speaking_lines text) printed (Ok next)) output output'
@@ -53,13 +53,13 @@ TextRuns now text (Err Refused) next output output' =
 TextRuns now text (Err Failed) next output output' = ⊤
 
 -- an input, from a stand-in that has no addresses and plays no tricks
-pub record InputRuns (input : List ℕ) (ended : Result Setting Status)
+pub record InputRuns (input : List ℕ) (ended : Result Setting ExitStatus)
     (output output' : Option (List ℕ)) : Type 0 where
   pub begun : Setting
   pub unset : IsUnset begun
   pub writes : Writes (λ printed. InputSetsUp begun input printed ended) output output'
 
-abbrev pub SetUp : (input : Option (List ℕ)) → Result Setting Status
+abbrev pub SetUp : (input : Option (List ℕ)) → Result Setting ExitStatus
     → (output output' : Option (List ℕ)) → Type 0
 SetUp input (Ok setup) output output' =
     IfSome input (λ all. InputRuns all (Ok setup) output output')

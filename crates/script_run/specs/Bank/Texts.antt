@@ -5,8 +5,8 @@ use Rattle.script_lines.specs.Bank.Forms.{IsBankLine}
 use Rattle.script_lines.specs.declared.bank.bank.BankLine.{BankLine}
 use Rattle.command_io.specs.Input.{most_bytes, too_long}
 use Rattle.command_io.specs.Lines.{Line, speaking_lines}
-use Rattle.command_io.specs.declared.status.Status.{Status}
-use Rattle.command_io.specs.declared.status.Status.TheVariants.{Refused}
+use Rattle.command_io.specs.declared.status.ExitStatus.{ExitStatus}
+use Rattle.command_io.specs.declared.status.ExitStatus.TheVariants.{Refused}
 use Rattle.office_events.specs.declared.refusals.Refusal.TheVariants.{Limit}
 use Rattle.script_text.specs.AnswerText.{bad_line, refused_line}
 use Rattle.script_lines.specs.LineWords.Words.{words_of}
@@ -22,7 +22,7 @@ pub record IsBad (bad : Line) : Type 0 where
   pub none : (said : BankLine) → IsBankLine (words_of bad.text) said → ⊥
 
 -- The lines are carried out one after the other, up to one that is none: that ends it, and prints its number.
-abbrev pub SetsUp : Setting → List Line → (printed : List ℕ) → (ended : Result Setting Status)
+abbrev pub SetsUp : Setting → List Line → (printed : List ℕ) → (ended : Result Setting ExitStatus)
     → Type 0
 SetsUp now [] printed ended = (printed ≡ []) × (ended ≡ Ok now)
 SetsUp now (first ∷ lines) printed ended =
@@ -32,7 +32,7 @@ SetsUp now (first ∷ lines) printed ended =
     × SetsUp (after_line now said) lines rest ended))
 
 -- an input sets up what its lines do, where it isn't too long
-pub record InputSetsUp (now : Setting) (input printed : List ℕ) (ended : Result Setting Status) :
+pub record InputSetsUp (now : Setting) (input printed : List ℕ) (ended : Result Setting ExitStatus) :
     Type 0 where
   pub long : most_bytes < length input → (printed ≡ too_long) × (ended ≡ Err Refused)
   pub lines : length input ≤ most_bytes → SetsUp now (speaking_lines input) printed ended

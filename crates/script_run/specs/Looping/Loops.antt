@@ -3,8 +3,8 @@ use Rattle.std.specs.Prelude.{◌≡◌, ◌⊎◌, ◌<◌, ◌≤◌, ◌++◌
 use Rattle.script_run.specs.Bank.Settings.{AreUnset}
 use Rattle.command_io.specs.Input.{most_bytes, too_long}
 use Rattle.command_io.specs.Lines.{Line, speaking_lines}
-use Rattle.command_io.specs.declared.status.Status.{Status}
-use Rattle.command_io.specs.declared.status.Status.TheVariants.{Fine, Refused}
+use Rattle.command_io.specs.declared.status.ExitStatus.{ExitStatus}
+use Rattle.command_io.specs.declared.status.ExitStatus.TheVariants.{Fine, Refused}
 use Rattle.interval_core.specs.declared.zone.Zone.{Zone}
 use Rattle.mb_device.specs.Maps.{Maps}
 use Rattle.script_run.specs.Replaying.Scripts.{no_office}
@@ -15,7 +15,7 @@ use Rattle.script_run.specs.Looping.Lines.{AreWrong, WordsPrint}
 use Rattle.script_run.specs.Looping.Standings.{LoopStage}
 
 -- The lines print one after the other, from where the loop stands. A wrong one ends the run.
-abbrev pub LoopPrints : LoopStage → List Line → (printed : List ℕ) → Status → Type 0
+abbrev pub LoopPrints : LoopStage → List Line → (printed : List ℕ) → ExitStatus → Type 0
 LoopPrints now [] printed status = (printed ≡ []) × (status ≡ Fine)
 LoopPrints now (first ∷ lines) printed status =
     (AreWrong now.connected (words_of first.text) × (printed ≡ bad_line first.number)
@@ -28,13 +28,13 @@ abbrev pub begun : Zone → Maps → LoopStage
 begun zone maps = record { script = beginning zone; maps = maps; connected = false }
 
 -- A text prints what its lines print, or that there is no office.
-abbrev pub TextPrints : Zone → (text printed : List ℕ) → Status → Type 0
+abbrev pub TextPrints : Zone → (text printed : List ℕ) → ExitStatus → Type 0
 TextPrints zone text printed status =
     ((printed ≡ no_office) × (status ≡ Refused))
     ⊎ ((maps : Maps) × AreUnset maps
     × LoopPrints (begun zone maps) (speaking_lines text) printed status)
 
 -- An input prints what its text prints, where it isn't too long.
-pub record InputPrints (zone : Zone) (input printed : List ℕ) (status : Status) : Type 0 where
+pub record InputPrints (zone : Zone) (input printed : List ℕ) (status : ExitStatus) : Type 0 where
   pub long : most_bytes < length input → (status ≡ Refused) × (printed ≡ too_long)
   pub text : length input ≤ most_bytes → TextPrints zone input printed status

@@ -17,23 +17,23 @@ pub record LoopStage : Type 0 where
   pub connected : Bool
 
 -- what a run is under way with, and what was written
-pub record Desk : Type 0 where
+pub record LoopState : Type 0 where
   pub office : Office ListBooks
   pub maps : Maps
   pub connected : Bool
   pub output : Option (List ℕ)
 
-abbrev pub desk : Office ListBooks → Maps → (connected : Bool) → (output : Option (List ℕ)) → Desk
-desk office maps connected output =
+abbrev pub loop_state : Office ListBooks → Maps → (connected : Bool) → (output : Option (List ℕ)) → LoopState
+loop_state office maps connected output =
     record { office = office; maps = maps; connected = connected; output = output }
 
-abbrev pub stage_on : History → Desk → LoopStage
+abbrev pub stage_on : History → LoopState → LoopStage
 stage_on past here =
     record { script = stage_of past here.office; maps = here.maps; connected = here.connected }
 
 -- This was printed, and the office stands after it.
 pub record CarriedOut (Prints : LoopStage → List ℕ → LoopStage → Type 0) (past : History)
-    (from to : Desk)
+    (from to : LoopState)
     : Type 0 where
   pub printed : List ℕ
   pub after : History
@@ -44,7 +44,7 @@ pub record CarriedOut (Prints : LoopStage → List ℕ → LoopStage → Type 0)
 -- Whoever asks carries it out, after every past after which the office stood; unless the writer or memory failed, of which
 -- nothing is said.
 abbrev pub CarriesOut : {X E : Type 0} → Result X E → (X → LoopStage → List ℕ → LoopStage → Type 0)
-    → (from to : Desk) → Type 0
+    → (from to : LoopState) → Type 0
 CarriesOut (Ok x) Prints from to =
     (past : History) → Stands ledger_of past from.office → CarriedOut (Prints x) past from to
 CarriesOut (Err error) Prints from to = ⊤

@@ -3,26 +3,26 @@ use Rattle.std.specs.Prelude.{◌≡◌, ℕ, Bool, true, false, List, [], Optio
 use Rattle.std.specs.Io.KnownBytes.{Appends}
 use Rattle.std.specs.declared.io.Error.{Error}
 use Rattle.command_io.specs.Lines.{speaking_lines}
-use Rattle.command_io.specs.declared.status.Status.{Status}
-use Rattle.command_io.specs.declared.status.Status.TheVariants.{Fine, Refused, Failed}
+use Rattle.command_io.specs.declared.status.ExitStatus.{ExitStatus}
+use Rattle.command_io.specs.declared.status.ExitStatus.TheVariants.{Fine, Refused, Failed}
 use Rattle.interval_core.specs.declared.zone.Zone.{Zone}
 use Rattle.memory_books.specs.Listed.{ledger_of}
 use Rattle.office_rules.specs.History.{History}
 use Rattle.office_core.specs.Standing.{Stands}
 use Rattle.script_run.specs.Looping.Loops.{InputPrints, LoopPrints, TextPrints}
-use Rattle.script_run.specs.Looping.Standings.{CarriedOut, Desk, LoopStage, stage_on}
+use Rattle.script_run.specs.Looping.Standings.{CarriedOut, LoopState, LoopStage, stage_on}
 
 -- A line was carried out, or is wrong; where a write or memory failed nothing is said.
 abbrev pub LineRuns : Result Bool Error → (Prints : LoopStage → List ℕ → LoopStage → Type 0)
     → (Wrong : Type 0)
-    → (from to : Desk) → Type 0
+    → (from to : LoopState) → Type 0
 LineRuns (Ok true) Prints Wrong from to =
     (past : History) → Stands ledger_of past from.office → CarriedOut Prints past from to
 LineRuns (Ok false) Prints Wrong from to = Wrong × Appends from.output to.output []
 LineRuns (Err error) Prints Wrong from to = ⊤
 
 -- what was written is all that is printed; of a run that failed nothing is said
-abbrev pub Writes : (Prints : List ℕ → Status → Type 0) → Status
+abbrev pub Writes : (Prints : List ℕ → ExitStatus → Type 0) → ExitStatus
     → (output output' : Option (List ℕ)) → Type 0
 Writes Prints Fine output output' =
     (printed : List ℕ) × Appends output output' printed × Prints printed Fine
@@ -31,21 +31,21 @@ Writes Prints Refused output output' =
 Writes Prints Failed output output' = ⊤
 
 -- a text that ends a run was written, or the writer failed
-abbrev pub TellsText : (text : List ℕ) → Status → (output output' : Option (List ℕ)) → Type 0
+abbrev pub TellsText : (text : List ℕ) → ExitStatus → (output output' : Option (List ℕ)) → Type 0
 TellsText text Fine output output' = ⊥
 TellsText text Refused output output' = Appends output output' text
 TellsText text Failed output output' = ⊤
 
 -- lines that were run from a desk
-abbrev pub LinesRun : Status → (text : List ℕ) → (from : Desk) → (output' : Option (List ℕ))
+abbrev pub LinesRun : ExitStatus → (text : List ℕ) → (from : LoopState) → (output' : Option (List ℕ))
     → Type 0
 LinesRun status text from output' =
     (past : History) → Stands ledger_of past from.office
     → Writes (LoopPrints (stage_on past from) (speaking_lines text)) status from.output output'
 
-abbrev pub TextRuns : Zone → (text : List ℕ) → Status → (output output' : Option (List ℕ)) → Type 0
+abbrev pub TextRuns : Zone → (text : List ℕ) → ExitStatus → (output output' : Option (List ℕ)) → Type 0
 TextRuns zone text status output output' = Writes (TextPrints zone text) status output output'
 
-abbrev pub InputRuns : Zone → (input : List ℕ) → Status → (output output' : Option (List ℕ))
+abbrev pub InputRuns : Zone → (input : List ℕ) → ExitStatus → (output output' : Option (List ℕ))
     → Type 0
 InputRuns zone input status output output' = Writes (InputPrints zone input) status output output'

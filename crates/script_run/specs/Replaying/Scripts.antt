@@ -2,8 +2,8 @@
 use Rattle.std.specs.Prelude.{◌≡◌, ◌⊎◌, ◌<◌, ◌≤◌, ℕ, List, [], ◌∷◌, ◌++◌, length}
 use Rattle.command_io.specs.Input.{most_bytes, too_long}
 use Rattle.command_io.specs.Lines.{Line, speaking_lines}
-use Rattle.command_io.specs.declared.status.Status.{Status}
-use Rattle.command_io.specs.declared.status.Status.TheVariants.{Fine, Refused}
+use Rattle.command_io.specs.declared.status.ExitStatus.{ExitStatus}
+use Rattle.command_io.specs.declared.status.ExitStatus.TheVariants.{Fine, Refused}
 use Rattle.interval_core.specs.declared.zone.Zone.{Zone}
 use Rattle.office_events.specs.declared.refusals.Refusal.TheVariants as refusal
 use Rattle.script_lines.specs.LineWords.Words.{words_of}
@@ -13,7 +13,7 @@ use Rattle.script_text.specs.AnswerText.{refused_line}
 
 -- The lines of a script print one after the other, from where it stands. A line that is none ends
 -- the run.
-abbrev pub ScriptPrints : Stage → List Line → (printed : List ℕ) → Status → Type 0
+abbrev pub ScriptPrints : Stage → List Line → (printed : List ℕ) → ExitStatus → Type 0
 ScriptPrints now [] printed status = (printed ≡ []) × (status ≡ Fine)
 ScriptPrints now (first ∷ lines) printed status =
     (BadPrints first printed × (status ≡ Refused))
@@ -34,7 +34,7 @@ abbrev pub no_office : List ℕ
 no_office = refused_line refusal.Memory
 
 -- A text prints what its lines print, or that there is no office.
-abbrev pub TextPrints : Zone → (text printed : List ℕ) → Status → Type 0
+abbrev pub TextPrints : Zone → (text printed : List ℕ) → ExitStatus → Type 0
 TextPrints zone text printed status =
     ((printed ≡ no_office) × (status ≡ Refused))
     ⊎ ScriptPrints (beginning zone) (speaking_lines text) printed status
@@ -44,7 +44,7 @@ TextBegins zone text part =
     BeginsText part no_office ⊎ ScriptBegins (beginning zone) (speaking_lines text) part
 
 -- An input prints what its text prints, where it isn't too long.
-pub record ReplayPrints (zone : Zone) (input printed : List ℕ) (status : Status) : Type 0 where
+pub record ReplayPrints (zone : Zone) (input printed : List ℕ) (status : ExitStatus) : Type 0 where
   pub long : most_bytes < length input → (status ≡ Refused) × (printed ≡ too_long)
   pub text : length input ≤ most_bytes → TextPrints zone input printed status
 

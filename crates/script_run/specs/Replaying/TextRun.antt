@@ -3,8 +3,8 @@ use Rattle.std.specs.Prelude.{◌≡◌, ◌⊎◌, ℕ, List, [], ◌++◌, Opt
 use Rattle.std.specs.Io.KnownBytes.{Appends}
 use Rattle.std.specs.declared.io.Error.{Error}
 use Rattle.command_io.specs.Lines.{Line}
-use Rattle.command_io.specs.declared.status.Status.{Status}
-use Rattle.command_io.specs.declared.status.Status.TheVariants.{Fine, Refused, Failed}
+use Rattle.command_io.specs.declared.status.ExitStatus.{ExitStatus}
+use Rattle.command_io.specs.declared.status.ExitStatus.TheVariants.{Fine, Refused, Failed}
 use Rattle.interval_core.specs.declared.zone.Zone.{Zone}
 use Rattle.memory_books.specs.Listed.{ledger_of}
 use Rattle.memory_books.specs.declared.list_books.ListBooks.{ListBooks}
@@ -59,7 +59,7 @@ pub record LineRan (past : History) (line : Line) (office office' : Office ListB
 
 -- It was carried out, or the run ends with a status: it has none of the forms, or was broken off.
 abbrev pub LineRuns : History → Line → (office office' : Office ListBooks)
-    → Result (Unit {0}) Status → (output output' : Option (List ℕ)) → Type 0
+    → Result (Unit {0}) ExitStatus → (output output' : Option (List ℕ)) → Type 0
 LineRuns past line office office' (Ok done) output output' =
     LineRan past line office office' output output'
 LineRuns past line office office' (Err Fine) output output' = ⊥
@@ -69,7 +69,7 @@ LineRuns past line office office' (Err Failed) output output' =
     (part : List ℕ) × Appends output output' part × LineBegins (stage_of past office) line part
 
 -- What was written is all that is printed, or a beginning of it where the run failed.
-abbrev pub Writes : (Prints : List ℕ → Status → Type 0) → (Begins : List ℕ → Type 0) → Status
+abbrev pub Writes : (Prints : List ℕ → ExitStatus → Type 0) → (Begins : List ℕ → Type 0) → ExitStatus
     → (output output' : Option (List ℕ)) → Type 0
 Writes Prints Begins Fine output output' =
     (printed : List ℕ) × Appends output output' printed × Prints printed Fine
@@ -78,23 +78,23 @@ Writes Prints Begins Refused output output' =
 Writes Prints Begins Failed output output' =
     (part : List ℕ) × Appends output output' part × Begins part
 
-abbrev pub TextRuns : Zone → (text : List ℕ) → Status → (output output' : Option (List ℕ)) → Type 0
+abbrev pub TextRuns : Zone → (text : List ℕ) → ExitStatus → (output output' : Option (List ℕ)) → Type 0
 TextRuns zone text status output output' =
     Writes (TextPrints zone text) (TextBegins zone text) status output output'
 
-abbrev pub InputRuns : Zone → (input : List ℕ) → Status → (output output' : Option (List ℕ))
+abbrev pub InputRuns : Zone → (input : List ℕ) → ExitStatus → (output output' : Option (List ℕ))
     → Type 0
 InputRuns zone input status output output' =
     Writes (ReplayPrints zone input) (ReplayBegins zone input) status output output'
 
--- The writer holds a beginning of what it buffered and of this text behind it.
+-- The writer holds a beginning of what it buffered and of this text after it.
 abbrev pub HoldsPart : (old new : Option (List ℕ)) → (text : List ℕ) → Type 0
 HoldsPart None new text = ⊤
 HoldsPart (Some buffered) None text = ⊥
 HoldsPart (Some buffered) (Some holds) text = (rest : List ℕ) × (buffered ++ text ≡ holds ++ rest)
 
 -- What a run leaves with the writer that it was given.
-abbrev pub Replays : Zone → (input : List ℕ) → Status → (output output' : Option (List ℕ)) → Type 0
+abbrev pub Replays : Zone → (input : List ℕ) → ExitStatus → (output output' : Option (List ℕ)) → Type 0
 Replays zone input Failed output output' =
     (part : List ℕ) × HoldsPart output output' part × ReplayBegins zone input part
 Replays zone input status output output' =

@@ -2,7 +2,7 @@
 ghost use Rattle.script_run.specs.Bank.Running as running;
 
 use crate::bank::setup::Setup;
-use command_io::{InputLines, Status, read_input};
+use command_io::{InputLines, ExitStatus, read_input};
 use office_events::Refusal;
 use script_lines::BankLine;
 use script_text::{write_bad_line, write_refusal};
@@ -10,7 +10,7 @@ use std::alloc::Global;
 use std::io::{Read, Write};
 
 // Carries out a line, and prints `refused 12` where the bank does not take it.
-fn carry_out<W: Write>(setup: &mut Setup, said: &BankLine, output: &mut W) -> Result<(), Status>
+fn carry_out<W: Write>(setup: &mut Setup, said: &BankLine, output: &mut W) -> Result<(), ExitStatus>
     ensures { running.Carries setup.old said.now result setup.new
         (W.contents output.old) (W.contents output.new) }
 {
@@ -18,9 +18,9 @@ fn carry_out<W: Write>(setup: &mut Setup, said: &BankLine, output: &mut W) -> Re
         Ok(true) => Ok(()),
         Ok(false) => match write_refusal(Refusal::Limit, output) {
             Ok(()) => Ok(()),
-            Err(_) => Err(Status::Failed),
+            Err(_) => Err(ExitStatus::Failed),
         },
-        Err(_) => Err(Status::Failed),
+        Err(_) => Err(ExitStatus::Failed),
     }
 }
 
@@ -30,21 +30,21 @@ fn run_line<W: Write>(
     number: u64,
     line: &[u8],
     output: &mut W,
-) -> Result<(), Status>
+) -> Result<(), ExitStatus>
     ensures { running.LineRuns setup.old (record { number = number; text = line.now }) result
         setup.new (W.contents output.old) (W.contents output.new) }
 {
     match BankLine::read(line) {
         Some(said) => carry_out(setup, &said, output),
         None => match write_bad_line(number, output) {
-            Ok(()) => Err(Status::Refused),
-            Err(_) => Err(Status::Failed),
+            Ok(()) => Err(ExitStatus::Refused),
+            Err(_) => Err(ExitStatus::Failed),
         },
     }
 }
 
 // Carries out the lines of a text.
-fn run_text<W: Write>(setup: &mut Setup, text: &[u8], output: &mut W) -> Result<(), Status>
+fn run_text<W: Write>(setup: &mut Setup, text: &[u8], output: &mut W) -> Result<(), ExitStatus>
     ensures { running.TextRuns setup.old text.now result setup.new
         (W.contents output.old) (W.contents output.new) }
 {
@@ -65,12 +65,12 @@ pub fn set_up<R: Read, W: Write>(
     alloc: Global,
     input: &mut R,
     output: &mut W,
-) -> Result<Setup, Status>
+) -> Result<Setup, ExitStatus>
     ensures { running.SetUp (R.remaining input.old) result
         (W.contents output.old) (W.contents output.new) }
 {
     let Ok(mut setup) = Setup::new(alloc) else {
-        return Err(Status::Failed);
+        return Err(ExitStatus::Failed);
     };
     match read_input(alloc, input, output) {
         Ok(text) => match run_text(&mut setup, &text, output) {

@@ -5,7 +5,7 @@ ghost use Rattle.script_run.specs.Bank.Settings as setting;
 ghost use Rattle.script_run.specs.Looping.Lines as form;
 ghost use Rattle.script_run.specs.Looping.Lines.{AreWrong, BankPrints, SaidPrints, WordsPrint};
 ghost use Rattle.script_run.specs.Looping.TextRun.{LineRuns};
-ghost use Rattle.script_run.specs.Looping.Standings.{CarriesOut, desk};
+ghost use Rattle.script_run.specs.Looping.Standings.{CarriesOut, loop_state};
 ghost use Rattle.script_lines.specs.LineWords.Words.{words_of};
 
 use crate::bank::{add_in, set_in};
@@ -43,8 +43,8 @@ pub(crate) fn run_line<C: Connects, W: Write>(
 ) -> io::Result<bool>
     ensures { LineRuns result (WordsPrint (words_of line.now))
         (AreWrong run.old.connected (words_of line.now))
-        (desk run.old.office run.old.bank run.old.connected (W.contents output.old))
-        (desk run.new.office run.new.bank run.new.connected (W.contents output.new)) }
+        (loop_state run.old.office run.old.bank run.old.connected (W.contents output.old))
+        (loop_state run.new.office run.new.bank run.new.connected (W.contents output.new)) }
 {
     match BankLine::read(line) {
         Some(said) => run_bank_line(run, &said, output),
@@ -99,8 +99,8 @@ fn run_bank_line<L: Link + Drop, W: Write>(
     output: &mut W,
 ) -> io::Result<bool>
     ensures { LineRuns result (BankPrints said.now) (form.MayNotStand run.old.connected said.now)
-        (desk run.old.office run.old.bank run.old.connected (W.contents output.old))
-        (desk run.new.office run.new.bank run.new.connected (W.contents output.new)) }
+        (loop_state run.old.office run.old.bank run.old.connected (W.contents output.old))
+        (loop_state run.new.office run.new.bank run.new.connected (W.contents output.new)) }
 {
     if !may_stand(run.connected, said) {
         return Ok(false);
@@ -119,8 +119,8 @@ fn run_script_line<C: Connects, W: Write>(
     output: &mut W,
 ) -> io::Result<bool>
     ensures { LineRuns result (SaidPrints said) (form.SaysBytes said)
-        (desk run.old.office run.old.bank run.old.connected (W.contents output.old))
-        (desk run.new.office run.new.bank run.new.connected (W.contents output.new)) }
+        (loop_state run.old.office run.old.bank run.old.connected (W.contents output.old))
+        (loop_state run.new.office run.new.bank run.new.connected (W.contents output.new)) }
 {
     match said {
         ScriptLine::Event { at, event } => run_event(alloc, run, at, &event, connects, output),
@@ -156,8 +156,8 @@ fn carry_alike<L: Link + Drop, W: Write>(
     output: &mut W,
 ) -> io::Result<()>
     ensures { CarriesOut result (λ done. form.AlikePrints said)
-        (desk run.old.office run.old.bank run.old.connected (W.contents output.old))
-        (desk run.new.office run.new.bank run.new.connected (W.contents output.new)) }
+        (loop_state run.old.office run.old.bank run.old.connected (W.contents output.old))
+        (loop_state run.new.office run.new.bank run.new.connected (W.contents output.new)) }
 {
     carry_out(alloc, &mut run.office, said, output)
 }
@@ -172,8 +172,8 @@ fn run_event<C: Connects, W: Write>(
     output: &mut W,
 ) -> io::Result<bool>
     ensures { LineRuns result (form.HappensPrints at event.now) (form.IsBytes event.now)
-        (desk run.old.office run.old.bank run.old.connected (W.contents output.old))
-        (desk run.new.office run.new.bank run.new.connected (W.contents output.new)) }
+        (loop_state run.old.office run.old.bank run.old.connected (W.contents output.old))
+        (loop_state run.new.office run.new.bank run.new.connected (W.contents output.new)) }
 {
     match event {
         Event::Bytes(_, _) => Ok(false),
@@ -238,8 +238,8 @@ fn run_command<L: Link + Drop, W: Write>(
     output: &mut W,
 ) -> io::Result<()>
     ensures { CarriesOut result (λ done. form.CommandPrints round at event.now)
-        (desk run.old.office run.old.bank run.old.connected (W.contents output.old))
-        (desk run.new.office run.new.bank run.new.connected (W.contents output.new)) }
+        (loop_state run.old.office run.old.bank run.old.connected (W.contents output.old))
+        (loop_state run.new.office run.new.bank run.new.connected (W.contents output.new)) }
 {
     match round {
         Some(device) => start(
@@ -265,8 +265,8 @@ fn run_start<L: Link + Drop, W: Write>(
     output: &mut W,
 ) -> io::Result<bool>
     ensures { LineRuns result (form.ReadPrints at given.now) ⊥
-        (desk run.old.office run.old.bank run.old.connected (W.contents output.old))
-        (desk run.new.office run.new.bank run.new.connected (W.contents output.new)) }
+        (loop_state run.old.office run.old.bank run.old.connected (W.contents output.old))
+        (loop_state run.new.office run.new.bank run.new.connected (W.contents output.new)) }
 {
     match given.span() {
         Some(span) => {

@@ -2,13 +2,13 @@
 ghost use Rattle.std.specs.Prelude.{IfSome};
 ghost use Rattle.script_run.specs.Bank.Settings as setting;
 ghost use Rattle.script_run.specs.Looping.TextRun.{InputRuns, LinesRun, TellsText, TextRuns};
-ghost use Rattle.script_run.specs.Looping.Standings.{desk};
+ghost use Rattle.script_run.specs.Looping.Standings.{loop_state};
 ghost use Rattle.script_text.specs.AnswerText.{bad_line, refused_line};
 
 use crate::bank::empty_bank;
 use crate::looping::lines::{Run, run_line};
 use crate::looping::wires::{Connects, Wires};
-use command_io::{InputLines, Status, read_input};
+use command_io::{InputLines, ExitStatus, read_input};
 use interval_core::Zone;
 use mb_device::{Bank, Trick};
 use office_core::Office;
@@ -23,14 +23,14 @@ use std::io::{Read, Write};
 /// runs one. Lines of a bank may stand among those of the script: they print `ok`, or `refused 12` where the bank does not
 /// take them; `area` and `trick` stand before the first line that connects. A line that connects a device makes a
 /// connection of it to the stand-in; what a line starts is sent, answered and fed at once, and the notes of that and `ok`
-/// are printed behind what was started. A line with bytes of a device is none.
+/// are printed after what was started. A line with bytes of a device is none.
 pub fn loop_text<R: Read, C: Connects, W: Write>(
     alloc: Global,
     zone: Zone,
     input: &mut R,
     connects: &mut C,
     output: &mut W,
-) -> Status
+) -> ExitStatus
     ensures { IfSome (R.remaining input.old)
         (λ all. InputRuns zone all result (W.contents output.old) (W.contents output.new)) }
 {
@@ -74,14 +74,14 @@ fn run_text<C: Connects, W: Write>(
     text: &[u8],
     connects: &mut C,
     output: &mut W,
-) -> Status
+) -> ExitStatus
     ensures { TextRuns zone text.now result (W.contents output.old) (W.contents output.new) }
 {
     let Ok(tricks) = tricks_in(alloc, text) else {
-        return Status::Failed;
+        return ExitStatus::Failed;
     };
     let Ok(bank) = empty_bank(alloc) else {
-        return Status::Failed;
+        return ExitStatus::Failed;
     };
     run_opened(alloc, zone, text, bank, &tricks, connects, output)
 }
@@ -95,7 +95,7 @@ fn run_opened<C: Connects, W: Write>(
     tricks: &[(u64, Trick)],
     connects: &mut C,
     output: &mut W,
-) -> Status
+) -> ExitStatus
     requires { setting.AreUnset bank }
     ensures { TextRuns zone text.now result (W.contents output.old) (W.contents output.new) }
 {
@@ -114,22 +114,22 @@ fn run_opened<C: Connects, W: Write>(
 }
 
 // Writes why there is no office.
-fn tell_refused<W: Write>(why: Refusal, output: &mut W) -> Status
+fn tell_refused<W: Write>(why: Refusal, output: &mut W) -> ExitStatus
     ensures { TellsText (refused_line why) result (W.contents output.old) (W.contents output.new) }
 {
     match write_refusal(why, output) {
-        Ok(()) => Status::Refused,
-        Err(_) => Status::Failed,
+        Ok(()) => ExitStatus::Refused,
+        Err(_) => ExitStatus::Failed,
     }
 }
 
 // Writes the number of a line that is wrong.
-fn tell_bad<W: Write>(number: u64, output: &mut W) -> Status
+fn tell_bad<W: Write>(number: u64, output: &mut W) -> ExitStatus
     ensures { TellsText (bad_line number) result (W.contents output.old) (W.contents output.new) }
 {
     match write_bad_line(number, output) {
-        Ok(()) => Status::Refused,
-        Err(_) => Status::Failed,
+        Ok(()) => ExitStatus::Refused,
+        Err(_) => ExitStatus::Failed,
     }
 }
 
@@ -140,9 +140,9 @@ fn run_lines<C: Connects, W: Write>(
     text: &[u8],
     connects: &mut C,
     output: &mut W,
-) -> Status
+) -> ExitStatus
     ensures { LinesRun result text.now
-        (desk run.old.office run.old.bank run.old.connected (W.contents output.old))
+        (loop_state run.old.office run.old.bank run.old.connected (W.contents output.old))
         (W.contents output.new) }
 {
     let mut lines = InputLines::of(text);
@@ -153,8 +153,8 @@ fn run_lines<C: Connects, W: Write>(
                     return tell_bad(line.number, output);
                 }
             }
-            Err(_) => return Status::Failed,
+            Err(_) => return ExitStatus::Failed,
         }
     }
-    Status::Fine
+    ExitStatus::Fine
 }

@@ -7,7 +7,7 @@ ghost use Rattle.script_run.specs.Replaying.TextRun.{LineRuns, MayCarryOut};
 
 use crate::replaying::events::{feed, feed_list, feed_start};
 use crate::replaying::questions::{tell_days, tell_intervals, tell_meter, tell_poll};
-use command_io::Status;
+use command_io::ExitStatus;
 use office_core::Office;
 use memory_books::ListBooks;
 use script_lines::{LineFault, ScriptLine};
@@ -44,7 +44,7 @@ pub(crate) fn run_line<W: Write>(
     number: u64,
     line: &[u8],
     output: &mut W,
-) -> Result<(), Status>
+) -> Result<(), ExitStatus>
     ensures { (past : History) → Stands ledger_of past office.old
         → LineRuns past (record { number = number; text = line.now })
         office.old office.new result (W.contents output.old) (W.contents output.new) }
@@ -52,12 +52,12 @@ pub(crate) fn run_line<W: Write>(
     match ScriptLine::read(alloc, line) {
         Ok(said) => match carry_out(alloc, office, said, output) {
             Ok(()) => Ok(()),
-            Err(_) => Err(Status::Failed),
+            Err(_) => Err(ExitStatus::Failed),
         },
         Err(LineFault::Bad) => match write_bad_line(number, output) {
-            Ok(()) => Err(Status::Refused),
-            Err(_) => Err(Status::Failed),
+            Ok(()) => Err(ExitStatus::Refused),
+            Err(_) => Err(ExitStatus::Failed),
         },
-        Err(LineFault::Memory) => Err(Status::Failed),
+        Err(LineFault::Memory) => Err(ExitStatus::Failed),
     }
 }

@@ -3,7 +3,7 @@ ghost use Rattle.std.specs.Prelude.{IfSome};
 ghost use Rattle.script_run.specs.Replaying.TextRun.{Replays};
 
 use crate::replaying::text_run::run_input;
-use command_io::{Buffered, Status};
+use command_io::{Buffered, ExitStatus};
 use interval_core::Zone;
 use std::alloc::Global;
 use std::io::{Read, Write};
@@ -11,7 +11,7 @@ use std::io::{Read, Write};
 /// How a run ended, and the writer that it was given.
 #[derive(Drop)]
 pub struct Replayed<W> {
-    pub status: Status,
+    pub status: ExitStatus,
     pub output: W,
 }
 
@@ -28,7 +28,7 @@ pub fn replay<R: Read, W: Write>(alloc: Global, zone: Zone, input: &mut R, outpu
     let ended = run_input(alloc, zone, input, &mut buffered);
     let status = match buffered.flush() {
         Ok(()) => ended,
-        Err(_) => Status::Failed,
+        Err(_) => ExitStatus::Failed,
     };
     Replayed {
         status,

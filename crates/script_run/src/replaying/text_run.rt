@@ -3,7 +3,7 @@ ghost use Rattle.script_run.specs.Replaying.TextRun.{InputRuns, TextRuns};
 ghost use Rattle.std.specs.Prelude.{IfSome};
 
 use crate::replaying::lines::run_line;
-use command_io::{InputLines, Status, read_input};
+use command_io::{InputLines, ExitStatus, read_input};
 use interval_core::Zone;
 use office_core::Office;
 use memory_books::ListBooks;
@@ -12,15 +12,15 @@ use std::alloc::Global;
 use std::io::{Read, Write};
 
 // Runs the lines of a text over an office in memory, which is opened at moment 0.
-fn run_text<W: Write>(alloc: Global, zone: Zone, text: &[u8], output: &mut W) -> Status
+fn run_text<W: Write>(alloc: Global, zone: Zone, text: &[u8], output: &mut W) -> ExitStatus
     ensures { TextRuns zone text.now result (W.contents output.old) (W.contents output.new) }
 {
     let mut office = match Office::open(alloc, ListBooks::new(alloc, zone), 0) {
         Ok(office) => office,
         Err((_, why)) => {
             return match write_refusal(why, output) {
-                Ok(()) => Status::Refused,
-                Err(_) => Status::Failed,
+                Ok(()) => ExitStatus::Refused,
+                Err(_) => ExitStatus::Failed,
             };
         }
     };
@@ -31,7 +31,7 @@ fn run_text<W: Write>(alloc: Global, zone: Zone, text: &[u8], output: &mut W) ->
             Err(status) => return status,
         }
     }
-    Status::Fine
+    ExitStatus::Fine
 }
 
 /// Runs the script that an input is.
@@ -40,7 +40,7 @@ pub(crate) fn run_input<R: Read, W: Write>(
     zone: Zone,
     input: &mut R,
     output: &mut W,
-) -> Status
+) -> ExitStatus
     ensures { IfSome (R.remaining input.old)
         (λ all. InputRuns zone all result (W.contents output.old) (W.contents output.new)) }
 {

@@ -54,7 +54,7 @@ impl<const N: usize> Text<N> {
         self.filled = end;
     }
 
-    /// Puts a number at its end, behind what introduces it.
+    /// Puts a number at its end, after what introduces it.
     pub fn push_number<I: Integer>(&mut self, key: &[u8], number: I)
         requires { length self.old + length key.now + I.MAX_STR_LEN ≤ N }
         ensures bytes { self.new ≡ self.old ++ key.now ++ I.text number }

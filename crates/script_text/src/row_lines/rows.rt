@@ -46,7 +46,7 @@ pub fn end_line(count: u64) -> Line
     line
 }
 
-// Four digits of a year, behind a sign and two zeros where it is before the year 0.
+// Four digits of a year, after a sign and two zeros where it is before the year 0.
 fn push_year(line: &mut Line, year: i16)
     requires room { length line.old ≤ 64 }
     requires few { IsYear year }

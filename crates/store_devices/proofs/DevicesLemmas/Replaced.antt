@@ -17,15 +17,15 @@ module _ (device : List ℕ) where
   abbrev pub Came : List Point → Content → Content → Type 0
   Came ps = Edits points point_columns (with_points device ps)
 
-  one_behind : (ps : List Point) (p : Point) (rows : List Listed) → IsPermutation (with_points device (ps ++ p ∷ []) rows) (listed_at device p ∷ with_points device ps rows)
-  one_behind ps p rows =
+  one_after : (ps : List Point) (p : Point) (rows : List Listed) → IsPermutation (with_points device (ps ++ p ∷ []) rows) (listed_at device p ∷ with_points device ps rows)
+  one_after ps p rows =
       subst (λ xs. IsPermutation xs (listed_at device p ∷ with_points device ps rows))
       (sym (ap (λ xs. xs ++ rows) (map-append (listed_at device) ps (p ∷ [])) ∙ append_assoc (map (listed_at device) ps) (listed_at device p ∷ []) rows))
       (IsPermutation-middle (map (listed_at device) ps) (listed_at device p) rows)
 
   one_more : (ps : List Point) (p : Point) (x y z : Content) → Came ps x y → Edits points point_columns (with_row (listed_at device p)) y z → Came (ps ++ p ∷ []) x z
   one_more ps p x y z first next = record {
-    rows = λ xs has. IsPermutation-trans _ _ _ (IsPermutation-map point_columns _ _ (one_behind ps p xs)) (next.rows (with_points device ps xs) (first.rows xs has));
+    rows = λ xs has. IsPermutation-trans _ _ _ (IsPermutation-map point_columns _ _ (one_after ps p xs)) (next.rows (with_points device ps xs) (first.rows xs has));
     others = λ t off. next.others t off ∙ first.others t off;
   }
 

@@ -5,7 +5,7 @@ ghost use Rattle.sqlite.specs.Held.{state};
 ghost use Rattle.store_tables.specs.Content.{Edits, with_row};
 ghost use Rattle.store_tables.specs.Steps.{Steps};
 ghost use Rattle.store_tables.specs.Answer.{IsFound, AnyOrder, LastFirst, FirstFirst, every};
-ghost use Rattle.store_tables.specs.Asking.{Asks, AsksInside, Tells, LooksUp};
+ghost use Rattle.store_tables.specs.Asking.{Asks, AsksInside, TellsAnswer, LooksUp};
 ghost use Rattle.store_tables.specs.Asking.{TellsRows, Shows, ShowsFirst};
 ghost use Rattle.store_devices.specs.Devices.Rows.{registered_as, register_columns, register_shown};
 ghost use Rattle.store_devices.specs.Devices.Rows.{register_place};
@@ -123,7 +123,7 @@ fn places_of<S: Alter>(conn: &mut Connection<S>, device: &str) -> Result<Vec<Row
 /// How many registers a device has.
 pub fn register_count<S: Alter>(conn: &mut Connection<S>, device: &str) -> Result<usize, Error>
     ensures asks { Asks S.Store conn.old conn.new }
-    ensures counts { Tells S.Store conn.old conn.new registers register_columns result
+    ensures counts { TellsAnswer S.Store conn.old conn.new registers register_columns result
         (IsRegisterCount device.now) }
 {
     let rows = places_of(conn, device)?;

@@ -42,15 +42,15 @@ module _ (meter : List ℕ) where
   abbrev pub Came : List Share → Content → Content → Type 0
   Came shares = Edits intervals interval_columns (with_rows meter shares)
 
-  one_behind : (shares : List Share) (share : Share) (rows : List Interval) → IsPermutation (with_rows meter (shares ++ share ∷ []) rows) (row_of meter share ∷ with_rows meter shares rows)
-  one_behind shares share rows =
+  one_after : (shares : List Share) (share : Share) (rows : List Interval) → IsPermutation (with_rows meter (shares ++ share ∷ []) rows) (row_of meter share ∷ with_rows meter shares rows)
+  one_after shares share rows =
       subst (λ xs. IsPermutation xs (row_of meter share ∷ with_rows meter shares rows))
       (sym (ap (λ xs. xs ++ rows) (map-append (row_of meter) shares (share ∷ [])) ∙ append_assoc (map (row_of meter) shares) (row_of meter share ∷ []) rows))
       (IsPermutation-middle (map (row_of meter) shares) (row_of meter share) rows)
 
   one_more : (shares : List Share) (share : Share) (x y z : Content) → Came shares x y → Edits intervals interval_columns (with_row (row_of meter share)) y z → Came (shares ++ share ∷ []) x z
   one_more shares share x y z first next = record {
-    rows = λ xs has. IsPermutation-trans _ _ _ (IsPermutation-map interval_columns _ _ (one_behind shares share xs)) (next.rows (with_rows meter shares xs) (first.rows xs has));
+    rows = λ xs has. IsPermutation-trans _ _ _ (IsPermutation-map interval_columns _ _ (one_after shares share xs)) (next.rows (with_rows meter shares xs) (first.rows xs has));
     others = λ t off. next.others t off ∙ first.others t off;
   }
 

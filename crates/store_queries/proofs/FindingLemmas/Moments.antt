@@ -122,9 +122,9 @@ module _ (P : ℕ → Type 0) where
 
 -- ---- all entries of lawful facts
 
-some_behind : {X : Type 0} (b : Bool) (x : X) (o : Option X) → is_some o ≡ true → is_some (cond b (Some x) o) ≡ true
-some_behind true x o h = refl
-some_behind false x o h = h
+some_after : {X : Type 0} (b : Bool) (x : X) (o : Option X) → is_some o ≡ true → is_some (cond b (Some x) o) ≡ true
+some_after true x o h = refl
+some_after false x o h = h
 
 -- each entry is one of a meter that was installed
 has_opening : (facts : List Fact) → AreLawful facts → AllByRecursion (λ (b : BookedEntry). is_some (opening_of facts b.meter) ≡ true) (facts_of.entries_in facts)
@@ -133,7 +133,7 @@ has_opening (fact.Device d ∷ facts) h = has_opening facts h.1
 has_opening (fact.List l ∷ facts) h = has_opening facts h.1
 has_opening (fact.Register r ∷ facts) h = has_opening facts h.1
 has_opening (fact.Opening o ∷ facts) h =
-    all_weaker _ (λ (b : BookedEntry). is_some (opening_of (fact.Opening o ∷ facts) b.meter) ≡ true) (λ b is. some_behind (same o.meter b.meter) o (opening_of facts b.meter) is) (facts_of.entries_in facts) (has_opening facts h.1)
+    all_weaker _ (λ (b : BookedEntry). is_some (opening_of (fact.Opening o ∷ facts) b.meter) ≡ true) (λ b is. some_after (same o.meter b.meter) o (opening_of facts b.meter) is) (facts_of.entries_in facts) (has_opening facts h.1)
 has_opening (fact.Entry b ∷ facts) h = (ap is_some h.0.0.there, has_opening facts h.1)
 has_opening (fact.Hold b ∷ facts) h = has_opening facts h.1
 has_opening (fact.Void v ∷ facts) h = has_opening facts h.1

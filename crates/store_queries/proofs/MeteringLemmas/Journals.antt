@@ -32,7 +32,7 @@ use Rattle.office_rules.proofs.Lists.{reverse_cons}
 use Rattle.store_tables.specs.Answer.{AreFound, FirstFirst}
 use Rattle.store_tables.specs.declared.entries.rows.EntryRow as stored
 use Rattle.store_tables.specs.Entries.Rows.{Entered, Voided, is_of, is_void_of, entry_place}
-use Rattle.store_facts.specs.Rows.{entered, entry_row, opening_row, scale_behind, entered_rows, entries_at, entries_of, voided}
+use Rattle.store_facts.specs.Rows.{entered, entry_row, opening_row, scale_after, entered_rows, entries_at, entries_of, voided}
 use Rattle.store_facts.proofs.Energy.{found_recorded}
 use Rattle.store_facts.proofs.Passing.{any_permutation}
 use Rattle.store_queries.specs.Metering.Entries.{row_from, row_among, names}
@@ -109,12 +109,12 @@ module _ (o : Opening) (vs : List Voided) where
     pub reading : row.stands ≡ false → is_read row.kind row.entry ≡ true
     pub stands : not (list_any (names row.place) vs) ≡ row.stands
 
-  one_back : (row : EntryRow) (rows : List EntryRow) → IsTold row → row_among vs (entered o.meter (entry_row (scale_behind o (row ∷ rows)) row)) ≡ Some row
+  one_back : (row : EntryRow) (rows : List EntryRow) → IsTold row → row_among vs (entered o.meter (entry_row (scale_after o (row ∷ rows)) row)) ≡ Some row
   one_back row rows h =
       let last = last_of (opened o) (entries_in rows) in
-      let scale : row.stands ≡ true → scale_behind o (row ∷ rows) ≡ (after last row.entry).sf = λ on. ap (λ es. (last_of (opened o) es).sf) (entries_standing row rows on) in
-      ap (λ b. row_from (entry_row (scale_behind o (row ∷ rows)) row) b) h.stands
-      ∙ back_by (scale_behind o (row ∷ rows)) last row.place row.kind row.entry row.stands h.shape h.reading scale
+      let scale : row.stands ≡ true → scale_after o (row ∷ rows) ≡ (after last row.entry).sf = λ on. ap (λ es. (last_of (opened o) es).sf) (entries_standing row rows on) in
+      ap (λ b. row_from (entry_row (scale_after o (row ∷ rows)) row) b) h.stands
+      ∙ back_by (scale_after o (row ∷ rows)) last row.place row.kind row.entry row.stands h.shape h.reading scale
 
   pub all_back : (rows : List EntryRow) → AllByRecursion IsTold rows → filter_map (row_among vs) (entered_rows o rows) ≡ rows
   all_back [] h = refl
@@ -165,13 +165,13 @@ module _ (o : Opening) where
   up_to : (n : ℕ) (rows : List EntryRow) → AreNumbered rows → length rows + 1 ≤ n → AllByRecursion (λ e. entry_place e ≤ n) (reverse (entered_rows o rows))
   up_to n [] numbers le = (omega (arith, le), tt)
   up_to n (row ∷ rows) numbers le =
-      subst (AllByRecursion (λ e. entry_place e ≤ n)) (sym (reverse_cons (entered o.meter (entry_row (scale_behind o (row ∷ rows)) row)) (entered_rows o rows)))
+      subst (AllByRecursion (λ e. entry_place e ≤ n)) (sym (reverse_cons (entered o.meter (entry_row (scale_after o (row ∷ rows)) row)) (entered_rows o rows)))
       (all-append (λ e. entry_place e ≤ n) (reverse (entered_rows o rows)) _ (up_to n rows numbers.1 (omega (arith, le))) ((let at = numbers.0 in omega (arith, at, le)), tt))
 
   in_order : (rows : List EntryRow) → AreNumbered rows → IsAscending (λ a b. place_before a b ≡ true) (reverse (entered_rows o rows))
   in_order [] numbers = (tt, tt)
   in_order (row ∷ rows) numbers =
-      subst (IsAscending (λ a b. place_before a b ≡ true)) (sym (reverse_cons (entered o.meter (entry_row (scale_behind o (row ∷ rows)) row)) (entered_rows o rows)))
+      subst (IsAscending (λ a b. place_before a b ≡ true)) (sym (reverse_cons (entered o.meter (entry_row (scale_after o (row ∷ rows)) row)) (entered_rows o rows)))
       (ascending-append (λ a b. place_before a b ≡ true) (reverse (entered_rows o rows)) _ (in_order rows numbers.1) (tt, tt)
       (all_weaker (λ e. entry_place e ≤ length rows + 1) _ (λ e le. (is_before (entry_place e) row.place (let at = numbers.0 in omega (arith, le, at)), tt)) (reverse (entered_rows o rows))
       (up_to (length rows + 1) rows numbers.1 (omega arith))))

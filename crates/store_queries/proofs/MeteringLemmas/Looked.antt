@@ -109,7 +109,7 @@ module _ {S : Type 0} (g : Ghosts S) where
   asked_after old mid new before settled asks zone = looks_then zone old mid new (before zone) (asked zone mid new settled asks)
 
   pub shown : {A X : Type 0} (old mid new : Held S) (tree : ℕ) (columns : X → Row) (x : A) (Answers : List X → A → Type 0) (says : List Fact → A → Type 0)
-      → ((zone : List ℕ) → OnlyLooks g zone old mid) → (HasCleanDisk (state g mid) → IsSettled mid) → Asks g mid new → asking.Tells {E = Error} g mid new tree columns (Ok x) Answers
+      → ((zone : List ℕ) → OnlyLooks g zone old mid) → (HasCleanDisk (state g mid) → IsSettled mid) → Asks g mid new → asking.TellsAnswer {E = Error} g mid new tree columns (Ok x) Answers
       → ((zone : List ℕ) (facts : List Fact) (content : Content) → AreOf zone facts content → Tells tree columns Answers (says facts) content) → Finds g old new (Ok x) says
   shown old mid new tree columns x Answers says before settled asks answer tells = record {
     found = λ zone facts holds clean.

@@ -151,7 +151,7 @@ module _ (kept : MetersAreKept) (facts : List Fact) (lawful : AreLawful facts) w
         let eq : (a == b) ≡ true = eq-eqb a b same_place in
         ap₂ (λ c d. nat_lt a b || (c && d)) eq is ∙ or_true (nat_lt a b)
 
-    -- pairs that come later come behind what those before come behind
+    -- pairs that come later come after what those before come after
     pair_still : (p q r : Pair) → comes_before p q ≡ true → ComesAfter q r → comes_before p r ≡ true
     pair_still p q r lt le = elim (less_or (installed_place p.0) (installed_place q.0) (starts_before p.1 q.1) lt) [
       | inl low ↦ elim le [
@@ -185,16 +185,16 @@ module _ (kept : MetersAreKept) (facts : List Fact) (lawful : AreLawful facts) w
     rising_here true n o rising = rising_own n o rising
     rising_here false n o rising = tt
 
-    all_behind : (b : Bool) (p : Pair) (n : ℕ) (o : Opening) → installed_place p.0 < n → AllByRecursion (λ (q : Pair). comes_before p q ≡ true) (cond b (own n o) [])
-    all_behind true p n o lt = all_map (λ (q : Pair). comes_before p q ≡ true) (at_place n o) _ (all_of _ (λ (i : Interval). by_place (installed_place p.0) n (starts_before p.1 i) lt) _)
-    all_behind false p n o lt = tt
+    all_after : (b : Bool) (p : Pair) (n : ℕ) (o : Opening) → installed_place p.0 < n → AllByRecursion (λ (q : Pair). comes_before p q ≡ true) (cond b (own n o) [])
+    all_after true p n o lt = all_map (λ (q : Pair). comes_before p q ≡ true) (at_place n o) _ (all_of _ (λ (i : Interval). by_place (installed_place p.0) n (starts_before p.1 i) lt) _)
+    all_after false p n o lt = tt
 
     in_turn : (os : List Opening) → AllByRecursion (λ (o : Opening). Rising (rows_of_opening facts o)) os → IsAscending (λ (p q : Pair). comes_before p q ≡ true) (wanted os)
     in_turn [] h = tt
     in_turn (o ∷ os) h =
         let n = length os + 1 in
         ascending-append (λ (p q : Pair). comes_before p q ≡ true) (wanted os) _ (in_turn os h.1) (rising_here (here o) n o h.0)
-        (all_weaker (λ (p : Pair). installed_place p.0 ≤ length os) _ (λ p le. all_behind (here o) p n o (omega (arith, le))) (wanted os) (up_to (length os) os (omega arith)))
+        (all_weaker (λ (p : Pair). installed_place p.0 ≤ length os) _ (λ p le. all_after (here o) p n o (omega (arith, le))) (wanted os) (up_to (length os) os (omega arith)))
 
     -- ---- their shares
 

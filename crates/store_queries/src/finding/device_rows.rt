@@ -16,7 +16,7 @@ use poll_core::{MAX_TIMEOUT, MAX_WINDOW};
 use sqlite::{Alter, Connection, Row};
 use store_facts::name;
 use store_devices::{device_rows, read_device};
-use store_tables::{RowFault, touch};
+use store_tables::{RowFault, check_open};
 
 fn timeout(seconds: u8) -> Result<Timeout, RowFault>
     ensures { result ≡ or_damaged
@@ -79,7 +79,7 @@ fn rows<S: Alter>(conn: &mut Connection<S>) -> Result<Vec<Row>, RowFault>
     requires { conn.old.in_transaction ≡ false }
     ensures { Finds S.Store conn.old conn.new result ShowsDevices HasReadableDevices }
 {
-    touch(conn)?;
+    check_open(conn)?;
     Ok(device_rows(conn)?)
 }
 

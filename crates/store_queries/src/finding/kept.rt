@@ -12,7 +12,7 @@ use office_events::{CommandKind, MAX_REQUEST, Name};
 use sqlite::{Alter, Connection};
 use store_facts::text;
 use store_devices::ReplyKind;
-use store_tables::{RowFault, touch};
+use store_tables::{RowFault, check_open};
 
 fn command(kind: ReplyKind) -> CommandKind
     ensures { result ≡ kind_from kind }
@@ -53,7 +53,7 @@ fn row_of<S: Alter>(
     ensures { Finds S.Store conn.old conn.new result
         (OfLawful (FindsRepeat caller.now number request.now)) HasReadableReplies }
 {
-    touch(conn)?;
+    check_open(conn)?;
     store_devices::repeat_of(conn, caller, number, request)
 }
 
@@ -70,7 +70,7 @@ pub fn repeat<S: Alter>(
         (λ facts. IsUtf8 caller.now × HasReadableReplies facts) }
 {
     if MAX_REQUEST < number {
-        touch(conn)?;
+        check_open(conn)?;
         return Ok(None);
     }
     let caller = text(caller)?;

@@ -8,7 +8,7 @@ ghost use Rattle.store_queries.specs.Finding.Latest.{latest_started, latest_ende
 ghost use Rattle.store_queries.specs.Finding.Latest.{latest_asked, HasReadableMoments};
 
 use sqlite::{Alter, Connection};
-use store_tables::{RowFault, latest_entry, latest_void, touch};
+use store_tables::{RowFault, latest_entry, latest_void, check_open};
 use store_devices::{latest_hold, latest_outcome, latest_reply, latest_start};
 
 /// The latest of the openings and entries.
@@ -17,7 +17,7 @@ fn entered<S: Alter>(conn: &mut Connection<S>) -> Result<u64, RowFault>
     ensures { Finds S.Store conn.old conn.new result
         (λ facts n. n ≡ latest_entered facts) HasReadableMoments }
 {
-    touch(conn)?;
+    check_open(conn)?;
     Ok(latest_entry(conn)?.unwrap_or(0))
 }
 
@@ -27,7 +27,7 @@ fn voided<S: Alter>(conn: &mut Connection<S>) -> Result<u64, RowFault>
     ensures { Finds S.Store conn.old conn.new result
         (λ facts n. n ≡ latest_voided facts) HasReadableMoments }
 {
-    touch(conn)?;
+    check_open(conn)?;
     Ok(latest_void(conn)?.unwrap_or(0))
 }
 
@@ -37,7 +37,7 @@ fn held<S: Alter>(conn: &mut Connection<S>) -> Result<u64, RowFault>
     ensures { Finds S.Store conn.old conn.new result
         (λ facts n. n ≡ latest_held facts) HasReadableMoments }
 {
-    touch(conn)?;
+    check_open(conn)?;
     Ok(latest_hold(conn)?.unwrap_or(0))
 }
 
@@ -47,7 +47,7 @@ fn started<S: Alter>(conn: &mut Connection<S>) -> Result<u64, RowFault>
     ensures { Finds S.Store conn.old conn.new result
         (λ facts n. n ≡ latest_started facts) HasReadableMoments }
 {
-    touch(conn)?;
+    check_open(conn)?;
     Ok(latest_start(conn)?.unwrap_or(0))
 }
 
@@ -57,7 +57,7 @@ fn ended<S: Alter>(conn: &mut Connection<S>) -> Result<u64, RowFault>
     ensures { Finds S.Store conn.old conn.new result
         (λ facts n. n ≡ latest_ended facts) HasReadableMoments }
 {
-    touch(conn)?;
+    check_open(conn)?;
     Ok(latest_outcome(conn)?.unwrap_or(0))
 }
 
@@ -67,7 +67,7 @@ fn replied<S: Alter>(conn: &mut Connection<S>) -> Result<u64, RowFault>
     ensures { Finds S.Store conn.old conn.new result
         (λ facts n. n ≡ latest_replied facts) HasReadableMoments }
 {
-    touch(conn)?;
+    check_open(conn)?;
     Ok(latest_reply(conn)?.unwrap_or(0))
 }
 

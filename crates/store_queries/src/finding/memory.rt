@@ -14,7 +14,7 @@ pub(crate) fn want_of_memory() -> RowFault
     RowFault::Sql(Error::SqliteFailure(ErrorCode::OutOfMemory))
 }
 
-/// Puts an item behind the others.
+/// Puts an item after the others.
 pub(crate) fn put<T: Drop>(items: &mut Vec<T>, item: T) -> Result<(), RowFault>
     ensures put { OnOk result (items.new.items ≡ items.old.items ++ item ∷ []) }
     ensures fault { IfErr result (λ e. e ≡ Sql (SqliteFailure OutOfMemory)) }

@@ -14,7 +14,7 @@ use crate::finding::memory::put;
 use point_list::{ListedPoint, PointName, PointScale, fixed_scale, point_type};
 use sqlite::{Alter, Connection, Row};
 use store_devices::{point_rows, read_point};
-use store_tables::{RowFault, touch};
+use store_tables::{RowFault, check_open};
 use sun_points::PointType;
 
 fn point_name(text: String) -> Result<PointName, RowFault>
@@ -95,6 +95,6 @@ pub(crate) fn rows_of<S: Alter>(
     ensures { Finds S.Store conn.old conn.new result
         (OfLawful (ShowsPoints device.now)) (λ facts. HasReadablePoints facts device.now) }
 {
-    touch(conn)?;
+    check_open(conn)?;
     Ok(point_rows(conn, device)?)
 }

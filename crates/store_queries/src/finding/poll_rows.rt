@@ -18,7 +18,7 @@ use office_events::{EndedPoll, Poll, PollRow};
 use sqlite::{Alter, Connection, Row};
 use store_facts::name;
 use store_devices::{OutcomeRow, last_poll, outcome_of, pending_rows, poll_at, read_poll};
-use store_tables::{GREATEST_PLACE, RowFault, touch};
+use store_tables::{GREATEST_PLACE, RowFault, check_open};
 
 /// The registers that a poll asks for.
 fn span_from(row: store_devices::PollRow) -> ReadSpan
@@ -82,7 +82,7 @@ fn row_at<S: Alter>(
         (OfLawful (FindsPoll number)) HasReadablePolls }
     ensures sound { IfOk result (λ found. IfSome found (λ a. IsSoundPoll a.row)) }
 {
-    touch(conn)?;
+    check_open(conn)?;
     poll_at(conn, number)
 }
 
@@ -116,7 +116,7 @@ fn end_of<S: Alter>(conn: &mut Connection<S>, number: u64) -> Result<Option<Ende
     ensures { Finds S.Store conn.old conn.new result
         (λ facts end. end ≡ facts_of.end_of facts number) HasReadableOutcomes }
 {
-    touch(conn)?;
+    check_open(conn)?;
     match outcome_of(conn, number)? {
         None => Ok(None),
         Some(row) => Ok(Some(ended(row))),
@@ -131,7 +131,7 @@ pub fn poll<S: Alter>(conn: &mut Connection<S>, number: u64) -> Result<Option<Po
         (λ facts. HasReadablePolls facts × HasReadableOutcomes facts) }
 {
     if GREATEST_PLACE < number {
-        touch(conn)?;
+        check_open(conn)?;
         return Ok(None);
     }
     match poll_of(conn, number)? {
@@ -149,7 +149,7 @@ pub fn poll_count<S: Alter>(conn: &mut Connection<S>) -> Result<u64, RowFault>
     ensures { Finds S.Store conn.old conn.new result
         (λ facts n. n ≡ length (facts_of.polls_in facts)) HasReadablePolls }
 {
-    touch(conn)?;
+    check_open(conn)?;
     match last_poll(conn)? {
         None => Ok(0),
         Some(number) => Ok(number),
@@ -161,7 +161,7 @@ fn waiting<S: Alter>(conn: &mut Connection<S>) -> Result<Vec<Row>, RowFault>
     requires { conn.old.in_transaction ≡ false }
     ensures { Finds S.Store conn.old conn.new result ShowsPendingPolls HasReadablePolls }
 {
-    touch(conn)?;
+    check_open(conn)?;
     Ok(pending_rows(conn)?)
 }
 

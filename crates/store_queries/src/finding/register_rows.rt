@@ -13,7 +13,7 @@ use office_events::{Name, Register, ScaleSource};
 use sqlite::{Alter, Connection, Row};
 use store_facts::{name, text};
 use store_devices::{RegisterScale, read_register, register_of, register_rows};
-use store_tables::{RowFault, touch};
+use store_tables::{RowFault, check_open};
 
 fn source(scale: RegisterScale) -> ScaleSource
     ensures { result ≡ source_from scale }
@@ -70,7 +70,7 @@ fn row_of<S: Alter>(
     ensures { Finds S.Store conn.old conn.new result
         (OfLawful (FindsRegister name.now)) HasReadableRegisters }
 {
-    touch(conn)?;
+    check_open(conn)?;
     register_of(conn, name)
 }
 
@@ -97,7 +97,7 @@ fn rows_of<S: Alter>(conn: &mut Connection<S>, device: &str) -> Result<Vec<Row>,
     ensures { Finds S.Store conn.old conn.new result
         (ShowsRegisters device.now) HasReadableRegisters }
 {
-    touch(conn)?;
+    check_open(conn)?;
     Ok(register_rows(conn, device)?)
 }
 
@@ -124,6 +124,6 @@ pub fn register_count<S: Alter>(conn: &mut Connection<S>, device: &Name) -> Resu
         (λ facts. IsUtf8 device.now) }
 {
     let device = text(device)?;
-    touch(conn)?;
+    check_open(conn)?;
     Ok(store_devices::register_count(conn, device)?)
 }

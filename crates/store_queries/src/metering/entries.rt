@@ -13,7 +13,7 @@ use office_events::{EntryPlace, Name};
 use office_rules::journals_fit;
 use sqlite::{Alter, Connection, Row};
 use std::alloc::Global;
-use store_tables::{RowFault, entry_rows, touch, void_rows};
+use store_tables::{RowFault, entry_rows, check_open, void_rows};
 use store_facts::text;
 
 /// The entries of a meter, in order of place.
@@ -24,7 +24,7 @@ fn entries<S: Alter>(conn: &mut Connection<S>, meter: &str) -> Result<Vec<Row>, 
 {
     journals_fit();
     rows_stand();
-    touch(conn)?;
+    check_open(conn)?;
     let rows = entry_rows(conn, meter)?;
     Ok(rows)
 }
@@ -35,7 +35,7 @@ fn voids<S: Alter>(conn: &mut Connection<S>, meter: &str) -> Result<Vec<Row>, Ro
     ensures { Finds S.Store conn.old conn.new result
         (λ facts rows. ShowsVoids meter.now facts rows.items) }
 {
-    touch(conn)?;
+    check_open(conn)?;
     let rows = void_rows(conn, meter)?;
     Ok(rows)
 }

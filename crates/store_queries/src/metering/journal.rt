@@ -69,7 +69,7 @@ fn is_voided(voids: &[Row], place: u64) -> Result<bool, RowFault>
     Ok(false)
 }
 
-/// One more row behind these.
+/// One more row after these.
 fn push(rows: &mut Vec<EntryRow>, row: EntryRow) -> Result<(), RowFault>
     ensures { OnOk result (rows.new.items ≡ rows.old.items ++ row ∷ []) }
 {
@@ -79,7 +79,7 @@ fn push(rows: &mut Vec<EntryRow>, row: EntryRow) -> Result<(), RowFault>
     }
 }
 
-/// A row behind these, if there is one.
+/// A row after these, if there is one.
 fn add(rows: &mut Vec<EntryRow>, row: Option<EntryRow>) -> Result<(), RowFault>
     ensures { OnOk result (rows.new.items ≡ rows.old.items ++ option_to_list row) }
 {

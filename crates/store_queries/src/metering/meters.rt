@@ -11,7 +11,7 @@ use crate::metering::rows::{row_at, row_of};
 use office_events::{Installation, Name};
 use sqlite::{Alter, Connection};
 use store_facts::text;
-use store_tables::{RowFault, last_installation, touch};
+use store_tables::{RowFault, last_installation, check_open};
 
 /// The installation of a meter, as it stands.
 pub fn meter<S: Alter>(
@@ -52,7 +52,7 @@ fn last_place<S: Alter>(conn: &mut Connection<S>) -> Result<Option<u64>, RowFaul
     requires { conn.old.in_transaction ≡ false }
     ensures { Finds S.Store conn.old conn.new result CountsOpenings }
 {
-    touch(conn)?;
+    check_open(conn)?;
     last_installation(conn)
 }
 

@@ -57,7 +57,7 @@ fn installed(opening: &Opening) -> Installed
     }
 }
 
-/// Where the counter stands behind these rows, and the energy; damaged where one does not follow.
+/// Where the counter stands after these rows, and the energy; damaged where one does not follow.
 pub fn tally(meter: &Installed, rows: &[EntryRow]) -> Result<Tally, RowFault>
     requires range_low { MIN_RANGE ≤ meter.now.range }
     requires range_high { meter.now.range ≤ MAX_RANGE }
@@ -101,7 +101,7 @@ fn has_numbers(opening: &Opening) -> bool
     ranged && limited && scaled && u64::from(opening.raw) < opening.range
 }
 
-/// An installation where it stood behind these rows.
+/// An installation where it stood after these rows.
 fn behind(whole: &Installation, rows: &[EntryRow]) -> Result<Installation, RowFault>
     ensures stands { let es = entries_in (lists.latest_first rows.now) in
         IfOk result (λ row. row ≡ meters.standing whole.now.opening es whole.now.ended) }

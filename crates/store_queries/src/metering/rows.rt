@@ -6,7 +6,7 @@ ghost use Rattle.store_queries.specs.Metering.Meters.{FindsRow, FindsRange, Find
 
 use office_rules::voids_leave_no_trace;
 use sqlite::{Alter, Connection};
-use store_tables::{EntryRow, Installation, RowFault, entry_at, installation_at, installation_of, range_of, touch};
+use store_tables::{EntryRow, Installation, RowFault, entry_at, installation_at, installation_of, range_of, check_open};
 
 /// The row of a meter.
 pub(crate) fn row_of<S: Alter>(
@@ -17,7 +17,7 @@ pub(crate) fn row_of<S: Alter>(
     ensures { Finds S.Store conn.old conn.new result
         (λ facts found. FindsRow facts (opening_of facts meter.now) found) }
 {
-    touch(conn)?;
+    check_open(conn)?;
     installation_of(conn, meter)
 }
 
@@ -30,7 +30,7 @@ pub(crate) fn row_at<S: Alter>(
     ensures { Finds S.Store conn.old conn.new result
         (λ facts found. FindsRow facts (installed_at facts register.now) found) }
 {
-    touch(conn)?;
+    check_open(conn)?;
     installation_at(conn, register)
 }
 
@@ -42,7 +42,7 @@ pub(crate) fn range<S: Alter>(
     requires { conn.old.in_transaction ≡ false }
     ensures { Finds S.Store conn.old conn.new result (FindsRange meter.now) }
 {
-    touch(conn)?;
+    check_open(conn)?;
     range_of(conn, meter)
 }
 
@@ -55,6 +55,6 @@ pub(crate) fn first_entry<S: Alter>(
     ensures { Finds S.Store conn.old conn.new result (FindsFirst meter.now) }
 {
     voids_leave_no_trace();
-    touch(conn)?;
+    check_open(conn)?;
     entry_at(conn, meter, 1)
 }

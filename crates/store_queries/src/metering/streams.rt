@@ -9,7 +9,7 @@ use office_events::Name;
 use office_rules::meters_are_kept;
 use sqlite::{Alter, Connection};
 use store_facts::{intervals as tables, text};
-use store_tables::{RowFault, touch};
+use store_tables::{RowFault, check_open};
 
 /// Hands on the energy of a meter by quarter hours, in order of their starts.
 pub fn intervals<S: Alter, K: RowSink<Share>>(
@@ -23,7 +23,7 @@ pub fn intervals<S: Alter, K: RowSink<Share>>(
 {
     meters_are_kept();
     let meter = text(meter)?;
-    touch(conn)?;
+    check_open(conn)?;
     tables::meter_intervals(conn, meter, sink)
 }
 
@@ -39,6 +39,6 @@ pub fn register_intervals<S: Alter, K: RowSink<Share>>(
 {
     meters_are_kept();
     let register = text(register)?;
-    touch(conn)?;
+    check_open(conn)?;
     tables::register_intervals(conn, register, sink)
 }

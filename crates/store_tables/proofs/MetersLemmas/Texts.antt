@@ -26,10 +26,10 @@ pub insert_installation_plain : IsPlain (understood books_schema insert_installa
 unfolding understood everything
 insert_installation_plain = (refl, refl)
 
--- ---- move_installation
+-- ---- update_last
 
-abbrev pub move_installation : List ℕ
-move_installation = codes "UPDATE installations SET last_moment = ?2, last_raw = ?3, last_sf = ?4, total = ?5 WHERE meter = ?1"
+abbrev pub update_last : List ℕ
+update_last = codes "UPDATE installations SET last_moment = ?2, last_raw = ?3, last_sf = ?4, total = ?5 WHERE meter = ?1"
 
 abbrev pub move_installation_tests : List Term
 move_installation_tests = is_param 2 0 ∷ []
@@ -37,11 +37,11 @@ move_installation_tests = is_param 2 0 ∷ []
 abbrev pub move_installation_news : List Term
 move_installation_news = col 1 0 ∷ lit Null ∷ col 1 2 ∷ col 1 3 ∷ col 1 4 ∷ col 1 5 ∷ col 0 1 ∷ col 0 2 ∷ col 0 3 ∷ col 0 4 ∷ []
 
-pub move_installation_is : command_of (understood books_schema move_installation) ≡ Update 4 (record { lets = []; body = scan 7 move_installation_tests (col 1 0 ∷ move_installation_news) [] no_limit })
+pub move_installation_is : command_of (understood books_schema update_last) ≡ Update 4 (record { lets = []; body = scan 7 move_installation_tests (col 1 0 ∷ move_installation_news) [] no_limit })
 unfolding understood everything
 move_installation_is = refl
 
-pub move_installation_plain : IsPlain (understood books_schema move_installation)
+pub move_installation_plain : IsPlain (understood books_schema update_last)
 unfolding understood everything
 move_installation_plain = (refl, refl)
 

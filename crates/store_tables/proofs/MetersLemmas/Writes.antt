@@ -31,11 +31,11 @@ module _ (meter : List ℕ) (last : LastRow) where
   abbrev pub move_params : Row
   move_params = Text meter ∷ Int (pos last.moment) ∷ Int (pos last.raw) ∷ Int last.sf ∷ Int (pos last.total) ∷ []
 
-  pub move_installation : (old new : State) (r : Result ℕ Error) → Executes text.move_installation move_params old new r → OnOk r (Turns (Edits installations installed_columns (changed_where (is_meter meter) (moved last))) old.now new.now)
-  move_installation old new r h =
+  pub update_last : (old new : State) (r : Result ℕ Error) → Executes text.update_last move_params old new r → OnOk r (Turns (Edits installations installed_columns (changed_where (is_meter meter) (moved last))) old.now new.now)
+  update_last old new r h =
       updates installations_table 4 refl move_params text.move_installation_tests text.move_installation_news installed_columns (is_meter meter) (moved last)
       (λ n i. rw (text_is i.meter meter, and_true (bytes_eq i.meter meter)) refl) (λ n i. simp (cast_int, cast_null)) rowid_stays
-      old new text.move_installation r text.move_installation_is text.move_installation_plain h
+      old new text.update_last r text.move_installation_is text.move_installation_plain h
 
 pub end_installation : (meter : List ℕ) (old new : State) (r : Result ℕ Error) → Executes text.end_installation (Text meter ∷ []) old new r → OnOk r (Turns (Edits installations installed_columns (changed_where (is_meter meter) ended)) old.now new.now)
 end_installation meter old new r h =

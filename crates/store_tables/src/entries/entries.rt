@@ -51,7 +51,7 @@ pub fn insert_entry<S: Alter>(
 }
 
 /// Sets how many times the counter went past its range before an entry.
-pub fn roll_entry<S: Alter>(
+pub fn set_rolls<S: Alter>(
     tx: &mut Transaction<'_, S>,
     meter: &str,
     place: u64,

@@ -67,7 +67,7 @@ pub fn insert_installation<S: Alter>(
 }
 
 /// Says where a meter stands now.
-pub fn move_installation<S: Alter>(
+pub fn update_last<S: Alter>(
     tx: &mut Transaction<'_, S>,
     meter: &str,
     last: LastRow,

@@ -1,7 +1,7 @@
 -- The exit statuses of the program.
 use Rattle.std.specs.Prelude.{ℕ, ◌<◌}
-use Rattle.command_io.specs.declared.status.Status.{Status}
-use Rattle.command_io.specs.declared.status.Status.TheVariants as status
+use Rattle.command_io.specs.declared.status.ExitStatus.{ExitStatus}
+use Rattle.command_io.specs.declared.status.ExitStatus.TheVariants as status
 use Rattle.stored_office.specs.declared.ends.ending.Ending.{Ending}
 use Rattle.stored_office.specs.declared.ends.ending.Ending.TheVariants.{Fine, Refused, Wrong, NoText, NoZone, Failed}
 use Rattle.stored_office.specs.declared.ends.failure.Failure.{Failure}
@@ -21,7 +21,7 @@ abbrev pub IsTold : Ending → Type 0
 IsTold ending = 1 < ending_number ending
 
 -- the ending of a command that reads standard input and prints
-abbrev pub ending_of : Status → Ending
+abbrev pub ending_of : ExitStatus → Ending
 ending_of status.Fine = Fine
 ending_of status.Refused = Refused
 ending_of status.Failed = Failed Streams

@@ -2,10 +2,10 @@
 use Rattle.std.specs.Prelude.{ℕ, Result, Ok, Err}
 use Rattle.command_io.specs.Statuses.{status_number}
 use Rattle.office_program.specs.Texts.Rounds.{round_status}
-use Rattle.office_program.specs.declared.port_round.Polling.{Polling}
-use Rattle.office_program.specs.declared.port_round.Polling.TheVariants as polling
-use Rattle.office_program.specs.declared.http_port.Serving.{Serving}
-use Rattle.office_program.specs.declared.http_port.Serving.TheVariants as serving
+use Rattle.office_program.specs.declared.port_round.PollEnd.{PollEnd}
+use Rattle.office_program.specs.declared.port_round.PollEnd.TheVariants as polling
+use Rattle.office_program.specs.declared.http_port.ServeEnd.{ServeEnd}
+use Rattle.office_program.specs.declared.http_port.ServeEnd.TheVariants as serving
 use Rattle.office_running.specs.declared.fault.RunFault.{RunFault}
 use Rattle.office_running.specs.declared.fault.RunFault.TheVariants as run
 use Rattle.stored_office.specs.declared.ends.failure.Failure.{Failure}
@@ -13,14 +13,14 @@ use Rattle.stored_office.specs.declared.tasks.tasks.Done.{Done}
 use Rattle.stored_office.specs.declared.tasks.tasks.Done.TheVariants.{Reported, Served, Polled, Ran}
 
 -- how serving ends the command
-abbrev pub serving_number : Serving → ℕ
+abbrev pub serving_number : ServeEnd → ℕ
 serving_number serving.Served = 0
 serving_number (serving.Unopened why) = status_number why
 serving_number serving.NoPort = 3
 serving_number serving.Broken = 3
 
 -- how a round ends the command
-abbrev pub polling_number : Polling → ℕ
+abbrev pub polling_number : PollEnd → ℕ
 polling_number (polling.Polled done) = status_number (round_status done)
 polling_number (polling.Unopened why) = status_number why
 polling_number polling.Unconnected = 3

@@ -18,7 +18,7 @@ IsOf (task.Run settings sites) (Ran end) = Unit {0}
 IsOf _ _ = ⊥
 
 module _ {S : Type 0} (g : Ghosts S) where
-  -- A run leaves books that stand as they did, or behind an opening, and then events and requests.
+  -- A run leaves books that stand as they did, or after an opening, and then events and requests.
   abbrev pub Runs : (past : History) → Type 0
   Runs past = OverBooks g past (λ found left. BooksRun (ledger_in g left) past)
 

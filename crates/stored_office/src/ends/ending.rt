@@ -3,7 +3,7 @@ ghost use Rattle.std.specs.Prelude.{◌≡◌, ◌⊎◌};
 ghost use Rattle.stored_office.specs.Ends.Endings.{IsTold, ending_number, ending_of};
 
 use crate::ends::failure::Failure;
-use command_io::Status;
+use command_io::ExitStatus;
 use std::io::Write;
 
 /// How a command ended.
@@ -36,13 +36,13 @@ impl<'a> Ending<'a> {
 }
 
 /// The ending of a command that reads standard input and prints.
-pub fn ending_of(status: Status) -> Ending<'static>
+pub fn ending_of(status: ExitStatus) -> Ending<'static>
     ensures { result ≡ ending_of status }
 {
     match status {
-        Status::Fine => Ending::Fine,
-        Status::Refused => Ending::Refused,
-        Status::Failed => Ending::Failed(Failure::Streams),
+        ExitStatus::Fine => Ending::Fine,
+        ExitStatus::Refused => Ending::Refused,
+        ExitStatus::Failed => Ending::Failed(Failure::Streams),
     }
 }
 

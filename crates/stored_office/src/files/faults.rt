@@ -35,7 +35,7 @@ impl FileFault {
     }
 }
 
-// What was wrong and what to do, behind the file's name.
+// What was wrong and what to do, after the file's name.
 impl Display for FileFault {
     fn fmt<W: fmt::Write>(&self, f: &mut Formatter<W>) -> fmt::Result {
         f.write_str(match self {

@@ -7,7 +7,7 @@ ghost use Rattle.stored_office.specs.Tasks.Ends.{done_number, polling_number, ru
 
 use crate::ends::{Ending, Failure, ending_of};
 use crate::tasks::tasks::Done;
-use office_program::{Polling, Serving};
+use office_program::{PollEnd, ServeEnd};
 use office_rounds::RoundFault;
 use office_running::RunFault;
 
@@ -25,25 +25,25 @@ fn ending_of_round<'a>(done: Result<(), RoundFault>, host: &'a str, port: u16) -
 }
 
 // The ending of serving at a port of a host.
-fn ending_of_serving<'a>(end: Serving, host: &'a str, port: u16) -> Ending<'a>
+fn ending_of_serving<'a>(end: ServeEnd, host: &'a str, port: u16) -> Ending<'a>
     ensures { ending_number result ≡ serving_number end }
 {
     match end {
-        Serving::Served => Ending::Fine,
-        Serving::Unopened(status) => ending_of(status),
-        Serving::NoPort => Ending::Failed(Failure::Port { host, port }),
-        Serving::Broken => Ending::Failed(Failure::Listening),
+        ServeEnd::Served => Ending::Fine,
+        ServeEnd::Unopened(status) => ending_of(status),
+        ServeEnd::NoPort => Ending::Failed(Failure::Port { host, port }),
+        ServeEnd::Broken => Ending::Failed(Failure::Listening),
     }
 }
 
 // The ending of a round of the device at a port of a host.
-fn ending_of_polling<'a>(end: Polling, host: &'a str, port: u16) -> Ending<'a>
+fn ending_of_polling<'a>(end: PollEnd, host: &'a str, port: u16) -> Ending<'a>
     ensures { ending_number result ≡ polling_number end }
 {
     match end {
-        Polling::Polled(done) => ending_of_round(done, host, port),
-        Polling::Unopened(status) => ending_of(status),
-        Polling::Unconnected => Ending::Failed(Failure::Unconnected { host, port }),
+        PollEnd::Polled(done) => ending_of_round(done, host, port),
+        PollEnd::Unopened(status) => ending_of(status),
+        PollEnd::Unconnected => Ending::Failed(Failure::Unconnected { host, port }),
     }
 }
 

@@ -8,8 +8,8 @@ ghost use Rattle.stored_office.specs.Tasks.Tasks.{IsOf, Does};
 
 use crate::tasks::stored_run::run_stored;
 use crate::{poll_stored, report_stored, serve_stored};
-use command_io::Status;
-use office_program::{Polling, Serving};
+use command_io::ExitStatus;
+use office_program::{PollEnd, ServeEnd};
 use office_running::{RunFault, Settings, Site};
 use office_store::OpenFault;
 use socket_link::Clock;
@@ -47,9 +47,9 @@ pub enum Task<'a> {
 /// How a task ended.
 #[derive(Clone, Copy)]
 pub enum Done {
-    Reported(Status),
-    Served(Serving),
-    Polled(Polling),
+    Reported(ExitStatus),
+    Served(ServeEnd),
+    Polled(PollEnd),
     Ran(Result<(), RunFault>),
 }
 

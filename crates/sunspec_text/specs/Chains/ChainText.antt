@@ -15,8 +15,8 @@ use Rattle.sunspec_text.specs.Chains.ImageLines.{nothing_read, words_told}
 use Rattle.command_io.specs.Input.{most_bytes, too_long}
 use Rattle.command_io.specs.Lines.{speaking_lines}
 use Rattle.script_text.specs.AnswerText.{bad_line}
-use Rattle.command_io.specs.declared.status.Status.{Status}
-use Rattle.command_io.specs.declared.status.Status.TheVariants.{Fine, Refused, Failed}
+use Rattle.command_io.specs.declared.status.ExitStatus.{ExitStatus}
+use Rattle.command_io.specs.declared.status.ExitStatus.TheVariants.{Fine, Refused, Failed}
 
 abbrev pub point_line : Named → List ℕ
 point_line point =
@@ -27,7 +27,7 @@ model_line model =
     codes "model " ++ decimal model.address ++ codes " " ++ decimal model.id ++ codes " "
     ++ decimal model.length ++ codes "\n"
 
--- a model, and its points behind it
+-- a model, and its points after it
 abbrev pub model_lines : Words → Model → List ℕ
 model_lines word model = model_line model ++ flat_map point_line (points_in word model)
 
@@ -63,7 +63,7 @@ IsWrong word PastEnd = Fails word PastEnd
 IsWrong word TooMany = Fails word TooMany
 
 -- a device's words print their chain, or else their fault
-abbrev pub WordsPrint : Words → (printed : List ℕ) → Status → Type 0
+abbrev pub WordsPrint : Words → (printed : List ℕ) → ExitStatus → Type 0
 WordsPrint word printed Fine =
     (base : ℕ) × (models : List Model) × (end : ℕ) × IsChain word base models end
     × (printed ≡ chain_lines word base models end)
@@ -72,12 +72,12 @@ WordsPrint word printed Refused =
 WordsPrint word printed Failed = ⊥
 
 -- lines print what their words print, or else the number of the first wrong line
-abbrev pub LinesPrint : Result Words ℕ → (printed : List ℕ) → Status → Type 0
+abbrev pub LinesPrint : Result Words ℕ → (printed : List ℕ) → ExitStatus → Type 0
 LinesPrint (Err number) printed status = (status ≡ Refused) × (printed ≡ bad_line number)
 LinesPrint (Ok word) printed status = WordsPrint word printed status
 
 -- an input prints what its lines print, where it isn't too long
-pub record ChainPrints (input printed : List ℕ) (status : Status) : Type 0 where
+pub record ChainPrints (input printed : List ℕ) (status : ExitStatus) : Type 0 where
   pub long : most_bytes < length input → (status ≡ Refused) × (printed ≡ too_long)
   pub lines : length input ≤ most_bytes
       → LinesPrint (words_told nothing_read (speaking_lines input)) printed status

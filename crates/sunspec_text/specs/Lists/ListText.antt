@@ -6,15 +6,15 @@ use Rattle.point_list.specs.Lists.{SpellsList, list_faults, rows_read}
 use Rattle.command_io.specs.Input.{most_bytes, too_long}
 use Rattle.sunspec_text.specs.Lists.PlanText.{PlanPrints}
 use Rattle.script_text.specs.AnswerText.{fault_line}
-use Rattle.command_io.specs.declared.status.Status.{Status}
-use Rattle.command_io.specs.declared.status.Status.TheVariants.{Fine, Refused, Failed}
+use Rattle.command_io.specs.declared.status.ExitStatus.{ExitStatus}
+use Rattle.command_io.specs.declared.status.ExitStatus.TheVariants.{Fine, Refused, Failed}
 
 -- the faulty rows of a text
 abbrev pub faults_of : List ℕ → List FaultyRow
 faults_of text = list_faults (rows_read text)
 
 -- a text prints the plan of the list that it spells, or else each of its faulty rows
-abbrev pub TextPrints : (text printed : List ℕ) → Status → Type 0
+abbrev pub TextPrints : (text printed : List ℕ) → ExitStatus → Type 0
 TextPrints text printed Fine =
     (list : List ListedPoint) × SpellsList text list × PlanPrints list printed
 TextPrints text printed Refused =
@@ -22,6 +22,6 @@ TextPrints text printed Refused =
 TextPrints text printed Failed = ⊥
 
 -- an input prints what its text prints, where it isn't too long
-pub record ListPrints (input printed : List ℕ) (status : Status) : Type 0 where
+pub record ListPrints (input printed : List ℕ) (status : ExitStatus) : Type 0 where
   pub long : most_bytes < length input → (status ≡ Refused) × (printed ≡ too_long)
   pub text : length input ≤ most_bytes → TextPrints input printed status

@@ -3,8 +3,8 @@ use Rattle.std.specs.Prelude.{◌≡◌, ℕ, ◌+◌, List, [], ◌∷◌, ◌+
 use Rattle.std.specs.Io.KnownBytes.{Appends}
 use Rattle.std.specs.Fmt.{decimal}
 use Rattle.std.specs.List.{All}
-use Rattle.command_io.specs.declared.status.Status.{Status}
-use Rattle.command_io.specs.declared.status.Status.TheVariants.{Fine}
+use Rattle.command_io.specs.declared.status.ExitStatus.{ExitStatus}
+use Rattle.command_io.specs.declared.status.ExitStatus.TheVariants.{Fine}
 use Rattle.mb_wire.specs.Spans.{code_of}
 use Rattle.point_list.specs.declared.point.ListedPoint.{ListedPoint}
 use Rattle.read_plan.specs.Items.{item_of, items_of, runs_of}
@@ -83,6 +83,6 @@ pub record PlanPrints (list : List ListedPoint) (printed : List ℕ) : Type 0 wh
   pub lines : LinesPrint list reads printed
 
 -- nothing is refused where a list is there
-pub record PrintsPlan (list : List ListedPoint) (printed : List ℕ) (status : Status) : Type 0 where
+pub record PrintsPlan (list : List ListedPoint) (printed : List ℕ) (status : ExitStatus) : Type 0 where
   pub fine : status ≡ Fine
   pub plan : PlanPrints list printed

@@ -11,7 +11,7 @@ ghost use Rattle.command_io.specs.Lines.{speaking_lines};
 ghost use Rattle.command_io.specs.Printing.{PrintsAs, PrintsFor};
 
 use crate::chains::image_lines::{LoadFault, load};
-use command_io::{Status, read_input};
+use command_io::{ExitStatus, read_input};
 use script_text::write_bad_line;
 use std::alloc::Global;
 use std::io::{self, Read, Write};
@@ -21,7 +21,7 @@ use sun_chain::{Chain, ChainFault, Image, Model, NamedPoint, walk};
 /// them: `base B`, for each model `model ADDRESS ID L` and its points `point NAME VALUE`, then `end ADDRESS`;
 /// or only `fault N`. A line that is none, or whose words end past address 65535, prints `bad line N` alone,
 /// an input of more than `MOST_BYTES` bytes `too long`.
-pub fn chain_text<R: Read, W: Write>(alloc: Global, input: &mut R, output: &mut W) -> Status
+pub fn chain_text<R: Read, W: Write>(alloc: Global, input: &mut R, output: &mut W) -> ExitStatus
     ensures { IfSome (R.remaining input.old)
         (PrintsFor ChainPrints result (W.contents output.old) (W.contents output.new)) }
 {
@@ -32,34 +32,34 @@ pub fn chain_text<R: Read, W: Write>(alloc: Global, input: &mut R, output: &mut 
 }
 
 // Prints what lines say.
-fn print_lines<W: Write>(alloc: Global, text: &[u8], output: &mut W) -> Status
+fn print_lines<W: Write>(alloc: Global, text: &[u8], output: &mut W) -> ExitStatus
     ensures { PrintsAs (LinesPrint (words_told nothing_read (speaking_lines text.now))) result
         (W.contents output.old) (W.contents output.new) }
 {
     match load(alloc, text) {
         Ok(image) => print_image(alloc, &image, output),
         Err(LoadFault::BadLine(number)) => match write_bad_line(number, output) {
-            Ok(()) => Status::Refused,
-            Err(_) => Status::Failed,
+            Ok(()) => ExitStatus::Refused,
+            Err(_) => ExitStatus::Failed,
         },
-        Err(LoadFault::Memory) => Status::Failed,
+        Err(LoadFault::Memory) => ExitStatus::Failed,
     }
 }
 
 // Prints the chain in an image, or its fault.
-fn print_image<W: Write>(alloc: Global, image: &Image, output: &mut W) -> Status
+fn print_image<W: Write>(alloc: Global, image: &Image, output: &mut W) -> ExitStatus
     ensures { PrintsAs (WordsPrint (word_in image.now)) result
         (W.contents output.old) (W.contents output.new) }
 {
     match walk(alloc, image) {
         Ok(chain) => match print_chain(&chain, output) {
-            Ok(()) => Status::Fine,
-            Err(_) => Status::Failed,
+            Ok(()) => ExitStatus::Fine,
+            Err(_) => ExitStatus::Failed,
         },
-        Err(ChainFault::Memory) => Status::Failed,
+        Err(ChainFault::Memory) => ExitStatus::Failed,
         Err(fault) => match print_fault(fault, output) {
-            Ok(()) => Status::Refused,
-            Err(_) => Status::Failed,
+            Ok(()) => ExitStatus::Refused,
+            Err(_) => ExitStatus::Failed,
         },
     }
 }
@@ -96,7 +96,7 @@ fn print_models<W: Write>(chain: &Chain<'_>, models: &[Model], output: &mut W) -
     Ok(())
 }
 
-// A model, and its points behind it.
+// A model, and its points after it.
 fn print_model<W: Write>(chain: &Chain<'_>, model: &Model, output: &mut W) -> io::Result<()>
     ensures { OnOk result (Appends (W.contents output.old) (W.contents output.new)
         (model_lines (words_of chain.now) model.now)) }

@@ -6,7 +6,7 @@ ghost use Rattle.read_plan.specs.Items.{items_of};
 ghost use Rattle.sunspec_text.specs.Lists.PlanText.{LinesPrint, PointsPrint, PrintsPlan, Writes, point_line, read_head};
 ghost use Rattle.sunspec_text.specs.Lists.PlanText.{read_line, read_lines, registers_text, span_line};
 
-use command_io::Status;
+use command_io::ExitStatus;
 use point_list::{ListedPoint, PointList};
 use read_plan::{Place, Plan, PlannedRead, plan};
 use std::alloc::Global;
@@ -14,16 +14,16 @@ use std::io::{self, Write};
 
 /// Prints the plan of a point list: `read K FUNCTION AREA ADDRESS COUNT`, K from 1, for each read, then
 /// `point NAME K OFFSET` for each point in the list's order.
-pub fn print_plan<W: Write>(alloc: Global, list: &PointList, output: &mut W) -> Status
+pub fn print_plan<W: Write>(alloc: Global, list: &PointList, output: &mut W) -> ExitStatus
     ensures { PrintsAs (PrintsPlan list.now) result
         (W.contents output.old) (W.contents output.new) }
 {
     let Ok(plan) = plan(alloc, list) else {
-        return Status::Failed;
+        return ExitStatus::Failed;
     };
     match print_lines(list, &plan, output) {
-        Ok(()) => Status::Fine,
-        Err(_) => Status::Failed,
+        Ok(()) => ExitStatus::Fine,
+        Err(_) => ExitStatus::Failed,
     }
 }
 

@@ -2,4 +2,4 @@ use Rattle.http_answer.proofs.Replying.{to_fault}
 use Rattle.http_answer.proofs.laws.faults_are_replied_to.Goals as goal
 
 pub returns : goal.returns
-returns c = λ office. to_fault office c.args.router.now c.args.bytes.now c.args.look.now c.args.status c.requires.holds c.requires.fails
+returns c = λ office. to_fault office c.args.router.now c.args.bytes.now c.args.head_state.now c.args.status c.requires.holds c.requires.fails

@@ -9,7 +9,7 @@ use Rattle.http_request.proofs.whole.read_request.Goals as goal
 pub returns-in_err-read_body-clause-reads : goal.returns-in_err-read_body-clause-reads
 returns-in_err-read_body-clause-reads g c =
     let mid = bytes_in c.read_head.new.inbox in
-    let read = c.in_ok-look.ensures.reads in
+    let read = c.in_ok-head_state.ensures.reads in
     let head = subst (Looks mid) c.in-Whole.is read.1 in
     let fault = c.in_err-read_body.field-0.0 in
     let ends = c.in_err-read_body.ensures.reads in
@@ -23,7 +23,7 @@ returns-in_err-read_body-clause-reads g c =
 pub returns-in_ok-read_body-clause-reads : goal.returns-in_ok-read_body-clause-reads
 returns-in_ok-read_body-clause-reads g c =
     let mid = bytes_in c.read_head.new.inbox in
-    let read = c.in_ok-look.ensures.reads in
+    let read = c.in_ok-head_state.ensures.reads in
     let head = subst (Looks mid) c.in-Whole.is read.1 in
     let came = c.in_ok-read_body.ensures.reads in
     let both = whole c.args.router.now _ mid _ c.bytes.result.now _ _ _ c.in-Whole.head c.body_size-size.result read.0 head c.bytes.ensures c.body_size-size.ensures.size came.0 came.1 in
@@ -32,11 +32,11 @@ returns-in_ok-read_body-clause-reads g c =
 pub returns-in_ok-read_body-clause-stops : goal.returns-in_ok-read_body-clause-stops
 returns-in_ok-read_body-clause-stops g c =
     let mid = bytes_in c.read_head.new.inbox in
-    let read = c.in_ok-look.ensures.reads in
+    let read = c.in_ok-head_state.ensures.reads in
     let head = subst (Looks mid) c.in-Whole.is read.1 in
     stops_at_body c.args.router.now c.args.inbox.now c.read_head.new.inbox c.read_body.new.inbox c.bytes.result.now read.0.chunk _ _ _ c.in-Whole.head c.body_size-size.result
-    read.0.bytes head c.bytes.ensures c.body_size-size.ensures.size c.in_ok-look.ensures.stops c.in_ok-read_body.ensures.stops
+    read.0.bytes head c.bytes.ensures c.body_size-size.ensures.size c.in_ok-head_state.ensures.stops c.in_ok-read_body.ensures.stops
 
 pub returns-in_default-clause-stops : goal.returns-in_default-clause-stops
 returns-in_default-clause-stops g c =
-    stops_at_head c.args.router.now c.args.inbox.now c.read_head.new.inbox _ _ c.in_ok-look.ensures.stops
+    stops_at_head c.args.router.now c.args.inbox.now c.read_head.new.inbox _ _ c.in_ok-head_state.ensures.stops

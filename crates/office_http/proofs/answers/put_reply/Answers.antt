@@ -5,16 +5,16 @@ use Rattle.office_http.specs.Wants.Wanting.{IsNoCommand, IsToldOff, Wants}
 use Rattle.office_http.proofs.Served.{lasts_same, no_command_told, told_off}
 use Rattle.office_http.proofs.answers.put_reply.Goals as goal
 
-pub returns-in-Nothing : goal.returns-in-Nothing
-returns-in-Nothing g c =
+pub returns-in-Rejected : goal.returns-in-Rejected
+returns-in-Rejected g c =
     let ledger = g.B.Books.ledger in
     let old = c.args.office.now in
     let read = c.args.bytes.now in
-    let wants : IsToldOff routes read (reply_bytes (fault c.in-Nothing.status)) = subst (Wants routes read) c.in-Nothing.is c.requires.wants in
+    let wants : IsToldOff routes read (reply_bytes (fault c.in-Rejected.status)) = subst (Wants routes read) c.in-Rejected.is c.requires.wants in
     record {
       serves = λ past stands clean. record {
-        put = reply_bytes (fault c.in-Nothing.status);
-        serves = told_off ledger past c.args.moment read old old (reply_bytes (fault c.in-Nothing.status)) refl wants.nothing wants.reply stands;
+        put = reply_bytes (fault c.in-Rejected.status);
+        serves = told_off ledger past c.args.moment read old old (reply_bytes (fault c.in-Rejected.status)) refl wants.nothing wants.reply stands;
         puts = c.put_fault.ensures;
       };
       gives = c.put_fault.ensures.link;

@@ -3,17 +3,17 @@ use Rattle.http_request.specs.Reading.HeadAndBody.{StopsAtOnce}
 use Rattle.http_request.specs.Reading.Taking.{bytes_in}
 use Rattle.http_request.specs.declared.reading.inbox.TheConstants.{MOST_TAKES}
 use Rattle.http_request.specs.Routing.Routes.{Table}
-use Rattle.http_request.specs.Whole.Whole.{GoesOn, ReadsRequest}
+use Rattle.http_request.specs.Whole.Whole.{IsUnfinished, ReadsRequest}
 use Rattle.office_http.specs.Exchange.{Handles, as_fault, passage}
 use Rattle.office_http.specs.declared.fault.HandleFault.{HandleFault}
 use Rattle.office_http.proofs.Handled.{few_takes, head_of, read_failed, replied}
 use Rattle.office_http.proofs.exchange.serve.Goals as goal
 
-pub returns-in_err-look-clause-handles : goal.returns-in_err-look-clause-handles
-returns-in_err-look-clause-handles g c =
+pub returns-in_err-head_state-clause-handles : goal.returns-in_err-head_state-clause-handles
+returns-in_err-head_state-clause-handles g c =
     let ledger = g.B.Books.ledger in
     let office = c.args.office.now in
-    let fault = c.in_err-look.field-0.0 in
+    let fault = c.in_err-head_state.field-0.0 in
     let old = bytes_in c.new-inbox.result in
     let new = bytes_in c.read_request.new.inbox in
     let remaining = g.L.Link.remaining c.args.link.now in
@@ -22,9 +22,9 @@ returns-in_err-look-clause-handles g c =
     let later_given = g.L.Link.given c.read_request.new.link in
     let last = g.L.Link.last c.read_request.new.link in
     let is : c.from_residual.result ≡ Err (as_fault fault) = search rules in
-    let reads = subst (λ (t : Table). ReadsRequest t (Err fault) old new remaining later) c.requires.routes c.in_err-look.ensures.reads in
+    let reads = subst (λ (t : Table). ReadsRequest t (Err fault) old new remaining later) c.requires.routes c.in_err-head_state.ensures.reads in
     subst (λ (r : Result (Unit {0}) HandleFault). Handles ledger c.args.moment office office (passage remaining later given later_given last) r) (sym is)
-    (read_failed ledger c.args.moment office fault old new remaining later given later_given last c.new-inbox.ensures.empty reads c.in_err-look.ensures.given)
+    (read_failed ledger c.args.moment office fault old new remaining later given later_given last c.new-inbox.ensures.empty reads c.in_err-head_state.ensures.given)
 
 pub returns-clause-handles : goal.returns-clause-handles
 returns-clause-handles g c =
@@ -32,20 +32,20 @@ returns-clause-handles g c =
     let full = c.read_request.new.inbox in
     let was = g.L.Link.last c.args.link.now in
     let between = g.L.Link.last c.read_request.new.link in
-    let stops = subst (λ (t : Table). StopsAtOnce (GoesOn t) inbox full was between) c.requires.routes c.in_ok-look.ensures.stops in
+    let stops = subst (λ (t : Table). StopsAtOnce (IsUnfinished t) inbox full was between) c.requires.routes c.in_ok-head_state.ensures.stops in
     replied g.B.Books.ledger c.args.moment c.args.office.now c.reply.new.office inbox full c.bytes-2.result.now c.reply.result
     (g.L.Link.remaining c.args.link.now) (g.L.Link.remaining c.read_request.new.link) (g.L.Link.remaining c.reply.new.link)
     (g.L.Link.given c.args.link.now) (g.L.Link.given c.read_request.new.link) (g.L.Link.given c.reply.new.link)
     was between (g.L.Link.last c.reply.new.link)
-    c.new-inbox.ensures.empty c.bytes-2.ensures c.in_ok-look.ensures.reads.0 stops c.in_ok-look.ensures.given
+    c.new-inbox.ensures.empty c.bytes-2.ensures c.in_ok-head_state.ensures.reads.0 stops c.in_ok-head_state.ensures.given
     c.reply.ensures.remaining c.reply.ensures.last c.reply.ensures.ends
-    (head_of c.args.router.now c.in_ok-look.look (bytes_in full) c.in_ok-look.ensures.reads.1) c.reply.ensures.gives
+    (head_of c.args.router.now c.in_ok-head_state.head_state (bytes_in full) c.in_ok-head_state.ensures.reads.1) c.reply.ensures.gives
 
-pub returns-in_err-look-clause-counts : goal.returns-in_err-look-clause-counts
-returns-in_err-look-clause-counts g c = record {
+pub returns-in_err-head_state-clause-counts : goal.returns-in_err-head_state-clause-counts
+returns-in_err-head_state-clause-counts g c = record {
   failures = search rules;
   turns = search rules;
-  few = few_takes _ c.new-inbox.result c.read_request.new.inbox _ _ c.new-inbox.ensures.takes c.in_err-look.ensures.takes;
+  few = few_takes _ c.new-inbox.result c.read_request.new.inbox _ _ c.new-inbox.ensures.takes c.in_err-head_state.ensures.takes;
 }
 
 pub returns-clause-counts : goal.returns-clause-counts
@@ -53,5 +53,5 @@ returns-clause-counts g c = record {
   failures = search rules;
   turns = search rules;
   few = λ count is. subst (λ n. n ≤ min (count + MOST_TAKES) (2 ^ 64 - 1)) (sym c.reply.ensures.takes)
-      (few_takes _ c.new-inbox.result c.read_request.new.inbox _ _ c.new-inbox.ensures.takes c.in_ok-look.ensures.takes count is);
+      (few_takes _ c.new-inbox.result c.read_request.new.inbox _ _ c.new-inbox.ensures.takes c.in_ok-head_state.ensures.takes count is);
 }

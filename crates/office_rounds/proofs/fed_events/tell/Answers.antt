@@ -29,4 +29,4 @@ returns-in-Err-clause-tells g c = λ device past begun fed going does clean.
     told_broken g.B.Books.ledger device past begun _ _ c.args.office.now c.feed.new.office fed c.args.round.now _ c.now-at.result c.args.event.now
     c.in-Err.fault going does c.now-at.ensures
     (c.in-Err.ensures.feeds (g.C.Clock.moments c.args.clock.now) (g.C.Clock.moments c.now-at.new.self) (history_behind past fed) going.leaves.stands clean)
-    refl c.latest_behind-round.ensures
+    refl c.latest_after-round.ensures

@@ -11,4 +11,4 @@ pub returns-clause-connects : goal.returns-clause-connects
 returns-clause-connects g c = λ past stands clean.
     let feeds = c.in-Err.ensures.feeds (g.C.Clock.moments c.args.clock.now) (g.C.Clock.moments c.now-at.new.self) past stands clean in
     connect_failed g.B.Books.ledger past _ _ c.feed.new.office c.now-at.result c.args.round.now _ c.in-Err.fault c.requires
-    (ap (λ n. record c.args.round.now { latest = n }) c.latest_behind-round.ensures) c.now-at.ensures feeds
+    (ap (λ n. record c.args.round.now { latest = n }) c.latest_after-round.ensures) c.now-at.ensures feeds

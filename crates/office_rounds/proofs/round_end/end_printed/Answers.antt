@@ -10,5 +10,5 @@ returns-in-Ok-clause-ends g c = λ moments later past stands clean.
 
 pub returns-in-Err-clause-ends : goal.returns-in-Err-clause-ends
 returns-in-Err-clause-ends g c = λ moments later past stands clean.
-    ended_err g.B.Books.ledger past c.args.at c.args.gone.now c.args.cause c.in-Err.fault c.fault_behind.result _ _ c.args.office.now c.feed.new.office
-    (c.in-Err.ensures.feeds moments later past stands clean) c.in-Err.ensures.stops c.fault_behind.ensures
+    ended_err g.B.Books.ledger past c.args.at c.args.gone.now c.args.cause c.in-Err.fault c.fault_after.result _ _ c.args.office.now c.feed.new.office
+    (c.in-Err.ensures.feeds moments later past stands clean) c.in-Err.ensures.stops c.fault_after.ensures

@@ -4,7 +4,7 @@ use Rattle.sqlite.specs.Held.{state}
 use Rattle.store_tables.specs.Content.{AreTablesIn}
 use Rattle.store_files.specs.Layouts.{version_of, schema_of, names_of}
 use Rattle.store_files.specs.Upgrade.{OpensFile, IsOpenTo, IsFile}
-use Rattle.store_files.specs.OpenedFile.{Tells}
+use Rattle.store_files.specs.OpenedFile.{TellsOpening}
 use Rattle.store_files.proofs.Told.{one_layout, tells_fault}
 use Rattle.store_files.proofs.Brought.{after_kept, given_up}
 use Rattle.store_files.proofs.opened_file.open_as.Goals as goal
@@ -12,12 +12,12 @@ use Rattle.store_files.proofs.opened_file.open_as.Goals as goal
 pub returns-in-Ok-clause-told : goal.returns-in-Ok-clause-told
 returns-in-Ok-clause-told g c clean is_open layout content has m marked =
     let old = state g.S.Store c.args.conn.now in
-    let mid = state g.S.Store c.touch.new.conn in
+    let mid = state g.S.Store c.check_open.new.conn in
     let early = c.open_settled.ensures.clean clean in
     let answers = c.in-Ok.ensures.opened early in
     let same : c.args.found ≡ layout = one_layout c.args.found layout (sym c.requires.named ∙ ap names_of (ap (λ (d : Database). d.schema) (c.requires.settled is_open) ∙ has.schema)) in
     let here = subst (λ d. AreTablesIn (schema_of layout) d content) (sym (answers.1 ∙ (c.in-Ok.ensures.kept early).committed answers.0)) has in
-    subst (λ l. Tells (version_of l) m c.open_settled.result) same (c.open_settled.ensures.told clean content (subst (λ l. AreTablesIn (schema_of l) mid.now content) (sym same) here) m marked)
+    subst (λ l. TellsOpening (version_of l) m c.open_settled.result) same (c.open_settled.ensures.told clean content (subst (λ l. AreTablesIn (schema_of l) mid.now content) (sym same) here) m marked)
 
 pub returns-in-Err-clause-told : goal.returns-in-Err-clause-told
 returns-in-Err-clause-told g c clean is_open layout content has m marked = tells_fault (version_of layout) m c.fault_of.result c.fault_of.ensures.kind
@@ -25,7 +25,7 @@ returns-in-Err-clause-told g c clean is_open layout content has m marked = tells
 pub returns-in-Ok-clause-opened : goal.returns-in-Ok-clause-opened
 returns-in-Ok-clause-opened g c clean layout zone content file =
     let old = state g.S.Store c.args.conn.now in
-    let mid = state g.S.Store c.touch.new.conn in
+    let mid = state g.S.Store c.check_open.new.conn in
     let end = state g.S.Store c.open_settled.new.conn in
     let early = c.open_settled.ensures.clean clean in
     let answers = c.in-Ok.ensures.opened early in
@@ -39,4 +39,4 @@ returns-in-Ok-clause-opened g c clean layout zone content file =
 
 pub returns-in-Err-clause-opened : goal.returns-in-Err-clause-opened
 returns-in-Err-clause-opened g c clean layout zone content file =
-    given_up layout zone content (state g.S.Store c.args.conn.now) (state g.S.Store c.touch.new.conn) c.fault_of.result (c.in-Err.ensures.kept clean) c.in-Err.ensures.survives
+    given_up layout zone content (state g.S.Store c.args.conn.now) (state g.S.Store c.check_open.new.conn) c.fault_of.result (c.in-Err.ensures.kept clean) c.in-Err.ensures.survives

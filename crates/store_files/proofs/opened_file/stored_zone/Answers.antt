@@ -1,6 +1,6 @@
 use Rattle.std.proofs.Common.{◌∙◌, subst}
 use Rattle.sqlite.specs.Held.{state}
-use Rattle.store_files.specs.OpenedFile.{Tells}
+use Rattle.store_files.specs.OpenedFile.{TellsOpening}
 use Rattle.store_files.specs.Layouts.{version_of}
 use Rattle.store_files.proofs.Told.{tells_fault, any_ok, unchanged_kept}
 use Rattle.store_files.proofs.opened_file.stored_zone.Goals as goal
@@ -12,7 +12,7 @@ returns-in-Ok-clause-finds g c clean content has =
       kept = unchanged_kept (state g.S.Store c.args.conn.now) (state g.S.Store c.meta_rows.new.conn) shown.0;
       unchanged = any_ok c.zone_in.result shown.0;
       survives = c.in-Ok.ensures.survives c.args.layout content has;
-      told = λ m marked. subst (λ v. Tells v m c.zone_in.result) c.version.ensures (c.zone_in.ensures.tells m (c.deref.ensures.value ∙ shown.1 m marked));
+      told = λ m marked. subst (λ v. TellsOpening v m c.zone_in.result) c.version.ensures (c.zone_in.ensures.tells m (c.deref.ensures.value ∙ shown.1 m marked));
     }
 
 pub returns-in-Err-clause-finds : goal.returns-in-Err-clause-finds

@@ -1,12 +1,12 @@
 use Rattle.std.proofs.Common.{◌<◌, ◌∙◌, length, arith}
 use Rattle.std.proofs.lemmas.Result.{err_from_is_err_and}
-use Rattle.sun_chain.proofs.Chains.{fails_behind, follow_inside, lawful_more}
+use Rattle.sun_chain.proofs.Chains.{fails_after, follow_inside, lawful_more}
 use Rattle.sun_chain.proofs.chain_walk.walk.Goals as goal
 
 pub returns-in_err-model-clause-fails : goal.returns-in_err-model-clause-fails
 returns-in_err-model-clause-fails c =
     let p = err_from_is_err_and c.from_residual.result c.from_residual.ensures.1 in
-    rw (p.1, p.2) (fails_behind _ _ _ _ _ _ c.loop-models.invariant (c.len.ensures ∙ c.loop-models.models.ok.0) c.in_err-model.ensures.lack)
+    rw (p.1, p.2) (fails_after _ _ _ _ _ _ c.loop-models.invariant (c.len.ensures ∙ c.loop-models.models.ok.0) c.in_err-model.ensures.lack)
 
 pub loop-models-preserved : goal.loop-models-preserved
 loop-models-preserved c =

@@ -23,10 +23,10 @@ returns-clause-sound c =
     let account : HasAccount (installed o) es =
     subst (λ (m : Installed). HasAccount m es) is (c.if-not-have_account.ensures.so true-holds) in
     let sound = c.accounts_are_sound.ensures o.range (opened o) es (last_after (installed o) es) (total_after (installed o) es) numbers.raw numbers.scale account in
-    let last_is : c.tally_behind-tally.result.last ≡ last_after (installed o) es =
-    c.tally_behind-tally.ensures.last ∙ ap (λ (m : Installed). last_after m es) is in
-    let total_is : c.tally_behind-tally.result.total ≡ total_after (installed o) es =
-    c.tally_behind-tally.ensures.total ∙ ap (λ (m : Installed). total_after m es) is in
+    let last_is : c.tally_after-tally.result.last ≡ last_after (installed o) es =
+    c.tally_after-tally.ensures.last ∙ ap (λ (m : Installed). last_after m es) is in
+    let total_is : c.tally_after-tally.result.total ≡ total_after (installed o) es =
+    c.tally_after-tally.ensures.total ∙ ap (λ (m : Installed). total_after m es) is in
     record {
       range = numbers.range;
       ceiling = numbers.ceiling;

@@ -1,6 +1,6 @@
 use Rattle.office_books.specs.Sound.{IsSound}
-use Rattle.office_booking.proofs.SettlingLemmas.Overlays.{StandsBehindFirst}
+use Rattle.office_booking.proofs.SettlingLemmas.Overlays.{StandsAfterFirst}
 use Rattle.office_booking.proofs.settling.behind.with_facts.Given as goal
 
 abbrev pub invariant-loop-fact : goal.invariant-loop-fact
-invariant-loop-fact l = IsSound l.behind × StandsBehindFirst l.fn.row l.facts l.fact-index l.behind
+invariant-loop-fact l = IsSound l.behind × StandsAfterFirst l.fn.row l.facts l.fact-index l.behind

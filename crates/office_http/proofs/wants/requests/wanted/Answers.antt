@@ -6,7 +6,7 @@ use Rattle.office_http.proofs.wants.requests.wanted.Goals as goal
 
 pub returns-in-Err-clause-wants : goal.returns-in-Err-clause-wants
 returns-in-Err-clause-wants c = record {
-  nothing = where_a_test_fails c.args.router.now c.args.bytes.now c.args.look.now c.in-Err.status c.requires c.in-Err.ensures;
+  nothing = where_a_test_fails c.args.router.now c.args.bytes.now c.args.head_state.now c.in-Err.status c.requires c.in-Err.ensures;
   reply = c.faults_are_replied_to.ensures;
 }
 
@@ -14,9 +14,9 @@ pub returns-in-Ok-Question-clause-wants : goal.returns-in-Ok-Question-clause-wan
 returns-in-Ok-Question-clause-wants c =
     let table = c.args.router.now in
     let bytes = c.args.bytes.now in
-    let tests = subst (λ (a : Ask). TestsRequest table bytes c.args.look.now (Ok a)) c.in-Ok-Question.field-0-is c.in-Ok-Question.ensures in
+    let tests = subst (λ (a : Ask). TestsRequest table bytes c.args.head_state.now (Ok a)) c.in-Ok-Question.field-0-is c.in-Ok-Question.ensures in
     record {
-      asks = asks_a_question table bytes c.args.look.now c.in-Ok-Question.found c.requires tests;
-      nothing = in_a_question table bytes c.args.look.now c.in-Ok-Question.found c.requires tests;
+      asks = asks_a_question table bytes c.args.head_state.now c.in-Ok-Question.found c.requires tests;
+      nothing = in_a_question table bytes c.args.head_state.now c.in-Ok-Question.found c.requires tests;
       reply = c.questions_are_replied_to.ensures;
     }

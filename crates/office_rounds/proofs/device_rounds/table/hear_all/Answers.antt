@@ -8,5 +8,5 @@ loop-round-preserved c =
     let notes = c.args.notes.now in
     let rounds = c.loop-round.rounds in
     let i = c.loop-round.round-index in
-    ap (λ y. set rounds i y) (c.hear.ensures ∙ ap (heard notes) (sym c.round-item.is))
+    ap (λ y. set rounds i y) (c.apply_notes.ensures ∙ ap (heard notes) (sym c.round-item.is))
     ∙ map_over_more (heard notes) c.args.rounds.now rounds i c.round-item.result c.loop-round-test.true c.loop-round.invariant c.round-item.is

@@ -6,8 +6,8 @@ use Rattle.office_rounds.proofs.driver.turns.settle.Given as goal
 
 abbrev pub invariant-loop-step : goal.invariant-loop-step
 invariant-loop-step g l = record {
-  comes : Comes g.B.Books.ledger g.V.Witness.sees l.fn.at l._step
-      (scene l.fn.office (failures_of g.B.Books.ledger l.fn.office) l.fn.rounds l.fn.witness)
-      (scene l.office (failures_of g.B.Books.ledger l.office) l.rounds l.witness);
+  comes : Comes g.B.Books.ledger g.V.Observer.sees l.fn.at l._step
+      (scene l.fn.office (failures_of g.B.Books.ledger l.fn.office) l.fn.rounds l.fn.observer)
+      (scene l.office (failures_of g.B.Books.ledger l.office) l.rounds l.observer);
   lasts : Lasts g.B.Books.ledger l.fn.office l.office;
 }

@@ -7,12 +7,12 @@ use Rattle.office_rounds.proofs.driver.turns.take_bytes.Goals as goal
 
 pub returns-in-Some-clause-turns : goal.returns-in-Some-clause-turns
 returns-in-Some-clause-turns g c = λ past stands clean.
-    turns_as g.B.Books.ledger g.V.Witness.sees c.args.at past (failures_of g.B.Books.ledger c.args.office.now) _ _ c.args.witness.now
-    (scene c.begin.new.office (failures_of g.B.Books.ledger c.begin.new.office) c.begin.new.rounds c.begin.new.witness)
+    turns_as g.B.Books.ledger g.V.Observer.sees c.args.at past (failures_of g.B.Books.ledger c.args.office.now) _ _ c.args.observer.now
+    (scene c.begin.new.office (failures_of g.B.Books.ledger c.begin.new.office) c.begin.new.rounds c.begin.new.observer)
     (ap (λ f. table f c.args.rounds.now) (c.in-Some.ensures c.args.piece)) (c.begin.ensures.turns past stands clean)
 
 pub returns-in-None-clause-turns : goal.returns-in-None-clause-turns
 returns-in-None-clause-turns g c = λ past stands clean.
-    turns_as g.B.Books.ledger g.V.Witness.sees c.args.at past (failures_of g.B.Books.ledger c.args.office.now) _ _ c.args.witness.now
-    (scene c.go_on.new.office (failures_of g.B.Books.ledger c.go_on.new.office) c.go_on.new.rounds c.go_on.new.witness)
+    turns_as g.B.Books.ledger g.V.Observer.sees c.args.at past (failures_of g.B.Books.ledger c.args.office.now) _ _ c.args.observer.now
+    (scene c.go_on.new.office (failures_of g.B.Books.ledger c.go_on.new.office) c.go_on.new.rounds c.go_on.new.observer)
     (ap (λ f. table f c.args.rounds.now) (c.in-None.ensures c.args.piece)) (c.go_on.ensures.turns past stands clean)

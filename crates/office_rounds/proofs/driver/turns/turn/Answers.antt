@@ -5,8 +5,8 @@ use Rattle.office_rounds.specs.Driver.Turns.{opened, table}
 use Rattle.office_rounds.proofs.DriverLemmas.Steps.{turns_as}
 use Rattle.office_rounds.proofs.driver.turns.turn.Goals as goal
 
-pub returns-in-Stands-clause-turns : goal.returns-in-Stands-clause-turns
-returns-in-Stands-clause-turns g c = λ past stands clean.
-    turns_as g.B.Books.ledger g.V.Witness.sees c.args.at past (failures_of g.B.Books.ledger c.args.office.now) _ _ c.args.witness.now
-    (scene c.go_on.new.office (failures_of g.B.Books.ledger c.go_on.new.office) c.go_on.new.rounds c.go_on.new.witness)
-    (ap (table None) c.join.ensures ∙ ap (λ h. opened h c.args.rounds.now) (sym c.in-Stands.is)) (c.go_on.ensures.turns past stands clean)
+pub returns-in-Connected-clause-turns : goal.returns-in-Connected-clause-turns
+returns-in-Connected-clause-turns g c = λ past stands clean.
+    turns_as g.B.Books.ledger g.V.Observer.sees c.args.at past (failures_of g.B.Books.ledger c.args.office.now) _ _ c.args.observer.now
+    (scene c.go_on.new.office (failures_of g.B.Books.ledger c.go_on.new.office) c.go_on.new.rounds c.go_on.new.observer)
+    (ap (table None) c.join.ensures ∙ ap (λ h. opened h c.args.rounds.now) (sym c.in-Connected.is)) (c.go_on.ensures.turns past stands clean)

@@ -4,7 +4,7 @@ use Rattle.std.specs.Prelude.{Ok, Err}
 use Rattle.office_rules.specs.Notes.{notes_after}
 use Rattle.script_text.specs.AnswerText.{accepted_text, refused_line}
 use Rattle.script_run.specs.Looping.Lines.{StartsPrint}
-use Rattle.script_run.specs.Looping.Standings.{desk}
+use Rattle.script_run.specs.Looping.Standings.{loop_state}
 use Rattle.script_run.proofs.LoopingLemmas.Carrying.{writing_out}
 use Rattle.script_run.proofs.LoopingLemmas.Feeding.{not_started, started, was_replied}
 use Rattle.script_run.proofs.looping.stand_in_lines.start.Goals as goal
@@ -34,8 +34,8 @@ returns-in-Err g c = λ connected.
     let why = c.in-Err.why in
     let old = g.W.Write.contents c.args.output.now in
     let new = g.W.Write.contents c.write_refusal.new.output in
-    writing_out c.write_refusal.result (refused_line why) (desk c.args.office.now c.args.bank.now connected old)
-    (desk c.feed.new.self c.args.bank.now connected new) (λ now printed next. StartsPrint c.args.at c.args.device.now e now printed next)
+    writing_out c.write_refusal.result (refused_line why) (loop_state c.args.office.now c.args.bank.now connected old)
+    (loop_state c.feed.new.self c.args.bank.now connected new) (λ now printed next. StartsPrint c.args.at c.args.device.now e now printed next)
     c.write_refusal.ensures
     (λ past stands appended.
     not_started past c.args.at c.args.device.now e why c.args.office.now c.feed.new.self c.args.bank.now connected old new

@@ -1,7 +1,7 @@
 use Rattle.command_io.specs.Lines.{seen_line, speaking_lines}
 use Rattle.script_lines.specs.LineWords.Words.{words_of}
 use Rattle.script_run.specs.Looping.Lines.{AreWrong, WordsPrint}
-use Rattle.script_run.specs.Looping.Standings.{desk, stage_on}
+use Rattle.script_run.specs.Looping.Standings.{loop_state, stage_on}
 use Rattle.script_run.proofs.LoopingLemmas.Carrying.{line_done, line_wrong}
 use Rattle.script_run.proofs.LoopingLemmas.Loops.{ended, from_start, one_more, stopped}
 use Rattle.script_run.proofs.looping.text_run.run_lines.Goals as goal
@@ -9,7 +9,7 @@ use Rattle.script_run.proofs.looping.text_run.run_lines.Goals as goal
 pub loop-line-init : goal.loop-line-init
 loop-line-init g c = λ past stands.
     from_start past (speaking_lines c.args.text.now) c.of-lines.result
-    (desk c.args.run.now.office c.args.run.now.bank c.args.run.now.connected (g.W.Write.contents c.args.output.now)) c.of-lines.ensures stands
+    (loop_state c.args.run.now.office c.args.run.now.bank c.args.run.now.connected (g.W.Write.contents c.args.output.now)) c.of-lines.ensures stands
 
 pub loop-line-preserved : goal.loop-line-preserved
 loop-line-preserved g c = λ past stands.
@@ -17,8 +17,8 @@ loop-line-preserved g c = λ past stands.
     let line = seen_line c.in-Some.line in
     let before = c.loop-line.run in
     let after = c.run_line.new.run in
-    let here = desk before.office before.bank before.connected (g.W.Write.contents c.loop-line.output) in
-    let there = desk after.office after.bank after.connected (g.W.Write.contents c.run_line.new.output) in
+    let here = loop_state before.office before.bank before.connected (g.W.Write.contents c.loop-line.output) in
+    let there = loop_state after.office after.bank after.connected (g.W.Write.contents c.run_line.new.output) in
     one_more _ (speaking_lines c.args.text.now) c.loop-line.lines c.next_line.new.self line _ here there c.in-Some.ensures ran
     (line_done c.in-Ok.fine (WordsPrint (words_of line.text)) (AreWrong before.connected (words_of line.text)) here there c.if-not-fine.false
     c.in-Ok.ensures ran.past ran.stands)
@@ -29,10 +29,10 @@ returns-then-not-fine g c = λ past stands.
     let line = seen_line c.in-Some.line in
     let before = c.loop-line.run in
     let after = c.run_line.new.run in
-    let here = desk before.office before.bank before.connected (g.W.Write.contents c.loop-line.output) in
-    let there = desk after.office after.bank after.connected (g.W.Write.contents c.run_line.new.output) in
+    let here = loop_state before.office before.bank before.connected (g.W.Write.contents c.loop-line.output) in
+    let there = loop_state after.office after.bank after.connected (g.W.Write.contents c.run_line.new.output) in
     stopped c.tell_bad.result past (speaking_lines c.args.text.now) c.loop-line.lines c.next_line.new.self line
-    (desk c.args.run.now.office c.args.run.now.bank c.args.run.now.connected (g.W.Write.contents c.args.output.now)) here
+    (loop_state c.args.run.now.office c.args.run.now.bank c.args.run.now.connected (g.W.Write.contents c.args.output.now)) here
     (g.W.Write.contents c.run_line.new.output) (g.W.Write.contents c.tell_bad.new.output) c.in-Some.ensures
     (line_wrong c.in-Ok.fine (WordsPrint (words_of line.text)) (AreWrong before.connected (words_of line.text)) here there c.if-not-fine.true
     c.in-Ok.ensures)

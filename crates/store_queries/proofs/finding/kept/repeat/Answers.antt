@@ -7,7 +7,7 @@ use Rattle.store_queries.proofs.finding.kept.repeat.Goals as goal
 
 pub returns-then-number-gt-MAX_REQUEST : goal.returns-then-number-gt-MAX_REQUEST
 returns-then-number-gt-MAX_REQUEST g c =
-    seen_alone g.S.Store c.args.conn.now c.touch.new.conn (record { mode = c.in_ok-touch.ensures.autocommit; opened = c.in_ok-touch.ensures.opened; kept = c.in_ok-touch.ensures.kept; survives = c.in_ok-touch.ensures.survives })
+    seen_alone g.S.Store c.args.conn.now c.check_open.new.conn (record { mode = c.in_ok-check_open.ensures.autocommit; opened = c.in_ok-check_open.ensures.opened; kept = c.in_ok-check_open.ensures.kept; survives = c.in_ok-check_open.ensures.survives })
     None _ _ (λ facts lawful. no_repeat_past facts c.args.caller.now c.args.number c.args.request.now lawful c.if-number-gt-MAX_REQUEST.true)
 
 pub returns-in-None : goal.returns-in-None

@@ -8,5 +8,5 @@ use Rattle.store_queries.proofs.finding.kept.row_of.Goals as goal
 
 pub returns : goal.returns
 returns g c =
-    looked_up g.S.Store c.args.conn.now c.touch.new.conn (record { mode = c.in_ok-touch.ensures.autocommit; opened = c.in_ok-touch.ensures.opened; kept = c.in_ok-touch.ensures.kept; survives = c.in_ok-touch.ensures.survives })
+    looked_up g.S.Store c.args.conn.now c.check_open.new.conn (record { mode = c.in_ok-check_open.ensures.autocommit; opened = c.in_ok-check_open.ensures.opened; kept = c.in_ok-check_open.ensures.kept; survives = c.in_ok-check_open.ensures.survives })
     c.repeat_of.new.conn replies reply_columns IsSoundKept c.repeat_of.result _ c.repeat_of.ensures (λ facts. map kept (replies_in facts)) (λ zone facts content are. are.replies)

@@ -11,13 +11,13 @@ use Rattle.store_queries.proofs.finding.last_moment.held.Goals as goal
 pub returns-in_err-latest_hold : goal.returns-in_err-latest_hold
 returns-in_err-latest_hold g c =
     passed_on g.S.Store c.args.conn.now c.latest_hold.new.conn c.in_err-latest_hold.field-0.0 c.from_residual-in_err-latest_hold.result _ _ _ _
-    (told_of g.S.Store c.args.conn.now c.touch.new.conn (record { mode = c.in_ok-touch.ensures.autocommit; opened = c.in_ok-touch.ensures.opened; kept = c.in_ok-touch.ensures.kept; survives = c.in_ok-touch.ensures.survives })
+    (told_of g.S.Store c.args.conn.now c.check_open.new.conn (record { mode = c.in_ok-check_open.ensures.autocommit; opened = c.in_ok-check_open.ensures.opened; kept = c.in_ok-check_open.ensures.kept; survives = c.in_ok-check_open.ensures.survives })
     c.latest_hold.new.conn holds hold_columns IsSoundHeld (Err c.in_err-latest_hold.field-0.0) (IsLast every HasHoldMoment hold_moment) c.in_err-latest_hold.ensures.finds (IsMoment latest_held) HasReadableMoments holds_tell)
     (λ facts sound. sound) c.from_residual-in_err-latest_hold.ensures.1
 
 pub returns : goal.returns
 returns g c =
     answered g.S.Store c.args.conn.now c.latest_hold.new.conn c.in_ok-latest_hold.field-0 c.unwrap_or.result _ _ _ _
-    (told_of g.S.Store c.args.conn.now c.touch.new.conn (record { mode = c.in_ok-touch.ensures.autocommit; opened = c.in_ok-touch.ensures.opened; kept = c.in_ok-touch.ensures.kept; survives = c.in_ok-touch.ensures.survives })
+    (told_of g.S.Store c.args.conn.now c.check_open.new.conn (record { mode = c.in_ok-check_open.ensures.autocommit; opened = c.in_ok-check_open.ensures.opened; kept = c.in_ok-check_open.ensures.kept; survives = c.in_ok-check_open.ensures.survives })
     c.latest_hold.new.conn holds hold_columns IsSoundHeld (Ok c.in_ok-latest_hold.field-0) (IsLast every HasHoldMoment hold_moment) c.in_ok-latest_hold.ensures.finds (IsMoment latest_held) HasReadableMoments holds_tell)
     (λ facts h. c.unwrap_or.ensures ∙ h)

@@ -6,7 +6,7 @@ use Rattle.store_queries.proofs.finding.poll_rows.poll.Goals as goal
 
 pub returns-then-number-gt-GREATEST_PLACE : goal.returns-then-number-gt-GREATEST_PLACE
 returns-then-number-gt-GREATEST_PLACE g c =
-    seen_alone g.S.Store c.args.conn.now c.touch.new.conn (record { mode = c.in_ok-touch.ensures.autocommit; opened = c.in_ok-touch.ensures.opened; kept = c.in_ok-touch.ensures.kept; survives = c.in_ok-touch.ensures.survives })
+    seen_alone g.S.Store c.args.conn.now c.check_open.new.conn (record { mode = c.in_ok-check_open.ensures.autocommit; opened = c.in_ok-check_open.ensures.opened; kept = c.in_ok-check_open.ensures.kept; survives = c.in_ok-check_open.ensures.survives })
     None _ _ (λ facts lawful. no_poll_past facts c.args.number lawful c.if-number-gt-GREATEST_PLACE.true)
 
 pub end_of-requires-clause-idle : goal.end_of-requires-clause-idle

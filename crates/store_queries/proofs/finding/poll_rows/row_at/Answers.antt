@@ -13,5 +13,5 @@ pub returns-clause-finds : goal.returns-clause-finds
 returns-clause-finds g c =
     less_told g.S.Store c.args.conn.now c.poll_at.new.conn c.poll_at.result _ _ _
     (λ facts sound. all_weaker IsReadablePoll IsSoundStarted (λ p is. is.row) (map started (polls_in facts)) sound)
-    (looked_up g.S.Store c.args.conn.now c.touch.new.conn (record { mode = c.in_ok-touch.ensures.autocommit; opened = c.in_ok-touch.ensures.opened; kept = c.in_ok-touch.ensures.kept; survives = c.in_ok-touch.ensures.survives })
+    (looked_up g.S.Store c.args.conn.now c.check_open.new.conn (record { mode = c.in_ok-check_open.ensures.autocommit; opened = c.in_ok-check_open.ensures.opened; kept = c.in_ok-check_open.ensures.kept; survives = c.in_ok-check_open.ensures.survives })
     c.poll_at.new.conn polls poll_columns IsSoundStarted c.poll_at.result _ c.poll_at.ensures.finds (λ facts. map started (polls_in facts)) (λ zone facts content are. are.polls))

@@ -12,5 +12,5 @@ pub returns : goal.returns
 returns g c =
     less_told g.S.Store c.args.conn.now c.register_of.new.conn c.register_of.result _ _ _
     (λ facts sound. all_weaker IsReadableRegister IsSoundRegistered (λ r is. is.row) (placed registered (registers_in facts)) sound)
-    (looked_up g.S.Store c.args.conn.now c.touch.new.conn (record { mode = c.in_ok-touch.ensures.autocommit; opened = c.in_ok-touch.ensures.opened; kept = c.in_ok-touch.ensures.kept; survives = c.in_ok-touch.ensures.survives })
+    (looked_up g.S.Store c.args.conn.now c.check_open.new.conn (record { mode = c.in_ok-check_open.ensures.autocommit; opened = c.in_ok-check_open.ensures.opened; kept = c.in_ok-check_open.ensures.kept; survives = c.in_ok-check_open.ensures.survives })
     c.register_of.new.conn registers register_columns IsSoundRegistered c.register_of.result _ c.register_of.ensures.finds (λ facts. placed registered (registers_in facts)) (λ zone facts content are. are.registers))

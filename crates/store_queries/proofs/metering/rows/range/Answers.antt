@@ -9,13 +9,13 @@ use Rattle.store_queries.proofs.MeteringLemmas.Found.{range_found}
 use Rattle.store_queries.proofs.MeteringLemmas.Looked.{touched, not_asked, looked}
 use Rattle.store_queries.proofs.metering.rows.range.Goals as goal
 
-pub returns-in_err-touch : goal.returns-in_err-touch
-returns-in_err-touch g c =
-    not_asked g.S.Store c.args.conn.now c.touch.new.conn c.from_residual.result _ (FindsRange c.args.meter.now)
-    (λ zone. touched g.S.Store zone c.args.conn.now c.touch.new.conn c.in_err-touch.ensures.autocommit c.in_err-touch.ensures.kept c.in_err-touch.ensures.survives) c.from_residual.ensures.1
+pub returns-in_err-check_open : goal.returns-in_err-check_open
+returns-in_err-check_open g c =
+    not_asked g.S.Store c.args.conn.now c.check_open.new.conn c.from_residual.result _ (FindsRange c.args.meter.now)
+    (λ zone. touched g.S.Store zone c.args.conn.now c.check_open.new.conn c.in_err-check_open.ensures.autocommit c.in_err-check_open.ensures.kept c.in_err-check_open.ensures.survives) c.from_residual.ensures.1
 
 pub returns : goal.returns
 returns g c =
-    looked g.S.Store c.args.conn.now c.touch.new.conn c.range_of.new.conn ranges ranged_columns IsSoundRanged c.range_of.result (IsFound (is_range_of c.args.meter.now) HasRange) (FindsRange c.args.meter.now)
-    (λ zone. touched g.S.Store zone c.args.conn.now c.touch.new.conn c.in_ok-touch.ensures.autocommit c.in_ok-touch.ensures.kept c.in_ok-touch.ensures.survives) c.in_ok-touch.ensures.opened c.range_of.ensures.finds
+    looked g.S.Store c.args.conn.now c.check_open.new.conn c.range_of.new.conn ranges ranged_columns IsSoundRanged c.range_of.result (IsFound (is_range_of c.args.meter.now) HasRange) (FindsRange c.args.meter.now)
+    (λ zone. touched g.S.Store zone c.args.conn.now c.check_open.new.conn c.in_ok-check_open.ensures.autocommit c.in_ok-check_open.ensures.kept c.in_ok-check_open.ensures.survives) c.in_ok-check_open.ensures.opened c.range_of.ensures.finds
     (λ zone facts content are. record { rows = map ranged (openings_in facts); there = are.ranges; says_so = range_found facts c.args.meter.now are.lawful })

@@ -10,13 +10,13 @@ returns-in_err-meter g c =
     not_asked g.S.Store g.K.RowSink.takes (λ facts. rows_of_meter facts c.args.meter.now) c.args.conn.now c.args.conn.now c.args.sink.now c.from_residual.result _
     (λ zone. no_look g.S.Store zone c.args.conn.now) c.from_residual.ensures.1
 
-pub returns-in_err-touch : goal.returns-in_err-touch
-returns-in_err-touch g c =
-    not_asked g.S.Store g.K.RowSink.takes (λ facts. rows_of_meter facts c.args.meter.now) c.args.conn.now c.touch.new.conn c.args.sink.now c.from_residual-in_err-touch.result _
-    (λ zone. touched g.S.Store zone c.args.conn.now c.touch.new.conn c.in_err-touch.ensures.autocommit c.in_err-touch.ensures.kept c.in_err-touch.ensures.survives) c.from_residual-in_err-touch.ensures.1
+pub returns-in_err-check_open : goal.returns-in_err-check_open
+returns-in_err-check_open g c =
+    not_asked g.S.Store g.K.RowSink.takes (λ facts. rows_of_meter facts c.args.meter.now) c.args.conn.now c.check_open.new.conn c.args.sink.now c.from_residual-in_err-check_open.result _
+    (λ zone. touched g.S.Store zone c.args.conn.now c.check_open.new.conn c.in_err-check_open.ensures.autocommit c.in_err-check_open.ensures.kept c.in_err-check_open.ensures.survives) c.from_residual-in_err-check_open.ensures.1
 
 pub returns : goal.returns
 returns g c =
-    handed g.S.Store g.K.RowSink.takes (λ facts. rows_of_meter facts c.args.meter.now) c.args.conn.now c.touch.new.conn c.meter_intervals.new.conn c.args.sink.now c.meter_intervals.new.sink c.meter_intervals.result HaveIntervals (AreSharesOfMeter c.in_ok-meter.meter.now) AreSoundIntervals
-    (λ zone. touched g.S.Store zone c.args.conn.now c.touch.new.conn c.in_ok-touch.ensures.autocommit c.in_ok-touch.ensures.kept c.in_ok-touch.ensures.survives) c.in_ok-touch.ensures.opened c.meter_intervals.ensures
+    handed g.S.Store g.K.RowSink.takes (λ facts. rows_of_meter facts c.args.meter.now) c.args.conn.now c.check_open.new.conn c.meter_intervals.new.conn c.args.sink.now c.meter_intervals.new.sink c.meter_intervals.result HaveIntervals (AreSharesOfMeter c.in_ok-meter.meter.now) AreSoundIntervals
+    (λ zone. touched g.S.Store zone c.args.conn.now c.check_open.new.conn c.in_ok-check_open.ensures.autocommit c.in_ok-check_open.ensures.kept c.in_ok-check_open.ensures.survives) c.in_ok-check_open.ensures.opened c.meter_intervals.ensures
     (λ zone facts content are. record { rows = are.intervals.rows; there = are.intervals.there; says_so = λ all is. of_meter c.meters_are_kept.ensures facts are.lawful c.args.meter.now are.intervals.rows all are.intervals.each (rw c.in_ok-meter.ensures.text at is) })

@@ -12,15 +12,15 @@ returns-in_err-register g c =
     not_asked g.S.Store g.K.RowSink.takes (λ facts. rows_of_register facts c.args.register.now) c.args.conn.now c.args.conn.now c.args.sink.now c.from_residual.result _
     (λ zone. no_look g.S.Store zone c.args.conn.now) c.from_residual.ensures.1
 
-pub returns-in_err-touch : goal.returns-in_err-touch
-returns-in_err-touch g c =
-    not_asked g.S.Store g.K.RowSink.takes (λ facts. rows_of_register facts c.args.register.now) c.args.conn.now c.touch.new.conn c.args.sink.now c.from_residual-in_err-touch.result _
-    (λ zone. touched g.S.Store zone c.args.conn.now c.touch.new.conn c.in_err-touch.ensures.autocommit c.in_err-touch.ensures.kept c.in_err-touch.ensures.survives) c.from_residual-in_err-touch.ensures.1
+pub returns-in_err-check_open : goal.returns-in_err-check_open
+returns-in_err-check_open g c =
+    not_asked g.S.Store g.K.RowSink.takes (λ facts. rows_of_register facts c.args.register.now) c.args.conn.now c.check_open.new.conn c.args.sink.now c.from_residual-in_err-check_open.result _
+    (λ zone. touched g.S.Store zone c.args.conn.now c.check_open.new.conn c.in_err-check_open.ensures.autocommit c.in_err-check_open.ensures.kept c.in_err-check_open.ensures.survives) c.from_residual-in_err-check_open.ensures.1
 
 pub returns : goal.returns
 returns g c =
-    handed g.S.Store g.K.RowSink.takes (λ facts. rows_of_register facts c.args.register.now) c.args.conn.now c.touch.new.conn c.register_intervals.new.conn c.args.sink.now c.register_intervals.new.sink c.register_intervals.result HaveLying (AreSharesAt c.in_ok-register.register.now) AreSoundLying
-    (λ zone. touched g.S.Store zone c.args.conn.now c.touch.new.conn c.in_ok-touch.ensures.autocommit c.in_ok-touch.ensures.kept c.in_ok-touch.ensures.survives) c.in_ok-touch.ensures.opened c.register_intervals.ensures
+    handed g.S.Store g.K.RowSink.takes (λ facts. rows_of_register facts c.args.register.now) c.args.conn.now c.check_open.new.conn c.register_intervals.new.conn c.args.sink.now c.register_intervals.new.sink c.register_intervals.result HaveLying (AreSharesAt c.in_ok-register.register.now) AreSoundLying
+    (λ zone. touched g.S.Store zone c.args.conn.now c.check_open.new.conn c.in_ok-check_open.ensures.autocommit c.in_ok-check_open.ensures.kept c.in_ok-check_open.ensures.survives) c.in_ok-check_open.ensures.opened c.register_intervals.ensures
     (λ zone facts content are. record {
       rows = record { installed = placed (installed_row facts) (openings_in facts); rows = are.intervals.rows };
       there = record { installed = are.installations; rows = are.intervals.there };

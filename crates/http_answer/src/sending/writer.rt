@@ -1,0 +1,84 @@
+//! A link, and the bytes on their way to it.
+ghost use Rattle.std.specs.Prelude.{◌≡◌, ◌≤◌, ℕ, List, [], Option, take, false, is_err};
+ghost use Rattle.http_answer.specs.Sending.Giving.{Gives};
+ghost use Rattle.http_answer.specs.Sending.Sending.{HasPut, OnlyGives, Outgoing, Puts};
+
+use crate::sending::outbox::Outbox;
+use mb_wire::{Link, LinkFailed};
+use std::marker::Model;
+
+/// A link, and the bytes on their way to it. It keeps the first give that failed, and gives no more after it.
+#[derive(Drop)]
+pub struct ReplyWriter<'l, L: Link> {
+    link: &'l mut L,
+    outbox: Outbox,
+}
+
+impl<'l, L: Link> Model for ReplyWriter<'l, L> {
+    ghost Value = { Outgoing };
+
+    ghost view = { λ writer. record {
+      link = writer.link.ghost_name;
+      given = L.given writer.link.now;
+      remaining = L.remaining writer.link.now;
+      failures = L.failed writer.link.now;
+      takes = L.taken writer.link.now;
+      last = L.last writer.link.now;
+      buffered = take writer.outbox.filled writer.outbox.buffered;
+      failed = writer.outbox.failed;
+    } };
+}
+
+impl<'l, L: Link> ReplyWriter<'l, L> {
+    /// An outlet to this link, to which nothing was put.
+    pub fn new(link: &'l mut L) -> ReplyWriter<'l, L>
+        ensures link { result.link ≡ link.entry.ghost_name }
+        ensures given { result.given ≡ L.given link.entry.now }
+        ensures failures { result.failures ≡ L.failed link.entry.now }
+        ensures takes { result.takes ≡ L.taken link.entry.now }
+        ensures last { result.last ≡ L.last link.entry.now }
+        ensures remaining { result.remaining ≡ L.remaining link.entry.now }
+        ensures empty { result.buffered ≡ [] }
+        ensures works { result.failed ≡ false }
+    {
+        ReplyWriter {
+            link,
+            outbox: Outbox::new(),
+        }
+    }
+
+    /// Puts bytes after those put before.
+    pub fn put(&mut self, bytes: &[u8])
+        ensures { Puts self.old self.new bytes.now }
+    {
+        self.outbox.put(self.link, bytes);
+    }
+
+    /// Gives what is buffered, and says whether all that was put has come to the peer.
+    pub fn finish(&mut self) -> Result<(), LinkFailed>
+        ensures given { (base : Option (List ℕ)) (all : List ℕ) → HasPut base self.old all
+            → Gives result base self.new.given all }
+        ensures failed { is_err result ≡ self.new.failed }
+        ensures link { OnlyGives self.old self.new }
+    {
+        self.outbox.flush(self.link);
+        if self.outbox.has_failed() {
+            Err(LinkFailed)
+        } else {
+            Ok(())
+        }
+    }
+
+    /// Hands the link back.
+    pub fn into_link(self) -> &'l mut L
+        ensures link { result.ghost_name ≡ self.entry.link }
+        ensures given { L.given result.now ≡ self.entry.given }
+        ensures remaining { L.remaining result.now ≡ self.entry.remaining }
+        ensures failures { L.failed result.now ≡ self.entry.failures }
+        ensures takes { L.taken result.now ≡ self.entry.takes }
+        ensures last { L.last result.now ≡ self.entry.last }
+    {
+        let ReplyWriter { link, outbox: _ } = self;
+        link
+    }
+}

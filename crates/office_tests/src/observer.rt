@@ -1,0 +1,90 @@
+//! A witness that writes down what it is shown.
+use office_events::{Answer, Command, Event, Note, Refusal};
+use office_rounds::Observer;
+use poll_core::{Closing, Outcome};
+use std::alloc::Global;
+
+/// A letter for each event, after the place for which it was: C connected, S a start, B bytes, T a tick, G gone, F failed,
+/// with `!` where it was refused; and a letter for each poll that ended: a answered, s silent, l lost.
+#[derive(Drop)]
+pub(crate) struct Seen {
+    pub(crate) text: String,
+    pub(crate) frames: usize,
+}
+
+impl Seen {
+    pub(crate) fn new(alloc: Global) -> Seen {
+        Seen {
+            text: String::new(alloc),
+            frames: 0,
+        }
+    }
+
+    fn push(&mut self, letter: &str) {
+        let _done = self.text.push_str(letter);
+    }
+}
+
+fn letter(event: &Event) -> &'static str {
+    match event {
+        Event::Connected(_) => "C",
+        Event::Command(Command::StartRound(_)) => "S",
+        Event::Bytes(_, _) => "B",
+        Event::Tick => "T",
+        Event::Gone(_, Closing::Gone) => "G",
+        Event::Gone(_, Closing::Failed) => "F",
+        _ => "?",
+    }
+}
+
+fn ending(note: &Note) -> &'static str {
+    match note {
+        Note::Outcome {
+            outcome: Outcome::Answered,
+            ..
+        } => "a",
+        Note::Outcome {
+            outcome: Outcome::Silent,
+            ..
+        } => "s",
+        Note::Outcome {
+            outcome: Outcome::Lost(_),
+            ..
+        } => "l",
+        _ => "?",
+    }
+}
+
+fn place_letter(place: Option<usize>) -> &'static str {
+    match place {
+        None => "",
+        Some(0) => "0",
+        Some(1) => "1",
+        Some(_) => "9",
+    }
+}
+
+impl Observer for Seen {
+    ghost sees = { λ _ _ _. Unit {0} };
+
+    fn observe(
+        &mut self,
+        place: Option<usize>,
+        _at: u64,
+        event: &Event,
+        answer: Result<Answer, Refusal>,
+        notes: &[Note],
+        frames: &[u8],
+    ) {
+        self.push(place_letter(place));
+        self.push(letter(event));
+        if answer.is_err() {
+            self.push("!");
+        }
+        for note in notes {
+            self.push(ending(note));
+        }
+        self.push(" ");
+        self.frames = self.frames.saturating_add(frames.len());
+    }
+}

@@ -1,0 +1,16 @@
+-- What a clock is taken to tell.
+use Rattle.std.specs.Prelude.{ℕ, ◌-◌, max, nat_lt, not, ◌&&◌, Bool, Option, Some, None, if◌then◌else◌}
+use Rattle.run_schedule.specs.declared.timing.steady_clock.ClockReading.{ClockReading}
+use Rattle.run_schedule.specs.declared.timing.steady_clock.SteadyClock.{SteadyClock}
+
+-- How far the clock stands before the latest moment, the first time that it does.
+abbrev pub set_back_by : SteadyClock → ℕ → Option ℕ
+set_back_by steady_clock now =
+    if nat_lt now steady_clock.latest && not steady_clock.is_back then Some (steady_clock.latest - now) else None
+
+-- the moment goes on, or stays where the clock was set back
+abbrev pub read_by : SteadyClock → ℕ → ClockReading
+read_by steady_clock now = record { moment = max steady_clock.latest now; set_back = set_back_by steady_clock now }
+
+abbrev pub clock_after : SteadyClock → ℕ → SteadyClock
+clock_after steady_clock now = record { latest = max steady_clock.latest now; is_back = nat_lt now steady_clock.latest }

@@ -1,0 +1,132 @@
+//! The desk: counts, how each device stands, and the frames that are to be sent to each.
+use crate::monitor::device_state::{followed, unconnected};
+use crate::monitor::output::put_frames;
+use crate::status::{Counts, DeviceState};
+use office_events::{Answer, Event, Name, Note, Refusal};
+use office_rounds::Observer;
+use std::alloc::{AllocError, Global};
+use std::mem;
+
+/// What is kept of what an office is fed.
+#[derive(Drop)]
+pub struct RunMonitor {
+    alloc: Global,
+    pub counts: Counts,
+    /// How each device stands, by its place.
+    pub states: Vec<DeviceState>,
+    /// What is to be sent to each.
+    pub outgoing: Vec<Vec<u8>>,
+}
+
+impl RunMonitor {
+    ghost use Rattle.std.specs.Prelude.{◌≡◌, [], IfOk, map, slice_set};
+    ghost use Rattle.run_status.specs.Status.Counts.{nothing};
+    ghost use Rattle.run_status.specs.Monitor.Output.{IsSentTo, queues_of, taken_at};
+    ghost use Rattle.run_status.specs.Monitor.Watching.{unconnected};
+
+    /// A desk for devices of these names, of which none is connected.
+    pub fn new(alloc: Global, names: &[Option<Name>]) -> Result<RunMonitor, AllocError>
+        ensures counts { IfOk result (λ monitor. monitor.counts ≡ nothing) }
+        ensures states { IfOk result (λ monitor. monitor.states.items ≡ map unconnected names.now) }
+        ensures outgoing { IfOk result (λ monitor. queues_of monitor ≡ map (λ name. []) names.now) }
+    {
+        let mut states = Vec::new(alloc);
+        let mut outgoing = Vec::new(alloc);
+        for name in names {
+            states.push(unconnected(*name))?;
+            outgoing.push(Vec::new(alloc))?;
+        }
+        Ok(RunMonitor {
+            alloc,
+            counts: Counts::new(),
+            states,
+            outgoing,
+        })
+    }
+
+    /// Takes what is to be sent to a device, in order. Frames for which there was no memory are not among it; their polls
+    /// end silent.
+    #[tactic(auto, using(crate::proofs::MonitorLemmas::Queues::taken_there, crate::proofs::MonitorLemmas::Queues::taken_nowhere))]
+    pub fn take_outgoing(&mut self, place: usize) -> Vec<u8>
+        ensures taken { result.items ≡ taken_at place (queues_of self.old) }
+        ensures left { queues_of self.new ≡ slice_set (queues_of self.old) place [] }
+        ensures counts { self.new.counts ≡ self.old.counts }
+        ensures states { self.new.states ≡ self.old.states }
+    {
+        if place < self.outgoing.len() {
+            return mem::replace(&mut self.outgoing[place], Vec::new(self.alloc));
+        }
+        Vec::new(self.alloc)
+    }
+
+    // Frames are to be sent to a device.
+    #[tactic(auto, using(crate::proofs::MonitorLemmas::Queues::sent_at, crate::proofs::MonitorLemmas::Queues::sent_nowhere))]
+    fn send(&mut self, place: usize, event: &Event, frames: &[u8])
+        ensures counts { self.new.counts ≡ self.old.counts }
+        ensures states { self.new.states ≡ self.old.states }
+        ensures outgoing { IsSentTo place event.now frames.now (queues_of self.old)
+            (queues_of self.new) }
+    {
+        if place < self.outgoing.len() {
+            put_frames(&mut self.outgoing[place], event, frames);
+        }
+    }
+}
+
+impl RunMonitor {
+    ghost use Rattle.std.specs.Prelude.{◌≡◌};
+    ghost use Rattle.run_status.specs.Monitor.Watching.{counted, followed_at};
+
+    // What was answered and told is counted.
+    fn count(&mut self, answer: Result<Answer, Refusal>, notes: &[Note])
+        ensures counts { self.new.counts ≡ counted answer notes.now self.old.counts }
+        ensures states { self.new.states ≡ self.old.states }
+        ensures outgoing { self.new.outgoing ≡ self.old.outgoing }
+    {
+        if answer.is_err() {
+            self.counts.refuse();
+        }
+        self.counts.note_all(notes);
+    }
+
+    // The device of a place stands after an event that was fed for it.
+    fn follow(
+        &mut self,
+        place: usize,
+        at: u64,
+        event: &Event,
+        answer: Result<Answer, Refusal>,
+        notes: &[Note],
+    )
+        ensures counts { self.new.counts ≡ self.old.counts }
+        ensures states { self.new.states.items
+            ≡ followed_at place at event.now answer notes.now self.old.states.items }
+        ensures outgoing { self.new.outgoing ≡ self.old.outgoing }
+    {
+        if place < self.states.len() {
+            self.states[place] = followed(self.states[place], at, event, answer, notes);
+        }
+    }
+}
+
+impl Observer for RunMonitor {
+    ghost use Rattle.run_status.specs.Monitor.Watching.{Keeps};
+
+    ghost sees = { λ old shown new. Keeps old shown new };
+
+    fn observe(
+        &mut self,
+        place: Option<usize>,
+        at: u64,
+        event: &Event,
+        answer: Result<Answer, Refusal>,
+        notes: &[Note],
+        frames: &[u8],
+    ) {
+        self.count(answer, notes);
+        if let Some(place) = place {
+            self.follow(place, at, event, answer, notes);
+            self.send(place, event, frames);
+        }
+    }
+}
