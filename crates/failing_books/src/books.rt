@@ -5,11 +5,11 @@ ghost use Rattle.office_books.specs.declared.faults.BooksFault.TheVariants.{Stor
 ghost use Rattle.office_books.specs.declared.faults.StoreFault.TheVariants.{Refused};
 
 use interval_core::{Share, Zone};
+use memory_books::ListBooks;
 use office_books::{Books, BooksFault, Repeat, RowSink, StoreFault};
 use office_events::{
     Device, EntryPlace, Fact, Installation, Name, PlannedList, Poll, PollRow, Register,
 };
-use memory_books::ListBooks;
 
 /// Books in memory. The call of one number is refused, as by a store; no other fails but for want of memory.
 #[derive(Drop)]

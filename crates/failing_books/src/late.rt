@@ -2,8 +2,8 @@
 ghost use Rattle.std.specs.Prelude.{◌≡◌};
 
 use crate::books::FailingBooks;
-use office_books::Books;
 use memory_books::ListBooks;
+use office_books::Books;
 
 impl FailingBooks {
     ghost use Rattle.std.specs.Prelude.{◌≡◌, List};

@@ -22,7 +22,11 @@ fn each_ending_has_its_status(rt: HostRuntime) -> Result<(), Fail> {
 
 #[test]
 fn commands_that_print(rt: HostRuntime) {
-    for (status, number) in [(ExitStatus::Fine, 0), (ExitStatus::Refused, 1), (ExitStatus::Failed, 3)] {
+    for (status, number) in [
+        (ExitStatus::Fine, 0),
+        (ExitStatus::Refused, 1),
+        (ExitStatus::Failed, 3),
+    ] {
         assert_eq!(rt; ending_of(status).number(), number);
     }
 }

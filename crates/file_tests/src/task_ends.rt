@@ -53,7 +53,11 @@ const POLLED: [(PollEnd, u8, &str); 8] = [
 const RAN: [(Result<(), RunFault>, u8, &str); 8] = [
     (Ok(()), 0, ""),
     (Err(RunFault::Unopened(ExitStatus::Refused)), 1, ""),
-    (Err(RunFault::Unopened(ExitStatus::Failed)), 3, "standard input"),
+    (
+        Err(RunFault::Unopened(ExitStatus::Failed)),
+        3,
+        "standard input",
+    ),
     (Err(RunFault::Port), 3, "port 80 of h can't be listened on"),
     (Err(RunFault::Sockets), 3, "the system can't tell"),
     (Err(RunFault::Output), 3, "standard input"),

@@ -18,7 +18,12 @@ use matchit::Router;
 use office_events::Command;
 
 /// A law: the status of the first test that fails answers, and 400 or 431 a bad head.
-pub fn faults_are_replied_to(router: &Router<Route>, bytes: &[u8], head_state: &HeadState, status: Status)
+pub fn faults_are_replied_to(
+    router: &Router<Route>,
+    bytes: &[u8],
+    head_state: &HeadState,
+    status: Status,
+)
     requires holds { Holds router.now bytes.now head_state.now }
     requires fails { TestsRequest router.now bytes.now head_state.now (Err status) }
     ensures { (office : Office) → IsReply office router.now bytes.now (reply_bytes (fault status)) }

@@ -18,5 +18,5 @@ pub use lines::{put_day, put_end, put_share};
 pub use replies::{put_command_fault, put_done, put_fault, put_meter, put_poll, put_refusal};
 pub use requests::{asked, kept_request, name_asked, number_asked};
 pub use rows::{meter_body, poll_body};
-pub use statuses::status_of;
 pub use sending::{ReplyWriter, fault_body, put_json, put_text_head, refused_body};
+pub use statuses::status_of;

@@ -2,9 +2,9 @@
 
 mod bodies;
 mod outbox;
-mod writer;
 mod reply;
+mod writer;
 
 pub use bodies::{Text, fault_body, refused_body};
-pub use writer::ReplyWriter;
 pub use reply::{put_json, put_text_head};
+pub use writer::ReplyWriter;

@@ -6,9 +6,9 @@ ghost use Rattle.http_commands.specs.Few.{HasFewRows};
 ghost use Rattle.http_commands.specs.Given.{Gives, IsBody, IsListBody};
 
 use crate::fault::CommandFault;
+use crate::json::{Body, BodyFault, body_of};
 use crate::registers::{close, exchange, install, manual, rescale, reset, void};
 use crate::setup::{add_device, add_register};
-use crate::json::{Body, BodyFault, body_of};
 use http_request::Route;
 use office_events::{Command, Name, PlannedList, PutList};
 use point_list::{ListFault, PointList, read_list};

@@ -4,10 +4,10 @@ ghost use Rattle.serde_json.specs.View.{view};
 ghost use Rattle.http_request.specs.declared.routing.routes.Route.TheVariants as route;
 ghost use Rattle.http_commands.specs.Commands.{command_of};
 
-use crate::values::{name, or_full_range};
 use crate::json::{
     Body, BodyFault, close_in, exchange_in, install_in, manual_in, rescale_in, reset_in, void_in,
 };
+use crate::values::{name, or_full_range};
 use office_events::{Close, Command, Exchange, Install, Manual, Name, Rescale, Reset, VoidEntry};
 
 // A meter is installed.

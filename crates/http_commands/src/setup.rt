@@ -4,8 +4,8 @@ ghost use Rattle.serde_json.specs.View.{view};
 ghost use Rattle.http_commands.specs.Json.Tables.{device_members, fault_of, register_fault};
 ghost use Rattle.http_commands.specs.Commands.{add_device, add_register, unless_fault};
 
-use crate::values::{given_scale, name};
 use crate::json::{Body, BodyFault, device_in, register_in};
+use crate::values::{given_scale, name};
 use office_events::{AddDevice, AddRegister, Command};
 
 // A new device.

@@ -4,8 +4,8 @@ ghost use Rattle.office_events.specs.Names.{named};
 ghost use Rattle.http_commands.specs.Values.{or_full_range};
 ghost use Rattle.http_commands.specs.Seen.{scale_seen};
 
-use energy_core::MAX_RANGE;
 use crate::json::Scale;
+use energy_core::MAX_RANGE;
 use office_events::{GivenScale, Name};
 
 // The name that a text is, if it is one.

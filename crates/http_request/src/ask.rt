@@ -5,8 +5,8 @@ ghost use Rattle.http_request.specs.Head.Heads.{IsPlaced};
 ghost use Rattle.http_request.specs.HeadTests.{has_method, start_at};
 ghost use Rattle.http_request.specs.Asking.{TestsHead};
 
-use crate::post::{Posted, post_headers};
 use crate::head::Head;
+use crate::post::{Posted, post_headers};
 use crate::routing::{Found, Route, route_of};
 use crate::status::Status;
 use matchit::Router;

@@ -5,8 +5,8 @@ ghost use Rattle.http_request.specs.Asking.{TestsPost};
 ghost use Rattle.http_request.specs.Tests.{post_headers_of};
 ghost use Rattle.http_request.specs.Seen.{is_missing_given, is_repeated_given, seen_headers};
 
-use crate::numbers::{digits, is_name, number};
 use crate::head::{Given, header_value};
+use crate::numbers::{digits, is_name, number};
 use crate::status::Status;
 use httparse::spans::HeaderSpan;
 

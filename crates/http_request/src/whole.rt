@@ -12,9 +12,9 @@ ghost use Rattle.http_request.specs.Whole.Whole.{IsUnfinished, Holds, HoldsReque
 
 use crate::head::{Head, HeadState, MOST_BYTES};
 use crate::reading::{Inbox, TakeFault, read_body, read_head};
-use crate::{Ask, MOST_BODY, ask_of};
 use crate::routing::Route;
 use crate::status::Status;
+use crate::{Ask, MOST_BODY, ask_of};
 use matchit::Router;
 use mb_wire::Link;
 
@@ -59,7 +59,11 @@ pub fn read_request<L: Link>(
 }
 
 /// What a whole request asks for, or the status that answers it.
-pub fn ask_in<'b>(router: &Router<Route>, bytes: &'b [u8], head_state: &HeadState) -> Result<Ask<'b>, Status>
+pub fn ask_in<'b>(
+    router: &Router<Route>,
+    bytes: &'b [u8],
+    head_state: &HeadState,
+) -> Result<Ask<'b>, Status>
     requires { Holds router.now bytes.now head_state.now }
     ensures { TestsRequest router.now bytes.now head_state.now result }
 {

@@ -1,6 +1,6 @@
 //! What peers are replied.
 use crate::office::opened;
-use run_status::{PeerReply, Counts, StatusRoute, ask, status_route, reply_status};
+use run_status::{Counts, PeerReply, StatusRoute, ask, reply_status, status_route};
 use std::test::Fail;
 
 #[test]
@@ -29,7 +29,13 @@ static HEAD: &[u8] =
 #[test]
 fn the_status_has_a_head(rt: HostRuntime) -> Result<(), Fail> {
     let mut text = Vec::new(rt.alloc());
-    reply_status(rt.alloc(), &mut text, StatusRoute::Status, &Counts::new(), &[])?;
+    reply_status(
+        rt.alloc(),
+        &mut text,
+        StatusRoute::Status,
+        &Counts::new(),
+        &[],
+    )?;
     assert_eq!(rt; text.len(), 91 + 256);
     assert!(rt; text.starts_with(HEAD));
     Ok(())

@@ -1,10 +1,10 @@
 //! The JSON of requests and replies.
+use http_answer::{fault_body, refused_body};
 use http_commands::{
     BodyFault, CloseBody, DeviceBody, ExchangeBody, InstallBody, ManualBody, RescaleBody,
     ResetBody, Scale, VoidBody, body_of, close_in, device_in, exchange_in, install_in, manual_in,
     register_in, rescale_in, reset_in, void_in,
 };
-use http_answer::{fault_body, refused_body};
 use http_request::Status;
 use std::alloc::Global;
 use std::test::Fail;

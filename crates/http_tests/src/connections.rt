@@ -1,9 +1,9 @@
 //! Requests of clients of the same process, which connected and wrote before.
 use crate::office::metered;
+use memory_books::ListBooks;
 use office_core::Office;
 use office_events::Name;
 use office_http::serve_on;
-use memory_books::ListBooks;
 use socket_link::FixedClock;
 use std::alloc::Global;
 use std::io::{Read, Write};

@@ -1,5 +1,5 @@
 //! Requests that come from a link.
-use http_request::{Inbox, HeadState, Route, TakeFault, body_in, read_request, router};
+use http_request::{HeadState, Inbox, Route, TakeFault, body_in, read_request, router};
 use matchit::Router;
 use mb_wire::{Link, MemoryLink};
 use std::alloc::{AllocError, Global};
@@ -14,7 +14,9 @@ fn is_read(alloc: Global, router: &Router<Route>, piece: usize) -> Result<bool, 
     let mut link = MemoryLink::new(REQUEST, &mut [], piece.max(1), None);
     let mut inbox = Inbox::new(&mut room);
     match read_request(router, &mut inbox, &mut link) {
-        Ok(HeadState::Whole(head)) => Ok(body_in(router, inbox.bytes(), &head) == b"{ } ".as_slice()),
+        Ok(HeadState::Whole(head)) => Ok(
+            body_in(router, inbox.bytes(), &head) == b"{ } ".as_slice(),
+        ),
         _ => Ok(false),
     }
 }

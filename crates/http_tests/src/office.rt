@@ -2,9 +2,9 @@
 use crate::cases::serve;
 use interval_core::Zone;
 use mb_wire::ReadSpan;
+use memory_books::ListBooks;
 use office_core::Office;
 use office_events::{Command, Event, Name, Piece, StartPoll};
-use memory_books::ListBooks;
 use std::alloc::Global;
 use std::test::Fail;
 

@@ -2,9 +2,9 @@
 use crate::cases::{Case, play, reply, serve, serve_over};
 use crate::office::polled;
 use crate::tables::{COMMANDS, QUESTIONS};
+use memory_books::ListBooks;
 use office_core::Office;
 use office_http::HandleFault;
-use memory_books::ListBooks;
 use std::alloc::Global;
 use std::process::Abort;
 use std::test::Fail;

@@ -1,8 +1,8 @@
 //! Commands of the program over books in memory, also where the clock was set back.
 use crate::office::metered;
 use command_io::ExitStatus;
-use office_events::Refusal;
 use memory_books::ListBooks;
+use office_events::Refusal;
 use office_program::{PollEnd, ServeEnd, poll_books, report_books, serve_books};
 use office_rounds::RoundFault;
 use socket_link::FixedClock;
@@ -97,7 +97,12 @@ fn a_round_ends_by_its_first_fault(rt: HostRuntime) -> Result<(), Fail> {
     let (_device, port) = taken(&rt)?;
     let no_list = PollEnd::Polled(Err(RoundFault::Refused(Refusal::NotFound)));
     let cases: [(u64, u16, PollEnd, &[u8]); 3] = [
-        (999, 1, PollEnd::Unopened(ExitStatus::Refused), b"refused 3\n"),
+        (
+            999,
+            1,
+            PollEnd::Unopened(ExitStatus::Refused),
+            b"refused 3\n",
+        ),
         (1000, 1, PollEnd::Unconnected, b""),
         (1000, port, no_list, b"ok\nok\nrefused 1\n"),
     ];

@@ -2,9 +2,9 @@
 use crate::narrow::Narrow;
 use crate::office::{polled, unmetered};
 use command_io::ExitStatus;
+use memory_books::ListBooks;
 use office_core::Office;
 use office_events::Name;
-use memory_books::ListBooks;
 use office_program::report_days;
 use std::alloc::Global;
 use std::process::Abort;

@@ -17,5 +17,5 @@ pub use bank::Bank;
 pub use kinds::{Area, BankFault, Kind};
 pub use laws::{no_trick_is_true, turns_compose};
 pub use server::{ServeFault, Server, Turned};
-pub use trick::Trick;
 pub use stand_in::{MOST_TURNS, answer_all, answer_one};
+pub use trick::Trick;

@@ -7,8 +7,8 @@ ghost use Rattle.memory_books.specs.Listed.{AreListed};
 
 use crate::figures::Figures;
 use crate::lookups;
-use interval_core::{Share, Zone};
 use crate::tables::Tables;
+use interval_core::{Share, Zone};
 use office_books::{Books, BooksFault, Repeat, RowSink};
 use office_events::{
     Device, EntryPlace, Fact, Installation, Name, PlannedList, Poll, PollRow, Register,

@@ -9,5 +9,5 @@ mod replies;
 mod rounds;
 mod starts;
 
-pub use effects::{Done, carry_out, puts_planned};
 pub use crate::starting::Outgoing;
+pub use effects::{Done, carry_out, puts_planned};

@@ -9,10 +9,10 @@ ghost use Rattle.office_core.specs.Events as events;
 ghost use Rattle.office_core.specs.Failing as failing;
 ghost use Rattle.office_core.specs.Decisions.{Decided, DecidesAlone, IsNoChange};
 
-use office_books::{Books, BooksFault};
-use office_booking::{Slot, puts_planned};
-use office_events::{Answer, Event, Refusal};
 use crate::refusing::{kept, refusal};
+use office_booking::{Slot, puts_planned};
+use office_books::{Books, BooksFault};
+use office_events::{Answer, Event, Refusal};
 
 /// Whether an event asks a command.
 pub fn is_command(event: &Event) -> bool

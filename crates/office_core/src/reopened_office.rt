@@ -3,9 +3,9 @@ ghost use Rattle.office_rules.specs.History.{History};
 ghost use Rattle.office_core.specs.Leaving.{BooksStand};
 ghost use Rattle.office_core.specs.Reopening.{Passed, Reopens};
 
+use office_booking::{Slot, book_opening, opening_refusal};
 use office_books::Books;
 use office_events::Refusal;
-use office_booking::{Slot, book_opening, opening_refusal};
 use std::alloc::Global;
 
 /// Books the opening of an office, where it is not refused, and answers the slots of its devices.

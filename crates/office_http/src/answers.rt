@@ -7,7 +7,10 @@ ghost use Rattle.office_http.specs.Serving.{AreDaysAsked, AreIntervalsAsked, IsP
 
 use crate::rows::{Replied, RowLines};
 use crate::wants::Want;
-use http_answer::{ReplyWriter, kind_answered, name_asked, number_asked, put_command_fault, put_done, put_fault, put_meter, put_poll, put_refusal};
+use http_answer::{
+    ReplyWriter, kind_answered, name_asked, number_asked, put_command_fault, put_done, put_fault,
+    put_meter, put_poll, put_refusal,
+};
 use http_request::{Found, Route};
 use mb_wire::Link;
 use meter_journal::{interval_rows_are_accounts, rows_lie_within, voids_go_no_further};

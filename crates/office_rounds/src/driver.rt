@@ -1,11 +1,11 @@
 //! What is fed to an office that polls several devices at once: by what happens, and by what the rounds of the devices want
 //! to be told.
 
-mod feed;
 mod device_events;
-mod turns;
+mod feed;
 mod observer;
+mod turns;
 
 pub use device_events::DeviceEvent;
-pub use turns::{MOST_STEPS, turn};
 pub use observer::Observer;
+pub use turns::{MOST_STEPS, turn};

@@ -205,7 +205,12 @@ impl Polling {
     }
 
     // What happens at a place.
-    fn device_event(&mut self, place: usize, voice: &mut Voice, moment: u64) -> Option<DeviceEvent> {
+    fn device_event(
+        &mut self,
+        place: usize,
+        voice: &mut Voice,
+        moment: u64,
+    ) -> Option<DeviceEvent> {
         if place >= self.slots.len() {
             return None;
         }

@@ -9,7 +9,7 @@ use mio::{Interest, Registry, Token};
 use office_books::Books;
 use office_core::Office;
 use run_schedule::{MOST_PEERS, PEER_SECONDS, Peers, place_for};
-use run_status::{PeerReply, StatusRoute, ask, status_route, reply_status};
+use run_status::{PeerReply, StatusRoute, ask, reply_status, status_route};
 use std::alloc::{AllocError, Global};
 use std::io::ErrorKind;
 use std::net::{Net, SocketAddr};
@@ -173,7 +173,13 @@ impl Serving {
     fn reply_status(&self, route: StatusRoute, voice: &Voice) -> PeerReply {
         let mut text = Vec::new(self.alloc);
         let monitor = &voice.monitor;
-        match reply_status(self.alloc, &mut text, route, &monitor.counts, &monitor.states) {
+        match reply_status(
+            self.alloc,
+            &mut text,
+            route,
+            &monitor.counts,
+            &monitor.states,
+        ) {
             Ok(()) => PeerReply::Replied(text),
             Err(_) => PeerReply::Failed,
         }

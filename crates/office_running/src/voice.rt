@@ -1,6 +1,6 @@
 //! What is kept and told of what the office is fed.
 use office_events::{Answer, Event, Name, Note, Refusal};
-use office_rounds::{Sum, Observer};
+use office_rounds::{Observer, Sum};
 use poll_core::Closing;
 use run_status::{RunMonitor, put, put_head, put_lines, put_sum};
 use script_text::write_note;
@@ -164,6 +164,7 @@ impl Observer for Voice {
         if matches!(answer, Err(Refusal::Stopped)) {
             self.stopped = true;
         }
-        self.monitor.observe(place, at, event, answer, notes, frames);
+        self.monitor
+            .observe(place, at, event, answer, notes, frames);
     }
 }

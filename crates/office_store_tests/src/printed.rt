@@ -3,7 +3,10 @@ use interval_core::{DayTotal, Share};
 use office_books::{Books, RowSink};
 use office_core::Office;
 use office_events::{Event, Name, Refusal};
-use script_text::{write_accepted, write_day, write_end, write_interval, write_meter, write_notes, write_poll, write_refusal};
+use script_text::{
+    write_accepted, write_day, write_end, write_interval, write_meter, write_notes, write_poll,
+    write_refusal,
+};
 use std::alloc::Global;
 use std::io::{self, ErrorKind};
 

@@ -2,7 +2,7 @@
 use crate::links::{SECOND_REPLY, first_reply};
 use crate::offices::{Tried, list, office_with};
 use office_events::{Name, Piece};
-use office_rounds::{DeviceEvent, Round, Observer, turn};
+use office_rounds::{DeviceEvent, Observer, Round, turn};
 use poll_core::Closing;
 use std::alloc::Global;
 use std::process::Abort;

@@ -2,13 +2,13 @@
 use crate::offices::{empty_books, inv};
 use energy_core::Entry;
 use mb_wire::{ReadFunction, ReadSpan};
+use memory_books::ListBooks;
 use meter_journal::EntryKind;
 use office_books::Books;
 use office_events::{
     BookedEntry, Device, EndedPoll, Fact, Name, Opening, Poll, Register, ScaleSource, Timeout,
     VoidedEntry, Window,
 };
-use memory_books::ListBooks;
 use std::alloc::Global;
 
 /// What is booked.

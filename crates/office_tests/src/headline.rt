@@ -2,9 +2,9 @@
 use crate::offices::{empty_books, event_of};
 use crate::runs::run_anew;
 use interval_core::Zone;
+use memory_books::ListBooks;
 use office_core::{Run, run};
 use office_events::{Answer, CommandKind, EndedPoll, Event, Name, Refusal};
-use memory_books::ListBooks;
 use poll_core::{LostCause, Outcome};
 use std::alloc::Global;
 

@@ -31,6 +31,8 @@ mod list_books;
 #[cfg(test)]
 mod names;
 #[cfg(test)]
+mod observer;
+#[cfg(test)]
 mod offices;
 #[cfg(test)]
 mod peers;
@@ -65,8 +67,6 @@ mod status;
 mod stopped_office;
 #[cfg(test)]
 mod turns;
-#[cfg(test)]
-mod observer;
 #[cfg(test)]
 mod writers;
 

@@ -1,9 +1,9 @@
 //! What is looked up in books in memory is what was booked.
 use crate::facts::{Booked, books_of, poll};
+use memory_books::ListBooks;
 use meter_journal::EntryKind;
 use office_books::Books;
 use office_events::{EndedPoll, EntryPlace, Installation, Name, PollRow};
-use memory_books::ListBooks;
 use poll_core::Outcome;
 
 const ENDED: EndedPoll = EndedPoll {

@@ -1,9 +1,9 @@
 //! Offices over books in memory, and what is fed to them.
 use failing_books::FailingBooks;
 use interval_core::Zone;
+use memory_books::ListBooks;
 use office_core::Office;
 use office_events::{Command, Event, Name, PlannedList, PutList, Refusal, StartPoll, StoreCause};
-use memory_books::ListBooks;
 use point_list::read_list;
 use script_lines::{GivenStart, ScriptLine};
 use std::alloc::Global;

@@ -4,9 +4,9 @@ ghost use Rattle.memory_books.specs.Listed.{ledger_of};
 ghost use Rattle.office_core.specs.EventRun.{RecordsAccepted};
 
 use interval_core::Zone;
+use memory_books::ListBooks;
 use office_core::{Run, run};
 use office_events::{Event, Refusal};
-use memory_books::ListBooks;
 use std::alloc::Global;
 
 /// Over new books in memory the headline holds, whatever events come: no premise is left.

@@ -1,5 +1,5 @@
 //! When devices are due.
-use run_schedule::{Phase, Timing, SteadyClock, next_due, next_pause, retry_at, round_until};
+use run_schedule::{Phase, SteadyClock, Timing, next_due, next_pause, retry_at, round_until};
 
 // The last is a quarter of an hour after 2023-11-14 22:13:20 UTC, which is no multiple.
 #[test]

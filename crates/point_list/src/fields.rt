@@ -4,8 +4,8 @@ ghost use Rattle.sun_points.specs.Scale.{scale_of};
 ghost use Rattle.point_list.specs.Fields.{fixed_scale_of, minus, number_of, number_within};
 ghost use Rattle.point_list.specs.Fields.{function_of, text_type_of, type_of};
 
-use sun_points::{PointType, Scale, TextLength, number_of_digits};
 use mb_wire::ReadFunction;
+use sun_points::{PointType, Scale, TextLength, number_of_digits};
 
 /// The most digits of a whole number.
 const MOST_DIGITS: usize = 10;

@@ -4,11 +4,11 @@
 mod grid;
 mod limits;
 mod pauses;
-mod timing;
 mod steady_clock;
+mod timing;
 
 pub use grid::next_due;
 pub use limits::{CONNECT_SECONDS, LEAST_ROUND, MOST_EVERY, PEER_SECONDS, round_until, until};
 pub use pauses::{MOST_PAUSE, next_pause, retry_at};
-pub use timing::{Phase, Timing};
 pub use steady_clock::{ClockReading, SteadyClock};
+pub use timing::{Phase, Timing};

@@ -6,5 +6,5 @@ mod run_http;
 mod status;
 
 pub use monitor::{RunMonitor, put_head, put_lines, put_sum};
-pub use run_http::{PeerReply, StatusRoute, ask, status_route, reply_status};
+pub use run_http::{PeerReply, StatusRoute, ask, reply_status, status_route};
 pub use status::{Counts, DeviceState, put, put_metrics, put_status};

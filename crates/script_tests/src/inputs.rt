@@ -1,7 +1,7 @@
 //! Inputs of megabytes, and what is given out of many lines.
 use crate::replays::zone;
 use crate::streams::{Kept, Slow};
-use command_io::{MOST_BYTES, ReadFault, ExitStatus, read_whole};
+use command_io::{ExitStatus, MOST_BYTES, ReadFault, read_whole};
 use script_run::replay;
 use std::alloc::{AllocError, Global};
 use std::io::ErrorKind;

@@ -15,7 +15,12 @@ enum Task {
 }
 
 impl Task {
-    fn carry_out<R: Read, W: Write>(self, alloc: Global, input: &mut R, output: &mut W) -> ExitStatus {
+    fn carry_out<R: Read, W: Write>(
+        self,
+        alloc: Global,
+        input: &mut R,
+        output: &mut W,
+    ) -> ExitStatus {
         match self {
             Task::Chain => chain_text(alloc, input, output),
             Task::Plan => plan_text(alloc, input, output),

@@ -60,10 +60,22 @@ static TEXTS: [(&str, &str, Option<ExitStatus>); 18] = [
         "refused 12\nbad line 3\n",
         Some(ExitStatus::Refused),
     ),
-    ("area register 0 1\n", "bad line 1\n", Some(ExitStatus::Refused)),
-    ("trick 1 cut 260\n", "bad line 1\n", Some(ExitStatus::Refused)),
+    (
+        "area register 0 1\n",
+        "bad line 1\n",
+        Some(ExitStatus::Refused),
+    ),
+    (
+        "trick 1 cut 260\n",
+        "bad line 1\n",
+        Some(ExitStatus::Refused),
+    ),
     ("1000 tick\n", "bad line 1\n", Some(ExitStatus::Refused)),
-    ("area  holding 0 1\n", "bad line 1\n", Some(ExitStatus::Refused)),
+    (
+        "area  holding 0 1\n",
+        "bad line 1\n",
+        Some(ExitStatus::Refused),
+    ),
 ];
 
 #[test]

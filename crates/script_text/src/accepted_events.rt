@@ -6,8 +6,8 @@ ghost use Rattle.script_text.specs.AnswerText as text;
 
 use crate::notes::write_note;
 use crate::parts::{write_hex, write_text};
-use office_events::{Answer, Note};
 use crate::row_lines::Line;
+use office_events::{Answer, Note};
 use std::io::{self, Write};
 
 /// Writes the notes of an accepted event and then its answer, where frames are those that it wants sent.

@@ -11,4 +11,6 @@ mod row_lines;
 pub use accepted_events::{write_accepted, write_answer, write_notes};
 pub use lines::{write_bad_line, write_faults, write_meter, write_poll, write_refusal};
 pub use notes::write_note;
-pub use row_lines::{Line, Text, day_line, end_line, interval_line, write_day, write_end, write_interval};
+pub use row_lines::{
+    Line, Text, day_line, end_line, interval_line, write_day, write_end, write_interval,
+};

@@ -5,10 +5,10 @@ ghost use Rattle.script_text.specs.AnswerText as text;
 
 use crate::notes::push_outcome;
 use crate::parts::{write_named, write_text};
+use crate::row_lines::Line;
 use energy_core::Last;
 use office_events::{EndedPoll, Installation, PollRow, Refusal};
 use point_list::FaultyRow;
-use crate::row_lines::Line;
 use std::io::{self, Write};
 
 /// Writes `refused N`.

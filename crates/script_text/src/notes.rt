@@ -4,9 +4,9 @@ ghost use Rattle.sun_points.specs.Writing.{GotText};
 ghost use Rattle.script_text.specs.AnswerText as text;
 
 use crate::parts::{write_named, write_text};
+use crate::row_lines::Line;
 use office_events::Note;
 use poll_core::Outcome;
-use crate::row_lines::Line;
 use std::io::{self, Write};
 
 /// Writes `poll N OUTCOME`, `reading METER RAW rolls R step MWH` or `held METER RAW cause N`.

@@ -6,10 +6,10 @@ mod names;
 mod points;
 mod rows;
 
+pub use intervals::{book_step, meter_intervals, register_intervals, replace_shares};
 pub use names::{name, text};
 pub use points::points_at;
 pub use rows::{
     begun_row, device_row, entry_row, hold_row, is_sound_opening, last_row, opening_row,
     outcome_row, poll_row, register_row, reply_kind,
 };
-pub use intervals::{book_step, meter_intervals, register_intervals, replace_shares};

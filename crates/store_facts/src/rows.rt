@@ -15,8 +15,10 @@ use meter_journal::EntryKind;
 use office_events::{
     CommandKind, Device, EndedPoll, HeldReading, LAST_COUNTER, Opening, Poll, Register, ScaleSource,
 };
+use store_devices::{
+    DeviceRow, HoldRow, OutcomeRow, PollRow, RegisterRow, RegisterScale, ReplyKind,
+};
 use store_tables::{EntryRow, InstallationRow, LATEST_MOMENT, LastRow};
-use store_devices::{DeviceRow, HoldRow, OutcomeRow, PollRow, RegisterRow, RegisterScale, ReplyKind};
 
 /// A device at a place.
 pub fn device_row(device: Device, place: u64) -> DeviceRow

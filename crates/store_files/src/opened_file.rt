@@ -18,7 +18,7 @@ use crate::upgrade::bring;
 use crate::zones::zone_of;
 use interval_core::Zone;
 use sqlite::{Alter, Connection, Error, Row};
-use store_tables::{RowFault, text, check_open, whole};
+use store_tables::{RowFault, check_open, text, whole};
 
 /// The rows of `meta`.
 fn meta_rows<S: Alter>(conn: &mut Connection<S>) -> Result<Vec<Row>, Error>

@@ -3,7 +3,7 @@ use sqlite::types::Value;
 use sqlite::{Connection, Error, Row};
 use std::alloc::Global;
 use std::test::Fail;
-use store_tables::{RowFault, number, scale, signed, text, check_open, whole};
+use store_tables::{RowFault, check_open, number, scale, signed, text, whole};
 
 /// A row of numbers and a text.
 fn one_row(alloc: Global) -> Result<Row, Error> {

@@ -5,8 +5,10 @@ use crate::poll_rows::{keep, three_polls};
 use sqlite::{Connection, Error, MemStore};
 use std::alloc::Global;
 use std::test::Fail;
+use store_devices::{
+    device_rows, outcome_of, point_rows, poll_at, read_device, read_point, register_of, repeat_of,
+};
 use store_tables::{RowFault, entry_at, installation_of, range_of};
-use store_devices::{device_rows, outcome_of, point_rows, poll_at, read_device, read_point, register_of, repeat_of};
 
 /// Whether an answer tells damage.
 fn is_damage<T: Drop>(answer: Result<T, RowFault>) -> bool {

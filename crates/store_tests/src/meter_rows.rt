@@ -3,7 +3,12 @@ use crate::one_meter::{INSTALLED, OPENED, OPENING, READ, READING, one_meter};
 use sqlite::{Connection, Error, MemStore, Row, Transaction};
 use std::alloc::Global;
 use std::test::Fail;
-use store_tables::{EntryRow, GREATEST_PLACE, Installation, InstallationRow, RowFault, end_installation, entry_at, entry_rows, first_whole, insert_entry, insert_void, installation_at, installation_of, installation_rows, last_entry_rows, last_installation, update_last, range_of, read_entry, read_installation, read_void, set_rolls, void_rows};
+use store_tables::{
+    EntryRow, GREATEST_PLACE, Installation, InstallationRow, RowFault, end_installation, entry_at,
+    entry_rows, first_whole, insert_entry, insert_void, installation_at, installation_of,
+    installation_rows, last_entry_rows, last_installation, range_of, read_entry, read_installation,
+    read_void, set_rolls, update_last, void_rows,
+};
 
 fn is_of_row(at: &Installation, row: InstallationRow) -> bool {
     at.meter.as_str() == "m1" && at.register.as_str() == "main" && at.row == row

@@ -2,7 +2,9 @@
 use crate::new_books::changed;
 use sqlite::{Connection, Error, MemStore, Transaction};
 use std::alloc::Global;
-use store_tables::{EntryKind, EntryRow, InstallationRow, LastRow, insert_entry, insert_installation, insert_range};
+use store_tables::{
+    EntryKind, EntryRow, InstallationRow, LastRow, insert_entry, insert_installation, insert_range,
+};
 
 /// A device and its register.
 const DEVICE: &str = "INSERT INTO devices VALUES (1, 'inv', 1, 5, 1);

@@ -14,9 +14,9 @@ mod text;
 
 pub use counters::{acc32, sunssf};
 pub use decimal::write_scaled;
+pub use numbers::number_of_digits;
 pub use point::{Point, read_point};
 pub use point_type::{PointType, TextLength};
 pub use scale::Scale;
 pub use sink::Sink;
 pub use text::Text;
-pub use numbers::number_of_digits;

@@ -3,7 +3,8 @@ ghost use Rattle.std.specs.Prelude.{◌≡◌, IfSome, IsNone};
 ghost use Rattle.http_request.specs.Head.Heads.{HasNoHead, IsHeadAt, Looks, front_of};
 
 use crate::head::lines::{has_head_end, head_line_count};
-use httparse::{Status, spans::{EMPTY_HEADER_SPAN, HeaderSpan, Span, parse_request}};
+use httparse::Status;
+use httparse::spans::{EMPTY_HEADER_SPAN, HeaderSpan, Span, parse_request};
 
 /// How many headers a head may have.
 pub const MOST_HEADERS: usize = 64;

@@ -6,8 +6,8 @@ ghost use Rattle.http_request.specs.Reading.Taking.{CountsTakes, EndedBy, bytes_
 ghost use Rattle.http_request.specs.Reading.HeadAndBody.{ReadsHead, ReadsUpTo, StopsAtOnce};
 ghost use Rattle.http_request.specs.Head.Heads.{IsOpenHead};
 
-use crate::reading::inbox::{Inbox, TakeFault};
 use crate::head::{HeadState, parse_head};
+use crate::reading::inbox::{Inbox, TakeFault};
 use mb_wire::Link;
 
 /// Takes until what was taken holds a head, or a bad one. The look that it answers is not Open.

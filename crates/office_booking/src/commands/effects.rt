@@ -16,11 +16,11 @@ use crate::commands::records::record;
 use crate::commands::registers::device_by;
 use crate::commands::replies::reply_of;
 use crate::commands::starts::start;
+use crate::sessions::{Slot, place_of};
+use crate::starting::Outgoing;
 use office_books::{Books, BooksFault};
 use office_events::{AddDevice, Answer, Command, Device, Event, Fact, Name};
 use office_rules::facts_are_lawful;
-use crate::sessions::{Slot, place_of};
-use crate::starting::Outgoing;
 use poll_core::{LAST_MOMENT, each_once, one_event_more};
 use std::alloc::Global;
 

@@ -14,9 +14,9 @@ ghost use Rattle.office_booking.specs.Commands.Effects.{MovesOnBy, Tries};
 use crate::commands::additions::facts_by;
 use crate::commands::effects::Done;
 use crate::commands::replies::kind_of;
+use crate::starting::Outgoing;
 use office_books::{Books, BooksFault};
 use office_events::{Answer, Command, Fact};
-use crate::starting::Outgoing;
 use std::alloc::{AllocError, Global};
 
 /// The facts of a command, and what is kept of the request after them.

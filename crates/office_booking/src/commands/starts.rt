@@ -9,10 +9,10 @@ ghost use Rattle.office_booking.specs.Commands.Effects.{AnswersStart, SendsStart
 use crate::commands::effects::Done;
 use crate::commands::records::book;
 use crate::commands::rounds::reads_by;
-use office_books::{Books, BooksFault};
-use office_events::{Answer, Command, Fact, MAX_POLLS};
 use crate::sessions::Slot;
 use crate::starting::{polls_on, start_on};
+use office_books::{Books, BooksFault};
+use office_events::{Answer, Command, Fact, MAX_POLLS};
 use poll_core::LAST_MOMENT;
 use std::alloc::Global;
 

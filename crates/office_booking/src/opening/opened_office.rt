@@ -10,10 +10,10 @@ ghost use Rattle.office_books.specs.Ledgers.{Finds, LedgerGoesOn, Moves, OnlyRea
 ghost use Rattle.office_booking.specs.Opening.OpenedOffice as opening;
 ghost use Rattle.office_booking.specs.Opening.OpenedOffice.{MayOpen, Opens, IsOfOpening};
 
+use crate::sessions::Slot;
 use office_books::{Books, BooksFault};
 use office_events::{Device, EndedPoll, Fact, Poll, Refusal};
 use office_rules::facts_are_lawful;
-use crate::sessions::Slot;
 use poll_core::{LAST_MOMENT, LostCause, Outcome};
 use std::alloc::{AllocError, Global};
 

@@ -8,12 +8,12 @@ ghost use Rattle.office_books.specs.Ledgers.{LedgerGoesOn, Moves, with_facts};
 ghost use Rattle.office_booking.specs.Settling.Settling.{IsSettling, SettleNothing};
 ghost use Rattle.office_booking.specs.Settling.Events.{IsNext, IsQuiet, Settles};
 
+use crate::sessions::Slot;
 use crate::settling::drafts::Draft;
 use crate::settling::slots::settle_slots;
 use office_books::{Books, BooksFault};
 use office_events::{Event, Fact, Note};
 use office_rules::facts_are_lawful;
-use crate::sessions::Slot;
 use std::alloc::Global;
 
 /// Books the facts of an event, if it has any.

@@ -6,11 +6,11 @@ ghost use Rattle.office_books.specs.Ledgers.{OnlyReads};
 ghost use Rattle.office_booking.specs.Settling.Drafts.{IsIdle};
 ghost use Rattle.office_booking.specs.Settling.Settling.{IsSettling, happening_on, SettlesNothing, TellsAll, TellsReached, ReachesQuietly, ends_session};
 
+use crate::sessions::is_named;
 use crate::settling::drafts::Draft;
 use crate::settling::outcomes::add_outcome;
 use office_books::{Books, BooksFault};
 use office_events::{Device, Event};
-use crate::sessions::is_named;
 use poll_core::{Closing, Session, longer_pieces_settle};
 
 /// Brings a whole piece to a session, and adds what it settles.

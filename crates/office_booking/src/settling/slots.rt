@@ -9,11 +9,11 @@ ghost use Rattle.office_books.specs.Ledgers.{OnlyReads};
 ghost use Rattle.office_booking.specs.Settling.Drafts.{IsIdle};
 ghost use Rattle.office_booking.specs.Settling.Settling.{AddsOfSlot, AddsOfSlots, IsSettling, SettleNothing, MayReach, MayReachAll};
 
+use crate::sessions::{Slot, is_named};
 use crate::settling::drafts::Draft;
 use crate::settling::sessions::settle_session;
 use office_books::{Books, BooksFault};
 use office_events::{Device, Event};
-use crate::sessions::{Slot, is_named};
 use poll_core::Session;
 
 /// Whether the event connects the device.

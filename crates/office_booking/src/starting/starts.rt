@@ -7,10 +7,10 @@ ghost use Rattle.office_booking.specs.Sessions.Keeping.{KeepsSlot};
 ghost use Rattle.office_booking.specs.Starting.Starts.{CountsSends, GivesPolls, IsBefore, KeepsStarts};
 ghost use Rattle.office_booking.specs.Starting.Starts.{WhereSent, polls_of, frames_of, slot_sent};
 
+use crate::sessions::Slot;
 use crate::starting::output::Outgoing;
 use mb_wire::ReadSpan;
 use office_events::{Device, Fact, MAX_POLLS, Poll};
-use crate::sessions::Slot;
 use poll_core::{LAST_MOMENT, MAX_WINDOW, Session};
 use std::alloc::{AllocError, Global};
 

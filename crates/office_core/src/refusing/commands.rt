@@ -13,9 +13,9 @@ use crate::refusing::installs::install;
 use crate::refusing::registers::add_register;
 use crate::refusing::starts::{start_poll, start_round};
 use crate::refusing::voids::void_entry;
+use office_booking::Slot;
 use office_books::{Books, BooksFault};
 use office_events::{Command, Refusal};
-use office_booking::Slot;
 
 /// Why a command is refused that comes so.
 pub fn refusal_of_command<B: Books>(

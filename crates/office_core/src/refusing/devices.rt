@@ -8,8 +8,8 @@ ghost use Rattle.office_core.specs.Refusing.Reasons.{IsWhyAmong, Befits};
 
 use crate::refusing::arrivals::Arrival;
 use crate::refusing::limits::is_bad_device;
-use office_events::{AddDevice, MAX_DEVICES, PutList, Refusal};
 use office_booking::{Slot, has_device};
+use office_events::{AddDevice, MAX_DEVICES, PutList, Refusal};
 
 /// Whether there are as many devices as there may be.
 fn are_all(slots: &[Slot]) -> bool

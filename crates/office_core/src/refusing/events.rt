@@ -10,9 +10,9 @@ ghost use Rattle.office_core.specs.Refusing.Telling.{TellsAlone, TellsWhy};
 use crate::refusing::arrivals::Arrival;
 use crate::refusing::commands::refusal_of_command;
 use crate::refusing::sessions::refusal_of_session;
+use office_booking::{Slot, has_device, is_connected};
 use office_books::{Books, BooksFault};
 use office_events::{Event, Refusal};
-use office_booking::{Slot, has_device, is_connected};
 
 /// Why an event is refused that comes at a moment after what was accepted, the latest of it at `latest`; `None` where
 /// nothing speaks against it. Of the reasons that apply it is the first. Books are asked no more than it takes to find

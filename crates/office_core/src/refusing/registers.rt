@@ -8,9 +8,9 @@ ghost use Rattle.office_core.specs.Refusing.Reasons.{IsWhyAmong, Befits};
 use crate::refusing::arrivals::Arrival;
 use crate::refusing::limits::{is_bad_register, is_bad_scale};
 use crate::refusing::names::has_register;
+use office_booking::{Slot, has_device};
 use office_books::{Books, BooksFault};
 use office_events::{AddRegister, MAX_REGISTERS, Name, Refusal};
-use office_booking::{Slot, has_device};
 
 /// Whether a device has as many registers as it may have.
 fn is_full<B: Books>(books: &mut B, given: &Option<Name>) -> Result<bool, BooksFault>

@@ -13,9 +13,9 @@ ghost use Rattle.office_core.specs.Refusing.Reasons.{IsWhyAmong, Befits};
 ghost use Rattle.office_core.specs.Refusing.Rounds.{HasRoom, HasRoomOn};
 
 use crate::refusing::arrivals::Arrival;
+use office_booking::{Slot, place_of};
 use office_books::{Books, BooksFault, list_at};
 use office_events::{MAX_POLLS, Name, PlannedList, Refusal, StartPoll, StartRound, StoreCause};
-use office_booking::{Slot, place_of};
 use poll_core::Session;
 
 /// How many polls can be started in a row on a session; none where a device has no session.

@@ -51,7 +51,12 @@ fn wanted_command<'b>(
 }
 
 /// What a whole request wants of an office. Want of memory comes before the office is asked.
-pub fn wanted<'b>(alloc: Global, router: &Router<Route>, bytes: &'b [u8], head_state: &HeadState) -> Want<'b>
+pub fn wanted<'b>(
+    alloc: Global,
+    router: &Router<Route>,
+    bytes: &'b [u8],
+    head_state: &HeadState,
+) -> Want<'b>
     requires { Holds router.now bytes.now head_state.now }
     ensures wants { Wants router.now bytes.now result }
     ensures few { HasFewFaults result }

@@ -6,8 +6,8 @@ ghost use Rattle.office_rounds.specs.Driver.Going.{Settles, Turns};
 ghost use Rattle.office_rounds.specs.DeviceRounds.Rounds.{joined, leaving};
 
 use crate::device_rounds::{Round, Stage};
-use crate::driver::feed::{feed_one, first_wish};
 use crate::driver::device_events::DeviceEvent;
+use crate::driver::feed::{feed_one, first_wish};
 use crate::driver::observer::Observer;
 use office_books::Books;
 use office_core::Office;
@@ -140,7 +140,9 @@ pub fn turn<B: Books, V: Observer>(
             join(rounds, place);
             go_on(rounds, office, at, observer);
         }
-        DeviceEvent::Received(place, piece) => take_bytes(rounds, place, piece, office, at, observer),
+        DeviceEvent::Received(place, piece) => take_bytes(
+            rounds, place, piece, office, at, observer,
+        ),
         DeviceEvent::Closed(place, closing) => {
             leave(rounds, place, closing);
             go_on(rounds, office, at, observer);

@@ -18,8 +18,8 @@ use meter_journal::{EntryRow, Installed, find_row, interval_rows, last_behind, s
 use sqlite::Error;
 use std::alloc::Global;
 use store_facts::last_row;
-use store_tables::{GREATEST_PLACE, LATEST_MOMENT, LastRow, RowFault};
 use store_queries::{are_numbered, tally};
+use store_tables::{GREATEST_PLACE, LATEST_MOMENT, LastRow, RowFault};
 
 /// How many times the counter went past its range before the entry at a place.
 #[derive(Clone, Copy, Debug, PartialEq, Eq)]

@@ -8,8 +8,8 @@ ghost use Rattle.store_facts.specs.Recording.{Records};
 use crate::bookings::places::next_device;
 use office_events::Device;
 use sqlite::{Alter, Transaction};
-use store_facts::{device_row, text};
 use store_devices::insert_device;
+use store_facts::{device_row, text};
 use store_tables::RowFault;
 
 /// Enters a device, at the place after the last.

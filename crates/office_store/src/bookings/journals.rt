@@ -12,8 +12,8 @@ use meter_journal::{EntryRow, rows_stand, voids_change_two_rows};
 use office_rules::journals_fit;
 use sqlite::{Alter, Row, Transaction};
 use std::alloc::Global;
-use store_tables::{RowFault, entry_rows_inside, read_entry, void_rows_inside};
 use store_queries::journal_rows;
+use store_tables::{RowFault, entry_rows_inside, read_entry, void_rows_inside};
 
 /// How many counts a meter's counter has, where it stood at the opening, and the rows after that, the oldest first.
 #[derive(Debug, Drop)]

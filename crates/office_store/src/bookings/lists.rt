@@ -8,8 +8,8 @@ ghost use Rattle.store_facts.specs.Recording.{Records};
 use office_events::DeviceList;
 use sqlite::{Alter, Transaction};
 use std::alloc::Global;
-use store_facts::{points_at, text};
 use store_devices::replace_points;
+use store_facts::{points_at, text};
 use store_tables::RowFault;
 
 /// Enters a list in the place of the one that its device has.

@@ -22,8 +22,10 @@ use office_rules::{
     voids_leave_no_trace,
 };
 use sqlite::{Alter, Transaction};
-use store_tables::{EntryRow, LATEST_MOMENT, LastRow, RowFault, end_installation, insert_entry, update_last};
 use store_facts::{book_step, entry_row, last_row, text};
+use store_tables::{
+    EntryRow, LATEST_MOMENT, LastRow, RowFault, end_installation, insert_entry, update_last,
+};
 
 /// Where a meter stands after one more entry, and the step up to there.
 #[derive(Clone, Copy, Debug, PartialEq, Eq)]

@@ -11,7 +11,9 @@ ghost use Rattle.office_store.specs.Bookings.MeterState.{IsStanding};
 
 use crate::bookings::places::next_entry;
 use sqlite::{Alter, Transaction};
-use store_tables::{LastRow, RowFault, installation_rows, range_rows, read_installation, read_range};
+use store_tables::{
+    LastRow, RowFault, installation_rows, range_rows, read_installation, read_range,
+};
 
 /// The place of a meter's next entry, where the meter stands, and how many counts its counter has.
 #[derive(Clone, Copy, Debug, PartialEq, Eq)]

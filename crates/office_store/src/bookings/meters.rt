@@ -9,8 +9,8 @@ use crate::bookings::places::next_installation;
 use office_events::Opening;
 use office_rules::openings_begin;
 use sqlite::{Alter, Transaction};
-use store_tables::{RowFault, insert_entry, insert_installation, insert_range};
 use store_facts::{begun_row, is_sound_opening, opening_row, text};
+use store_tables::{RowFault, insert_entry, insert_installation, insert_range};
 
 /// Enters a meter that was installed, at the place after the last.
 pub fn enter_opening<S: Alter>(

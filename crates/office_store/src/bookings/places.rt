@@ -17,8 +17,8 @@ ghost use Rattle.store_facts.specs.Recording.{IsNext};
 ghost use Rattle.office_store.specs.Bookings.Places.{place_behind, next_in, Answered};
 
 use sqlite::{Alter, Row, Transaction};
-use store_tables::{GREATEST_PLACE, RowFault, last_entry_rows, last_installation_rows, whole};
 use store_devices::{last_device_rows, last_hold_rows, last_register_rows};
+use store_tables::{GREATEST_PLACE, RowFault, last_entry_rows, last_installation_rows, whole};
 
 /// The place after the one that a row shows.
 fn behind(row: &Row) -> Result<u64, RowFault>

@@ -9,8 +9,8 @@ use crate::bookings::places::next_hold;
 use office_events::{EndedPoll, HeldReading, MAX_REQUEST, Poll, Reply};
 use office_rules::holds_change_nothing;
 use sqlite::{Alter, Transaction};
-use store_facts::{hold_row, outcome_row, poll_row, reply_kind, text};
 use store_devices::{insert_hold, insert_outcome, insert_poll, insert_reply};
+use store_facts::{hold_row, outcome_row, poll_row, reply_kind, text};
 use store_tables::{GREATEST_PLACE, LATEST_MOMENT, RowFault};
 
 /// Enters a poll that was started.

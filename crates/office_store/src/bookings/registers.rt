@@ -11,8 +11,8 @@ ghost use Rattle.store_facts.specs.Rows.{scale_as};
 use crate::bookings::places::next_register;
 use office_events::{LAST_COUNTER, Register, ScaleSource};
 use sqlite::{Alter, Transaction};
-use store_facts::{register_row, text};
 use store_devices::insert_register;
+use store_facts::{register_row, text};
 use store_tables::RowFault;
 
 /// Whether a scale factor is one that a register may have.

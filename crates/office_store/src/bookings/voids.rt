@@ -17,8 +17,8 @@ use office_events::VoidedEntry;
 use office_rules::{journals_fit, other_meters_stay};
 use sqlite::{Alter, Transaction};
 use std::alloc::Global;
-use store_tables::{GREATEST_PLACE, LATEST_MOMENT, RowFault, insert_void, set_rolls};
 use store_facts::{replace_shares, text};
+use store_tables::{GREATEST_PLACE, LATEST_MOMENT, RowFault, insert_void, set_rolls};
 
 /// Says how many times the counter went past its range before the next entry.
 fn roll_next<S: Alter>(

@@ -21,7 +21,12 @@ pub enum PeerReply {
 
 /// Asks the office what bytes of a peer ask, at a moment in seconds since 1970-01-01 UTC. It may be called again with more
 /// bytes where they hold no whole request.
-pub fn ask<B: Books>(alloc: Global, request: &[u8], office: &mut Office<B>, moment: u64) -> PeerReply
+pub fn ask<B: Books>(
+    alloc: Global,
+    request: &[u8],
+    office: &mut Office<B>,
+    moment: u64,
+) -> PeerReply
     ensures asks { Asks B.ledger moment office.old office.new request.now result }
     ensures lasts { Lasts B.ledger office.old office.new }
 {

@@ -4,8 +4,8 @@ ghost use Rattle.std.specs.List.{list_all};
 ghost use Rattle.hex.specs.Hex.{is_hex_digit};
 ghost use Rattle.script_lines.specs.LineWords.Values.{SpellsBytes, bytes_of, is_paired, number_of};
 
-use sun_points::number_of_digits;
 use std::alloc::{AllocError, Global};
+use sun_points::number_of_digits;
 
 /// The greatest number that a word spells.
 const GREATEST: u64 = 9_223_372_036_854_775_807;

@@ -2,7 +2,7 @@
 ghost use Rattle.script_run.specs.Bank.Running as running;
 
 use crate::bank::setup::Setup;
-use command_io::{InputLines, ExitStatus, read_input};
+use command_io::{ExitStatus, InputLines, read_input};
 use office_events::Refusal;
 use script_lines::BankLine;
 use script_text::{write_bad_line, write_refusal};

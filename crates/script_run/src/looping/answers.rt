@@ -6,9 +6,9 @@ ghost use Rattle.script_run.specs.Looping.Standings.{Carries};
 
 use crate::looping::wires::MOST_TAKES;
 use mb_wire::{Link, MAX_ADU, Took};
+use memory_books::ListBooks;
 use office_core::Office;
 use office_events::{Event, Name, Piece};
-use memory_books::ListBooks;
 use poll_core::Closing;
 use script_text::{write_notes, write_refusal};
 use std::alloc::{AllocError, Global};

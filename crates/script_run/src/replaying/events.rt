@@ -9,9 +9,9 @@ ghost use Rattle.script_run.specs.Replaying.TextRun.{CarriesOut, MayCarryOut};
 ghost use Rattle.script_text.specs.AnswerText as text;
 ghost use Rattle.sun_points.specs.Writing.{GotText};
 
+use memory_books::ListBooks;
 use office_core::Office;
 use office_events::{Command, Event, PlannedList, PutList, Refusal, StartPoll};
-use memory_books::ListBooks;
 use point_list::{FaultyRow, ListFault, read_list};
 use script_lines::{GivenList, GivenStart};
 use script_text::{write_accepted, write_faults, write_refusal};

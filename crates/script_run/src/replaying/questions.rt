@@ -5,9 +5,9 @@ ghost use Rattle.script_run.specs.Replaying.TextRun.{CarriesOut};
 ghost use Rattle.sun_points.specs.Writing.{GotText};
 
 use crate::replaying::rows::Rows;
+use memory_books::ListBooks;
 use office_core::Office;
 use office_events::{Name, Refusal};
-use memory_books::ListBooks;
 use script_text::{write_end, write_meter, write_poll, write_refusal};
 use std::io::{self, ErrorKind, Write};
 

@@ -3,10 +3,10 @@ ghost use Rattle.script_run.specs.Replaying.TextRun.{InputRuns, TextRuns};
 ghost use Rattle.std.specs.Prelude.{IfSome};
 
 use crate::replaying::lines::run_line;
-use command_io::{InputLines, ExitStatus, read_input};
+use command_io::{ExitStatus, InputLines, read_input};
 use interval_core::Zone;
-use office_core::Office;
 use memory_books::ListBooks;
+use office_core::Office;
 use script_text::write_refusal;
 use std::alloc::Global;
 use std::io::{Read, Write};

@@ -8,7 +8,9 @@ ghost use Rattle.store_devices.specs.Devices.Rows.{IsSoundAdded, point_shown, po
 ghost use Rattle.store_devices.specs.Devices.Rows.{IsSoundPoint, IsSoundListed, register_shown, register_in};
 ghost use Rattle.store_devices.specs.Devices.Rows.{scale_of, IsRegister, IsSoundRegister, IsSoundRegistered};
 
-use crate::devices::rows::{Device, DeviceRow, Point, PointRow, Register, RegisterRow, RegisterScale};
+use crate::devices::rows::{
+    Device, DeviceRow, Point, PointRow, Register, RegisterRow, RegisterScale,
+};
 use office_events::{LAST_ADDRESS, LAST_COUNTER, LAST_UNIT};
 use poll_core::{MAX_TIMEOUT, MAX_WINDOW};
 use sqlite::Row;

@@ -16,7 +16,8 @@ ghost use Rattle.store_devices.specs.Devices.Trees.{registers};
 
 use crate::devices::columns::read_register;
 use crate::devices::rows::{Register, RegisterRow, RegisterScale};
-use sqlite::{Alter, Connection, Error, Row, Transaction, params, types::Value};
+use sqlite::types::Value;
+use sqlite::{Alter, Connection, Error, Row, Transaction, params};
 use store_tables::{RowFault, number, signed};
 
 /// The kind of a scale as the table has it.

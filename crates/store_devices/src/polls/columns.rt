@@ -9,7 +9,8 @@ ghost use Rattle.store_devices.specs.Polls.Rows.{outcome_of, outcome_in, kind_in
 
 use crate::polls::rows::{OutcomeRow, Poll, PollRow, Repeat, ReplyKind};
 use poll_core::{LostCause, Malformation, Outcome};
-use sqlite::{Row, types::ValueRef};
+use sqlite::Row;
+use sqlite::types::ValueRef;
 use store_tables::{GREATEST_PLACE, LATEST_MOMENT, RowFault, function, text, whole};
 
 /// How many registers there may be from an address on.

@@ -11,7 +11,8 @@ ghost use Rattle.store_facts.specs.Intervals.Handing.{AreSharesAt, AreSoundLying
 use crate::intervals::columns::read_share;
 use interval_core::Share;
 use office_books::RowSink;
-use sqlite::{Alter, Connection, Error, params, types::ValueRef};
+use sqlite::types::ValueRef;
+use sqlite::{Alter, Connection, Error, params};
 use store_tables::RowFault;
 
 /// Hands on the rows that a query shows, as they come.

@@ -14,8 +14,8 @@ use crate::finding::memory::put;
 use office_events::{Device, Timeout, Window};
 use poll_core::{MAX_TIMEOUT, MAX_WINDOW};
 use sqlite::{Alter, Connection, Row};
-use store_facts::name;
 use store_devices::{device_rows, read_device};
+use store_facts::name;
 use store_tables::{RowFault, check_open};
 
 fn timeout(seconds: u8) -> Result<Timeout, RowFault>

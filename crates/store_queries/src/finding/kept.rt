@@ -10,8 +10,8 @@ ghost use Rattle.store_queries.specs.Finding.Sound.{HasReadableReplies};
 use office_books::Repeat;
 use office_events::{CommandKind, MAX_REQUEST, Name};
 use sqlite::{Alter, Connection};
-use store_facts::text;
 use store_devices::ReplyKind;
+use store_facts::text;
 use store_tables::{RowFault, check_open};
 
 fn command(kind: ReplyKind) -> CommandKind

@@ -8,8 +8,8 @@ ghost use Rattle.store_queries.specs.Finding.Latest.{latest_started, latest_ende
 ghost use Rattle.store_queries.specs.Finding.Latest.{latest_asked, HasReadableMoments};
 
 use sqlite::{Alter, Connection};
-use store_tables::{RowFault, latest_entry, latest_void, check_open};
 use store_devices::{latest_hold, latest_outcome, latest_reply, latest_start};
+use store_tables::{RowFault, check_open, latest_entry, latest_void};
 
 /// The latest of the openings and entries.
 fn entered<S: Alter>(conn: &mut Connection<S>) -> Result<u64, RowFault>

@@ -16,8 +16,8 @@ use crate::finding::memory::put;
 use mb_wire::ReadSpan;
 use office_events::{EndedPoll, Poll, PollRow};
 use sqlite::{Alter, Connection, Row};
-use store_facts::name;
 use store_devices::{OutcomeRow, last_poll, outcome_of, pending_rows, poll_at, read_poll};
+use store_facts::name;
 use store_tables::{GREATEST_PLACE, RowFault, check_open};
 
 /// The registers that a poll asks for.

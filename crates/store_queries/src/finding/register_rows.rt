@@ -11,8 +11,8 @@ ghost use Rattle.store_queries.specs.Finding.Sound.{IsReadableRegister, HasReada
 use crate::finding::memory::put;
 use office_events::{Name, Register, ScaleSource};
 use sqlite::{Alter, Connection, Row};
-use store_facts::{name, text};
 use store_devices::{RegisterScale, read_register, register_of, register_rows};
+use store_facts::{name, text};
 use store_tables::{RowFault, check_open};
 
 fn source(scale: RegisterScale) -> ScaleSource

@@ -13,8 +13,8 @@ use office_events::{EntryPlace, Name};
 use office_rules::journals_fit;
 use sqlite::{Alter, Connection, Row};
 use std::alloc::Global;
-use store_tables::{RowFault, entry_rows, check_open, void_rows};
 use store_facts::text;
+use store_tables::{RowFault, check_open, entry_rows, void_rows};
 
 /// The entries of a meter, in order of place.
 fn entries<S: Alter>(conn: &mut Connection<S>, meter: &str) -> Result<Vec<Row>, RowFault>

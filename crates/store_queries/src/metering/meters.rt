@@ -11,7 +11,7 @@ use crate::metering::rows::{row_at, row_of};
 use office_events::{Installation, Name};
 use sqlite::{Alter, Connection};
 use store_facts::text;
-use store_tables::{RowFault, last_installation, check_open};
+use store_tables::{RowFault, check_open, last_installation};
 
 /// The installation of a meter, as it stands.
 pub fn meter<S: Alter>(

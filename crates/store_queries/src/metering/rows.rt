@@ -6,7 +6,10 @@ ghost use Rattle.store_queries.specs.Metering.Meters.{FindsRow, FindsRange, Find
 
 use office_rules::voids_leave_no_trace;
 use sqlite::{Alter, Connection};
-use store_tables::{EntryRow, Installation, RowFault, entry_at, installation_at, installation_of, range_of, check_open};
+use store_tables::{
+    EntryRow, Installation, RowFault, check_open, entry_at, installation_at, installation_of,
+    range_of,
+};
 
 /// The row of a meter.
 pub(crate) fn row_of<S: Alter>(

@@ -9,9 +9,9 @@ ghost use Rattle.store_tables.specs.Entries.Rows.{entry_shown, IsRow, IsSoundEnt
 ghost use Rattle.store_tables.specs.Entries.Rows.{voided_shown, HasPlace, IsSoundVoided};
 
 use crate::entries::rows::{EntryKind, EntryRow};
+use crate::{GREATEST_PLACE, LATEST_MOMENT, RowFault, scale, whole};
 use energy_core::MAX_SHOWN;
 use sqlite::Row;
-use crate::{GREATEST_PLACE, LATEST_MOMENT, RowFault, scale, whole};
 
 /// The kind of an entry.
 fn kind(row: &Row, at: usize) -> Result<EntryKind, RowFault>

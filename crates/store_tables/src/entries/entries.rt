@@ -14,8 +14,8 @@ ghost use Rattle.store_tables.specs.Entries.Trees.{entries};
 
 use crate::entries::columns::entry;
 use crate::entries::rows::EntryRow;
-use sqlite::{Alter, Connection, Error, Row, Transaction, params};
 use crate::{RowFault, number, signed};
+use sqlite::{Alter, Connection, Error, Row, Transaction, params};
 
 /// The entries of a meter, by their places.
 pub(crate) const OF_METER: &str =

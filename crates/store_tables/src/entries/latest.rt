@@ -10,8 +10,8 @@ ghost use Rattle.store_tables.specs.Entries.Latest.{void_moment, void_moment_sho
 ghost use Rattle.store_tables.specs.Entries.Latest.{IsTimelyVoid};
 ghost use Rattle.store_tables.specs.Entries.Trees.{entries, voids};
 
-use sqlite::{Alter, Connection, Error, Row};
 use crate::{LATEST_MOMENT, RowFault, first_whole};
+use sqlite::{Alter, Connection, Error, Row};
 
 /// The latest moment of an entry, if there is one.
 fn entry_moments<S: Alter>(conn: &mut Connection<S>) -> Result<Vec<Row>, Error>

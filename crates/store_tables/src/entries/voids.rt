@@ -10,8 +10,8 @@ ghost use Rattle.store_tables.specs.Entries.Rows.{voided_at, voided_columns, voi
 ghost use Rattle.store_tables.specs.Entries.Rows.{voided_place, is_void_of};
 ghost use Rattle.store_tables.specs.Entries.Trees.{voids};
 
-use sqlite::{Alter, Connection, Error, Row, Transaction, params};
 use crate::number;
+use sqlite::{Alter, Connection, Error, Row, Transaction, params};
 
 /// The places of the voided entries of a meter.
 pub(crate) const OF_METER: &str = "SELECT place FROM voids WHERE meter = ?1 ORDER BY place";

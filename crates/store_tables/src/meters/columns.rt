@@ -8,9 +8,9 @@ ghost use Rattle.store_tables.specs.Meters.Rows.{last_in, installation_in, insta
 ghost use Rattle.store_tables.specs.Meters.Rows.{IsSoundInstallation, IsSoundInstalled};
 
 use crate::meters::rows::{Installation, InstallationRow, LastRow};
+use crate::{GREATEST_PLACE, LATEST_MOMENT, RowFault, scale, text, whole};
 use energy_core::{MAX_CEILING, MAX_RANGE, MAX_SHOWN, MAX_TOTAL, MIN_RANGE};
 use sqlite::Row;
-use crate::{GREATEST_PLACE, LATEST_MOMENT, RowFault, scale, text, whole};
 
 /// A flag, which is 0 or 1.
 fn flag(row: &Row, at: usize) -> Result<bool, RowFault>

@@ -15,8 +15,8 @@ ghost use Rattle.store_tables.specs.Meters.Trees.{installations};
 
 use crate::meters::columns::read_installation;
 use crate::meters::rows::{Installation, InstallationRow, LastRow};
-use sqlite::{Alter, Connection, Error, Row, Transaction, params};
 use crate::{GREATEST_PLACE, RowFault, first_whole, number, signed};
+use sqlite::{Alter, Connection, Error, Row, Transaction, params};
 
 /// The row of a meter.
 const OF_METER: &str =

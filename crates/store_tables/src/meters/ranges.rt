@@ -9,9 +9,9 @@ ghost use Rattle.store_tables.specs.Meters.Rows.{ranged_columns, range_shown, is
 ghost use Rattle.store_tables.specs.Meters.Rows.{IsRange, IsSoundRanged};
 ghost use Rattle.store_tables.specs.Meters.Trees.{ranges};
 
+use crate::{RowFault, first_whole, number};
 use energy_core::{MAX_RANGE, MIN_RANGE};
 use sqlite::{Alter, Connection, Error, Row, Transaction, params};
-use crate::{RowFault, first_whole, number};
 
 /// The row of a meter.
 const OF_METER: &str = "SELECT \"range\" FROM ranges WHERE meter = ?1 LIMIT 1";
