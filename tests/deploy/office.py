@@ -93,6 +93,7 @@ def run(db, listen, every, devices, **_):
     if not os.access(db, os.W_OK):
         print(f"failed\nsunreg: {db}: it isn't there", file=sys.stderr)
         sys.exit(3)
+    open(f"{db}-wal", "a").close()
     server = http.server.ThreadingHTTPServer(("127.0.0.1", int(listen)), Handler)
     print(f"books to 0 lost 0\nlistening {listen}", flush=True)
     server.serve_forever()
