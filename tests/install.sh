@@ -19,9 +19,8 @@ typed() {
     esac
     for it in $lacks; do
         case $it:$1 in
-            nginx:*nginx* | nginx:ask\ *prometheus\ * | nginx:ask\ * | nginx:sleep\ 90 | nginx:*api/v1*) return 1 ;;
-            prometheus:*/etc/prometheus* | prometheus:*prometheus.yml* | prometheus:*etc/default/prometheus* | prometheus:systemctl\ *prometheus | prometheus:sleep\ 90 | prometheus:*api/v1*) return 1 ;;
-            sqlite3:*sqlite3* | sqlite3:mv\ * | sqlite3:*/var/backups/*) return 1 ;;
+            nginx:*nginx* | nginx:ask\ * | nginx:sleep\ 90 | nginx:*api/v1*) return 1 ;;
+            prometheus:*/etc/prometheus* | prometheus:*/default/prometheus | prometheus:systemctl\ *prometheus | prometheus:sleep\ 90 | prometheus:*api/v1*) return 1 ;;
         esac
     done
 }
@@ -260,11 +259,8 @@ else
     printf '#!/bin/sh\nexec /usr/bin/python3 -B /usr/local/src/sunreg/tests/deploy/office.py "$@"\n' > "$room.copy/out/sunreg"
 fi
 chmod 755 "$room.copy/out/sunreg"
-# (what lacks, by the names of commands)
 lacks=
-for it in nginx sqlite3; do
-    has $it || lacks="$lacks $it"
-done
+has nginx || lacks="$lacks nginx"
 has promtool && has prometheus-server || lacks="$lacks prometheus"
 sh -c 'echo $$ > "$0/cgroup.procs" && exec "$@"' "$group" \
     unshare --mount --net --pid --uts --ipc --cgroup --fork --kill-child --mount-proc "$here/install.sh" --within "$room" "$is_built" "$lacks" &
