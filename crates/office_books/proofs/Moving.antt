@@ -4,7 +4,8 @@ use Rattle.office_events.specs.declared.facts.Fact.{Fact}
 use Rattle.office_rules.specs.Lawful.{AreLawful}
 use Rattle.office_books.specs.declared.faults.BooksFault.{BooksFault}
 use Rattle.office_books.specs.declared.faults.BooksFault.TheVariants.{Store, Memory}
-use Rattle.office_books.specs.Faults.{Failures, FailuresGoOn}
+use Rattle.office_books.specs.declared.failures.Failures.{Failures}
+use Rattle.office_books.specs.Faults.{FailuresGoOn}
 use Rattle.office_books.specs.Ledgers.{Ledger, LedgerGoesOn, LedgerPasses, KeepsFacts, OnlyReads, Consults, Books, Moves, with_facts}
 
 -- one call is some

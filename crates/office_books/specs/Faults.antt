@@ -4,7 +4,7 @@ use Rattle.office_events.specs.declared.refusals.Refusal.{Refusal}
 use Rattle.office_events.specs.declared.refusals.Refusal.TheVariants as refusal
 use Rattle.office_events.specs.declared.refusals.StoreCause.{StoreCause}
 use Rattle.office_events.specs.declared.refusals.StoreCause.TheVariants as cause
-pub use Rattle.office_books.specs.declared.failures.Failures.{Failures}
+use Rattle.office_books.specs.declared.failures.Failures.{Failures}
 use Rattle.office_books.specs.declared.faults.StoreFault.{StoreFault}
 use Rattle.office_books.specs.declared.faults.StoreFault.TheVariants.{Refused, Damaged}
 use Rattle.office_books.specs.declared.faults.BooksFault.{BooksFault}

@@ -4,7 +4,8 @@ use Rattle.interval_core.specs.declared.zone.Zone.{Zone}
 use Rattle.office_events.specs.declared.facts.Fact.{Fact}
 use Rattle.office_rules.specs.Lawful.{AreLawful}
 use Rattle.office_books.specs.declared.faults.BooksFault.{BooksFault}
-use Rattle.office_books.specs.Faults.{Failures, FailuresGoOn, faults_after}
+use Rattle.office_books.specs.declared.failures.Failures.{Failures}
+use Rattle.office_books.specs.Faults.{FailuresGoOn, faults_after}
 
 -- What is known of books at a moment: which facts they hold, which lists of facts a stop just now may leave in their
 -- place, that no wrong answer of a store was taken as true, that their store is still open, how they failed so far, and
