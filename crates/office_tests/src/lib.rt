@@ -31,6 +31,8 @@ mod list_books;
 #[cfg(test)]
 mod names;
 #[cfg(test)]
+mod noted_failures;
+#[cfg(test)]
 mod observer;
 #[cfg(test)]
 mod offices;
