@@ -1,5 +1,5 @@
 -- What a connection leaves, and several of them.
-use Rattle.std.proofs.Common.{◌≡◌, ◌⊎◌, inl, inr, ℕ, ◌≤◌, ◌+◌, List, [], ◌∷◌, ◌++◌, length, Option, None, Some, Result, Ok, Err, refl, sym, ap, ◌∙◌, subst, arith, length-append}
+use Rattle.std.proofs.Common.{◌≡◌, ◌⊎◌, inl, inr, ℕ, Bool, ◌≤◌, ◌+◌, List, [], ◌∷◌, ◌++◌, length, Option, None, Some, Result, Ok, Err, refl, sym, ap, ◌∙◌, subst, arith, length-append}
 use Rattle.interval_core.specs.declared.zone.Zone.{Zone}
 use Rattle.office_events.specs.declared.refusals.Refusal.{Refusal}
 use Rattle.office_rules.specs.History.{History}
@@ -24,15 +24,15 @@ asked_one ledger zone past at read reply later office answered stands = record {
   stands = let P : History → Type 0 = λ h. Stands ledger h office in subst P answered.accepts stands;
 }
 
-served_one : {B : Type 0} (ledger : B → Ledger) (zone : Zone) (past : History) (at : ℕ) (read : List ℕ) (before after : ℕ)
+served_one : {B : Type 0} (ledger : B → Ledger) (zone : Zone) (past : History) (at : ℕ) (read : List ℕ) (had_stopped : Bool) (before after : ℕ)
     (cut : Option Refusal) (reply : List ℕ) (later : History) (office : Office B)
-    → IsServed zone past at read before after cut reply later → Stands ledger later office → ServesUpTo 1 ledger past office
-served_one ledger zone past at read before after None reply later office (inl answered) stands =
+    → IsServed zone past at read had_stopped before after cut reply later → Stands ledger later office → ServesUpTo 1 ledger past office
+served_one ledger zone past at read had_stopped before after None reply later office (inl answered) stands =
     asked_one ledger zone past at read reply later office answered.0 stands
-served_one ledger zone past at read before after None reply later office (inr none) stands =
+served_one ledger zone past at read had_stopped before after None reply later office (inr none) stands =
     let P : History → Type 0 = λ h. Stands ledger h office in
     unasked 1 ledger past office (subst P none.unchanged stands)
-served_one ledger zone past at read before after (Some why) reply later office answered stands =
+served_one ledger zone past at read had_stopped before after (Some why) reply later office answered stands =
     asked_one ledger zone past at read reply later office answered.0 stands
 
 replied : {B : Type 0} (ledger : B → Ledger) (past : History) (at : ℕ) (old new : Office B) (link : Passage) (read : List ℕ)
@@ -40,7 +40,7 @@ replied : {B : Type 0} (ledger : B → Ledger) (past : History) (at : ℕ) (old 
     → (ledger (books_in new)).is_clean → ServesUpTo 1 ledger past new
 replied ledger past at old new link read result replies stands clean =
     let gives = replies.replies past stands clean in
-    served_one ledger _ past at read _ _ gives.cut gives.serves.reply gives.serves.later new gives.serves.served gives.serves.stands
+    served_one ledger _ past at read _ _ _ gives.cut gives.serves.reply gives.serves.later new gives.serves.served gives.serves.stands
 
 same : {B : Type 0} (ledger : B → Ledger) (past : History) (old new : Office B) → new ≡ old → Stands ledger past old
     → ServesUpTo 1 ledger past new
