@@ -3,7 +3,7 @@ use Rattle.std.proofs.Common.{◌≡◌, ℕ, ◌-◌, List, ◌++◌, length, t
 use Rattle.std.specs.Io.KnownBytes.{Appends}
 use Rattle.std.proofs.KnownBytes.{Appends-trans}
 use Rattle.std.proofs.lemmas.List.{take-append-drop, take_rest}
-use Rattle.mb_device.specs.Server.{Gives, GivesPart}
+use Rattle.mb_wire.specs.Links.{Gives, GivesPart}
 
 -- the slice from a place on, as a call is passed it
 abbrev pub from : ℕ → List ℕ → List ℕ
