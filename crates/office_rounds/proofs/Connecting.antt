@@ -50,13 +50,13 @@ fed_first : {B : Type 0} (ledger : B → Ledger) (past : History) (begun now : R
 fed_first ledger past begun now office at device reply taken =
     record { stands = taken.stands; answered = (begun.failures, refl, taken.answer) }
 
-pub connects : {B : Type 0} (rounds : RoundsHold) (ledger : B → Ledger) (past : History) (begun now : RoundState) (office : Office B) (at : ℕ) (given : Answer)
+connects_here : {B : Type 0} (rounds : RoundsHold) (ledger : B → Ledger) (past : History) (begun now : RoundState) (office : Office B) (at : ℕ) (given : Answer)
     (old new : Progress) → IsNew old → new.round ≡ round_after (event.Connected old.round.device) given (notes_in office) old.round → new.latest ≡ at
     → TellsMoment begun.moments now.moments at
     → IsTaken ledger past at (event.Connected old.round.device) (Ok given) begun now office
     → Appends begun.printed now.printed (told_text past at (event.Connected old.round.device) (Ok given))
     → Connects ledger old.round.device past begun now office new (Ok tt)
-connects rounds ledger past begun now office at given old new fresh round latest tells taken printed =
+connects_here rounds ledger past begun now office at given old new fresh round latest tells taken printed =
     let so = connected rounds ledger past begun now office at given old new fresh taken round latest in (
       at,
       (
@@ -71,6 +71,16 @@ connects rounds ledger past begun now office at given old new fresh round latest
         },
       ),
     )
+
+pub connects : {B : Type 0} (rounds : RoundsHold) (ledger : B → Ledger) (past : History) (begun now : RoundState) (office : Office B) (at : ℕ) (e : Event)
+    (given : Answer) (old new : Progress) → IsNew old → e ≡ event.Connected old.round.device → new.round ≡ round_after e given (notes_in office) old.round
+    → new.latest ≡ at → TellsMoment begun.moments now.moments at → IsTaken ledger past at e (Ok given) begun now office
+    → Appends begun.printed now.printed (told_text past at e (Ok given)) → Connects ledger old.round.device past begun now office new (Ok tt)
+connects rounds ledger past begun now office at e given old new fresh is round latest tells taken printed =
+    let P : Event → Type 0 = λ x.
+    new.round ≡ round_after x given (notes_in office) old.round → IsTaken ledger past at x (Ok given) begun now office
+    → Appends begun.printed now.printed (told_text past at x (Ok given)) → Connects ledger old.round.device past begun now office new (Ok tt) in
+    subst P (sym is) (λ r t p. connects_here rounds ledger past begun now office at given old new fresh r latest tells t p) round taken printed
 
 pub unconnected : {B : Type 0} (ledger : B → Ledger) (past : History) (begun now : RoundState) (office : Office B) (at : ℕ) (why : Refusal)
     (device : Option (List ℕ)) (round : Progress) → TellsMoment begun.moments now.moments at
@@ -99,13 +109,21 @@ connects_unprinted ledger past begun now office at old new same latest tells unp
       ),
     )
 
-pub connect_failed : {B : Type 0} (ledger : B → Ledger) (past : History) (begun now : RoundState) (office : Office B) (at : ℕ)
+failed_here : {B : Type 0} (ledger : B → Ledger) (past : History) (begun now : RoundState) (office : Office B) (at : ℕ)
     (old new : Progress) (fault : RoundFault) → new.round ≡ old.round → new.latest ≡ latest_after fault at old.latest
     → TellsMoment begun.moments now.moments at → Feeds ledger past at (event.Connected old.round.device) begun now office (Err fault)
     → Connects ledger old.round.device past begun now office new (Err fault)
-connect_failed ledger past begun now office at old new (Refused why) same latest tells feeds =
+failed_here ledger past begun now office at old new (Refused why) same latest tells feeds =
     unconnected ledger past begun now office at why old.round.device new tells feeds.0 feeds.1
-connect_failed ledger past begun now office at old new Link same latest tells feeds = absurd feeds
-connect_failed ledger past begun now office at old new Output same latest tells feeds =
+failed_here ledger past begun now office at old new Link same latest tells feeds = absurd feeds
+failed_here ledger past begun now office at old new Output same latest tells feeds =
     connects_unprinted ledger past begun now office at old new same latest tells feeds
-connect_failed ledger past begun now office at old new TurnsUsed same latest tells feeds = absurd feeds
+failed_here ledger past begun now office at old new TurnsUsed same latest tells feeds = absurd feeds
+
+pub connect_failed : {B : Type 0} (ledger : B → Ledger) (past : History) (begun now : RoundState) (office : Office B) (at : ℕ) (e : Event)
+    (old new : Progress) (fault : RoundFault) → e ≡ event.Connected old.round.device → new.round ≡ old.round → new.latest ≡ latest_after fault at old.latest
+    → TellsMoment begun.moments now.moments at → Feeds ledger past at e begun now office (Err fault)
+    → Connects ledger old.round.device past begun now office new (Err fault)
+connect_failed ledger past begun now office at e old new fault is same latest tells feeds =
+    let P : Event → Type 0 = λ x. Feeds ledger past at x begun now office (Err fault) → Connects ledger old.round.device past begun now office new (Err fault) in
+    subst P (sym is) (λ f. failed_here ledger past begun now office at old new fault same latest tells f) feeds

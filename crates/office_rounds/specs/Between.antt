@@ -8,6 +8,7 @@ use Rattle.socket_link.specs.declared.clock.Clock as clocks
 use Rattle.script_text.specs.AnswerText.{accepted_text}
 use Rattle.office_events.specs.declared.answers.Answer.{Answer}
 use Rattle.office_events.specs.declared.events.Event.{Event}
+use Rattle.office_events.specs.declared.events.Event.TheVariants as event
 use Rattle.office_rules.specs.History.{History}
 use Rattle.office_books.specs.declared.books.Books as stores
 use Rattle.office_core.specs.EventRun.{Answered}
@@ -17,7 +18,7 @@ use Rattle.office_core.specs.declared.office.Office.{Office}
 use Rattle.office_rounds.specs.Course.{Connect, Does, IsTaken, Next, Over, StartFrom, Take, next_in}
 use Rattle.office_rounds.specs.FedEvents.{frames_after, piece_in, pieces_after}
 use Rattle.office_rounds.specs.Rounds.{RoundState, Passage, Rounds, Wire, round_state, passage, wire}
-use Rattle.office_rounds.specs.Stepping.{Broken, Closes, Connects, EndsPrinted, EndsUnprinted, Feeds, Going, IsWired, Prints, Scene, Steps, StepsFrom, Told, scene}
+use Rattle.office_rounds.specs.Stepping.{Broken, Closes, Connects, EndsPrinted, EndsUnprinted, Feeds, Going, IsNew, IsWired, Prints, Scene, Steps, StepsFrom, Told, scene}
 use Rattle.office_rounds.specs.Polling.{settled}
 use Rattle.office_rounds.specs.Taking.{over_or_take}
 use Rattle.office_rounds.specs.declared.fault.RoundFault.{RoundFault}
@@ -74,6 +75,12 @@ module _ {B C W : Type 0} (b : stores.Ghosts B) (c : clocks.Ghosts C) (w : write
   TellsConnection from to old new before after had holds result =
       After b.ledger old new (λ past. Connects b.ledger from.round.device past
       (desk_of old before had) (desk_of new after holds) new to result)
+
+  -- So it is of a round of which nothing was fed, if the event is that.
+  abbrev pub TellsFirst : Event → (from to : Progress) → Leaves (Result (Unit {0}) RoundFault)
+  TellsFirst e from to old new before after had holds result =
+      IsNew from → e ≡ event.Connected from.round.device
+      → TellsConnection from to old new before after had holds result
 
   -- Where an event is next in a round that goes on, it is fed and printed.
   abbrev pub TellsNext : Event → (from to : Progress) → Leaves (Result (Unit {0}) RoundFault)

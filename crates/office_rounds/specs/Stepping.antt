@@ -48,8 +48,8 @@ pub record IsUnprinted {B : Type 0} (ledger : B → Ledger) (past : History) (at
   pub printed : IsPrinted {X = Unit {0}} (Err Output) (told_text past at e (Ok given)) begun.printed
       now.printed
 
-abbrev pub Feeds : {B : Type 0} → (B → Ledger) → History → (at : ℕ) → Event → (begun now : RoundState)
-    → Office B
+abbrev pub Feeds : {B : Type 0} → (B → Ledger) → History → (at : ℕ) → Event
+    → (begun now : RoundState) → Office B
     → Result Answer RoundFault → Type 0
 Feeds ledger past at e begun now office (Ok given) =
     IsTaken ledger past at e (Ok given) begun now office
@@ -161,8 +161,8 @@ pub record IsWired {X : Type 0} (past : History) (from to : Wire) (fed : List An
   pub given : AreGiven result (frames_after past fed) from.given to.given
 
 -- One more event was fed, which was next.
-pub record RoundGoesOn {B : Type 0} (ledger : B → Ledger) (device : Option (List ℕ)) (past : History)
-    (begun now : RoundState)
+pub record RoundGoesOn {B : Type 0} (ledger : B → Ledger) (device : Option (List ℕ))
+    (past : History) (begun now : RoundState)
     (office : Office B) (fed : List Answered) (one : Answered) (progress : Progress) : Type 0 where
   pub going : Going ledger device past begun now office (one ∷ fed) progress
   pub told : outgoing_in office
@@ -211,7 +211,8 @@ scene office round_state wire progress =
 abbrev pub StepsFrom : {B X : Type 0} → (B → Ledger) → (old new : Scene B) → (now : Next)
     → Result X RoundFault → (X → Next) → Type 0
 StepsFrom ledger old new now result next =
-    (device : Option (List ℕ)) (past : History) (begun : RoundState) (from : Wire) (fed : List Answered)
+    (device : Option (List ℕ)) (past : History) (begun : RoundState) (from : Wire)
+    (fed : List Answered)
     → Going ledger device past begun old.round_state old.office fed old.progress
     → IsWired {X = Unit {0}} past from old.wire fed (Ok tt)
     → next_in past fed ≡ now → (ledger (books_in new.office)).is_clean

@@ -1,7 +1,7 @@
 //! Events that are fed to the office, and what it tells of them.
 ghost use Rattle.std.specs.Prelude.{◌≡◌};
 ghost use Rattle.office_core.specs.Standing.{is_stopped};
-ghost use Rattle.office_rounds.specs.Between.{FeedsAndPrints, PrintsTold, TellsNext};
+ghost use Rattle.office_rounds.specs.Between.{FeedsAndPrints, PrintsTold, TellsFirst, TellsNext};
 ghost use Rattle.office_rounds.specs.Faults.{OfOffice};
 ghost use Rattle.office_rounds.specs.Passing.{Lasts};
 ghost use Rattle.office_rounds.specs.Stepping as stepping;
@@ -72,6 +72,8 @@ pub(crate) fn tell<B: Books, C: Clock, W: Write>(
     output: &mut W,
 ) -> Result<(), RoundFault>
     ensures tells { TellsNext B.Books C.Clock W.Write event.now progress.old progress.new
+        office.old office.new clock.old clock.new output.old output.new result }
+    ensures connects { TellsFirst B.Books C.Clock W.Write event.now progress.old progress.new
         office.old office.new clock.old clock.new output.old output.new result }
     ensures kind { OfOffice result }
     ensures lasts { Lasts B.ledger office.old office.new }

@@ -8,15 +8,14 @@ ghost use Rattle.office_rounds.specs.Rounds.{IsToldOf};
 ghost use Rattle.office_rounds.specs.Stepping.{IsNew};
 
 use crate::fault::RoundFault;
-use crate::fed_events::{feed, latest_after};
-use crate::laws::rounds_hold;
+use crate::fed_events::tell;
 use crate::progress::Progress;
 use crate::round_end::close;
 use crate::steps::{go_on, turn};
 use mb_wire::Link;
 use office_books::Books;
 use office_core::Office;
-use office_events::{Event, Name};
+use office_events::Name;
 use socket_link::Clock;
 use std::alloc::Global;
 use std::io::Write;
@@ -37,18 +36,9 @@ fn connect<B: Books, C: Clock, W: Write>(
     ensures kind { OfOffice result }
     ensures lasts { Lasts B.ledger office.old office.new }
 {
-    rounds_hold();
-    let at = clock.now();
-    let connected = Event::Connected(progress.round.device);
-    match feed(office, at, &connected, output) {
-        Ok(answer) => {
-            progress.note(at, &connected, answer, office.notes());
-            Ok(())
-        }
-        Err(fault) => {
-            progress.latest = latest_after(fault, at, progress.latest);
-            Err(fault)
-        }
+    match progress.round.event_wanted() {
+        Some(connected) => tell(progress, &connected, office, clock, output),
+        None => Ok(()),
     }
 }
 
@@ -61,8 +51,8 @@ fn take_turns<L: Link, B: Books, C: Clock, W: Write>(
     clock: &mut C,
     output: &mut W,
 ) -> Result<(), RoundFault>
-    ensures steps { TakesTurns L.Link B.Books C.Clock W.Write progress.old progress.new link.old link.new
-        office.old office.new clock.old clock.new output.old output.new result }
+    ensures steps { TakesTurns L.Link B.Books C.Clock W.Write progress.old progress.new
+        link.old link.new office.old office.new clock.old clock.new output.old output.new result }
     ensures failures { L.failed link.new ≡ risen (is_link_fault result) (L.failed link.old) }
     ensures takes { AreAtMost 100000 (L.taken link.old) (L.taken link.new) }
     ensures used { result ≡ Err RoundFault.TurnsUsed
@@ -87,8 +77,8 @@ fn poll_connected<L: Link, B: Books, C: Clock, W: Write>(
     clock: &mut C,
     output: &mut W,
 ) -> Result<(), RoundFault>
-    ensures steps { PollsOut L.Link B.Books C.Clock W.Write progress.old progress.new link.old link.new
-        office.old office.new clock.old clock.new output.old output.new result }
+    ensures steps { PollsOut L.Link B.Books C.Clock W.Write progress.old progress.new
+        link.old link.new office.old office.new clock.old clock.new output.old output.new result }
     ensures failures { L.failed link.new ≡ risen (is_link_fault result) (L.failed link.old) }
     ensures takes { AreAtMost 100000 (L.taken link.old) (L.taken link.new) }
     ensures used { result ≡ Err RoundFault.TurnsUsed
