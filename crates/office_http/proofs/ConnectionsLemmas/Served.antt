@@ -1,5 +1,5 @@
 -- What a connection leaves, and several of them.
-use Rattle.std.proofs.Common.{◌≡◌, ◌⊎◌, inl, inr, ℕ, ◌≤◌, ◌+◌, List, [], ◌∷◌, ◌++◌, length, Option, None, Some, Result, Ok, Err, refl, sym, ap, ◌∙◌, subst, arith, length-append}
+use Rattle.std.proofs.Common.{◌≡◌, ◌⊎◌, inl, inr, ℕ, Bool, ◌≤◌, ◌+◌, List, [], ◌∷◌, ◌++◌, length, Option, None, Some, Result, Ok, Err, refl, sym, ap, ◌∙◌, subst, arith, length-append}
 use Rattle.interval_core.specs.declared.zone.Zone.{Zone}
 use Rattle.office_events.specs.declared.refusals.Refusal.{Refusal}
 use Rattle.office_rules.specs.History.{History}
@@ -37,15 +37,15 @@ asked_one names ledger zone past at read reply later office may answered stands 
   stands = let P : History → Type 0 = λ h. Stands ledger h office in subst P answered.accepts stands;
 }
 
-served_one : {B : Type 0} (names : List (List ℕ)) (ledger : B → Ledger) (zone : Zone) (past : History) (at : ℕ) (read : List ℕ) (before after : ℕ)
+served_one : {B : Type 0} (names : List (List ℕ)) (ledger : B → Ledger) (zone : Zone) (past : History) (at : ℕ) (read : List ℕ) (had_stopped : Bool) (before after : ℕ)
     (cut : Option Refusal) (reply : List ℕ) (later : History) (office : Office B) → MayAsk names read
-    → IsServed zone past at read before after cut reply later → Stands ledger later office → ServesOne names at ledger past office
-served_one names ledger zone past at read before after None reply later office may (inl answered) stands =
+    → IsServed zone past at read had_stopped before after cut reply later → Stands ledger later office → ServesOne names at ledger past office
+served_one names ledger zone past at read had_stopped before after None reply later office may (inl answered) stands =
     asked_one names ledger zone past at read reply later office may answered.0 stands
-served_one names ledger zone past at read before after None reply later office may (inr none) stands =
+served_one names ledger zone past at read had_stopped before after None reply later office may (inr none) stands =
     let P : History → Type 0 = λ h. Stands ledger h office in
     unasked names at ledger past office (subst P none.unchanged stands)
-served_one names ledger zone past at read before after (Some why) reply later office may answered stands =
+served_one names ledger zone past at read had_stopped before after (Some why) reply later office may answered stands =
     asked_one names ledger zone past at read reply later office may answered.0 stands
 
 replied : {B : Type 0} (names : List (List ℕ)) (ledger : B → Ledger) (past : History) (at : ℕ) (old new : Office B) (link : Passage) (read : List ℕ)
@@ -53,7 +53,7 @@ replied : {B : Type 0} (names : List (List ℕ)) (ledger : B → Ledger) (past :
     → (ledger (books_in new)).is_clean → ServesOne names at ledger past new
 replied names ledger past at old new link read result may replies stands clean =
     let gives = replies.replies past stands clean in
-    served_one names ledger _ past at read _ _ gives.cut gives.serves.reply gives.serves.later new may gives.serves.served gives.serves.stands
+    served_one names ledger _ past at read _ _ _ gives.cut gives.serves.reply gives.serves.later new may gives.serves.served gives.serves.stands
 
 same : {B : Type 0} (names : List (List ℕ)) (at : ℕ) (ledger : B → Ledger) (past : History) (old new : Office B) → new ≡ old → Stands ledger past old
     → ServesOne names at ledger past new

@@ -1,4 +1,4 @@
-use Rattle.std.proofs.Common.{rules, ◌≡◌, ◌∙◌, ◌≢◌, Err, ap, drop, sym, take}
+use Rattle.std.proofs.Common.{rules, ◌∙◌, ◌≢◌, Err, ap, drop, sym, take}
 use Rattle.http_commands.specs.declared.fault.CommandFault.TheVariants.{Memory}
 use Rattle.http_request.specs.HeadTests.{start_at}
 use Rattle.http_request.specs.Tests.{post_headers_of}
