@@ -1,3 +1,4 @@
+mod Examples
 pub mod Absent
 pub mod Timely
 pub mod Wires

@@ -93,17 +93,17 @@ module _ {B C W : Type 0} (b : stores.Ghosts B) (c : clocks.Ghosts C) (w : write
 
   -- A round that was broken off is closed: the last thing that is fed is that its device is gone.
   abbrev pub ClosesBroken : Progress → (cause : RoundFault) → Leaves RoundFault
-  ClosesBroken round cause old new before after had holds fault =
+  ClosesBroken progress cause old new before after had holds fault =
       (device : Option (List ℕ)) (past : History) (begun : RoundState) (fed : List Answered)
-      → Broken b.ledger device past begun (desk_of old before had) old fed round cause
+      → Broken b.ledger device past begun (desk_of old before had) old fed progress cause
       → (b.ledger (books_in new)).is_clean
       → Closes b.ledger device past begun (desk_of new after holds) new fed cause fault
 
   -- A round whose connection was not told is over, and its link is as it was.
   abbrev pub EndsUnconnected : Progress → (cause : RoundFault) → Leaves RoundFault
-  EndsUnconnected round cause old new before after had holds fault =
+  EndsUnconnected progress cause old new before after had holds fault =
       (device : Option (List ℕ)) (past : History) (begun : RoundState) (wire : Wire)
-      → Connects b.ledger device past begun (desk_of old before had) old round (Err cause)
+      → Connects b.ledger device past begun (desk_of old before had) old progress (Err cause)
       → (b.ledger (books_in new)).is_clean
       → Rounds b.ledger device past (passage begun (desk_of new after holds) wire wire) new
       (Err fault)
@@ -184,10 +184,10 @@ module _ {L B C W : Type 0} (l : links.Ghosts L) (b : stores.Ghosts B) (c : cloc
 
   -- A round whose reads are to be started is polled to its end.
   abbrev pub PollsToEnd : Progress → (from to : L) → Leaves b c w (Result (Unit {0}) RoundFault)
-  PollsToEnd round from to old new before after had holds result =
+  PollsToEnd progress from to old new before after had holds result =
       (device : Option (List ℕ)) (past : History) (begun : RoundState) (first : Wire)
       (fed : List Answered)
-      → Going b.ledger device past begun (desk_of b c w old before had) old fed round
+      → Going b.ledger device past begun (desk_of b c w old before had) old fed progress
       → IsWired {X = Unit {0}} past first (wire_of l from) fed (Ok tt)
       → next_in past fed ≡ StartFrom 0 → (b.ledger (books_in new)).is_clean
       → Rounds b.ledger device past
