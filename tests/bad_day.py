@@ -146,7 +146,7 @@ def said_safely():
     subprocess.run([PROGRAM, "create", "--db", db, "--zone", "UTC0"])
     modes = {os.path.basename(it): oct(os.stat(it).st_mode & 0o777) for it in glob.glob(db + "*")}
     same("files are private", set(modes.values()), {"0o600"})
-    names = [("report", "--db", "\x1b[31mx", "--register", "y"), ("create", "--db", "x", "--zone", "\x1b]0;z\x07"), ("run", "--devices", "\x1b[31m")]
+    names = [("report", "--db", "\x1b[31mx", "--register", "y"), ("create", "--db", "x", "--zone", "\x1b]0;z\x07"), ("run", "--db", "x", "--listen", "1", "--every", "1", "--devices", "\x1b[31m")]
     for words in names:
         said = subprocess.run([PROGRAM, *words], capture_output=True, cwd=ROOM).stderr
         holds(f"{words[0]} spells a control byte", b"\\x1b" in said and not any(byte < 32 and byte != 10 for byte in said), said)
