@@ -9,6 +9,7 @@ mod command_output;
 mod commands;
 mod offices;
 mod run_words;
+mod scans;
 
 use crate::commands::carry_out;
 use command_words::{WordsFault, command_of};
