@@ -10,6 +10,7 @@ mod commands;
 mod escaped;
 mod offices;
 mod run_words;
+mod scans;
 
 use crate::commands::carry_out;
 use crate::escaped::Escaped;
