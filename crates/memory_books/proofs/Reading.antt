@@ -1,9 +1,13 @@
--- Tables that are brought up to date.
-use Rattle.std.proofs.Common.{◌≡◌, List, reverse, sym, ap, subst, ◌∙◌}
+-- Tables that are brought up to date, and failures that are noted.
+use Rattle.std.proofs.Common.{◌≡◌, List, reverse, refl, sym, ap, subst, ◌∙◌, Result, Ok}
 use Rattle.std.proofs.lemmas.List.{reverse-reverse}
 use Rattle.office_events.specs.declared.facts.Fact.{Fact}
 use Rattle.office_rules.specs.Lawful.{AreLawful}
-use Rattle.office_books.specs.Ledgers.{KeepsFacts}
+use Rattle.office_books.specs.declared.faults.BooksFault.{BooksFault}
+use Rattle.office_books.specs.declared.failures.Failures.{Failures}
+use Rattle.office_books.specs.Faults.{faults_after}
+use Rattle.office_books.specs.Ledgers.{Ledger, KeepsFacts, OnlyReads}
+use Rattle.office_books.proofs.Moving.{keeps_then}
 use Rattle.memory_books.specs.declared.tables.tables.Tables.{Tables}
 use Rattle.memory_books.specs.Tables.Whole.{HaveCome, AreWhole}
 use Rattle.memory_books.specs.declared.list_books.ListBooks.{ListBooks}
@@ -37,3 +41,38 @@ all_said old tables facts known is whole listed =
     let turned : reverse facts ≡ known = in_turn old facts known is listed in
     subst (AreWhole tables) turned
     (whole (subst AreLawful (sym turned) listed.lawful) (subst (HaveCome old.tables) (sym is) listed.tables))
+
+-- books whose failures alone are others hold what they held
+noting : (books : ListBooks) (failures : Failures) → KeepsFacts (ledger_of books) (ledger_of (record books { failures = failures }))
+noting books failures = record { facts = still; left = one_still books (record books { failures = failures }) still }
+  where
+    still : (known : List Fact) → AreListed books known → AreListed (record books { failures = failures }) known
+    still known listed = record { lawful = listed.lawful; facts = listed.facts; tables = listed.tables; figures = listed.figures }
+
+-- the tables came further, and it is noted whether they could
+pub ready : {T : Type 0} (old mid : ListBooks) (failures : Failures) (done answer : Result T BooksFault) → KeepsFacts (ledger_of old) (ledger_of mid)
+    → mid.zone ≡ old.zone → mid.failures ≡ old.failures → answer ≡ done → failures ≡ faults_after done mid.failures
+    → OnlyReads (ledger_of old) (ledger_of (record mid { failures = failures })) answer
+ready old mid failures done answer keeps zone same is noted = record {
+  goes = record { clean = λ c. c; faults = noted ∙ ap (faults_after done) same ∙ ap (λ a. faults_after a old.failures) (sym is); zone = zone };
+  keeps = keeps_then (ledger_of old) (ledger_of mid) (ledger_of (record mid { failures = failures })) keeps (noting mid failures);
+}
+
+-- a look-up that takes memory for its answer
+pub only_noted : {T : Type 0} (books : ListBooks) (failures : Failures) (answer : Result T BooksFault) → failures ≡ faults_after answer books.failures
+    → OnlyReads (ledger_of books) (ledger_of (record books { failures = failures })) answer
+only_noted books failures answer noted = record {
+  goes = record { clean = λ c. c; faults = noted; zone = refl };
+  keeps = noting books failures;
+}
+
+pub reads_then : {T S : Type 0} (old between new : Ledger) (x : T) (answer : Result S BooksFault) → OnlyReads old between (Ok x) → OnlyReads between new answer
+    → OnlyReads old new answer
+reads_then old between new x answer first after = record {
+  goes = record {
+    clean = λ c. first.goes.clean (after.goes.clean c);
+    faults = after.goes.faults ∙ ap (faults_after answer) first.goes.faults;
+    zone = after.goes.zone ∙ first.goes.zone;
+  };
+  keeps = keeps_then old between new first.keeps after.keeps;
+}

@@ -26,13 +26,14 @@ abbrev pub HasOne : ListBooks → List (List Fact) → Type 0
 HasOne books [] = ⊥
 HasOne books (known ∷ left) = AreListed books known ⊎ HasOne books left
 
--- Books in memory are always clean and open, and have no store that could fail. A stop leaves what they hold.
+-- Books in memory are always clean and open, and have no store that could fail: they note want of memory. A stop leaves what
+-- they hold.
 abbrev pub ledger_of : ListBooks → Ledger
 ledger_of books = record {
   holds = AreListed books;
   may_leave = HasOne books;
   is_clean = Unit {0};
   is_open = Unit {0};
-  fault_count = 0;
+  failures = books.failures;
   zone = books.zone;
 }

@@ -2,12 +2,14 @@
 #![tactic(auto)]
 
 mod books;
+mod failures;
 mod faults;
 mod named;
 mod next_entry;
 mod soundness;
 
 pub use books::{Books, Repeat, RowSink};
+pub use failures::Failures;
 pub use faults::{BooksFault, StoreFault};
 pub use named::{list_at, meter_at};
 pub use next_entry::{enter, judge};

@@ -5,12 +5,12 @@ use Rattle.memory_books.proofs.list_books.ListBooks.catch_up.Goals as goal
 
 pub returns-in_err-catch_up-clause-keeps : goal.returns-in_err-catch_up-clause-keeps
 returns-in_err-catch_up-clause-keeps c =
-    let new : ListBooks = record { facts = c.args.self.now.facts; zone = c.args.self.now.zone; tables = c.catch_up.new.self; figures = c.args.self.now.figures } in
+    let new : ListBooks = record { facts = c.args.self.now.facts; zone = c.args.self.now.zone; tables = c.catch_up.new.self; figures = c.args.self.now.figures; failures = c.args.self.now.failures } in
     keeps_facts c.args.self.now new c.deref.result.now refl refl c.deref.ensures.value c.catch_up.ensures.kept
 
 pub returns-clause-keeps : goal.returns-clause-keeps
 returns-clause-keeps c =
-    let new : ListBooks = record { facts = c.args.self.now.facts; zone = c.args.self.now.zone; tables = c.catch_up.new.self; figures = c.args.self.now.figures } in
+    let new : ListBooks = record { facts = c.args.self.now.facts; zone = c.args.self.now.zone; tables = c.catch_up.new.self; figures = c.args.self.now.figures; failures = c.args.self.now.failures } in
     keeps_facts c.args.self.now new c.deref.result.now refl refl c.deref.ensures.value c.catch_up.ensures.kept
 
 pub returns-clause-whole : goal.returns-clause-whole
