@@ -1,6 +1,6 @@
 //! A whole request, read from a link: its head, and the body that belongs to it.
 
-ghost use Rattle.std.specs.Prelude.{◌≡◌, ◌≤◌, ◌+◌, IsUtf8, OnOk, Ok, drop, length, take};
+ghost use Rattle.std.specs.Prelude.{◌≡◌, ◌≤◌, ◌+◌, IsUtf8, MatchBool, OnOk, Ok, drop, length, take};
 ghost use Rattle.std.specs.Io.KnownBytes.{Keeps};
 ghost use Rattle.httparse.specs.Spans.{span_bytes};
 ghost use Rattle.mb_wire.specs.Links.{risen};
@@ -10,9 +10,9 @@ ghost use Rattle.http_request.specs.HeadTests.{start_at};
 ghost use Rattle.http_request.specs.declared.ask.Ask.TheVariants as Ask;
 ghost use Rattle.http_request.specs.Reading.HeadAndBody.{StopsAtOnce};
 ghost use Rattle.http_request.specs.Reading.Taking.{CountsTakes, EndedBy, bytes_in, is_read_fault, room_of};
-ghost use Rattle.http_request.specs.Whole.Whole.{IsUnfinished, Holds, HoldsRequest, IsWhole, ReadsRequest, RequestsAreOne, TestsRequest, body_of, body_size};
+ghost use Rattle.http_request.specs.Whole.Whole.{IsReadWhole, IsUnfinished, Holds, HoldsRequest, IsWhole, ReadsRequest, RequestsAreOne, TestsRequest, body_of, body_size};
 
-use crate::head::{Head, HeadState, MOST_BYTES};
+use crate::head::{Head, HeadState, MOST_BYTES, parse_head};
 use crate::reading::{Inbox, TakeFault, read_body, read_head};
 use crate::routing::Route;
 use crate::status::Status;
@@ -58,6 +58,18 @@ pub fn read_request<L: Link>(
         read_body(inbox, link, head.len + size)?;
     }
     Ok(head_state)
+}
+
+/// Whether bytes hold a whole request, or a bad head, so that nothing more is to be read.
+pub fn is_whole(router: &Router<Route>, bytes: &[u8]) -> bool
+    ensures { MatchBool result (IsReadWhole router.now bytes.now)
+        (IsUnfinished router.now bytes.now) }
+{
+    match parse_head(bytes) {
+        HeadState::Open => false,
+        HeadState::TooLarge | HeadState::NoHead => true,
+        HeadState::Whole(head) => head.len + body_size(router, bytes, &head) <= bytes.len(),
+    }
 }
 
 /// What a whole request asks for, or the status that answers it.
