@@ -1,6 +1,7 @@
 -- Facts that are added after the others.
 use Rattle.std.proofs.Common.{◌≡◌, true, false, List, [], ◌∷◌, ◌++◌, reverse, inl, inr, refl, sym, ap, subst, ◌∙◌, Result, Ok, Err}
 use Rattle.std.proofs.lemmas.List.{append-nil, reverse-append, reverse-reverse}
+use Rattle.std.specs.declared.alloc.AllocError.{AllocError}
 use Rattle.office_events.specs.declared.facts.Fact.{Fact}
 use Rattle.office_rules.specs.Lawful.{AreLawful}
 use Rattle.memory_books.specs.declared.tables.tables.Tables.{Tables}
@@ -13,6 +14,7 @@ use Rattle.memory_books.specs.declared.list_books.ListBooks.{ListBooks}
 use Rattle.memory_books.specs.declared.figures.Figures.{Figures}
 use Rattle.memory_books.specs.Figures.{AreFigures}
 use Rattle.memory_books.specs.Listed.{AreListed, GoOn, HasOne, ledger_of}
+use Rattle.memory_books.specs.Looking.{failures_in, told}
 
 behind : (known facts : List Fact) → reverse known ++ facts ≡ reverse (with_facts facts known)
 behind known facts = sym (reverse-append (reverse facts) known ∙ ap (λ (xs : List Fact). reverse known ++ xs) (reverse-reverse facts))
@@ -54,7 +56,7 @@ figures_after_none old new facts known none figures listed =
 
 -- the facts were added, and the tables came further
 pub added : (old mid new : ListBooks) (facts : List Fact) → mid.facts.items ≡ old.facts.items ++ facts → mid.zone ≡ old.zone → mid.tables ≡ old.tables
-    → GoOn facts old mid → KeepsFacts (ledger_of mid) (ledger_of new) → new.zone ≡ mid.zone → new.failures ≡ old.failures
+    → GoOn facts old mid → KeepsFacts (ledger_of mid) (ledger_of new) → new.zone ≡ mid.zone → new.last_failure ≡ old.last_failure
     → Books (ledger_of old) (ledger_of new) facts (Ok tt)
 added old mid new facts is zone tables figures keeps still_zone none_failed = record {
   booked = λ known listed lawful. keeps.facts (with_facts facts known) (listed_on old mid known facts is tables figures listed lawful);
@@ -66,16 +68,16 @@ added old mid new facts is zone tables figures keeps still_zone none_failed = re
       let still : (known : List Fact) → AreListed old known → AreListed mid known =
       λ known listed. listed_still old mid known same tables (figures_after_none old mid facts known none figures listed) listed in
       (refl, record { facts = λ known listed. keeps.facts known (still known listed); left = λ left may. keeps.left left (one_still old mid still left may) });
-  goes = record { clean = λ c. c; faults = none_failed; zone = still_zone ∙ zone };
+  goes = record { clean = λ c. c; faults = ap failures_in none_failed; zone = still_zone ∙ zone };
 }
 
 -- there was no room for them
-pub not_added : (old new : ListBooks) (facts : List Fact) (why : BooksFault) (result : Result (Unit {0}) BooksFault) → result ≡ Err why
-    → new.facts.items ≡ old.facts.items → new.zone ≡ old.zone
-    → new.tables ≡ old.tables → new.figures ≡ old.figures → new.failures ≡ faults_after result old.failures → (facts ≡ [] → false ≡ true)
+pub not_added : (old new : ListBooks) (facts : List Fact) (lacks : AllocError) (result : Result (Unit {0}) BooksFault) → result ≡ told (Err lacks)
+    → new.facts.items ≡ old.facts.items → new.zone ≡ old.zone → new.tables ≡ old.tables → new.figures ≡ old.figures
+    → failures_in new.last_failure ≡ faults_after result (failures_in old.last_failure) → (facts ≡ [] → false ≡ true)
     → Books (ledger_of old) (ledger_of new) facts result
-not_added old new facts why (Ok done) is same zone tables figures noted some = absurd (cc)
-not_added old new facts why (Err fault) is same zone tables figures noted some =
+not_added old new facts lacks (Ok done) is same zone tables figures noted some = absurd (cc)
+not_added old new facts lacks (Err fault) is same zone tables figures noted some =
     let still : (known : List Fact) → AreListed old known → AreListed new known =
     λ known listed. listed_still old new known same tables (subst (λ (f : Figures). AreFigures f known) (sym figures) listed.figures) listed in
     record {

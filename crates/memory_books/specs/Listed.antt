@@ -4,6 +4,7 @@ use Rattle.memory_books.specs.Tables.Whole.{HaveCome}
 use Rattle.office_books.specs.Ledgers.{Ledger, with_facts}
 use Rattle.office_events.specs.declared.facts.Fact.{Fact}
 use Rattle.memory_books.specs.Figures.{AreFigures}
+use Rattle.memory_books.specs.Looking.{failures_in}
 use Rattle.memory_books.specs.declared.list_books.ListBooks.{ListBooks}
 use Rattle.office_rules.specs.Lawful.{AreLawful}
 
@@ -34,6 +35,6 @@ ledger_of books = record {
   may_leave = HasOne books;
   is_clean = Unit {0};
   is_open = Unit {0};
-  failures = books.failures;
+  failures = failures_in books.last_failure;
   zone = books.zone;
 }

@@ -1,17 +1,16 @@
 //! Books in memory.
-ghost use Rattle.std.specs.Prelude.{◌≡◌, List, [], ◌++◌, OnOk, OnErr, IfErr, IsOk};
-ghost use Rattle.office_books.specs.declared.faults.BooksFault.TheVariants.{Memory};
+ghost use Rattle.std.specs.Prelude.{◌≡◌, List, [], ◌++◌, OnOk, OnErr, IsOk};
 ghost use Rattle.office_books.specs.Faults.{faults_after};
 ghost use Rattle.office_events.specs.declared.facts.Fact.{Fact};
 ghost use Rattle.memory_books.specs.Tables.Whole.{AreWhole};
 ghost use Rattle.memory_books.specs.Listed.{AreListed};
-ghost use Rattle.memory_books.specs.Looking.{told};
+ghost use Rattle.memory_books.specs.Looking.{failures_in, told};
 
 use crate::figures::Figures;
 use crate::lookups;
 use crate::tables::Tables;
 use interval_core::{Share, Zone};
-use office_books::{Books, BooksFault, Failures, Repeat, RowSink};
+use office_books::{Books, BooksFault, Repeat, RowSink};
 use office_events::{
     Device, EntryPlace, Fact, Installation, Name, PlannedList, Poll, PollRow, Register,
 };
@@ -26,7 +25,8 @@ pub struct ListBooks {
     zone: Zone,
     tables: Tables,
     figures: Figures,
-    failures: Failures,
+    /// What the last failure was. It was want of memory, if there was any.
+    last_failure: Option<BooksFault>,
 }
 
 impl ListBooks {
@@ -38,30 +38,28 @@ impl ListBooks {
     pub fn new(alloc: Global, zone: Zone) -> ListBooks
         ensures empty { AreListed result [] }
         ensures zone { result.zone ≡ zone }
-        ensures failures { result.failures ≡ no_failures }
+        ensures failures { (ledger_of result).failures ≡ no_failures }
     {
         ListBooks {
             facts: Vec::new(alloc),
             zone,
             tables: Tables::new(alloc),
             figures: Figures::new(),
-            failures: Failures::new(),
+            last_failure: None,
         }
     }
 
     /// Adds to the tables what they lack. For want of memory they lack some yet.
-    fn catch_up(&mut self) -> Result<(), BooksFault>
+    fn catch_up(&mut self) -> Result<(), AllocError>
         ensures keeps { KeepsFacts (ledger_of self.old) (ledger_of self.new) }
         ensures whole { (known : List Fact) → AreListed self.old known
             → OnOk result (AreWhole self.new.tables known) }
         ensures facts { self.new.facts ≡ self.old.facts }
         ensures figures { self.new.figures ≡ self.old.figures }
         ensures zone { self.new.zone ≡ self.old.zone }
-        ensures failures { self.new.failures ≡ self.old.failures }
-        ensures memory { IfErr result (λ e. e ≡ Memory) }
+        ensures failure { self.new.last_failure ≡ self.old.last_failure }
     {
-        self.tables.catch_up(&self.facts)?;
-        Ok(())
+        self.tables.catch_up(&self.facts)
     }
 
     /// The same for a look-up, which fails where memory is wanting.
@@ -73,19 +71,18 @@ impl ListBooks {
         ensures figures { self.new.figures ≡ self.old.figures }
     {
         let done = self.catch_up();
-        self.failures.noted(done)
+        told(&mut self.last_failure, done)
     }
 
     /// Adds facts after the others: all of them or, where memory is wanting, none.
-    fn add(&mut self, facts: Vec<Fact>) -> Result<(), BooksFault>
+    fn add(&mut self, facts: Vec<Fact>) -> Result<(), AllocError>
         ensures ok { OnOk result (self.new.facts.items ≡ self.old.facts.items ++ facts.items) }
         ensures figures { OnOk result (GoOn facts.items self.old self.new) }
         ensures err { OnErr result (self.new.facts.items ≡ self.old.facts.items) }
         ensures same_figures { OnErr result (self.new.figures ≡ self.old.figures) }
         ensures zone { self.new.zone ≡ self.old.zone }
         ensures tables { self.new.tables ≡ self.old.tables }
-        ensures failures { self.new.failures ≡ self.old.failures }
-        ensures memory { IfErr result (λ e. e ≡ Memory) }
+        ensures failure { self.new.last_failure ≡ self.old.last_failure }
         ensures nothing { facts.items ≡ [] → IsOk result }
     {
         let figures = self.figures.after_all(&facts);
@@ -96,14 +93,20 @@ impl ListBooks {
     }
 }
 
-/// What a look-up answers that takes memory for its answer. Want of it is noted.
-fn told<T>(failures: &mut Failures, found: Result<T, AllocError>) -> Result<T, BooksFault>
-    ensures answer { result ≡ told found }
-    ensures noted { failures.new ≡ faults_after result failures.old }
+/// What a call answers that takes memory. Want of it is noted.
+fn told<T>(
+    last_failure: &mut Option<BooksFault>,
+    done: Result<T, AllocError>,
+) -> Result<T, BooksFault>
+    ensures answer { result ≡ told done }
+    ensures noted { failures_in last_failure.new ≡ faults_after result (failures_in last_failure.old) }
 {
-    match found {
+    match done {
         Ok(answer) => Ok(answer),
-        Err(_) => failures.noted(Err(BooksFault::Memory)),
+        Err(_) => {
+            *last_failure = Some(BooksFault::Memory);
+            Err(BooksFault::Memory)
+        }
     }
 }
 
@@ -113,7 +116,7 @@ impl Books for ListBooks {
     ghost ledger = { ledger_of };
 
     fn faults(&self) -> u64 {
-        self.failures.count
+        0
     }
 
     fn zone(&self) -> Zone {
@@ -125,13 +128,13 @@ impl Books for ListBooks {
     fn devices(&mut self) -> Result<Vec<Device>, BooksFault> {
         let alloc = *self.facts.allocator();
         let found = lookups::devices(alloc, &self.facts);
-        told(&mut self.failures, found)
+        told(&mut self.last_failure, found)
     }
 
     fn list(&mut self, device: &Name) -> Result<Option<PlannedList>, BooksFault> {
         self.ready()?;
         let found = self.tables.list(&self.facts, device);
-        told(&mut self.failures, found)
+        told(&mut self.last_failure, found)
     }
 
     fn register(&mut self, name: &Name) -> Result<Option<Register>, BooksFault> {
@@ -143,7 +146,7 @@ impl Books for ListBooks {
         self.ready()?;
         let alloc = *self.facts.allocator();
         let found = self.tables.registers(alloc, &self.facts, device);
-        told(&mut self.failures, found)
+        told(&mut self.last_failure, found)
     }
 
     fn register_count(&mut self, device: &Name) -> Result<usize, BooksFault> {
@@ -184,7 +187,7 @@ impl Books for ListBooks {
         self.ready()?;
         let alloc = *self.facts.allocator();
         let found = self.tables.pending(alloc);
-        told(&mut self.failures, found)
+        told(&mut self.last_failure, found)
     }
 
     fn latest(&mut self) -> Result<u64, BooksFault> {
@@ -228,7 +231,7 @@ impl Books for ListBooks {
                 let _ = self.catch_up();
                 Ok(())
             }
-            Err(fault) => self.failures.noted(Err(fault)),
+            Err(lacks) => told(&mut self.last_failure, Err(lacks)),
         }
     }
 }

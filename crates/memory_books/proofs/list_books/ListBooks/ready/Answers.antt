@@ -3,5 +3,5 @@ use Rattle.memory_books.proofs.list_books.ListBooks.ready.Goals as goal
 
 pub returns-clause-reads : goal.returns-clause-reads
 returns-clause-reads c =
-    ready c.args.self.now c.catch_up-done.new.self c.noted.new.self c.catch_up-done.result c.noted.result c.catch_up-done.ensures.keeps
-    c.catch_up-done.ensures.zone c.catch_up-done.ensures.failures c.noted.ensures.answer c.noted.ensures.noted
+    ready c.args.self.now c.catch_up-done.new.self c.told.new.last_failure c.told.result c.catch_up-done.ensures.keeps
+    c.catch_up-done.ensures.zone c.catch_up-done.ensures.failure c.told.ensures.noted
