@@ -1,6 +1,6 @@
 -- No outcome is recorded of a poll that was not started, and no more than one of any.
-use Rattle.std.proofs.Common.{◌≡◌, inl, inr, ℕ, ◌+◌, ◌<◌, ◌≤◌, ◌==◌, Bool, true, false, cond, List, [], ◌∷◌, length, map, Option, Some, None, refl, sym, ap, ◌∙◌, arith}
-use Rattle.std.specs.List.{filter, find}
+use Rattle.std.proofs.Common.{◌≡◌, inl, inr, ℕ, ◌<◌, ◌≤◌, ◌==◌, true, List, [], ◌∷◌, length, Option, Some, None, refl, sym, ap, ◌∙◌, arith}
+use Rattle.std.specs.List.{find}
 use Rattle.std.specs.Option.{is_some, option_to_list}
 use Rattle.std.proofs.lemmas.Bool.{cases_eq, cond-false, ne_eqb}
 use Rattle.std.proofs.lemmas.List.{length-map}
@@ -8,7 +8,7 @@ use Rattle.office_events.specs.declared.facts.EndedPoll.{EndedPoll}
 use Rattle.office_events.specs.declared.facts.Fact.{Fact}
 use Rattle.office_events.specs.declared.facts.Fact.TheVariants as fact
 use Rattle.office_events.specs.declared.facts.Poll.{Poll}
-use Rattle.office_rules.specs.Facts.{ended_in, ends_of, polls_in}
+use Rattle.office_rules.specs.Facts.{ends_of, polls_in}
 use Rattle.office_rules.specs.History.{History, facts_of, slots_of}
 use Rattle.office_rules.specs.PollEndings.{AreNumbered, PollsEndOnce, outcome_in}
 use Rattle.office_rules.specs.PollOrder.{PollsFit}

@@ -8,9 +8,8 @@ use Rattle.socket_link.specs.Clocks.{TellsMoment}
 use Rattle.office_events.specs.declared.answers.Answer.{Answer}
 use Rattle.office_events.specs.declared.events.Event.{Event}
 use Rattle.office_events.specs.declared.refusals.Refusal.{Refusal}
-use Rattle.office_rules.specs.History.{History, Fed, latest_of}
+use Rattle.office_rules.specs.History.{History, latest_of}
 use Rattle.office_rules.specs.Lawfulness.{IsPast}
-use Rattle.office_rules.specs.Refusals.{with_answer}
 use Rattle.office_books.specs.Ledgers.{Ledger}
 use Rattle.office_core.specs.EventRun.{Answered}
 use Rattle.office_core.specs.Standing.{notes_in}

@@ -1,14 +1,12 @@
 -- A round stands after each event as its definition says, and goes on with what is next.
-use Rattle.std.proofs.Common.{◌≡◌, ◌⊎◌, inl, inr, ℕ, zero, suc, ◌+◌, ◌-◌, ◌^◌, min, ◌<◌, ◌≤◌, ◌==◌, nat_le, nat_lt, not, Bool, true, false, cond, List, [], ◌∷◌, ◌++◌, length, map, reverse, Option, Some, None, Result, Ok, Err, refl, sym, ap, ◌∙◌, subst, arith, append_assoc, append-nil}
+use Rattle.std.proofs.Common.{◌≡◌, ◌⊎◌, inl, inr, ℕ, zero, suc, ◌+◌, ◌-◌, ◌^◌, min, ◌<◌, ◌≤◌, ◌==◌, nat_le, nat_lt, not, Bool, true, false, cond, List, [], ◌∷◌, ◌++◌, length, map, Option, Some, None, Ok, refl, sym, ap, ◌∙◌, subst, arith}
 use Rattle.std.specs.List.{count_by, filter}
 use Rattle.std.specs.Option.{is_none, option_and_then}
-use Rattle.std.proofs.lemmas.Bool.{cases_eq, cases_lt, eq-eqb, le-leb, le-ltb, lt-ltb, lt-leb, ltb-false, ne_eqb}
+use Rattle.std.proofs.lemmas.Bool.{cases_eq, eq-eqb, le-leb, le-ltb, lt-ltb, lt-leb, ltb-false, ne_eqb}
 use Rattle.std.proofs.lemmas.List.{length-append}
 use Rattle.std.proofs.lemmas.List.Elements.{filter-append, filter_agree}
 use Rattle.std.proofs.lemmas.List.Sums.{length-filter}
-use Rattle.poll_core.specs.Settling as session
 use Rattle.poll_core.specs.Settling.{pending}
-use Rattle.poll_core.specs.declared.outcome.Closing.{Closing}
 use Rattle.poll_core.specs.declared.outcome.Closing.TheVariants as closing
 use Rattle.office_events.specs.declared.answers.Answer.{Answer}
 use Rattle.office_events.specs.declared.answers.Answer.TheVariants as answer
@@ -22,28 +20,27 @@ use Rattle.office_events.specs.declared.facts.Device.{Device}
 use Rattle.office_events.specs.declared.facts.EndedPoll.{EndedPoll}
 use Rattle.office_events.specs.declared.facts.Fact.{Fact}
 use Rattle.office_events.specs.declared.refusals.Refusal.{Refusal}
-use Rattle.office_rules.specs.Facts.{ends_of, list_of, poll_limit, polls_in}
-use Rattle.office_rules.specs.History.{History, Fed, added_by, facts_of, next_poll, sends_by, sends_from, slots_of, spans_by, with_settled}
+use Rattle.office_rules.specs.Facts.{ends_of, list_of, polls_in}
+use Rattle.office_rules.specs.History.{History, Fed, facts_of, next_poll, sends_by, sends_from, slots_of, spans_by, with_settled}
 use Rattle.office_rules.specs.Lawfulness.{FactsAreLawful, IsPast}
 use Rattle.office_rules.specs.Notes.{notes_after, settled_notes}
 use Rattle.office_rules.specs.PollEndings.{PollsEndOnce, polls_on_present}
 use Rattle.office_rules.specs.PollOrder.{PollsFit}
-use Rattle.office_rules.specs.Refusals.{AreAccepted, reads_in_all, refusal_of, sent_count, unless_refused, with_answer}
+use Rattle.office_rules.specs.Refusals.{AreAccepted, reads_in_all, refusal_of, sent_count, unless_refused}
 use Rattle.office_rules.specs.Sessions.{Slot, sends_at, sends_on, slot_after, slot_of, start_by}
 use Rattle.office_rules.proofs.ApartSlots.{device-after}
 use Rattle.office_rules.proofs.DeviceSlots.{same_devices}
-use Rattle.office_rules.proofs.EndOnce.{Agree, all_agree}
+use Rattle.office_rules.proofs.EndOnce.{all_agree}
 use Rattle.office_rules.proofs.EndedFacts.{polls-with_settled}
-use Rattle.office_rules.proofs.EndedPolls.{waiting_in}
 use Rattle.office_rules.proofs.LawfulChanges.{not_refused}
 use Rattle.office_rules.proofs.SessionLaws.{SessionLaws}
 use Rattle.office_core.specs.EventRun.{Answered}
 use Rattle.office_core.specs.Taking.{IsAnswer}
-use Rattle.office_rounds.specs.Course.{Does, IsTaken, Leave, Next, Over, StartFrom, Take, endings_of, first_by, first_poll, is_ending, next_after, next_behind, next_in, polls_ended, reads_planned, reads_started, start_from}
+use Rattle.office_rounds.specs.Course.{Does, IsTaken, Leave, Next, StartFrom, Take, endings_of, first_by, first_poll, is_ending, next_after, next_behind, next_in, polls_ended, reads_planned, reads_started, start_from}
 use Rattle.office_rounds.specs.FedEvents.{history_behind}
 use Rattle.office_rounds.specs.DeviceRounds.Polls.{ends, numbers, waits}
 use Rattle.office_rounds.specs.DeviceRounds.Rounds.{answered, begun, going_on, heard, stage_after}
-use Rattle.office_rounds.specs.Polling.{Holds, IsFirst, IsOnSession, IsUnderWay, IsUnfed, StandsAt, from_on, is_open, next_at, next_of, round_after}
+use Rattle.office_rounds.specs.Polling.{Holds, IsFirst, IsOnSession, IsUnderWay, StandsAt, from_on, is_open, next_at, next_of, round_after}
 use Rattle.office_rounds.specs.declared.device_rounds.polls.Sum.{Sum}
 use Rattle.office_rounds.specs.declared.device_rounds.round.Round.{Round}
 use Rattle.office_rounds.specs.declared.device_rounds.stage.Stage.{Stage}
@@ -53,7 +50,7 @@ use Rattle.office_rounds.proofs.Goings.{fed_one}
 use Rattle.office_rounds.proofs.Nexts.{start_next}
 use Rattle.office_rounds.proofs.Numbers.{all_pass, counts_from, fewer_open, from_both, left_open, length_from, told_from}
 use Rattle.office_rounds.proofs.OnSession.{after_start, few_open, few_wait, found_after, on_connection, on_piece, on_tick, started_on}
-use Rattle.office_rounds.proofs.Starts.{CanStart, can_be_started, ends_kept, few_sent, narrow_found, polls_more, reads_left, sends_fit, sent_from, some_sent}
+use Rattle.office_rounds.proofs.Starts.{can_be_started, ends_kept, few_sent, narrow_found, polls_more, reads_left, sends_fit, sent_from, some_sent}
 use Rattle.office_rounds.proofs.Timely.{connected_noted}
 use Rattle.office_rounds.proofs.Told.{ends_settled, told, waits_told}
 

@@ -1,7 +1,6 @@
 -- The polls that were started on the present session of a device, and that those which wait are no more than its window.
-use Rattle.std.proofs.Common.{◌≡◌, ◌⊎◌, inl, inr, ℕ, suc, ◌+◌, ◌≤◌, ◌==◌, Bool, true, false, cond, List, [], ◌∷◌, ◌++◌, length, map, Option, Some, None, refl, sym, ap, ◌∙◌, subst, arith, append_assoc, append-nil}
-use Rattle.std.specs.List.{cons_option, filter, find}
-use Rattle.std.specs.Option.{option_and_then}
+use Rattle.std.proofs.Common.{◌≡◌, ℕ, suc, ◌+◌, ◌≤◌, ◌==◌, Bool, true, false, cond, List, [], ◌∷◌, ◌++◌, length, map, Option, Some, None, refl, sym, ap, ◌∙◌, subst, arith, append_assoc, append-nil}
+use Rattle.std.specs.List.{cons_option, filter}
 use Rattle.std.proofs.lemmas.Bool.{cond-false, eq-eqb, ne_eqb}
 use Rattle.std.proofs.lemmas.List.{length-append, length-map}
 use Rattle.std.proofs.lemmas.List.Elements.{filter_map-append}
@@ -11,14 +10,13 @@ use Rattle.poll_core.specs.Settling.{Piece, Tick, pending, results}
 use Rattle.poll_core.specs.declared.outcome.Outcome.{Outcome}
 use Rattle.office_events.specs.declared.commands.Command.TheVariants as command
 use Rattle.office_events.specs.declared.commands.StartRound.{StartRound}
-use Rattle.office_events.specs.declared.events.Event.{Event}
 use Rattle.office_events.specs.declared.events.Event.TheVariants as event
 use Rattle.office_events.specs.declared.facts.Device.{Device}
 use Rattle.office_events.specs.declared.facts.EndedPoll.{EndedPoll}
 use Rattle.office_events.specs.declared.facts.Fact.{Fact}
 use Rattle.office_rules.specs.Facts.{ends_of, is_named}
 use Rattle.office_rules.specs.PollEndings.{polls_of_slot, polls_of_slots, polls_on, polls_on_ended, polls_on_present}
-use Rattle.office_rules.specs.Sessions.{Send, Slot, connects, sends_on, slot_after, slot_of, slot_reached, start_by, with_happenings}
+use Rattle.office_rules.specs.Sessions.{Send, Slot, sends_on, slot_after, slot_of, slot_reached, start_by, with_happenings}
 use Rattle.office_rules.proofs.ApartSlots.{device-after}
 use Rattle.office_rules.proofs.EndedFacts.{ends_are, recorded}
 use Rattle.office_rules.proofs.EndedPolls.{Ended, ends_in, is_of, numbers_in, pick, picked-IsPermutation, waiting_in}

@@ -1,5 +1,5 @@
 -- The steps of a round.
-use Rattle.std.proofs.Common.{◌≡◌, inl, inr, ℕ, ◌<◌, ◌+◌, Bool, true, false, List, [], ◌∷◌, ◌++◌, Option, Some, None, Result, Ok, Err, refl, sym, ap, ◌∙◌, subst, arith, append-nil}
+use Rattle.std.proofs.Common.{◌≡◌, inl, inr, ℕ, ◌<◌, ◌+◌, Bool, List, [], ◌∷◌, ◌++◌, Option, Some, None, Result, Ok, Err, refl, sym, ap, ◌∙◌, subst, arith, append-nil}
 use Rattle.std.proofs.KnownBytes.{Appends-kept, Appends-trans, Consumes-kept, Consumes-trans}
 use Rattle.std.specs.Io.KnownBytes.{Appends, Consumes, Keeps}
 use Rattle.sun_points.specs.Writing.{GotPart}
@@ -15,7 +15,7 @@ use Rattle.office_core.specs.Standing.{books_in, outgoing_in}
 use Rattle.office_core.specs.declared.office.Office.{Office}
 use Rattle.office_rounds.specs.Course.{Connect, Does, IsTaken, Leave, Next, Over, StartFrom, Take, next_in, start_from}
 use Rattle.office_rounds.specs.DeviceRounds.Rounds.{wish_at, wish_of}
-use Rattle.office_rounds.specs.Faults.{AreGiven, IsPrinted, OfOffice, OnlyLink, TakesOn, is_link_fault}
+use Rattle.office_rounds.specs.Faults.{AreGiven, IsPrinted, OnlyLink}
 use Rattle.office_rounds.specs.Polling.{Holds, StandsAt, is_over, next_at, settled}
 use Rattle.office_rounds.specs.Rounds.{BreaksOff, RoundState, Wire}
 use Rattle.office_rounds.specs.Stepping.{Broken, Going, IsUnsent, IsWired, Scene, Steps, StepsFrom}
@@ -259,21 +259,6 @@ not_taken ledger device past begun now from to office fed round same Link before
 )
 not_taken ledger device past begun now from to office fed round same Output before after last brings going taken given = absurd brings
 not_taken ledger device past begun now from to office fed round same TurnsUsed before after last brings going taken given = absurd brings
-
--- a fault of the office is none of the link's
-pub no_link : {X : Type 0} (result : Result X RoundFault) → OfOffice result → is_link_fault result ≡ false
-no_link (Ok x) h = refl
-no_link (Err (Refused why)) h = refl
-no_link (Err Link) h = absurd h
-no_link (Err Output) h = refl
-no_link (Err TurnsUsed) h = absurd h
-
-pub takes_on : {X : Type 0} (result : Result X RoundFault) → OfOffice result → TakesOn result
-takes_on (Ok x) h = tt
-takes_on (Err (Refused why)) h = tt
-takes_on (Err Link) h = absurd h
-takes_on (Err Output) h = tt
-takes_on (Err TurnsUsed) h = absurd h
 
 -- what a turn has told
 pub as_turn : {B : Type 0} (ledger : B → Ledger) (old new : Scene B) (now : Next) (over b : Bool)

@@ -1,8 +1,7 @@
 -- A start of a round that is accepted: it starts a read or more, under the next numbers, and no more than the session has room for.
-use Rattle.std.proofs.Common.{◌≡◌, ◌⊎◌, inl, inr, ℕ, zero, suc, ◌+◌, ◌<◌, ◌≤◌, ◌==◌, nat_le, nat_lt, not, ◌||◌, Bool, true, false, cond, List, [], ◌∷◌, ◌++◌, length, map, drop, reverse, Option, Some, None, refl, sym, ap, ◌∙◌, subst, arith, append_assoc, append-nil}
+use Rattle.std.proofs.Common.{◌≡◌, ◌⊎◌, inl, inr, ℕ, zero, suc, ◌+◌, ◌<◌, ◌≤◌, ◌==◌, nat_le, nat_lt, not, ◌||◌, Bool, true, false, cond, List, [], ◌∷◌, ◌++◌, length, map, reverse, Option, Some, None, refl, sym, ap, ◌∙◌, subst, arith, append_assoc}
 use Rattle.std.specs.List.{filter}
-use Rattle.std.specs.Option.{is_none, option_and_then}
-use Rattle.std.specs.List.Sorted.{IsPermutation}
+use Rattle.std.specs.Option.{is_none}
 use Rattle.std.proofs.lemmas.Bool.{cases_lt, cond-true, leb-false, ltb-false, not-false, or_parts}
 use Rattle.std.proofs.lemmas.List.{length-append, length-map, length-drop}
 use Rattle.std.proofs.lemmas.List.Sorted.{length_permutation}
@@ -10,24 +9,21 @@ use Rattle.mb_wire.specs.declared.span.ReadSpan.{ReadSpan}
 use Rattle.mb_wire.specs.Spans.{span_view}
 use Rattle.poll_core.specs.Settling as session
 use Rattle.poll_core.specs.Settling.{pending}
-use Rattle.poll_core.specs.Starting.{start_fault}
 use Rattle.poll_core.specs.declared.answers.StartFault.{StartFault}
 use Rattle.poll_core.specs.declared.answers.StartFault.TheVariants.{WindowFull}
 use Rattle.poll_core.proofs.Pending.{pending-start}
-use Rattle.office_events.specs.declared.commands.Command.{Command}
 use Rattle.office_events.specs.declared.commands.Command.TheVariants as command
 use Rattle.office_events.specs.declared.commands.StartRound.{StartRound}
-use Rattle.office_events.specs.declared.events.Event.{Event}
 use Rattle.office_events.specs.declared.events.Event.TheVariants as event
 use Rattle.office_events.specs.declared.facts.Device.{Device}
 use Rattle.office_events.specs.declared.facts.Fact.{Fact}
 use Rattle.office_events.specs.declared.facts.Fact.TheVariants as fact
 use Rattle.office_events.specs.declared.facts.Poll.{Poll}
-use Rattle.office_rules.specs.Facts.{devices_in, ended_in, ends_of, is_named, list_of, poll_limit, polls_in}
+use Rattle.office_rules.specs.Facts.{devices_in, ends_of, is_named, poll_limit, polls_in}
 use Rattle.office_rules.specs.History.{History, added_by, facts_of, next_poll, reads_of, round_spans, sends_by, slots_of, spans_by}
 use Rattle.office_rules.specs.Lawful.{AreLawful}
 use Rattle.office_rules.specs.PollEndings.{AreNumbered}
-use Rattle.office_rules.specs.Refusals.{asks_bad_field, asks_beyond, asks_faulty, asks_past_numbers, can_start, is_crowded, is_ready, reads_in_all, refusal_of, sent_count}
+use Rattle.office_rules.specs.Refusals.{asks_bad_field, asks_beyond, asks_faulty, can_start, is_crowded, is_ready, refusal_of, sent_count}
 use Rattle.office_rules.specs.Sessions.{Send, Slot, is_startable, sends_on, slot_of, start_by}
 use Rattle.energy_core.specs.declared.admission.TermFault.TheVariants as fault
 use Rattle.read_plan.specs.PlannedLists.{Planned}

@@ -18,7 +18,7 @@ use Rattle.office_events.specs.declared.answers.Note.{Note}
 use Rattle.office_events.specs.declared.answers.Note.TheVariants as note
 use Rattle.office_events.specs.declared.events.Event.{Event}
 use Rattle.office_events.specs.declared.questions.Installation.{Installation}
-use Rattle.office_rules.specs.Facts.{ended_in, ends_of, poll_of, registers_of}
+use Rattle.office_rules.specs.Facts.{ends_of, poll_of, registers_of}
 use Rattle.office_rules.specs.History.{outcome_of, settled_by, with_outcome, with_outcomes, with_settled}
 use Rattle.office_rules.specs.Meters.{open_at}
 use Rattle.office_rules.specs.Notes.{as_note, outcome_notes, outcomes_notes, reading_note, register_notes, registers_notes, reply_notes, settled_notes, words_notes}

@@ -1,4 +1,4 @@
-use Rattle.std.proofs.Common.{◌≡◌, Some, sym, ap, ◌∙◌}
+use Rattle.std.proofs.Common.{◌≡◌, Some, ap, ◌∙◌}
 use Rattle.office_events.specs.declared.events.Event.TheVariants as event
 use Rattle.office_rounds.specs.DeviceRounds.Rounds.{wish_of}
 use Rattle.office_rounds.proofs.round.connect.Goals as goal

@@ -1,4 +1,4 @@
-use Rattle.std.proofs.Common.{◌∷◌, sym, ◌∙◌, ap, refl}
+use Rattle.std.proofs.Common.{◌∷◌, sym, ◌∙◌, ap}
 use Rattle.office_rounds.specs.Between.{wire_of}
 use Rattle.office_rounds.specs.Polling.{settled}
 use Rattle.office_rounds.proofs.Stages.{next_as, nothing_left, rests, wanted}
