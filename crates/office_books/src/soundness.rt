@@ -1,6 +1,6 @@
 //! Whether the next reading of an installation can be judged.
 ghost use Rattle.std.specs.Prelude.{IsTrue};
-ghost use Rattle.office_books.specs.Sound.{IsSound};
+ghost use Rattle.office_rules.specs.Ranges.{IsSound};
 
 use energy_core::{MAX_CEILING, MAX_RANGE, MAX_TOTAL, MIN_RANGE};
 use office_events::Installation;

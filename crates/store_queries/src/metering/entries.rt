@@ -1,6 +1,6 @@
 //! Entries of meters, by their places.
 ghost use Rattle.std.specs.Prelude.{◌≡◌, false, IfOk, IfSome};
-ghost use Rattle.office_books.specs.Sound.{IsSound};
+ghost use Rattle.office_rules.specs.Ranges.{IsSound};
 ghost use Rattle.office_rules.specs.Meters.{entry_at};
 ghost use Rattle.store_queries.specs.Metering.Entries.{ShowsEntries, ShowsVoids, FindsJournal};
 ghost use Rattle.store_queries.specs.Metering.Looking.{Finds};

@@ -1,6 +1,6 @@
 //! An installation from its rows.
 ghost use Rattle.std.specs.Prelude.{◌≡◌, false, IfOk, IsTrue};
-ghost use Rattle.office_books.specs.Sound.{IsSound};
+ghost use Rattle.office_rules.specs.Ranges.{IsSound};
 ghost use Rattle.store_queries.specs.Metering.Looking.{Finds};
 ghost use Rattle.store_queries.specs.Metering.Meters.{opening_from, standing_from, IsStanding};
 

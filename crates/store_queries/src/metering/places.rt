@@ -5,7 +5,7 @@ ghost use Rattle.energy_core.specs.Account.{IsAccount};
 ghost use Rattle.meter_journal.specs.Books as books;
 ghost use Rattle.meter_journal.specs.Journal.{entries_in, row_at};
 ghost use Rattle.meter_journal.specs.Lists as lists;
-ghost use Rattle.office_books.specs.Sound.{IsSound};
+ghost use Rattle.office_rules.specs.Ranges.{IsSound};
 ghost use Rattle.office_events.specs.declared.facts.Fact.{Fact};
 ghost use Rattle.office_events.specs.declared.facts.Opening.{Opening};
 ghost use Rattle.office_rules.specs.Meters as meters;

@@ -1,6 +1,6 @@
 use Rattle.std.specs.Prelude.{Option, IfSome}
 use Rattle.office_events.specs.declared.questions.Installation.{Installation}
-use Rattle.office_books.specs.Sound.{IsSound}
+use Rattle.office_rules.specs.Ranges.{IsSound}
 use Rattle.office_store.proofs.Looking.{finds_meter, reads, sound}
 use Rattle.office_store.proofs.tables.SqlBooksBooks.meter.Goals as goal
 
