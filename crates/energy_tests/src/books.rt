@@ -65,7 +65,8 @@ fn books_after_a_void(rt: HostRuntime) {
 
 #[test]
 fn rows_that_may_be_any(rt: HostRuntime) {
-    assert!(rt; checked_tally(&HOUSE, &ROWS) == Some(tally_after(&HOUSE, &ROWS)));
+    let tally = checked_tally(&HOUSE, &ROWS).expect(&rt, "a tally");
+    assert!(rt; tally.total == 300_000 && tally.last.raw == 5300);
     let back = EntryRow {
         place: 4,
         ..ROWS[1]
