@@ -1,8 +1,8 @@
 -- Texts that a link was given, one after the other.
-use Rattle.std.proofs.Common.{ℕ, List, [], ◌++◌, Option, None, Some, Result, Ok, Err, sym, ap, ◌∙◌, append-nil, append_assoc, take, drop, subst}
-use Rattle.std.proofs.lemmas.List.{take-append-drop}
+use Rattle.std.proofs.Common.{ℕ, List, [], ◌++◌, Option, None, Some, Result, Ok, Err, sym, ap, ◌∙◌, append-nil, append_assoc}
 use Rattle.std.proofs.KnownBytes.{Appends-trans, Appends-kept}
 use Rattle.std.specs.Io.KnownBytes.{Appends, Keeps}
+use Rattle.mb_wire.specs.Links.{Gives}
 use Rattle.sun_points.specs.Writing.{GotPart, GotText}
 
 pub part_after : (a b c : Option (List ℕ)) (x y : List ℕ) → Appends a b x → GotPart y b c → GotPart (x ++ y) a c
@@ -18,10 +18,10 @@ pub got_both : {X E : Type 0} (result : Result X E) (a b c : Option (List ℕ)) 
 got_both (Ok done) a b c x y first second = Appends-trans a b c x y first second
 got_both (Err error) a b c x y first second = part_after a b c x y first second
 
-pub given_then : {X E : Type 0} (result : Result X E) (a b c : Option (List ℕ)) (bytes : List ℕ) (n : ℕ) → Appends a b (take n bytes)
-    → GotText result (drop n bytes) b c → GotText result bytes a c
-given_then result a b c bytes n first second =
-    subst (λ (text : List ℕ). GotText result text a c) (take-append-drop n bytes) (got_both result a b c (take n bytes) (drop n bytes) first second)
+-- what was given whole was got, and of what was not, a part
+pub got_of : {X E : Type 0} (result : Result X E) (a b : Option (List ℕ)) (bytes : List ℕ) → Gives result a b bytes → GotText result bytes a b
+got_of (Ok done) a b bytes gives = gives
+got_of (Err error) a b bytes gives = (gives.part, gives.unsent, gives.whole, gives.given)
 
 pub kept_nothing : (a b : Option (List ℕ)) → Keeps a b → Appends a b []
 kept_nothing None b kept = tt

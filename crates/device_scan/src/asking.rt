@@ -16,14 +16,7 @@ fn give_all<L: Link>(link: &mut L, bytes: &[u8]) -> Result<(), LinkFailed>
     ensures takes { L.taken link.new ≡ L.taken link.old }
     ensures ends { L.ended link.new ≡ L.ended link.old }
 {
-    if bytes.is_empty() {
-        return Ok(());
-    }
-    let count = link.give(bytes)?;
-    if count == 0 {
-        return Err(LinkFailed);
-    }
-    give_all(link, &bytes[count..])
+    mb_wire::give_all(link, bytes)
 }
 
 /// Gives the request of a try.
