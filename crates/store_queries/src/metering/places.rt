@@ -1,5 +1,5 @@
 //! Where a meter stood before one of its entries.
-ghost use Rattle.std.specs.Prelude.{◌≡◌, ◌≤◌, List, take, IsTrue, IfOk, IfSome};
+ghost use Rattle.std.specs.Prelude.{◌≡◌, ◌≤◌, List, take, IsTrue, IfOk, IfErr, IfSome};
 ghost use Rattle.std.specs.Option.{option_map};
 ghost use Rattle.energy_core.specs.Account.{IsAccount};
 ghost use Rattle.meter_journal.specs.Books as books;
@@ -10,6 +10,7 @@ ghost use Rattle.office_events.specs.declared.facts.Fact.{Fact};
 ghost use Rattle.office_events.specs.declared.facts.Opening.{Opening};
 ghost use Rattle.office_rules.specs.Meters as meters;
 ghost use Rattle.office_rules.specs.Meters.{installation_of, rows_of, place_in};
+ghost use Rattle.store_tables.specs.declared.faults.RowFault.TheVariants.{Damaged};
 ghost use Rattle.store_queries.specs.Metering.Places.{HasNumbers};
 
 use energy_core::{
@@ -62,8 +63,9 @@ pub fn tally(meter: &Installed, rows: &[EntryRow]) -> Result<Tally, RowFault>
     requires range_low { MIN_RANGE ≤ meter.now.range }
     requires range_high { meter.now.range ≤ MAX_RANGE }
     requires installed { books.IsWellInstalled meter.now }
-    ensures { let es = entries_in (lists.latest_first rows.now) in
+    ensures account { let es = entries_in (lists.latest_first rows.now) in
         IfOk result (λ t. IsAccount meter.now.range meter.now.opening es t.last t.total) }
+    ensures fault { IfErr result (λ e. e ≡ Damaged) }
 {
     accounts_are_sound();
     let Some(counter) = Ranged::new(meter.range) else {
@@ -106,6 +108,7 @@ fn behind(whole: &Installation, rows: &[EntryRow]) -> Result<Installation, RowFa
     ensures stands { let es = entries_in (lists.latest_first rows.now) in
         IfOk result (λ row. row ≡ meters.standing whole.now.opening es whole.now.ended) }
     ensures sound { IfOk result IsSound }
+    ensures fault { IfErr result (λ e. e ≡ Damaged) }
 {
     accounts_are_sound();
     let opening = whole.opening;
@@ -133,6 +136,7 @@ pub(crate) fn placed(
         → lists.latest_first rows.now ≡ rows_of facts o → IfOk result
         (λ found. found ≡ option_map (place_in facts o) (row_at place (rows_of facts o))) }
     ensures sound { IfOk result (λ found. IfSome found (λ p. IsSound p.before)) }
+    ensures fault { IfErr result (λ e. e ≡ Damaged) }
 {
     if !are_numbered(rows) {
         return Err(RowFault::Damaged);

@@ -18,7 +18,7 @@ returns-clause-sound c =
     let es : List Entry = entries_in (latest_first c.args.rows.now) in
     let numbers : HasNumbers o = c.if-not-has_numbers.ensures true-holds in
     let account : IsAccount o.range (opened o) es c.in_ok-tally.tally.last c.in_ok-tally.tally.total =
-    subst (λ (m : Installed). IsAccount m.range m.opening es c.in_ok-tally.tally.last c.in_ok-tally.tally.total) c.installed-meter.ensures c.in_ok-tally.ensures in
+    subst (λ (m : Installed). IsAccount m.range m.opening es c.in_ok-tally.tally.last c.in_ok-tally.tally.total) c.installed-meter.ensures c.in_ok-tally.ensures.account in
     let sound = c.accounts_are_sound.ensures o.range (opened o) es c.in_ok-tally.tally.last c.in_ok-tally.tally.total numbers.raw numbers.scale account in
     record {
       range = numbers.range;
