@@ -15,8 +15,7 @@ use Rattle.office_rules.specs.Facts.{same, openings_in, opening_of, installed_at
 use Rattle.office_rules.specs.Lawful.{AreLawful}
 use Rattle.office_rules.specs.Meters.{rows_of, installation_of}
 use Rattle.office_rules.specs.Laws.{VoidsLeaveNoTrace, IsRecorded}
-use Rattle.office_rules.specs.Ranges.{IsInRange, InstallationsAreInRange}
-use Rattle.office_books.specs.Sound.{IsSound}
+use Rattle.office_rules.specs.Ranges.{IsSound, InstallationsAreInRange}
 use Rattle.office_events.specs.Names.{is_name}
 use Rattle.store_queries.specs.Metering.Sound.{HasNames, IsNamed}
 use Rattle.store_queries.proofs.FindingLemmas.Lists.{all_found}
@@ -164,7 +163,7 @@ found_is facts (Some o) x row found is finds stands = ap Some (stands o (subst (
 
 -- ---- what lawful facts have
 
-pub in_range : (facts : List Fact) (o : Opening) → IsInRange (installation_of facts o) → IsSound (installation_of facts o)
+pub in_range : (facts : List Fact) (o : Opening) → IsSound (installation_of facts o) → IsSound (installation_of facts o)
 in_range facts o h = record { range = h.range; ceiling = h.ceiling; raw = h.raw; scale = h.scale; total = h.total }
 
 -- the names of an opening whose row was found

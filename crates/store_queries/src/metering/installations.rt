@@ -1,6 +1,6 @@
 //! An installation from its rows.
 ghost use Rattle.std.specs.Prelude.{◌≡◌, false, IfOk, IfErr, IsTrue};
-ghost use Rattle.office_books.specs.Sound.{IsSound};
+ghost use Rattle.office_rules.specs.Ranges.{IsSound};
 ghost use Rattle.store_queries.specs.Finding.Finding.{Finds};
 ghost use Rattle.store_queries.specs.Metering.Meters.{IsRowOf, opening_from, standing_from, IsStanding};
 ghost use Rattle.store_queries.specs.Metering.Sound.{IsNamed, HasReadableMeters};

@@ -1,6 +1,6 @@
 //! Installations, by meter and by register.
 ghost use Rattle.std.specs.Prelude.{◌≡◌, false, length, IfOk, IfSome, IsUtf8};
-ghost use Rattle.office_books.specs.Sound.{IsSound};
+ghost use Rattle.office_rules.specs.Ranges.{IsSound};
 ghost use Rattle.office_rules.specs.Facts.{openings_in};
 ghost use Rattle.office_rules.specs.Meters.{meter_of, installation_at};
 ghost use Rattle.store_queries.specs.Finding.Finding.{Finds};
