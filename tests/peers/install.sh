@@ -20,6 +20,7 @@ has() {
         libmodbus) printf '#include <modbus.h>\n' | cc -E $(flags --cflags) - > "$room/said" 2>&1 ;;
         pymodbus) [ -n "$(python_of_pymodbus)" ] ;;
         prometheus) [ -n "$(python_of_prometheus)" ] ;;
+        prometheus-server) command -v prometheus > "$room/said" ;;
         *) command -v "$1" > "$room/said" ;;
     esac
 }
@@ -44,6 +45,9 @@ packages() {
             libmodbus) echo libmodbus-dev pkg-config ;;
             pymodbus) echo python3-pymodbus python3-serial-asyncio ;;
             prometheus) echo python3-prometheus-client ;;
+            promtool | prometheus-server) echo prometheus ;;
+            nginx) echo nginx-light ;;
+            systemd-analyze) echo systemd ;;
             *) echo "$it" ;;
         esac
     done
