@@ -8,6 +8,10 @@ commands =
     command_with (codes "replay") (optional_option (codes "zone") ∷ [])
     ∷ command_with (codes "plan") []
     ∷ command_with (codes "chain") []
+    ∷ command_with (codes "scan")
+    (optional_option (codes "host") ∷ required_option (codes "port")
+    ∷ optional_option (codes "unit") ∷ optional_option (codes "timeout")
+    ∷ flag (codes "list") ∷ optional_option (codes "setup") ∷ [])
     ∷ command_with (codes "create")
     (required_option (codes "db") ∷ required_option (codes "zone") ∷ [])
     ∷ command_with (codes "serve")

@@ -36,6 +36,15 @@ pub enum CommandLine<'a> {
         db: &'a str,
         register: &'a str,
     },
+    /// The SunSpec models of a live device: listed, as a point list, or as the lines that set the device up under a name.
+    Scan {
+        host: &'a str,
+        port: u16,
+        unit: u8,
+        timeout: u32,
+        list: bool,
+        setup: Option<&'a str>,
+    },
     /// A Modbus device with a bank from standard input, for a number of connections.
     StandIn {
         host: &'a str,

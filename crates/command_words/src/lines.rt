@@ -2,13 +2,15 @@
 ghost use Rattle.clap.specs.Words.{subcommand_rows_of};
 ghost use Rattle.command_words.specs.Values.Devices.{places_of};
 ghost use Rattle.command_words.specs.Lines.{command_in, create_in, devices_at, line_in, report_in};
-ghost use Rattle.command_words.specs.Lines.{round_in, run_in, seen, serve_in, stand_in_in};
+ghost use Rattle.command_words.specs.Lines.{round_in, run_in, scan_in, seen, serve_in, stand_in_in};
 ghost use Rattle.command_words.specs.Options.{Reads, rows_in};
 
 use crate::faults::ValueFault;
 use crate::line::CommandLine;
-use crate::options::{is_set, number, number_if, text, text_or};
-use crate::table::{CONNECTIONS, EVERY, HOST, LASTS, LISTEN, PORT, ZONE};
+use crate::options::{is_set, number, number_if, number_or, text, text_if, text_or};
+use crate::table::{
+    CONNECTIONS, EVERY, FIRST_UNIT, HOST, LASTS, LISTEN, PATIENCE, PORT, TIMEOUT, UNIT, ZONE,
+};
 use crate::values::{Device, ListFault, devices_in};
 use clap::ArgMatches;
 use std::alloc::Global;
@@ -56,6 +58,30 @@ fn report_line<'a>(found: &ArgMatches<'a>) -> Result<CommandLine<'a>, ValueFault
     Ok(CommandLine::Report { db, register })
 }
 
+fn scan_line<'a>(found: &ArgMatches<'a>) -> Result<CommandLine<'a>, ValueFault<'a>>
+    ensures { Reads seen (scan_in (rows_in found.now)) result }
+{
+    let port = number(found, PORT)?;
+    let unit = number_or(found, UNIT, FIRST_UNIT)?;
+    let timeout = number_or(found, TIMEOUT, PATIENCE)?;
+    let list = is_set(found, "list");
+    let setup = text_if(found, "setup");
+    if list && setup.is_some() {
+        return Err(ValueFault::Both {
+            one: "list",
+            other: "setup",
+        });
+    }
+    Ok(CommandLine::Scan {
+        host: text_or(found, "host", HOST),
+        port: port as u16,
+        unit: unit as u8,
+        timeout,
+        list,
+        setup,
+    })
+}
+
 fn stand_in_line<'a>(found: &ArgMatches<'a>) -> Result<CommandLine<'a>, ValueFault<'a>>
     ensures { Reads seen (stand_in_in (rows_in found.now)) result }
 {
@@ -99,6 +125,7 @@ fn run_line<'a>(alloc: Global, found: &ArgMatches<'a>) -> Result<CommandLine<'a>
 }
 
 // The command of a name, with what was found of its options.
+#[tactic(auto, unfolding(crate::specs::Lines::command_in))]
 fn command_line<'a>(
     alloc: Global,
     name: &'a str,
@@ -121,6 +148,7 @@ fn command_line<'a>(
             zone: text_or(found, "zone", ZONE),
         }),
         "run" => run_line(alloc, found),
+        "scan" => scan_line(found),
         _ => Err(ValueFault::Command { name }),
     }
 }

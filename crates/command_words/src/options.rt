@@ -1,7 +1,7 @@
 //! The values of a command's options.
 ghost use Rattle.std.specs.Prelude.{◌≡◌, ◌≤◌, IfOk, option_map};
 ghost use Rattle.command_words.specs.Values.Numbers.{number_up_to};
-ghost use Rattle.command_words.specs.Options.{Reads, is_set, number_at, number_if, rows_in};
+ghost use Rattle.command_words.specs.Options.{Reads, is_set, number_at, number_if, number_or, rows_in};
 ghost use Rattle.command_words.specs.Options.{text_at, text_or};
 
 use crate::faults::ValueFault;
@@ -53,6 +53,23 @@ pub fn number_if<'a>(
     }
 }
 
+// The number of an option that has one where it isn't given.
+pub fn number_or<'a>(
+    found: &ArgMatches<'a>,
+    option: NumberOption<'static>,
+    otherwise: u32,
+) -> Result<u32, ValueFault<'a>>
+    requires { otherwise ≤ option.most }
+    ensures value { Reads (λ number. number)
+        (number_or otherwise option.entry.most option.entry.name.now (rows_in found.now)) result }
+    ensures within { IfOk result (λ number. number ≤ option.entry.most) }
+{
+    match value(found, option.name) {
+        Some(word) => number_in(option, word),
+        None => Ok(otherwise),
+    }
+}
+
 // The number that a word spells, in the range of its option.
 fn number_in<'a>(option: NumberOption<'static>, word: &'a str) -> Result<u32, ValueFault<'a>>
     ensures value { Reads (λ number. number) (number_up_to option.entry.most word.now) result }
@@ -65,6 +82,13 @@ fn number_in<'a>(option: NumberOption<'static>, word: &'a str) -> Result<u32, Va
 }
 
 // The text of an option that may lack.
+pub fn text_if<'a>(found: &ArgMatches<'a>, option: &str) -> Option<&'a str>
+    ensures { option_map (λ text. text.now) result ≡ text_at option.now (rows_in found.now) }
+{
+    value(found, option)
+}
+
+// The text of an option that is another one where it isn't given.
 pub fn text_or<'a>(found: &ArgMatches<'a>, option: &'static str, otherwise: &'a str) -> &'a str
     ensures { result.now ≡ text_or otherwise.entry.now option.now (rows_in found.now) }
 {

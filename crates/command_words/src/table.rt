@@ -45,6 +45,24 @@ pub const LASTS: NumberOption<'static> = NumberOption {
     most: 4_000_000_000,
 };
 
+pub const UNIT: NumberOption<'static> = NumberOption {
+    name: "unit",
+    value: "U",
+    most: 255,
+};
+
+pub const TIMEOUT: NumberOption<'static> = NumberOption {
+    name: "timeout",
+    value: "SECONDS",
+    most: 60,
+};
+
+/// The unit where none is given.
+pub const FIRST_UNIT: u32 = 1;
+
+/// How many seconds a device has for a reply where it isn't given.
+pub const PATIENCE: u32 = 5;
+
 const DB: OptionText<'static> = OptionText {
     name: "db",
     value: Value::Required("FILE"),
@@ -166,6 +184,36 @@ const REPORT: CommandText<'static> = CommandText {
     options: &[DB, REGISTER],
 };
 
+const SCAN: CommandText<'static> = CommandText {
+    name: "scan",
+    about: "Lists the SunSpec models of a live device, which it only reads",
+    after: "Example: sunreg scan --host 192.0.2.7 --port 502 --setup inv > inv.txt",
+    options: &[
+        DEVICE_HOST,
+        DEVICE_PORT,
+        OptionText {
+            name: "unit",
+            value: Value::Optional("U"),
+            help: "Modbus unit, 1 to 255; 1 where it is left out",
+        },
+        OptionText {
+            name: "timeout",
+            value: Value::Optional("SECONDS"),
+            help: "How long a reply may take, 1 to 60; 5 where it is left out",
+        },
+        OptionText {
+            name: "list",
+            value: Value::Absent,
+            help: "Prints the point list of the models instead",
+        },
+        OptionText {
+            name: "setup",
+            value: Value::Optional("DEVICE"),
+            help: "Prints the lines that set the device up instead",
+        },
+    ],
+};
+
 const STAND_IN: CommandText<'static> = CommandText {
     name: "stand-in",
     about: "Plays a Modbus device, with a bank from standard input",
@@ -222,6 +270,6 @@ pub const PROGRAM: ProgramText<'static> = ProgramText {
             Example: sunreg replay < script.txt\n\
             Exit status: 0 fine, 1 refused, 2 wrong words, 3 a file, stream or socket failed",
     commands: &[
-        REPLAY, PLAN, CHAIN, CREATE, SERVE, ROUND, REPORT, STAND_IN, LOOP, RUN,
+        REPLAY, PLAN, CHAIN, SCAN, CREATE, SERVE, ROUND, REPORT, STAND_IN, LOOP, RUN,
     ],
 };

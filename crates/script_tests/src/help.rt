@@ -41,6 +41,7 @@ Commands:
   replay    Runs a script from standard input over books in memory
   plan      Prints the reads that a point list from standard input needs
   chain     Lists the SunSpec models of an image from standard input
+  scan      Lists the SunSpec models of a live device, which it only reads
   create    Makes the tables of a new office in a file
   serve     Answers HTTP on 127.0.0.1, one connection after the other
   round     Polls the whole plan of one device once

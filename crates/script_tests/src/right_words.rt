@@ -1,7 +1,7 @@
 //! Words that spell a command.
 use command_words::{CommandLine, Device, command_of};
 
-const RIGHT: [(&[&str], CommandLine<'static>); 14] = [
+const RIGHT: [(&[&str], CommandLine<'static>); 17] = [
     // no word is replay
     (&[], CommandLine::Replay { zone: "UTC0" }),
     (&["replay"], CommandLine::Replay { zone: "UTC0" }),
@@ -82,6 +82,61 @@ const RIGHT: [(&[&str], CommandLine<'static>); 14] = [
         CommandLine::Report {
             db: "o.db",
             register: "Main,=1 \u{3bc}",
+        },
+    ),
+    // unit 1 and five seconds where none are given
+    (
+        &["scan", "--port", "502"],
+        CommandLine::Scan {
+            host: "127.0.0.1",
+            port: 502,
+            unit: 1,
+            timeout: 5,
+            list: false,
+            setup: None,
+        },
+    ),
+    (
+        &[
+            "scan",
+            "--host",
+            "meter.lan",
+            "--port",
+            "502",
+            "--list",
+            "--unit",
+            "255",
+            "--timeout",
+            "60",
+        ],
+        CommandLine::Scan {
+            host: "meter.lan",
+            port: 502,
+            unit: 255,
+            timeout: 60,
+            list: true,
+            setup: None,
+        },
+    ),
+    (
+        &[
+            "scan",
+            "--port",
+            "502",
+            "--setup",
+            "inv",
+            "--unit",
+            "2",
+            "--timeout",
+            "1",
+        ],
+        CommandLine::Scan {
+            host: "127.0.0.1",
+            port: 502,
+            unit: 2,
+            timeout: 1,
+            list: false,
+            setup: Some("inv"),
         },
     ),
     (
