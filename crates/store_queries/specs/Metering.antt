@@ -2,4 +2,3 @@ pub mod Sound
 pub mod Looking
 pub mod Meters
 pub mod Entries
-pub mod Places

@@ -1,5 +1,5 @@
 //! An installation from its rows.
-ghost use Rattle.std.specs.Prelude.{◌≡◌, false, IfOk, IfErr, IsTrue};
+ghost use Rattle.std.specs.Prelude.{◌≡◌, false, IfOk, IfErr};
 ghost use Rattle.office_rules.specs.Ranges.{IsSound};
 ghost use Rattle.store_queries.specs.Finding.Finding.{Finds};
 ghost use Rattle.store_queries.specs.Metering.Meters.{IsRowOf, opening_from, standing_from, IsStanding};
@@ -8,7 +8,8 @@ ghost use Rattle.office_events.specs.declared.facts.Opening.{Opening as Recorded
 ghost use Rattle.store_tables.specs.declared.faults.RowFault.TheVariants.{Damaged};
 
 use crate::metering::rows::{first_entry, range};
-use energy_core::{Last, MAX_CEILING, MAX_RANGE, MAX_TOTAL, MIN_RANGE};
+use energy_core::Last;
+use office_books::is_sound;
 use office_events::{Installation, Opening};
 use office_rules::installations_are_in_range;
 use sqlite::{Alter, Connection};
@@ -35,18 +36,6 @@ fn opening(
         raw: first.raw,
         sf: first.sf,
     })
-}
-
-/// Whether the numbers of an installation are in their ranges.
-fn is_sound(row: &Installation) -> bool
-    ensures sound { IsTrue result → IsSound row.now }
-    ensures unsound { result ≡ false → ¬ IsSound row.now }
-{
-    let ranged = MIN_RANGE <= row.opening.range && row.opening.range <= MAX_RANGE;
-    let limited = 1 <= row.opening.ceiling && row.opening.ceiling <= MAX_CEILING;
-    let scaled = -3 <= row.last.sf && row.last.sf <= 3;
-    let shown = u64::from(row.last.raw) < row.opening.range;
-    ranged && limited && scaled && shown && row.total <= MAX_TOTAL
 }
 
 /// An installation, if its numbers are in their ranges.
