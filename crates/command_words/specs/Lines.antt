@@ -4,7 +4,8 @@ use Rattle.std.specs.Str.{bytes_eq}
 use Rattle.clap.specs.Words.{Row, Text}
 use Rattle.command_words.specs.Values.Devices.{Place, devices_in, place_of}
 use Rattle.command_words.specs.Values.Given.{given}
-use Rattle.command_words.specs.Options.{is_set, number_at, number_if, number_or, text_at, text_or}
+use Rattle.command_words.specs.ClapTable.Table.{texts}
+use Rattle.command_words.specs.Options.{is_set, number_at, number_if, number_or, text_at, text_or, texts_at}
 use Rattle.command_words.specs.declared.line.CommandLine.{CommandLine}
 use Rattle.command_words.specs.declared.line.CommandLine.TheVariants as line
 
@@ -14,29 +15,30 @@ pub data Line : Type 0 where
   Plan : Line
   Chain : Line
   Create : (db zone : Text) → Line
-  Serve : (db : Text) (port connections : ℕ) → Line
+  Serve : (db : Text) (port connections : ℕ) (hosts : List Text) → Line
   Round : (db device host : Text) (port : ℕ) → Line
   Report : (db register : Text) → Line
   Scan : (host : Text) (port unit timeout : ℕ) (list : Bool) (setup : Option Text) → Line
   StandIn : (host : Text) (port connections : ℕ) → Line
   Loop : (zone : Text) → Line
-  Run : (db : Text) (listen every : ℕ) (devices : List Place) (lasts : Option ℕ) (verbose : Bool)
-      → Line
+  Run : (db : Text) (listen every : ℕ) (devices : List Place) (lasts : Option ℕ)
+      (hosts : List Text) (verbose : Bool) → Line
 
 abbrev pub seen : CommandLine → Line
 seen (line.Replay zone) = Replay zone.now
 seen line.Plan = Plan
 seen line.Chain = Chain
 seen (line.Create db zone) = Create db.now zone.now
-seen (line.Serve db port connections) = Serve db.now port connections
+seen (line.Serve db port connections hosts) =
+    Serve db.now port connections (texts hosts.items)
 seen (line.Round db device host port) = Round db.now device.now host.now port
 seen (line.Report db register) = Report db.now register.now
 seen (line.Scan host port unit timeout list setup) =
     Scan host.now port unit timeout list (option_map (λ text. text.now) setup)
 seen (line.StandIn host port connections) = StandIn host.now port connections
 seen (line.Loop zone) = Loop zone.now
-seen (line.Run db listen every devices lasts verbose) =
-    Run db.now listen every (map place_of devices.items) lasts verbose
+seen (line.Run db listen every devices lasts hosts verbose) =
+    Run db.now listen every (map place_of devices.items) lasts (texts hosts.items) verbose
 
 -- ---- the options that several commands have
 
@@ -55,6 +57,10 @@ port_in rows = number_at 65535 (codes "port") rows
 abbrev pub connections_in : List Row → Option ℕ
 connections_in rows = number_at 1000000 (codes "connections") rows
 
+-- by which names HTTP may be asked
+abbrev pub hosts_in : List Row → List Text
+hosts_in rows = texts_at (codes "host-name") rows
+
 -- ---- the commands
 
 abbrev pub create_in : List Row → Option Line
@@ -66,7 +72,8 @@ abbrev pub serve_in : List Row → Option Line
 serve_in rows =
     given (db_in rows) (λ db.
     given (port_in rows) (λ port.
-    given (connections_in rows) (λ connections. Some (Serve db port connections))))
+    given (connections_in rows) (λ connections.
+    Some (Serve db port connections (hosts_in rows)))))
 
 abbrev pub round_in : List Row → Option Line
 round_in rows =
@@ -107,7 +114,7 @@ run_in rows =
     given (number_at 86400 (codes "every") rows) (λ every.
     given (number_if 4000000000 (codes "for") rows) (λ lasts.
     given (devices_at rows) (λ devices.
-    Some (Run db listen every devices lasts (is_set (codes "verbose") rows)))))))
+    Some (Run db listen every devices lasts (hosts_in rows) (is_set (codes "verbose") rows)))))))
 
 -- the command of a name, with what was found of its options
 unfoldable pub command_in : Text → List Row → Option Line

@@ -18,11 +18,12 @@ pub enum CommandLine<'a> {
         db: &'a str,
         zone: &'a str,
     },
-    /// HTTP, for a number of connections.
+    /// HTTP, for a number of connections. It may be asked by the names of this machine alone, and by these.
     Serve {
         db: &'a str,
         port: u16,
         connections: u32,
+        host_names: Vec<&'a str>,
     },
     /// One round of a device.
     Round {
@@ -62,6 +63,7 @@ pub enum CommandLine<'a> {
         every: u32,
         devices: Vec<Device<'a>>,
         lasts: Option<u32>,
+        host_names: Vec<&'a str>,
         verbose: bool,
     },
 }

@@ -7,9 +7,10 @@ ghost use Rattle.command_words.specs.Options.{Reads, rows_in};
 
 use crate::faults::ValueFault;
 use crate::line::CommandLine;
-use crate::options::{is_set, number, number_if, number_or, text, text_if, text_or};
+use crate::options::{is_set, number, number_if, number_or, text, text_if, text_or, texts};
 use crate::table::{
-    CONNECTIONS, EVERY, FIRST_UNIT, HOST, LASTS, LISTEN, PATIENCE, PORT, TIMEOUT, UNIT, ZONE,
+    CONNECTIONS, EVERY, FIRST_UNIT, HOST, HOST_NAME, LASTS, LISTEN, PATIENCE, PORT, TIMEOUT, UNIT,
+    ZONE,
 };
 use crate::values::{Device, ListFault, devices_in};
 use clap::ArgMatches;
@@ -23,16 +24,18 @@ fn create_line<'a>(found: &ArgMatches<'a>) -> Result<CommandLine<'a>, ValueFault
     Ok(CommandLine::Create { db, zone })
 }
 
-fn serve_line<'a>(found: &ArgMatches<'a>) -> Result<CommandLine<'a>, ValueFault<'a>>
+fn serve_line<'a>(alloc: Global, found: &ArgMatches<'a>) -> Result<CommandLine<'a>, ValueFault<'a>>
     ensures { Reads seen (serve_in (rows_in found.now)) result }
 {
     let db = text(found, "db")?;
     let port = number(found, PORT)?;
     let connections = number(found, CONNECTIONS)?;
+    let host_names = texts(alloc, found, HOST_NAME)?;
     Ok(CommandLine::Serve {
         db,
         port: port as u16,
         connections,
+        host_names,
     })
 }
 
@@ -114,12 +117,14 @@ fn run_line<'a>(alloc: Global, found: &ArgMatches<'a>) -> Result<CommandLine<'a>
     let every = number(found, EVERY)?;
     let lasts = number_if(found, LASTS)?;
     let devices = devices(alloc, found)?;
+    let host_names = texts(alloc, found, HOST_NAME)?;
     Ok(CommandLine::Run {
         db,
         listen: listen as u16,
         every,
         devices,
         lasts,
+        host_names,
         verbose: is_set(found, "verbose"),
     })
 }
@@ -140,7 +145,7 @@ fn command_line<'a>(
         "plan" => Ok(CommandLine::Plan),
         "chain" => Ok(CommandLine::Chain),
         "create" => create_line(found),
-        "serve" => serve_line(found),
+        "serve" => serve_line(alloc, found),
         "round" => round_line(found),
         "report" => report_line(found),
         "stand-in" => stand_in_line(found),

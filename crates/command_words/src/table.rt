@@ -15,6 +15,9 @@ pub const ZONE: &str = "UTC0";
 /// The host where none is given.
 pub const HOST: &str = "127.0.0.1";
 
+/// The option whose values are names by which HTTP may be asked.
+pub const HOST_NAME: &str = "host-name";
+
 pub const PORT: NumberOption<'static> = NumberOption {
     name: "port",
     value: "N",
@@ -123,6 +126,12 @@ const SERVED: OptionText<'static> = OptionText {
     help: "Ends after this many connections, 1 to 1000000",
 };
 
+const ASKED_NAME: OptionText<'static> = OptionText {
+    name: HOST_NAME,
+    value: Value::Repeated("NAME"),
+    help: "Another name that Host may say; may stand several times",
+};
+
 const DEVICE: OptionText<'static> = OptionText {
     name: "device",
     value: Value::Required("NAME"),
@@ -167,7 +176,7 @@ const SERVE: CommandText<'static> = CommandText {
     name: "serve",
     about: "Answers HTTP on 127.0.0.1, one connection after the other",
     after: "Example: sunreg serve --db office.db --port 8080 --connections 100",
-    options: &[DB, HTTP_PORT, SERVED],
+    options: &[DB, HTTP_PORT, SERVED, ASKED_NAME],
 };
 
 const ROUND: CommandText<'static> = CommandText {
@@ -254,6 +263,7 @@ const RUN: CommandText<'static> = CommandText {
             value: Value::Optional("SECONDS"),
             help: "Ends after this long, 1 to 4000000000",
         },
+        ASKED_NAME,
         OptionText {
             name: "verbose",
             value: Value::Absent,

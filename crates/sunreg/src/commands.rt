@@ -29,7 +29,8 @@ pub(crate) fn carry_out<'a>(rt: &HostRuntime, line: &CommandLine<'a>) -> Ending<
             db,
             port,
             connections,
-        } => serve(rt, *db, *port, *connections),
+            host_names,
+        } => serve(rt, *db, *port, host_names.as_slice(), *connections),
         CommandLine::Round {
             db,
             device,
@@ -43,9 +44,10 @@ pub(crate) fn carry_out<'a>(rt: &HostRuntime, line: &CommandLine<'a>) -> Ending<
             every,
             devices,
             lasts,
+            host_names,
             verbose,
         } => {
-            let settings = settings_of(*listen, *every, *lasts, *verbose);
+            let settings = settings_of(*listen, *every, *lasts, host_names.as_slice(), *verbose);
             run(rt, *db, devices, &settings)
         }
     }
