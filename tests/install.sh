@@ -1,9 +1,9 @@
 #!/bin/bash
-# Types the commands of docs/INSTALL.md, in order, and holds what they print to what stands below them: `tests/install.sh [PROGRAM]`, out/sunreg by default, which `./sunreg-build` makes;
-# where it isn't built, tests/deploy/office.py stands in for it. Nothing of this machine changes: all runs in namespaces of its own, with a scratch /etc, /var, /usr/local, /root, /run and
-# /dev, and a loopback network alone, where 192.0.2.7 and meters.example are this machine's. There is no init system in there, so tests/deploy/bin plays systemctl and journalctl. Commands
-# that need one, or the network, aren't typed, and are named. What lacks is installed by apt where this is run as root (not with PEERS_INSTALL=no); commands of what can't be had aren't typed. It needs root,
-# takes two minutes, and ends on 'N passed, M failed'.
+# Types the commands of docs/INSTALL.md, in order, and holds what they print to what stands below them; and then lets the unit's program end in each way: `tests/install.sh [PROGRAM]`,
+# out/sunreg by default, which `./sunreg-build` makes; where it isn't built, tests/deploy/office.py stands in for it. Nothing of this machine changes: all runs in namespaces of its own, over
+# a scratch /etc, /var, /usr/local, /root, /run and /dev, under a systemd of its own that has nothing but the units of the page, and with a loopback network alone, where 192.0.2.7 and
+# meters.example are this machine's. Commands that need a network aren't typed, and are named. What lacks is installed by apt where this is run as root (not with PEERS_INSTALL=no); commands
+# of what can't be had aren't typed. It needs root and cgroups of version 2, takes two and a half minutes, and ends on 'N passed, M failed'.
 set -u
 here=$(dirname "$(readlink -f "$0")")
 page=$here/../docs/INSTALL.md
@@ -22,7 +22,6 @@ typed() {
             nginx:*nginx* | nginx:ask\ *prometheus\ * | nginx:ask\ * | nginx:sleep\ 90 | nginx:*api/v1*) return 1 ;;
             prometheus:*/etc/prometheus* | prometheus:*prometheus.yml* | prometheus:*etc/default/prometheus* | prometheus:systemctl\ *prometheus | prometheus:sleep\ 90 | prometheus:*api/v1*) return 1 ;;
             sqlite3:*sqlite3* | sqlite3:mv\ * | sqlite3:*/var/backups/*) return 1 ;;
-            systemd-analyze:systemctl\ daemon-reload) return 1 ;;
         esac
     done
 }
@@ -82,41 +81,78 @@ same() {
     fi
 }
 
-within() {
-    local it
-    mount --make-rprivate /
-    mount -t tmpfs -o mode=755 scratch "$ROOM" || exit 2
-    for it in /etc /var /usr/local /root; do
-        over $it || { echo "install.sh: $it can't be laid over" >&2; exit 2; }
+# waits SECONDS WORDS..: tries words until they end well
+waits() {
+    local turn seconds=$1
+    shift
+    for turn in $(seq $((5 * seconds))); do
+        "$@" > "$ROOM/said" 2>&1 && return
+        sleep 0.2
     done
-    mkdir "$ROOM/dev"
-    for it in null zero full random urandom tty; do
-        [ -e /dev/$it ] || continue
-        touch "$ROOM/dev/$it"
-        mount --bind /dev/$it "$ROOM/dev/$it"
-    done
-    ln -s /proc/self/fd "$ROOM/dev/fd"
-    mkdir "$ROOM/dev/shm"
-    chmod 1777 "$ROOM/dev/shm"
-    mount --rbind "$ROOM/dev" /dev
-    mount -t tmpfs -o mode=755 scratch /run
-    ip link set lo up
-    ip address add 192.0.2.7/32 dev lo
-    echo '127.0.0.1 meters.example' >> /etc/hosts
-    # as on a fresh machine
-    userdel sunreg 2> "$ROOM/said"
-    rm -rf /var/lib/sunreg /etc/default/sunreg /etc/nginx/sunreg.*
+    return 1
+}
 
-    # the top of the repository, with the program, where another user reads it
-    cp -r "$ROOM.copy" "$ROOM/sunreg"
-    cd "$ROOM/sunreg" || exit 2
-    PATH=$ROOM/sunreg/tests/deploy/bin:/usr/local/sbin:/usr/local/bin:/usr/sbin:/usr/bin:/sbin:/bin
-    python3 -c 'import socket, sys
-journal = socket.socket(socket.AF_UNIX, socket.SOCK_DGRAM)
-journal.bind("/dev/log")
-while True: print(journal.recv(65536).decode(), flush=True)' > "$ROOM/journal" &
-    while [ ! -S /dev/log ]; do sleep 0.1; done
-    chmod 666 /dev/log
+# shown NAME..: properties of the unit, in systemd's order
+shown() {
+    systemctl show $(printf -- '--property=%s ' "$@") --value sunreg | paste -s -d ' '
+}
+
+# ends STATUS: lets the program end so as soon as it begins, for five seconds, and tells whether it was begun anew, and what the unit is three seconds after it may run
+ends() {
+    local anew
+    echo "$1" > /var/lib/sunreg/ends
+    systemctl reset-failed sunreg 2> "$ROOM/said"
+    systemctl start sunreg
+    sleep 5
+    anew=$(shown NRestarts)
+    rm /var/lib/sunreg/ends
+    sleep 3
+    echo "$([ "$anew" = 0 ] && echo once || echo again) $(systemctl is-active sunreg)"
+    systemctl stop sunreg
+}
+
+# unit_ends: the unit as it is, but for the pause before it begins anew, over a program that ends as it is told
+unit_ends() {
+    local main status
+    useradd --system --home-dir /var/lib/sunreg --shell /usr/sbin/nologin sunreg
+    install -m 644 deploy/sunreg.env /etc/default/sunreg
+    install -m 644 deploy/sunreg.service /etc/systemd/system/sunreg.service
+    mkdir /etc/systemd/system/sunreg.service.d
+    printf '[Service]\nRestartSec=1\n' > /etc/systemd/system/sunreg.service.d/soon.conf
+    printf '#!/bin/sh\n[ ! -e /var/lib/sunreg/ends ] || exit "$(cat /var/lib/sunreg/ends)"\nexec %s "$@"\n' "$PWD/out/sunreg" > /usr/local/bin/sunreg
+    chmod 755 /usr/local/bin/sunreg
+    systemctl daemon-reload
+    # (without a file it ends with 3)
+    systemctl start sunreg
+    same 'its folder is made, and is its own' "$(stat -c '%U %G %a' /var/lib/sunreg)" 'sunreg sunreg 750'
+    runuser -u sunreg -- sunreg create --db /var/lib/sunreg/office.db --zone UTC0 > "$ROOM/said" 2>&1
+    same 'it begins once it has its file' "$(waits 10 curl -sf http://127.0.0.1:8080/status && systemctl is-active sunreg)" active
+    main=$(shown MainPID)
+    status=/proc/$main/status
+    same 'it has its user, and no capability' "$(stat -c %U "/proc/$main") $(sed -n 's/^Cap...:\t//p' "$status" | sort -u)" 'sunreg 0000000000000000'
+    same 'it gets no more' "$(sed -n 's/^NoNewPrivs:\t//p' "$status") $(sed -n 's/^Seccomp:\t//p' "$status")" '1 2'
+    for it in /etc /var/lib /usr/local /home; do
+        same "$it can't be written" "$(nsenter -t "$main" -m touch "$it/new" 2>&1 | grep -c 'Read-only file system')" 1
+    done
+    same 'its folder can be' "$(nsenter -t "$main" -m touch /var/lib/sunreg/new 2>&1; rm -f /var/lib/sunreg/new)" ''
+    systemctl reset-failed sunreg
+    systemctl kill --signal=KILL sunreg
+    sleep 3
+    same 'SIGKILL: it is begun anew' "$(shown NRestarts ActiveState)" '1 active'
+    systemctl kill --signal=TERM sunreg
+    sleep 3
+    same 'SIGTERM: it stays ended, and that is no fault' "$(shown Result ActiveState)" 'success inactive'
+    same 'status 1' "$(ends 1)" 'once failed'
+    same 'status 2' "$(ends 2)" 'once failed'
+    same 'status 3' "$(ends 3)" 'again active'
+}
+
+# typing: what is done once systemd runs
+typing() {
+    cd /usr/local/src/sunreg || exit 2
+    PATH=/usr/local/sbin:/usr/local/bin:/usr/sbin:/usr/bin:/sbin:/bin
+    waits 30 systemctl is-active --quiet multi-user.target || { echo "install.sh: no systemd begins here" >&2; exit 2; }
+    systemctl start systemd-journald.socket systemd-journald-dev-log.socket systemd-journald.service
     if [ "$is_built" = yes ]; then
         printf 'area holding 40000 100\nset holding 40095 5200\n' | out/sunreg stand-in --host 192.0.2.7 --port 502 --connections 1000 > "$ROOM/device" 2>&1 &
     fi
@@ -124,18 +160,62 @@ while True: print(journal.recv(65536).decode(), flush=True)' > "$ROOM/journal" &
     type_page
     same 'the user is gone' "$(id -u sunreg 2> "$ROOM/said")" ''
     same 'and all files are' "$(find /etc /var/lib /usr/local/bin /root -name '*sunreg*' 2> "$ROOM/said")" ''
+    unit_ends
     echo "$passed passed, $failed failed"
     [ "$failed" = 0 ]
 }
 
-if [ "${1:-}" = --within ]; then
+# within: lays the scratch folders, and becomes systemd
+within() {
+    local it
+    mount --make-rprivate /
+    mount -t tmpfs -o mode=755 scratch "$ROOM" || exit 2
+    for it in /etc /var /usr/local /root; do
+        over $it || { echo "install.sh: $it can't be laid over" >&2; exit 2; }
+    done
+    mkdir "$ROOM/dev" "$ROOM/dev/shm" "$ROOM/dev/pts" "$ROOM/units"
+    chmod 1777 "$ROOM/dev/shm"
+    for it in null zero full random urandom tty; do
+        [ -e /dev/$it ] || continue
+        touch "$ROOM/dev/$it"
+        mount --bind /dev/$it "$ROOM/dev/$it"
+    done
+    ln -s /proc/self/fd "$ROOM/dev/fd"
+    ln -s pts/ptmx "$ROOM/dev/ptmx"
+    mount --rbind "$ROOM/dev" /dev
+    mount -t devpts -o newinstance,ptmxmode=666 devpts /dev/pts
+    mount -t tmpfs -o mode=755 scratch /run
+    # the kernel's words can be read alone; of cgroups those below ours are all that there are
+    mount --bind /proc/sys /proc/sys && mount -o remount,bind,ro /proc/sys || exit 2
+    mount --bind /sys /sys && mount -o remount,bind,ro /sys && mount -t cgroup2 cgroup2 /sys/fs/cgroup || exit 2
+    ip link set lo up
+    ip address add 192.0.2.7/32 dev lo
+    echo '127.0.0.1 meters.example' >> /etc/hosts
+    # as on a fresh machine
+    userdel sunreg 2> "$ROOM/said"
+    rm -rf /var/lib/sunreg /etc/default/sunreg /etc/nginx/sunreg.* /etc/systemd/system/* /var/log/journal
+    # the top of the repository, with the program, where another user reads it
+    mkdir -p /usr/local/src
+    cp -r "$ROOM.copy" /usr/local/src/sunreg
+    chmod -R a+rX /usr/local/src/sunreg
+    for it in sysinit basic multi-user shutdown network-online nss-lookup time-sync; do
+        printf '[Unit]\nDefaultDependencies=no\n' > "$ROOM/units/$it.target"
+    done
+    for it in systemd-journald.service systemd-journald.socket systemd-journald-dev-log.socket nginx.service prometheus.service; do
+        cp "/lib/systemd/system/$it" "$ROOM/units" 2> "$ROOM/said"
+    done
+    (bash "$0" --typing "$ROOM" "$is_built" "$lacks"; echo $? > "$ROOM.copy/ended") &
+    export container=sunreg-install SYSTEMD_UNIT_PATH=/etc/systemd/system:$ROOM/units SYSTEMD_LOG_TARGET=null
+    exec setpriv --bounding-set=-sys_time,-sys_module,-sys_boot,-sys_rawio,-syslog --inh-caps=-all /lib/systemd/systemd --unit=multi-user.target > "$ROOM/systemd" 2>&1 < /dev/null
+}
+
+if [ "${1:-}" = --within ] || [ "${1:-}" = --typing ]; then
     ROOM=$2
     is_built=$3
     lacks=$4
-    export ROOM
     passed=0
     failed=0
-    within
+    "${1#--}"
     exit
 fi
 
@@ -143,11 +223,27 @@ fi
 
 program=${1:-$here/../out/sunreg}
 room=$(mktemp -d) || exit 2
-trap 'rm -rf "$room" "$room.copy"' EXIT
+mkdir "$room.copy"
+trap 'leave; rm -rf "$room" "$room.copy"' EXIT
 . "$here/peers/install.sh"
+
+# leave: ends all that was begun in there, and takes its cgroups away
+leave() {
+    [ -d "${group:-}" ] || return
+    for turn in $(seq 50); do
+        running=$(find "$group" -name cgroup.procs -exec cat {} + 2> /dev/null)
+        [ -n "$running" ] || break
+        kill -9 $running 2> /dev/null
+        sleep 0.1
+    done
+    find "$group" -depth -type d -exec rmdir {} + 2> /dev/null
+}
+
 install python3 curl openssl sqlite3 nginx promtool systemd-analyze
-if [ "$(id -u)" != 0 ] || ! unshare --mount --net --pid --fork true 2> "$room/said"; then
-    echo "$0: not root, or there are no namespaces here: nothing can be typed" >&2
+groups=$(findmnt -n -t cgroup2 -o TARGET | head -n 1)
+group=$groups$(sed -n 's/^0:://p' /proc/self/cgroup)/sunreg-install.$$
+if [ "$(id -u)" != 0 ] || [ -z "$groups" ] || [ ! -x /lib/systemd/systemd ] || ! unshare --mount --net --pid --uts --ipc --cgroup --fork true 2> "$room/said" || ! mkdir "$group" 2> "$room/said"; then
+    echo "$0: not root, or without namespaces, cgroups of version 2 or systemd: nothing can be typed" >&2
     exit 2
 fi
 mkdir -p "$room.copy/out" "$room.copy/crates/office_tests/src"
@@ -161,13 +257,17 @@ if [ -x "$program" ]; then
     cp "$program" "$room.copy/out/sunreg"
 else
     echo "$0: $program is not built: tests/deploy/office.py stands in for it"
-    printf '#!/bin/sh\nexec /usr/bin/python3 -B %s/sunreg/tests/deploy/office.py "$@"\n' "$room" > "$room.copy/out/sunreg"
-    chmod 755 "$room.copy/out/sunreg"
+    printf '#!/bin/sh\nexec /usr/bin/python3 -B /usr/local/src/sunreg/tests/deploy/office.py "$@"\n' > "$room.copy/out/sunreg"
 fi
+chmod 755 "$room.copy/out/sunreg"
 # (what lacks, by the names of commands)
 lacks=
-for it in nginx sqlite3 systemd-analyze; do
+for it in nginx sqlite3; do
     has $it || lacks="$lacks $it"
 done
 has promtool && has prometheus-server || lacks="$lacks prometheus"
-unshare --mount --net --pid --fork --kill-child --mount-proc "$0" --within "$room" "$is_built" "$lacks"
+sh -c 'echo $$ > "$0/cgroup.procs" && exec "$@"' "$group" \
+    unshare --mount --net --pid --uts --ipc --cgroup --fork --kill-child --mount-proc "$here/install.sh" --within "$room" "$is_built" "$lacks" &
+disown
+until [ -e "$room.copy/ended" ] || ! kill -0 $! 2> /dev/null; do sleep 0.5; done
+exit "$(cat "$room.copy/ended" 2> /dev/null || echo 2)"
