@@ -1,4 +1,4 @@
-use Rattle.std.proofs.Common.{◌≡◌, ℕ, List, IsTrue, true, false, rules, ap, subst, Some, None}
+use Rattle.std.proofs.Common.{◌≡◌, ℕ, List, IsTrue, true, false, rules, sym, subst, Some}
 use Rattle.std.specs.Prelude.{is_some}
 use Rattle.energy_core.specs.declared.entries.Entry.{Entry}
 use Rattle.energy_core.specs.Account.{IsAccount}
@@ -19,7 +19,7 @@ pub returns-in_default-clause-found : goal.returns-in_default-clause-found
 returns-in_default-clause-found c = λ numbers account.
     let is : c.installed-meter.result ≡ installed c.args.opening.now = c.installed-meter.ensures in
     let es : List Entry = entries_in (latest_first c.args.rows.now) in
-    let of : HasAccount c.installed-meter.result es = subst (λ (m : Installed). HasAccount m es) (λ i. is (~ i)) account in
+    let of : HasAccount c.installed-meter.result es = subst (λ (m : Installed). HasAccount m es) (sym is) account in
     absurd (let bad : IsTrue false = c.checked_tally.ensures.if_so of in cc)
 
 pub returns-clause-found : goal.returns-clause-found
