@@ -101,7 +101,7 @@ ends() {
     local anew
     echo "$1" > /var/lib/sunreg/ends
     systemctl reset-failed sunreg 2> "$ROOM/said"
-    systemctl start sunreg
+    systemctl start sunreg 2> "$ROOM/said"
     sleep 5
     anew=$(shown NRestarts)
     rm /var/lib/sunreg/ends
@@ -122,7 +122,7 @@ unit_ends() {
     chmod 755 /usr/local/bin/sunreg
     systemctl daemon-reload
     # (without a file it ends with 3)
-    systemctl start sunreg
+    systemctl start sunreg 2> "$ROOM/said"
     same 'its folder is made, and is its own' "$(stat -c '%U %G %a' /var/lib/sunreg)" 'sunreg sunreg 750'
     runuser -u sunreg -- sunreg create --db /var/lib/sunreg/office.db --zone UTC0 > "$ROOM/said" 2>&1
     same 'it begins once it has its file' "$(waits 10 curl -sf http://127.0.0.1:8080/status && systemctl is-active sunreg)" active
