@@ -174,7 +174,7 @@ def ask_in_pieces(path, size=16):
     """How long a reply took to a request that came in pieces, and its first line."""
     begun = time.time()
     with socket.create_connection(("127.0.0.1", PORT), timeout=30) as stream:
-        text = f"GET {path} HTTP/1.1\r\nHost: office\r\n\r\n".encode()
+        text = f"GET {path} HTTP/1.1\r\nHost: 127.0.0.1\r\n\r\n".encode()
         for k in range(0, len(text), size):
             stream.sendall(text[k : k + size])
             time.sleep(0.001)
@@ -362,7 +362,7 @@ with socket.create_connection(("127.0.0.1", PORT), timeout=10) as stream:
         line = None
     same("a head that is not whole has no reply yet", line, None)
     stream.settimeout(10)
-    stream.sendall(b"Host: office\r\n\r\n")
+    stream.sendall(b"Host: 127.0.0.1\r\n\r\n")
     holds("and one once it is", stream.recv(100).startswith(b"HTTP/1.1 200 OK\r\n"))
 with socket.create_connection(("127.0.0.1", PORT), timeout=10) as stream:
     stream.setsockopt(socket.SOL_SOCKET, socket.SO_LINGER, struct.pack("ii", 1, 0))

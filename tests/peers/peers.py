@@ -319,6 +319,24 @@ def try_round(db, name, words, turn):
     same(f"a round over {name}", (done.returncode, sorted(printed), done.stderr), (0, sorted(wanted), ""))
 
 
+def try_scan(name, words):
+    """A chain of models that are all known, unknown and long, as `chain` prints it of the same words."""
+    shown = {40000: 0x5375, 40001: 0x6E53, 40068: 0xFFFF, 40069: 0}
+    models = ((40002, 9, 3), (40007, 101, 50))
+    for address, model, length in models:
+        shown.update({address + offset: offset for offset in range(2, length + 2)})
+        shown.update({address: model, address + 1: length})
+    shown.update({40059: 9, 40060: 7, 40068: 0xFFFF})
+    path = ROOM / "chain"
+    path.write_text("".join(f"holding {address} {word}\n" for address, word in sorted(shown.items())))
+    port, child = device(words, str(path))
+    done = run(PROGRAM, "scan", "--port", str(port), "--unit", str(UNIT))
+    stop(child)
+    image = "".join(f"{address} {word:04x}\n" for address, word in sorted(shown.items()))
+    wanted = run(PROGRAM, "chain", text=image).stdout
+    same(f"a scan of {name}", (done.returncode, done.stdout, done.stderr), (0, wanted, ""))
+
+
 def try_rows(db, rounds):
     """Each table, as sqlite3 reads it."""
     polls, last = 3 * rounds, rounds - 1
@@ -437,6 +455,8 @@ def main():
     for client in clients():
         carried_out(try_client, *client)
     carried_out(try_frames)
+    for name, words in servers():
+        carried_out(try_scan, name, words)
     db = str(ROOM / "office.db")
     done = run(PROGRAM, "create", "--db", db, "--zone", "UTC0")
     same("create", (done.returncode, done.stdout, done.stderr), (0, "", ""))

@@ -64,7 +64,7 @@ def answers(port, target):
     for _ in range(TURNS):
         begin = time.monotonic()
         with socket.create_connection(("127.0.0.1", port), timeout=60) as link:
-            link.sendall(f"GET {target} HTTP/1.1\r\nHost: here\r\n\r\n".encode())
+            link.sendall(f"GET {target} HTTP/1.1\r\nHost: 127.0.0.1\r\n\r\n".encode())
             got = b"".join(iter(lambda: link.recv(65536), b""))
         took.append(time.monotonic() - begin)
     return min(took), got.partition(b"\r\n\r\n")[2]

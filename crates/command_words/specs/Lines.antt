@@ -1,10 +1,11 @@
 -- The command that the words spell.
-use Rattle.std.specs.Prelude.{ℕ, Bool, List, Option, Some, None, codes, map, if◌then◌else◌}
+use Rattle.std.specs.Prelude.{ℕ, Bool, ◌&&◌, is_some, List, Option, Some, None, codes, map, option_map, if◌then◌else◌}
 use Rattle.std.specs.Str.{bytes_eq}
 use Rattle.clap.specs.Words.{Row, Text}
 use Rattle.command_words.specs.Values.Devices.{Place, devices_in, place_of}
 use Rattle.command_words.specs.Values.Given.{given}
-use Rattle.command_words.specs.Options.{is_set, number_at, number_if, text_at, text_or}
+use Rattle.command_words.specs.ClapTable.Table.{texts}
+use Rattle.command_words.specs.Options.{is_set, number_at, number_if, number_or, text_at, text_or, texts_at}
 use Rattle.command_words.specs.declared.line.CommandLine.{CommandLine}
 use Rattle.command_words.specs.declared.line.CommandLine.TheVariants as line
 
@@ -14,26 +15,30 @@ pub data Line : Type 0 where
   Plan : Line
   Chain : Line
   Create : (db zone : Text) → Line
-  Serve : (db : Text) (port connections : ℕ) → Line
+  Serve : (db : Text) (port connections : ℕ) (hosts : List Text) → Line
   Round : (db device host : Text) (port : ℕ) → Line
   Report : (db register : Text) → Line
+  Scan : (host : Text) (port unit timeout : ℕ) (list : Bool) (setup : Option Text) → Line
   StandIn : (host : Text) (port connections : ℕ) → Line
   Loop : (zone : Text) → Line
-  Run : (db : Text) (listen every : ℕ) (devices : List Place) (lasts : Option ℕ) (verbose : Bool)
-      → Line
+  Run : (db : Text) (listen every : ℕ) (devices : List Place) (lasts : Option ℕ)
+      (hosts : List Text) (verbose : Bool) → Line
 
 abbrev pub seen : CommandLine → Line
 seen (line.Replay zone) = Replay zone.now
 seen line.Plan = Plan
 seen line.Chain = Chain
 seen (line.Create db zone) = Create db.now zone.now
-seen (line.Serve db port connections) = Serve db.now port connections
+seen (line.Serve db port connections hosts) =
+    Serve db.now port connections (texts hosts.items)
 seen (line.Round db device host port) = Round db.now device.now host.now port
 seen (line.Report db register) = Report db.now register.now
+seen (line.Scan host port unit timeout list setup) =
+    Scan host.now port unit timeout list (option_map (λ text. text.now) setup)
 seen (line.StandIn host port connections) = StandIn host.now port connections
 seen (line.Loop zone) = Loop zone.now
-seen (line.Run db listen every devices lasts verbose) =
-    Run db.now listen every (map place_of devices.items) lasts verbose
+seen (line.Run db listen every devices lasts hosts verbose) =
+    Run db.now listen every (map place_of devices.items) lasts (texts hosts.items) verbose
 
 -- ---- the options that several commands have
 
@@ -52,6 +57,10 @@ port_in rows = number_at 65535 (codes "port") rows
 abbrev pub connections_in : List Row → Option ℕ
 connections_in rows = number_at 1000000 (codes "connections") rows
 
+-- by which names HTTP may be asked
+abbrev pub hosts_in : List Row → List Text
+hosts_in rows = texts_at (codes "host-name") rows
+
 -- ---- the commands
 
 abbrev pub create_in : List Row → Option Line
@@ -63,7 +72,8 @@ abbrev pub serve_in : List Row → Option Line
 serve_in rows =
     given (db_in rows) (λ db.
     given (port_in rows) (λ port.
-    given (connections_in rows) (λ connections. Some (Serve db port connections))))
+    given (connections_in rows) (λ connections.
+    Some (Serve db port connections (hosts_in rows)))))
 
 abbrev pub round_in : List Row → Option Line
 round_in rows =
@@ -75,6 +85,19 @@ abbrev pub report_in : List Row → Option Line
 report_in rows =
     given (db_in rows) (λ db.
     given (text_at (codes "register") rows) (λ register. Some (Report db register)))
+
+-- of a list and lines to set a device up only one is printed
+abbrev pub one_of : (list : Bool) (setup : Option Text) → Line → Option Line
+one_of list setup line = if list && is_some setup then None else Some line
+
+abbrev pub scan_in : List Row → Option Line
+scan_in rows =
+    let list = is_set (codes "list") rows in
+    let setup = text_at (codes "setup") rows in
+    given (port_in rows) (λ port.
+    given (number_or 1 255 (codes "unit") rows) (λ unit.
+    given (number_or 5 60 (codes "timeout") rows) (λ timeout.
+    one_of list setup (Scan (host_in rows) port unit timeout list setup))))
 
 abbrev pub stand_in_in : List Row → Option Line
 stand_in_in rows =
@@ -91,10 +114,10 @@ run_in rows =
     given (number_at 86400 (codes "every") rows) (λ every.
     given (number_if 4000000000 (codes "for") rows) (λ lasts.
     given (devices_at rows) (λ devices.
-    Some (Run db listen every devices lasts (is_set (codes "verbose") rows)))))))
+    Some (Run db listen every devices lasts (hosts_in rows) (is_set (codes "verbose") rows)))))))
 
 -- the command of a name, with what was found of its options
-abbrev pub command_in : Text → List Row → Option Line
+unfoldable pub command_in : Text → List Row → Option Line
 command_in name rows =
     if bytes_eq name (codes "replay") then Some (Replay (zone_in rows))
     else (if bytes_eq name (codes "plan") then Some Plan
@@ -106,7 +129,8 @@ command_in name rows =
     else (if bytes_eq name (codes "stand-in") then stand_in_in rows
     else (if bytes_eq name (codes "loop") then Some (Loop (zone_in rows))
     else (if bytes_eq name (codes "run") then run_in rows
-    else None)))))))))
+    else (if bytes_eq name (codes "scan") then scan_in rows
+    else None))))))))))
 
 -- no command is `replay` without options
 abbrev pub line_in : Option (Text × List Row) → Option Line

@@ -1,8 +1,8 @@
 -- The values that `clap` found of a command's options, and what reading them answers.
-use Rattle.std.specs.Prelude.{◌≡◌, ℕ, Bool, List, Option, Some, None, false, Result, MatchResult, ⊤, codes, unwrap_or, option_map}
+use Rattle.std.specs.Prelude.{◌≡◌, ℕ, Bool, List, [], Option, Some, None, false, Result, MatchResult, ⊤, codes, unwrap_or, option_map}
 use Rattle.std.specs.Str.{bytes_eq}
 use Rattle.std.specs.Option.{option_map_or}
-use Rattle.clap.specs.Words.{Row, Text, first_of, found_of, rows_of}
+use Rattle.clap.specs.Words.{Row, Text, all_of, first_of, found_of, rows_of}
 use Rattle.clap.specs.declared.parser.matches.ArgMatches.{ArgMatches}
 use Rattle.command_words.specs.Values.Given.{given}
 use Rattle.command_words.specs.Values.Numbers.{number_up_to}
@@ -28,6 +28,18 @@ if_some reads (Some value) = option_map Some (reads value)
 abbrev pub number_if : ℕ → Text → List Row → Option (Option ℕ)
 number_if most id rows = if_some (number_up_to most) (text_at id rows)
 
+-- a number that is another one where it isn't given
+abbrev pub or_else : {A B : Type 0} → B → (A → Option B) → Option A → Option B
+or_else otherwise reads None = Some otherwise
+or_else otherwise reads (Some value) = reads value
+
+abbrev pub number_or : (otherwise most : ℕ) → Text → List Row → Option ℕ
+number_or otherwise most id rows = or_else otherwise (number_up_to most) (text_at id rows)
+
+-- the values of one that may stand several times
+abbrev pub texts_at : Text → List Row → List Text
+texts_at id rows = unwrap_or (all_of id rows) []
+
 abbrev pub text_or : Text → Text → List Row → Text
 text_or otherwise id rows = unwrap_or (text_at id rows) otherwise
 
@@ -39,6 +51,7 @@ abbrev pub IsDue : {A : Type 0} → ValueFault → Option A → Type 0
 IsDue fault.Memory due = ⊤
 IsDue (fault.Missing option) due = None ≡ due
 IsDue (fault.Number option word) due = None ≡ due
+IsDue (fault.Both one other) due = None ≡ due
 IsDue (fault.Command name) due = None ≡ due
 IsDue (fault.Device part fault) due = None ≡ due
 

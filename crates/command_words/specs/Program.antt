@@ -1,18 +1,22 @@
 -- The program's commands and options.
 use Rattle.std.specs.Prelude.{List, [], ◌∷◌, codes}
 use Rattle.clap.specs.Words.{App}
-use Rattle.command_words.specs.ClapTable.Table.{command_with, flag, optional_option, program_with, required_option}
+use Rattle.command_words.specs.ClapTable.Table.{command_with, flag, optional_option, program_with, repeated_option, required_option}
 
 abbrev pub commands : List App
 commands =
     command_with (codes "replay") (optional_option (codes "zone") ∷ [])
     ∷ command_with (codes "plan") []
     ∷ command_with (codes "chain") []
+    ∷ command_with (codes "scan")
+    (optional_option (codes "host") ∷ required_option (codes "port")
+    ∷ optional_option (codes "unit") ∷ optional_option (codes "timeout")
+    ∷ flag (codes "list") ∷ optional_option (codes "setup") ∷ [])
     ∷ command_with (codes "create")
     (required_option (codes "db") ∷ required_option (codes "zone") ∷ [])
     ∷ command_with (codes "serve")
     (required_option (codes "db") ∷ required_option (codes "port")
-    ∷ required_option (codes "connections") ∷ [])
+    ∷ required_option (codes "connections") ∷ repeated_option (codes "host-name") ∷ [])
     ∷ command_with (codes "round")
     (required_option (codes "db") ∷ required_option (codes "device")
     ∷ optional_option (codes "host") ∷ required_option (codes "port") ∷ [])
@@ -25,7 +29,8 @@ commands =
     ∷ command_with (codes "run")
     (required_option (codes "db") ∷ required_option (codes "listen")
     ∷ required_option (codes "every") ∷ required_option (codes "devices")
-    ∷ optional_option (codes "for") ∷ flag (codes "verbose") ∷ [])
+    ∷ optional_option (codes "for") ∷ repeated_option (codes "host-name")
+    ∷ flag (codes "verbose") ∷ [])
     ∷ []
 
 abbrev pub program : App

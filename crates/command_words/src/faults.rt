@@ -17,6 +17,11 @@ pub enum ValueFault<'a> {
         option: NumberOption<'a>,
         word: &'a str,
     },
+    /// Two options stand, of which one may.
+    Both {
+        one: &'a str,
+        other: &'a str,
+    },
     /// No command has the name.
     Command {
         name: &'a str,
@@ -51,6 +56,10 @@ impl<'a> Display for ValueFault<'a> {
                 f,
                 "error: invalid value '{word}' for '--{} <{}>': not a number from 1 to {}",
                 option.name, option.value, option.most
+            )?,
+            ValueFault::Both { one, other } => write!(
+                f,
+                "error: the argument '--{one}' cannot be used with '--{other}'"
             )?,
             ValueFault::Command { name } => write!(f, "error: unrecognized subcommand '{name}'")?,
             ValueFault::Device { part, fault } => {

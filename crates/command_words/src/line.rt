@@ -18,11 +18,12 @@ pub enum CommandLine<'a> {
         db: &'a str,
         zone: &'a str,
     },
-    /// HTTP, for a number of connections.
+    /// HTTP, for a number of connections. It may be asked by the names of this machine alone, and by these.
     Serve {
         db: &'a str,
         port: u16,
         connections: u32,
+        host_names: Vec<&'a str>,
     },
     /// One round of a device.
     Round {
@@ -35,6 +36,15 @@ pub enum CommandLine<'a> {
     Report {
         db: &'a str,
         register: &'a str,
+    },
+    /// The SunSpec models of a live device: listed, as a point list, or as the lines that set the device up under a name.
+    Scan {
+        host: &'a str,
+        port: u16,
+        unit: u8,
+        timeout: u32,
+        list: bool,
+        setup: Option<&'a str>,
     },
     /// A Modbus device with a bank from standard input, for a number of connections.
     StandIn {
@@ -53,6 +63,7 @@ pub enum CommandLine<'a> {
         every: u32,
         devices: Vec<Device<'a>>,
         lasts: Option<u32>,
+        host_names: Vec<&'a str>,
         verbose: bool,
     },
 }

@@ -2,13 +2,16 @@
 ghost use Rattle.clap.specs.Words.{subcommand_rows_of};
 ghost use Rattle.command_words.specs.Values.Devices.{places_of};
 ghost use Rattle.command_words.specs.Lines.{command_in, create_in, devices_at, line_in, report_in};
-ghost use Rattle.command_words.specs.Lines.{round_in, run_in, seen, serve_in, stand_in_in};
+ghost use Rattle.command_words.specs.Lines.{round_in, run_in, scan_in, seen, serve_in, stand_in_in};
 ghost use Rattle.command_words.specs.Options.{Reads, rows_in};
 
 use crate::faults::ValueFault;
 use crate::line::CommandLine;
-use crate::options::{is_set, number, number_if, text, text_or};
-use crate::table::{CONNECTIONS, EVERY, HOST, LASTS, LISTEN, PORT, ZONE};
+use crate::options::{is_set, number, number_if, number_or, text, text_if, text_or, texts};
+use crate::table::{
+    CONNECTIONS, EVERY, FIRST_UNIT, HOST, HOST_NAME, LASTS, LISTEN, PATIENCE, PORT, TIMEOUT, UNIT,
+    ZONE,
+};
 use crate::values::{Device, ListFault, devices_in};
 use clap::ArgMatches;
 use std::alloc::Global;
@@ -21,16 +24,18 @@ fn create_line<'a>(found: &ArgMatches<'a>) -> Result<CommandLine<'a>, ValueFault
     Ok(CommandLine::Create { db, zone })
 }
 
-fn serve_line<'a>(found: &ArgMatches<'a>) -> Result<CommandLine<'a>, ValueFault<'a>>
+fn serve_line<'a>(alloc: Global, found: &ArgMatches<'a>) -> Result<CommandLine<'a>, ValueFault<'a>>
     ensures { Reads seen (serve_in (rows_in found.now)) result }
 {
     let db = text(found, "db")?;
     let port = number(found, PORT)?;
     let connections = number(found, CONNECTIONS)?;
+    let host_names = texts(alloc, found, HOST_NAME)?;
     Ok(CommandLine::Serve {
         db,
         port: port as u16,
         connections,
+        host_names,
     })
 }
 
@@ -54,6 +59,30 @@ fn report_line<'a>(found: &ArgMatches<'a>) -> Result<CommandLine<'a>, ValueFault
     let db = text(found, "db")?;
     let register = text(found, "register")?;
     Ok(CommandLine::Report { db, register })
+}
+
+fn scan_line<'a>(found: &ArgMatches<'a>) -> Result<CommandLine<'a>, ValueFault<'a>>
+    ensures { Reads seen (scan_in (rows_in found.now)) result }
+{
+    let port = number(found, PORT)?;
+    let unit = number_or(found, UNIT, FIRST_UNIT)?;
+    let timeout = number_or(found, TIMEOUT, PATIENCE)?;
+    let list = is_set(found, "list");
+    let setup = text_if(found, "setup");
+    if list && setup.is_some() {
+        return Err(ValueFault::Both {
+            one: "list",
+            other: "setup",
+        });
+    }
+    Ok(CommandLine::Scan {
+        host: text_or(found, "host", HOST),
+        port: port as u16,
+        unit: unit as u8,
+        timeout,
+        list,
+        setup,
+    })
 }
 
 fn stand_in_line<'a>(found: &ArgMatches<'a>) -> Result<CommandLine<'a>, ValueFault<'a>>
@@ -88,17 +117,20 @@ fn run_line<'a>(alloc: Global, found: &ArgMatches<'a>) -> Result<CommandLine<'a>
     let every = number(found, EVERY)?;
     let lasts = number_if(found, LASTS)?;
     let devices = devices(alloc, found)?;
+    let host_names = texts(alloc, found, HOST_NAME)?;
     Ok(CommandLine::Run {
         db,
         listen: listen as u16,
         every,
         devices,
         lasts,
+        host_names,
         verbose: is_set(found, "verbose"),
     })
 }
 
 // The command of a name, with what was found of its options.
+#[tactic(auto, unfolding(crate::specs::Lines::command_in))]
 fn command_line<'a>(
     alloc: Global,
     name: &'a str,
@@ -113,7 +145,7 @@ fn command_line<'a>(
         "plan" => Ok(CommandLine::Plan),
         "chain" => Ok(CommandLine::Chain),
         "create" => create_line(found),
-        "serve" => serve_line(found),
+        "serve" => serve_line(alloc, found),
         "round" => round_line(found),
         "report" => report_line(found),
         "stand-in" => stand_in_line(found),
@@ -121,6 +153,7 @@ fn command_line<'a>(
             zone: text_or(found, "zone", ZONE),
         }),
         "run" => run_line(alloc, found),
+        "scan" => scan_line(found),
         _ => Err(ValueFault::Command { name }),
     }
 }

@@ -1,13 +1,16 @@
 //! The values of a command's options.
-ghost use Rattle.std.specs.Prelude.{◌≡◌, ◌≤◌, IfOk, option_map};
+ghost use Rattle.std.specs.Prelude.{◌≡◌, ◌≤◌, IfOk, Some, option_map};
+ghost use Rattle.clap.specs.Words.{all_of};
+ghost use Rattle.command_words.specs.ClapTable.Table.{texts};
 ghost use Rattle.command_words.specs.Values.Numbers.{number_up_to};
-ghost use Rattle.command_words.specs.Options.{Reads, is_set, number_at, number_if, rows_in};
-ghost use Rattle.command_words.specs.Options.{text_at, text_or};
+ghost use Rattle.command_words.specs.Options.{Reads, is_set, number_at, number_if, number_or, rows_in};
+ghost use Rattle.command_words.specs.Options.{text_at, text_or, texts_at};
 
 use crate::faults::ValueFault;
 use crate::table::NumberOption;
 use crate::values::number_up_to;
 use clap::ArgMatches;
+use std::alloc::Global;
 
 // The value of an option, where it has one.
 fn value<'a>(found: &ArgMatches<'a>, option: &str) -> Option<&'a str>
@@ -53,6 +56,23 @@ pub fn number_if<'a>(
     }
 }
 
+// The number of an option that has one where it isn't given.
+pub fn number_or<'a>(
+    found: &ArgMatches<'a>,
+    option: NumberOption<'static>,
+    otherwise: u32,
+) -> Result<u32, ValueFault<'a>>
+    requires { otherwise ≤ option.most }
+    ensures value { Reads (λ number. number)
+        (number_or otherwise option.entry.most option.entry.name.now (rows_in found.now)) result }
+    ensures within { IfOk result (λ number. number ≤ option.entry.most) }
+{
+    match value(found, option.name) {
+        Some(word) => number_in(option, word),
+        None => Ok(otherwise),
+    }
+}
+
 // The number that a word spells, in the range of its option.
 fn number_in<'a>(option: NumberOption<'static>, word: &'a str) -> Result<u32, ValueFault<'a>>
     ensures value { Reads (λ number. number) (number_up_to option.entry.most word.now) result }
@@ -65,12 +85,43 @@ fn number_in<'a>(option: NumberOption<'static>, word: &'a str) -> Result<u32, Va
 }
 
 // The text of an option that may lack.
+pub fn text_if<'a>(found: &ArgMatches<'a>, option: &str) -> Option<&'a str>
+    ensures { option_map (λ text. text.now) result ≡ text_at option.now (rows_in found.now) }
+{
+    value(found, option)
+}
+
+// The text of an option that is another one where it isn't given.
 pub fn text_or<'a>(found: &ArgMatches<'a>, option: &'static str, otherwise: &'a str) -> &'a str
     ensures { result.now ≡ text_or otherwise.entry.now option.now (rows_in found.now) }
 {
     match value(found, option) {
         Some(text) => text,
         None => otherwise,
+    }
+}
+
+// The values of an option, where it has some.
+fn values<'a, 'f>(found: &'f ArgMatches<'a>, option: &str) -> Option<&'f [&'a str]>
+    ensures { option_map (λ values. texts values.now) result
+        ≡ all_of option.now (rows_in found.now) }
+{
+    found.get_strs(option)
+}
+
+// The texts of an option that may stand several times.
+pub fn texts<'a>(
+    alloc: Global,
+    found: &ArgMatches<'a>,
+    option: &'static str,
+) -> Result<Vec<&'a str>, ValueFault<'a>>
+    ensures { Reads (λ values. texts values.items)
+        (Some (texts_at option.now (rows_in found.now))) result }
+{
+    let values = values(found, option).unwrap_or(&[]);
+    match values.to_vec(alloc) {
+        Ok(values) => Ok(values),
+        Err(_) => Err(ValueFault::Memory),
     }
 }
 

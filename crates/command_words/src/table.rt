@@ -15,6 +15,9 @@ pub const ZONE: &str = "UTC0";
 /// The host where none is given.
 pub const HOST: &str = "127.0.0.1";
 
+/// The option whose values are names by which HTTP may be asked.
+pub const HOST_NAME: &str = "host-name";
+
 pub const PORT: NumberOption<'static> = NumberOption {
     name: "port",
     value: "N",
@@ -44,6 +47,24 @@ pub const LASTS: NumberOption<'static> = NumberOption {
     value: "SECONDS",
     most: 4_000_000_000,
 };
+
+pub const UNIT: NumberOption<'static> = NumberOption {
+    name: "unit",
+    value: "U",
+    most: 255,
+};
+
+pub const TIMEOUT: NumberOption<'static> = NumberOption {
+    name: "timeout",
+    value: "SECONDS",
+    most: 60,
+};
+
+/// The unit where none is given.
+pub const FIRST_UNIT: u32 = 1;
+
+/// How many seconds a device has for a reply where it isn't given.
+pub const PATIENCE: u32 = 5;
 
 const DB: OptionText<'static> = OptionText {
     name: "db",
@@ -105,6 +126,12 @@ const SERVED: OptionText<'static> = OptionText {
     help: "Ends after this many connections, 1 to 1000000",
 };
 
+const ASKED_NAME: OptionText<'static> = OptionText {
+    name: HOST_NAME,
+    value: Value::Repeated("NAME"),
+    help: "Another name that Host may say; may stand several times",
+};
+
 const DEVICE: OptionText<'static> = OptionText {
     name: "device",
     value: Value::Required("NAME"),
@@ -149,7 +176,7 @@ const SERVE: CommandText<'static> = CommandText {
     name: "serve",
     about: "Answers HTTP on 127.0.0.1, one connection after the other",
     after: "Example: sunreg serve --db office.db --port 8080 --connections 100",
-    options: &[DB, HTTP_PORT, SERVED],
+    options: &[DB, HTTP_PORT, SERVED, ASKED_NAME],
 };
 
 const ROUND: CommandText<'static> = CommandText {
@@ -164,6 +191,36 @@ const REPORT: CommandText<'static> = CommandText {
     about: "Prints a register's energy by days",
     after: "Example: sunreg report --db office.db --register main",
     options: &[DB, REGISTER],
+};
+
+const SCAN: CommandText<'static> = CommandText {
+    name: "scan",
+    about: "Lists the SunSpec models of a live device, which it only reads",
+    after: "Example: sunreg scan --host 192.0.2.7 --port 502 --setup inv > inv.txt",
+    options: &[
+        DEVICE_HOST,
+        DEVICE_PORT,
+        OptionText {
+            name: "unit",
+            value: Value::Optional("U"),
+            help: "Modbus unit, 1 to 255; 1 where it is left out",
+        },
+        OptionText {
+            name: "timeout",
+            value: Value::Optional("SECONDS"),
+            help: "How long a reply may take, 1 to 60; 5 where it is left out",
+        },
+        OptionText {
+            name: "list",
+            value: Value::Absent,
+            help: "Prints the point list of the models instead",
+        },
+        OptionText {
+            name: "setup",
+            value: Value::Optional("DEVICE"),
+            help: "Prints the lines that set the device up instead",
+        },
+    ],
 };
 
 const STAND_IN: CommandText<'static> = CommandText {
@@ -206,6 +263,7 @@ const RUN: CommandText<'static> = CommandText {
             value: Value::Optional("SECONDS"),
             help: "Ends after this long, 1 to 4000000000",
         },
+        ASKED_NAME,
         OptionText {
             name: "verbose",
             value: Value::Absent,
@@ -222,6 +280,6 @@ pub const PROGRAM: ProgramText<'static> = ProgramText {
             Example: sunreg replay < script.txt\n\
             Exit status: 0 fine, 1 refused, 2 wrong words, 3 a file, stream or socket failed",
     commands: &[
-        REPLAY, PLAN, CHAIN, CREATE, SERVE, ROUND, REPORT, STAND_IN, LOOP, RUN,
+        REPLAY, PLAN, CHAIN, SCAN, CREATE, SERVE, ROUND, REPORT, STAND_IN, LOOP, RUN,
     ],
 };

@@ -3,7 +3,7 @@ use crate::samples::HOUSE;
 use energy_core::{Entry, Last};
 use interval_core::Share;
 use meter_journal::{
-    EntryKind, EntryRow, entries_go_on, interval_rows, interval_rows_add_up,
+    EntryKind, EntryRow, checked_tally, entries_go_on, interval_rows, interval_rows_add_up,
     interval_rows_are_accounts, journals_are_kept, journals_balance, places_were_kept,
     rows_lie_within, rows_stand, shares_move_energy, standing_entries_fit, tally_after,
     truth_is_kept, voids_change_two_rows, voids_go_no_further, voids_leave_no_trace,
@@ -61,6 +61,17 @@ fn books_after_a_void(rt: HostRuntime) {
             }
     );
     assert!(rt; tally.total == 300_000);
+}
+
+#[test]
+fn rows_that_may_be_any(rt: HostRuntime) {
+    let tally = checked_tally(&HOUSE, &ROWS).expect(&rt, "a tally");
+    assert!(rt; tally.total == 300_000 && tally.last.raw == 5300);
+    let back = EntryRow {
+        place: 4,
+        ..ROWS[1]
+    };
+    assert!(rt; checked_tally(&HOUSE, &[ROWS[1], back]).is_none());
 }
 
 #[test]

@@ -1,7 +1,9 @@
 //! Tests of rows in a list.
 use crate::samples::{HOUSE, of_kind, reading, struck};
 use energy_core::{Entry, Last};
-use meter_journal::{EntryKind, EntryRow, find_row, is_voidable, last_behind, row_after, strike};
+use meter_journal::{
+    EntryKind, EntryRow, are_numbered, find_row, is_voidable, last_behind, row_after, strike,
+};
 
 /// The counter of 32 bits all but at its end.
 const TURNING: Last = Last {
@@ -21,6 +23,21 @@ fn places_count_on(rt: HostRuntime) {
     assert!(rt; first == reading(2, 1900, 5200, 0));
     let after_a_void = row_after(&[struck(first)], EntryKind::Reading, entry);
     assert!(rt; after_a_void == reading(3, 1900, 5200, 0));
+}
+
+#[test]
+fn rows_have_their_places(rt: HostRuntime) {
+    let rows = [reading(2, 1900, 5200, 0), struck(reading(3, 2800, 5300, 0))];
+    assert!(rt; are_numbered(&[]) && are_numbered(&rows));
+    assert!(rt; !are_numbered(&rows[1..]));
+    assert!(rt; !are_numbered(&[rows[0], rows[0]]));
+}
+
+#[test]
+fn a_closing_alone_closes(rt: HostRuntime) {
+    assert!(rt; EntryKind::Closing.is_closing());
+    assert!(rt; !EntryKind::Reading.is_closing() && !EntryKind::Manual.is_closing());
+    assert!(rt; !EntryKind::Reset.is_closing() && !EntryKind::Rescale.is_closing());
 }
 
 #[test]

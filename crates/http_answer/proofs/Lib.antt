@@ -1,4 +1,3 @@
-pub mod Callers
 pub mod FaultRows
 pub mod Replying
 pub mod Examples

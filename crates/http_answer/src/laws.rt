@@ -49,7 +49,7 @@ pub fn commands_are_replied_to(
     bytes: &[u8],
     head: &Head,
     found: &Found<'_>,
-    posted: &Posted<'_>,
+    posted: &Posted,
     given: &Result<Command, CommandFault>,
 )
     requires holds { IsWhole router.now bytes.now head.now }

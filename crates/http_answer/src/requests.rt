@@ -47,12 +47,12 @@ pub fn number_asked(taken: Option<&str>) -> Option<u64>
 }
 
 /// A command as it is asked of the office, with the bytes that are kept of its request.
-pub fn asked(posted: &Posted<'_>, request: Piece, command: Command) -> Asked
+pub fn asked(posted: &Posted, request: Piece, command: Command) -> Asked
     ensures { (headers : PostHeaders) → Says headers posted.now
         → result ≡ asked_with headers request command }
 {
     Asked {
-        caller: Name::new(posted.caller),
+        caller: Some(posted.caller),
         number: posted.number,
         request,
         command,

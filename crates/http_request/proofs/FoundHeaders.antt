@@ -12,7 +12,7 @@ often [] h = absurd (omega arith)
 often (v ∷ []) h = absurd (omega arith)
 often (v ∷ w ∷ values) h = refl
 
-times_is : (given : Given) (values : List (List ℕ)) → Gives given values → seen given ≡ times values
+pub times_is : (given : Given) (values : List (List ℕ)) → Gives given values → seen given ≡ times values
 times_is Never values h = sym (ap times h)
 times_is (Once value) values h = sym (ap times h)
 times_is Often values h = often values h

@@ -18,7 +18,7 @@ pub record LeadsTo (table : Table) (start : Start) (found : Found) : Type 0 wher
 -- what the headers say
 pub record Says (headers : PostHeaders) (posted : Posted) : Type 0 where
   pub size : size_in headers ≡ Some posted.size
-  pub caller : caller_in headers ≡ Some posted.caller.now
+  pub caller : caller_in headers ≡ Some posted.caller
   pub number : request_in headers ≡ Some posted.number
 
 -- all tests pass, and this is what the headers say; or the status is that of the first that fails

@@ -1,7 +1,8 @@
 -- The tests of a POST's headers: a table in which the first that fails answers.
 use Rattle.std.specs.Prelude.{ℕ, nat_lt, Bool, true, false, not, ◌||◌, if◌then◌else◌, List, [], ◌∷◌, codes, is_none, Option, Some, None, option_and_then}
 use Rattle.http_request.specs.Head.Headers.{values_of}
-use Rattle.http_request.specs.Values.{digits_in, is_name, number_in}
+use Rattle.office_events.specs.Names.{named}
+use Rattle.http_request.specs.Values.{digits_in, number_in}
 use Rattle.http_request.specs.declared.status.Status.{Status}
 use Rattle.http_request.specs.declared.status.Status.TheVariants.{BadRequest, LengthRequired, ContentTooLarge}
 
@@ -55,9 +56,6 @@ post_headers_of headers = record {
 -- how many bytes the body has
 abbrev pub size_in : PostHeaders → Option ℕ
 size_in headers = option_and_then digits_in (value_in headers.size)
-
-abbrev pub named : List ℕ → Option (List ℕ)
-named text = if is_name text then Some text else None
 
 -- who asks, and under which number
 abbrev pub caller_in : PostHeaders → Option (List ℕ)

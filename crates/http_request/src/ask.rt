@@ -17,7 +17,7 @@ pub enum Ask<'b> {
     /// A question, whose body is not read.
     Question(Found<'b>),
     /// A command, whose body is still to be read.
-    Command(Found<'b>, Posted<'b>),
+    Command(Found<'b>, Posted),
 }
 
 fn has_method(route: Route, method: &[u8]) -> bool

@@ -3,6 +3,7 @@
 
 mod ask;
 mod head;
+mod hosts;
 mod numbers;
 mod post;
 mod reading;
@@ -14,12 +15,13 @@ pub use ask::{Ask, ask_of};
 pub use head::{
     Given, Head, HeadState, MOST_BYTES, MOST_HEADERS, has_head_end, header_value, parse_head,
 };
-pub use numbers::{digits, is_name, number};
+pub use hosts::may_ask;
+pub use numbers::{digits, number};
 pub use post::{MOST_BODY, Posted, post_headers};
 pub use reading::{Inbox, TakeFault, read_head};
 pub use routing::{Found, Route, router};
 pub use status::Status;
 pub use whole::{
-    MOST_ROOM, a_look_finds_the_request, ask_in, body_in, no_request, one_head, read_request,
-    requests_are_one,
+    MOST_ROOM, a_command_tells_its_size, a_look_finds_the_request, ask_in, body_in, is_whole,
+    no_request, one_head, read_request, requests_are_one,
 };

@@ -6,20 +6,21 @@ ghost use Rattle.http_request.specs.Tests.{post_headers_of};
 ghost use Rattle.http_request.specs.Seen.{is_missing_given, is_repeated_given, seen_headers};
 
 use crate::head::{Given, header_value};
-use crate::numbers::{digits, is_name, number};
+use crate::numbers::{digits, number};
 use crate::status::Status;
 use httparse::spans::HeaderSpan;
+use office_events::Name;
 
 /// The most bytes of a body.
 pub const MOST_BODY: usize = 65_536;
 
 /// What the headers of a command say.
 #[derive(Clone, Copy)]
-pub struct Posted<'b> {
+pub struct Posted {
     /// How many bytes the body has.
     pub size: u64,
     /// Who asks.
-    pub caller: &'b [u8],
+    pub caller: Name,
     /// The number that the caller gave the request.
     pub number: u64,
 }
@@ -37,12 +38,12 @@ fn is_repeated(given: &Given<'_>) -> bool
 }
 
 // Takes the tests in turn.
-fn test_headers<'b>(
-    transfer: Given<'b>,
-    size: Given<'b>,
-    caller: Given<'b>,
-    number_of: Given<'b>,
-) -> Result<Posted<'b>, Status>
+fn test_headers(
+    transfer: Given<'_>,
+    size: Given<'_>,
+    caller: Given<'_>,
+    number_of: Given<'_>,
+) -> Result<Posted, Status>
     ensures { TestsPost
         (seen_headers transfer.entry size.entry caller.entry number_of.entry) result }
 {
@@ -65,9 +66,9 @@ fn test_headers<'b>(
     let Given::Once(caller) = caller else {
         return Err(Status::BadRequest);
     };
-    if !is_name(caller) {
+    let Some(caller) = Name::new(caller) else {
         return Err(Status::BadRequest);
-    }
+    };
     let Given::Once(number_text) = number_of else {
         return Err(Status::BadRequest);
     };
@@ -82,7 +83,7 @@ fn test_headers<'b>(
 }
 
 /// What the headers of a command say, or the status of the first test that fails.
-pub fn post_headers<'b>(bytes: &'b [u8], headers: &[HeaderSpan]) -> Result<Posted<'b>, Status>
+pub fn post_headers(bytes: &[u8], headers: &[HeaderSpan]) -> Result<Posted, Status>
     requires within { All (IsHeaderWithin (length bytes.now)) headers.now }
     ensures { TestsPost (post_headers_of (map (header_bytes bytes.now) headers.now)) result }
 {

@@ -1,20 +1,22 @@
 //! A whole request, read from a link: its head, and the body that belongs to it.
 
-ghost use Rattle.std.specs.Prelude.{◌≡◌, ◌≤◌, IsUtf8, OnOk};
+ghost use Rattle.std.specs.Prelude.{◌≡◌, ◌≤◌, ◌+◌, IsUtf8, MatchBool, OnOk, Ok, drop, length, take};
 ghost use Rattle.std.specs.Io.KnownBytes.{Keeps};
 ghost use Rattle.httparse.specs.Spans.{span_bytes};
 ghost use Rattle.mb_wire.specs.Links.{risen};
 ghost use Rattle.http_request.specs.Head.Heads.{IsHeadAt, IsPlaced};
+ghost use Rattle.http_request.specs.Asking.{TestsHead};
 ghost use Rattle.http_request.specs.HeadTests.{start_at};
+ghost use Rattle.http_request.specs.declared.ask.Ask.TheVariants as Ask;
 ghost use Rattle.http_request.specs.Reading.HeadAndBody.{StopsAtOnce};
 ghost use Rattle.http_request.specs.Reading.Taking.{CountsTakes, EndedBy, bytes_in, is_read_fault, room_of};
-ghost use Rattle.http_request.specs.Whole.Whole.{IsUnfinished, Holds, HoldsRequest, IsWhole, ReadsRequest, RequestsAreOne, TestsRequest, body_of, body_size};
+ghost use Rattle.http_request.specs.Whole.Whole.{IsReadWhole, IsUnfinished, Holds, HoldsRequest, IsWhole, ReadsRequest, RequestsAreOne, TestsRequest, body_of, body_size};
 
-use crate::head::{Head, HeadState, MOST_BYTES};
+use crate::head::{Head, HeadState, MOST_BYTES, parse_head};
 use crate::reading::{Inbox, TakeFault, read_body, read_head};
 use crate::routing::Route;
 use crate::status::Status;
-use crate::{Ask, MOST_BODY, ask_of};
+use crate::{Ask, Found, MOST_BODY, Posted, ask_of};
 use matchit::Router;
 use mb_wire::Link;
 
@@ -58,6 +60,18 @@ pub fn read_request<L: Link>(
     Ok(head_state)
 }
 
+/// Whether bytes hold a whole request, or a bad head, so that nothing more is to be read.
+pub fn is_whole(router: &Router<Route>, bytes: &[u8]) -> bool
+    ensures { MatchBool result (IsReadWhole router.now bytes.now)
+        (IsUnfinished router.now bytes.now) }
+{
+    match parse_head(bytes) {
+        HeadState::Open => false,
+        HeadState::TooLarge | HeadState::NoHead => true,
+        HeadState::Whole(head) => head.len + body_size(router, bytes, &head) <= bytes.len(),
+    }
+}
+
 /// What a whole request asks for, or the status that answers it.
 pub fn ask_in<'b>(
     router: &Router<Route>,
@@ -75,14 +89,27 @@ pub fn ask_in<'b>(
     }
 }
 
-/// The body of a whole request: empty unless it is a command that passes the tests of its head.
-pub fn body_in<'b>(router: &Router<Route>, bytes: &'b [u8], head: &Head) -> &'b [u8]
-    requires { IsWhole router.now bytes.now head.now }
-    ensures { result.now ≡ body_of router.now bytes.now head.now }
+/// The body of a whole request that asks for a command.
+pub fn body_in<'b>(bytes: &'b [u8], head: &Head, posted: &Posted) -> &'b [u8]
+    requires whole { head.now.len + posted.now.size ≤ length bytes.now }
+    ensures { result.now ≡ take posted.now.size (drop head.now.len bytes.now) }
 {
-    let size = body_size(router, bytes, head);
+    let size = posted.size as usize;
     &bytes[head.len..head.len + size]
 }
+
+/// A law: the body of a whole request that asks for a command has as many bytes as its head says.
+pub fn a_command_tells_its_size(
+    router: &Router<Route>,
+    bytes: &[u8],
+    head: &Head,
+    found: &Found<'_>,
+    posted: &Posted,
+)
+    requires asks { TestsHead router.now (start_at bytes.now head.now)
+        (Ok (Ask.Command found.now posted.now)) }
+    ensures { body_size router.now (start_at bytes.now head.now) ≡ posted.now.size }
+{}
 
 /// A law: the heads that two looks at the same bytes find say the same.
 pub fn one_head(bytes: &[u8], one: &Head, other: &Head)

@@ -3,12 +3,14 @@ use crate::office::metered;
 use memory_books::ListBooks;
 use office_core::Office;
 use office_events::Name;
-use office_http::serve_on;
+use office_http::{serve_named_on, serve_on};
 use socket_link::FixedClock;
 use std::alloc::Global;
-use std::io::{Read, Write};
+use std::cell::Cell;
+use std::io::{self, ErrorKind, Read, Write};
 use std::net::{Shutdown, TcpListener, TcpStream};
 use std::test::Fail;
+use std::time::Duration;
 
 /// What a client writes, whether it ends its stream then, and all that it is replied.
 struct Client {
@@ -54,6 +56,28 @@ static FAILING: [Client; 3] = [
         bytes: b"",
         ends: false,
         reply: b"",
+    },
+    Client {
+        bytes: REQUEST,
+        ends: false,
+        reply: REPLY,
+    },
+];
+
+const TURNED_AWAY: &[u8] =
+    b"HTTP/1.1 421 Misdirected Request\r\nContent-Type: application/json\r\nContent-Length: 13\r\nConnection: close\r\n\r\n{\"fault\":421}";
+
+// A page of another name asks, then one of the given name, and a third repeats that.
+static NAMED: [Client; 3] = [
+    Client {
+        bytes: b"POST /registers/main/exchange HTTP/1.1\r\nHost: evil.example:80\r\nContent-Length: 68\r\nOffice-Caller: desk\r\nOffice-Request: 7\r\n\r\n{\"ceiling\":100000,\"last\":5301,\"meter\":\"m2\",\"raw\":0,\"rolls\":0,\"sf\":0}",
+        ends: false,
+        reply: TURNED_AWAY,
+    },
+    Client {
+        bytes: b"POST /registers/main/exchange HTTP/1.1\r\nHost: office.example\r\nContent-Length: 68\r\nOffice-Caller: desk\r\nOffice-Request: 7\r\n\r\n{\"ceiling\":100000,\"last\":5300,\"meter\":\"m2\",\"raw\":0,\"rolls\":0,\"sf\":0}",
+        ends: false,
+        reply: REPLY,
     },
     Client {
         bytes: REQUEST,
@@ -110,13 +134,44 @@ fn energy_of_ended(office: &mut Office<ListBooks>) -> Option<u64> {
     }
 }
 
-// Whether three clients are replied while the clock tells these moments, and the meter is exchanged once.
-fn are_served(rt: &HostRuntime, clients: &[Client; 3], moments: &[u64]) -> Result<bool, Fail> {
+// A clock by which so many seconds pass each time that it is read.
+#[derive(Drop)]
+struct Stepping {
+    seconds: Cell<u64>,
+    step: u64,
+}
+
+impl std::rt::Clock for Stepping {
+    fn monotonic(&self) -> io::Result<Duration> {
+        let now = self.seconds.get().saturating_add(self.step);
+        self.seconds.set(now);
+        Ok(Duration::from_secs(now))
+    }
+
+    fn since_1970(&self) -> io::Result<Duration> {
+        Err(io::Error::from(ErrorKind::Unsupported))
+    }
+}
+
+// Whether three clients are replied while such a clock is read, and the meter is exchanged once.
+fn are_served(rt: &HostRuntime, clients: &[Client; 3], step: u64) -> Result<bool, Fail> {
     let mut office = metered(rt.alloc())?;
     let listener = TcpListener::bind(rt, "127.0.0.1:0")?;
     let mut streams = streams_of(rt, &listener, clients)?;
-    let mut clock = FixedClock::new(moments);
-    let served = serve_on(rt.alloc(), &listener, 3, &mut office, &mut clock);
+    let mut clock = FixedClock::new(&[2800]);
+    let time = Stepping {
+        seconds: Cell::new(7),
+        step,
+    };
+    let served = serve_named_on(
+        &time,
+        rt.alloc(),
+        &listener,
+        3,
+        &["office.example"],
+        &mut office,
+        &mut clock,
+    );
     if served.is_err() || energy_of_ended(&mut office) != Some(300_000) {
         return Ok(false);
     }
@@ -125,13 +180,32 @@ fn are_served(rt: &HostRuntime, clients: &[Client; 3], moments: &[u64]) -> Resul
 
 #[test]
 fn each_connection_has_its_reply(rt: HostRuntime) -> Result<(), Fail> {
-    assert!(rt; are_served(&rt, &ASKING, &[2800])?);
+    assert!(rt; are_served(&rt, &ASKING, 0)?);
+    assert!(rt; are_served(&rt, &NAMED, 0)?);
     Ok(())
 }
 
 #[test]
 fn a_fault_ends_its_connection_alone(rt: HostRuntime) -> Result<(), Fail> {
-    let moments = [2800, 2800, 2800, 2800, 2800, 2811, 2811];
-    assert!(rt; are_served(&rt, &FAILING, &moments)?);
+    assert!(rt; are_served(&rt, &FAILING, 3)?);
+    Ok(())
+}
+
+// Whether the first of the clients is replied by `serve_on`, and the meter is exchanged.
+fn is_served_alone(rt: &HostRuntime) -> Result<bool, Fail> {
+    let mut office = metered(rt.alloc())?;
+    let listener = TcpListener::bind(rt, "127.0.0.1:0")?;
+    let mut streams = streams_of(rt, &listener, &ASKING[..1])?;
+    let mut clock = FixedClock::new(&[2800]);
+    let served = serve_on(rt.alloc(), &listener, 1, &mut office, &mut clock);
+    if served.is_err() || energy_of_ended(&mut office) != Some(300_000) {
+        return Ok(false);
+    }
+    are_replied(rt.alloc(), &mut streams, &ASKING[..1])
+}
+
+#[test]
+fn one_connection_is_served(rt: HostRuntime) -> Result<(), Fail> {
+    assert!(rt; is_served_alone(&rt)?);
     Ok(())
 }

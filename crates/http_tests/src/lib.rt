@@ -22,6 +22,8 @@ mod faults;
 #[cfg(test)]
 mod heads;
 #[cfg(test)]
+mod hosts;
+#[cfg(test)]
 mod limits;
 #[cfg(test)]
 mod lines;
@@ -51,3 +53,5 @@ mod sockets;
 mod stops;
 #[cfg(test)]
 mod tables;
+#[cfg(test)]
+mod times;

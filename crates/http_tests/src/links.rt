@@ -1,5 +1,7 @@
 //! Requests that come from a link.
-use http_request::{HeadState, Inbox, Route, TakeFault, body_in, read_request, router};
+use http_request::{
+    Ask, Head, HeadState, Inbox, Route, TakeFault, ask_of, body_in, read_request, router,
+};
 use matchit::Router;
 use mb_wire::{Link, MemoryLink};
 use std::alloc::{AllocError, Global};
@@ -8,6 +10,14 @@ use std::test::Fail;
 static REQUEST: &[u8] =
     b"POST /devices HTTP/1.1\r\nContent-Length: 4\r\nOffice-Caller: anna\r\nOffice-Request: 7\r\n\r\n{ } and more";
 
+// The body of a command that was read.
+fn body_of<'b>(router: &Router<Route>, bytes: &'b [u8], head: &Head) -> &'b [u8] {
+    match ask_of(router, bytes, head) {
+        Ok(Ask::Command(_, posted)) => body_in(bytes, head, &posted),
+        Ok(Ask::Question(_)) | Err(_) => b"",
+    }
+}
+
 // Whether the request is read, with its body, where it comes in pieces of so many bytes.
 fn is_read(alloc: Global, router: &Router<Route>, piece: usize) -> Result<bool, AllocError> {
     let mut room = vec![in alloc; 0u8; 73_728]?;
@@ -15,7 +25,7 @@ fn is_read(alloc: Global, router: &Router<Route>, piece: usize) -> Result<bool, 
     let mut inbox = Inbox::new(&mut room);
     match read_request(router, &mut inbox, &mut link) {
         Ok(HeadState::Whole(head)) => Ok(
-            body_in(router, inbox.bytes(), &head) == b"{ } ".as_slice(),
+            body_of(router, inbox.bytes(), &head) == b"{ } ".as_slice(),
         ),
         _ => Ok(false),
     }

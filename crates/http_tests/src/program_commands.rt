@@ -46,7 +46,16 @@ fn serve(rt: &HostRuntime, moment: u64, port: u16) -> Result<(ServeEnd, Vec<u8>)
     let moments = [moment];
     let mut clock = FixedClock::new(&moments);
     let mut printed = Vec::new(rt.alloc());
-    let done = serve_books(rt, rt.alloc(), books, place, 0, &mut clock, &mut printed);
+    let done = serve_books(
+        rt,
+        rt.alloc(),
+        books,
+        place,
+        &[],
+        0,
+        &mut clock,
+        &mut printed,
+    );
     Ok((done.end, printed))
 }
 

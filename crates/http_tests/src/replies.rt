@@ -18,6 +18,7 @@ static STATUSES: [(Status, &[u8]); 10] = [
         Status::ContentTooLarge,
         b"HTTP/1.1 413 Content Too Large\r\n",
     ),
+    (Status::Misdirected, b"HTTP/1.1 421 Misdirected Request\r\n"),
     (
         Status::Unprocessable,
         b"HTTP/1.1 422 Unprocessable Content\r\n",

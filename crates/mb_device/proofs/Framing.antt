@@ -10,7 +10,7 @@ use Rattle.mb_wire.specs.Reader.{Buffered, TellsFraming, buffered_after}
 use Rattle.mb_wire.specs.declared.frames.Framing.{Framing}
 use Rattle.mb_wire.specs.declared.frames.Framing.TheVariants.{Need, Whole, Foreign, Garbled}
 use Rattle.mb_wire.proofs.Readings.{AllByRecursion-append, Reads-is, Reads-only, span_of-append}
-use Rattle.mb_device.proofs.Giving.{from, whole_again}
+use Rattle.mb_wire.proofs.Giving.{from, whole_again}
 use Rattle.mb_device.specs.Server.{buffered_frames, is_own, own_frames}
 
 abbrev concat : List (List ℕ) → List ℕ

@@ -1,5 +1,4 @@
 pub mod Gathering
-pub mod Giving
 pub mod Putting
 pub mod Framing
 pub mod Streams

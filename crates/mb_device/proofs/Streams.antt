@@ -13,7 +13,8 @@ use Rattle.mb_wire.specs.declared.link.Took.TheVariants as took
 use Rattle.mb_device.specs.Maps.{Maps}
 use Rattle.mb_device.specs.Device.{answer_to, maps_after}
 use Rattle.mb_device.specs.Tricks.{Course, Playing, CutOff, answer_of, carried_out, course_after, course_next, is_cut, sent, sent_next}
-use Rattle.mb_device.specs.Server.{AllAnswered, Answered, Around, BrokenOff, Counts, GivesPart, BufferedTells, IsGarbled, Holds, PieceTells, Faulted, TurnTells, Turns, answer_to_frame, answers, course_behind, buffered_frames, maps_after_all, own_frames, sent_to, standing_on, stretch}
+use Rattle.mb_wire.specs.Links.{GivesPart}
+use Rattle.mb_device.specs.Server.{AllAnswered, Answered, Around, BrokenOff, Counts, BufferedTells, IsGarbled, Holds, PieceTells, Faulted, TurnTells, Turns, answer_to_frame, answers, course_behind, buffered_frames, maps_after_all, own_frames, sent_to, standing_on, stretch}
 use Rattle.mb_device.specs.declared.server.ServeFault.{ServeFault}
 use Rattle.mb_device.specs.declared.server.ServeFault.TheVariants as fault
 use Rattle.mb_device.specs.declared.server.Turned.{Turned}

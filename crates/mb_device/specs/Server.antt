@@ -227,19 +227,6 @@ ServesFrom held result old new standing =
     (buffered : List ℕ) (course : Course) → held ≡ Holds buffered course →
     Serves buffered course result old new standing
 
--- a part of the bytes was given, and not all of them
-pub record GivesPart (old new : Option (List ℕ)) (bytes : List ℕ) : Type 0 where
-  pub part : List ℕ
-  pub unsent : List ℕ
-  pub left : 0 < length unsent
-  pub whole : bytes ≡ part ++ unsent
-  pub given : Appends old new part
-
--- bytes are given whole, or a part of them where the peer did not take all
-abbrev pub Gives : {X E : Type 0} → Result X E → Option (List ℕ) → Option (List ℕ) → List ℕ → Type 0
-Gives (Ok x) old new bytes = Appends old new bytes
-Gives (Err failed) old new bytes = GivesPart old new bytes
-
 -- the frame that is buffered, if one is
 abbrev pub buffered_frames : Option (List ℕ) → List (List ℕ)
 buffered_frames None = []

@@ -1,33 +1,13 @@
 //! The answers of a connection, on their way to the peer.
 ghost use Rattle.std.specs.Prelude.{◌≡◌, ◌≤◌, ◌++◌, length, take, false, is_err};
 ghost use Rattle.std.specs.Io.KnownBytes.{Keeps};
-ghost use Rattle.mb_wire.specs.Links.{risen};
-ghost use Rattle.mb_device.specs.Server.{Gives};
+ghost use Rattle.mb_wire.specs.Links.{Gives, risen};
 ghost use Rattle.mb_device.specs.Tricks.{answer_of, begun, behind, course_next, first_trick};
 ghost use Rattle.mb_device.specs.Tricks.{is_cut, sent_next, sent_of, spelled_by, trick_at};
 
 use crate::trick::Trick;
-use mb_wire::{Link, LinkFailed, MAX_ADU, MAX_PDU, write_frame};
+use mb_wire::{Link, LinkFailed, MAX_ADU, MAX_PDU, give_all, write_frame};
 use std::marker::Model;
-
-// Gives all of the bytes, in as many gives as it takes.
-fn give_all<L: Link>(link: &mut L, bytes: &[u8]) -> Result<(), LinkFailed>
-    ensures given { Gives result (L.given link.old) (L.given link.new) bytes.now }
-    ensures remaining { Keeps (L.remaining link.old) (L.remaining link.new) }
-    ensures failures { L.failed link.new ≡ risen (is_err result) (L.failed link.old) }
-    ensures takes { L.taken link.new ≡ L.taken link.old }
-    ensures last { L.last link.new ≡ L.last link.old }
-    ensures ends { L.ended link.new ≡ L.ended link.old }
-{
-    if bytes.is_empty() {
-        return Ok(());
-    }
-    let count = link.give(bytes)?;
-    if count == 0 {
-        return Err(LinkFailed);
-    }
-    give_all(link, &bytes[count..])
-}
 
 // Gives all of the bytes, and then all of the others.
 fn give_both<L: Link>(link: &mut L, first: &[u8], next: &[u8]) -> Result<(), LinkFailed>

@@ -3,10 +3,10 @@ ghost use Rattle.std.specs.Prelude.{◌≡◌, ◌≤◌, ◌<◌, ◌+◌, ◌^
 ghost use Rattle.std.specs.Prelude.{false, is_err, IfOk, Ok, Err};
 ghost use Rattle.std.specs.Io.KnownBytes.{Keeps};
 ghost use Rattle.mb_wire.specs.Frames.{IsOpen};
-ghost use Rattle.mb_wire.specs.Links.{risen};
+ghost use Rattle.mb_wire.specs.Links.{Gives, risen};
 ghost use Rattle.mb_device.specs.Device.{answer_to, maps_after};
 ghost use Rattle.mb_device.specs.Tricks.{Course, answer_of, begun, course_next, is_cut, sent_next};
-ghost use Rattle.mb_device.specs.Server.{Answered, Faulted, Gives, BufferedTells, Holds, HoldsFrame};
+ghost use Rattle.mb_device.specs.Server.{Answered, Faulted, BufferedTells, Holds, HoldsFrame};
 ghost use Rattle.mb_device.specs.Server.{Over, PieceTells, ServesFrom, TellsTake, Turns, around};
 ghost use Rattle.mb_device.specs.Server.{came_to_end, course_behind, has_faulted, buffered_frames};
 ghost use Rattle.mb_device.specs.Server.{is_link_fault, is_over, is_read_fault, is_serving};

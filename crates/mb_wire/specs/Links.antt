@@ -1,6 +1,6 @@
 -- What the calls of a link do, where its bytes are known, and when its counts rise.
-use Rattle.std.specs.Prelude.{ℕ, ◌+◌, ◌-◌, ◌^◌, ◌<◌, ◌≤◌, ◌==◌, ◌&&◌, nat_lt, min, Bool, true, false, if◌then◌else◌, List, length, take, Ok, Err, Some, None}
-use Rattle.std.specs.Io.KnownBytes.{Consumes, IsAtEnd, Keeps}
+use Rattle.std.specs.Prelude.{◌≡◌, ℕ, ◌+◌, ◌-◌, ◌^◌, ◌<◌, ◌≤◌, ◌==◌, ◌&&◌, nat_lt, min, Bool, true, false, if◌then◌else◌, List, ◌++◌, length, take, Ok, Err, Some, None}
+use Rattle.std.specs.Io.KnownBytes.{Appends, Consumes, IsAtEnd, Keeps}
 use Rattle.std.specs.declared.result.Result.{Result}
 use Rattle.std.specs.declared.option.Option.{Option}
 use Rattle.mb_wire.specs.declared.link.LinkFailed.{LinkFailed}
@@ -42,3 +42,16 @@ is_end (Ok (Bytes n)) = false
 is_end (Ok End) = true
 is_end (Ok Idle) = false
 is_end (Err failed) = false
+
+-- the peer took a part of the bytes, from the first on, and not the last
+pub record GivesPart (old new : Option (List ℕ)) (bytes : List ℕ) : Type 0 where
+  pub part : List ℕ
+  pub unsent : List ℕ
+  pub left : 0 < length unsent
+  pub whole : bytes ≡ part ++ unsent
+  pub given : Appends old new part
+
+-- bytes are given whole, or a part of them where the peer did not take all
+abbrev pub Gives : {X E : Type 0} → Result X E → Option (List ℕ) → Option (List ℕ) → List ℕ → Type 0
+Gives (Ok x) old new bytes = Appends old new bytes
+Gives (Err failed) old new bytes = GivesPart old new bytes

@@ -21,7 +21,7 @@ pub use limits::{
     ADDRESSES, MAX_ADU, MAX_LENGTH, MAX_PDU, MAX_READ_COILS, MAX_READ_REGISTERS, MAX_WRITE_COILS,
     MAX_WRITE_REGISTERS, MBAP_HEADER, MIN_LENGTH,
 };
-pub use link::{LastTake, Link, LinkFailed, Took};
+pub use link::{LastTake, Link, LinkFailed, Took, give_all};
 pub use memory_link::MemoryLink;
 pub use replies::{Reply, ReplyFault, decode_reply, encode_reply};
 pub use request_decoder::decode_request;

@@ -1,7 +1,8 @@
 //! The bytes to and from a peer.
 ghost use Rattle.std.specs.Prelude.{◌≡◌, ◌≤◌, ℕ, List, length, true, is_err, Some, None, IfOk};
 ghost use Rattle.std.specs.Io.KnownBytes.{Keeps, WriteAppends};
-ghost use Rattle.mb_wire.specs.Links.{TakeConsumes, TakesAtMost, is_end, is_failed_give, risen};
+ghost use Rattle.mb_wire.specs.Links.{Gives, TakeConsumes, TakesAtMost};
+ghost use Rattle.mb_wire.specs.Links.{is_end, is_failed_give, risen};
 ghost use Rattle.std.specs.declared.option.Option.{Option};
 ghost use Rattle.mb_wire.specs.declared.link.LastTake.{LastTake};
 
@@ -76,4 +77,23 @@ pub trait Link {
     /// The last take, none before the first.
     fn last_take(&self) -> Option<LastTake>
         ensures { result ≡ last self.now };
+}
+
+/// Gives all of the bytes, in as many gives as it takes. After a give that failed, or took nothing, a part of them was given.
+pub fn give_all<L: Link>(link: &mut L, bytes: &[u8]) -> Result<(), LinkFailed>
+    ensures given { Gives result (L.given link.old) (L.given link.new) bytes.now }
+    ensures remaining { Keeps (L.remaining link.old) (L.remaining link.new) }
+    ensures failures { L.failed link.new ≡ risen (is_err result) (L.failed link.old) }
+    ensures takes { L.taken link.new ≡ L.taken link.old }
+    ensures last { L.last link.new ≡ L.last link.old }
+    ensures ends { L.ended link.new ≡ L.ended link.old }
+{
+    if bytes.is_empty() {
+        return Ok(());
+    }
+    let count = link.give(bytes)?;
+    if count == 0 {
+        return Err(LinkFailed);
+    }
+    give_all(link, &bytes[count..])
 }

@@ -9,6 +9,5 @@ pub mod MetersComing
 pub mod Wholes
 pub mod Passing
 pub mod Known
-pub mod Numbered
 pub mod Joined
 pub mod Waiting

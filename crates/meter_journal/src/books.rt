@@ -1,5 +1,5 @@
 //! A meter's books, anew from the rows that stand.
-ghost use Rattle.std.specs.Prelude.{◌≡◌, ◌+◌, ◌≤◌, ◌<◌, true, IfOk};
+ghost use Rattle.std.specs.Prelude.{◌≡◌, ◌+◌, ◌≤◌, ◌<◌, true, IfOk, IfSome, IsTrue, is_some};
 ghost use Rattle.energy_core.specs.Account as account;
 ghost use Rattle.meter_journal.specs.Books as books;
 ghost use Rattle.meter_journal.specs.Journal.{entries_in};
@@ -8,7 +8,10 @@ ghost use Rattle.meter_journal.specs.Lists as lists;
 
 use crate::intervals::append_shares;
 use crate::lines::{EntryRow, Installed};
-use energy_core::{Entry, Last, MAX_RANGE, MIN_RANGE, Ranged, Step, Terms, enter};
+use energy_core::{
+    Entry, Last, MAX_RANGE, MIN_RANGE, Ranged, Step, Terms, accounts_are_sound, enter,
+    entered_is_booked,
+};
 use interval_core::{Share, shares_add_up};
 use std::alloc::{AllocError, Global};
 
@@ -81,6 +84,44 @@ pub fn tally_after(meter: &Installed, rows: &[EntryRow]) -> Tally
         let _step = go_past(meter, &mut tally, row);
     }
     tally
+}
+
+/// The tally after rows that may be any; none where an entry that stands can't follow those before it.
+pub fn checked_tally(meter: &Installed, rows: &[EntryRow]) -> Option<Tally>
+    requires range_low { MIN_RANGE ≤ meter.now.range }
+    requires range_high { meter.now.range ≤ MAX_RANGE }
+    requires installed { books.IsWellInstalled meter.now }
+    ensures so { let es = entries_in (lists.latest_first rows.now) in
+        IfSome result (λ t. account.IsAccount meter.now.range meter.now.opening es t.last t.total) }
+    ensures if_so { books.HasAccount meter.now (entries_in (lists.latest_first rows.now))
+        → IsTrue (is_some result) }
+{
+    accounts_are_sound();
+    entered_is_booked();
+    let range = meter.range;
+    let Some(counter) = Ranged::new(range) else {
+        unreachable!()
+    };
+    let mut tally = Tally {
+        last: meter.opening,
+        total: 0,
+    };
+    for row in rows {
+        if row.stands {
+            let terms = Terms {
+                ceiling: meter.ceiling,
+                total: tally.total,
+            };
+            match enter(&counter, &terms, &tally.last, &row.entry) {
+                Ok((last, step)) => {
+                    tally.last = last;
+                    tally.total += step.mwh;
+                }
+                Err(_) => return None,
+            }
+        }
+    }
+    Some(tally)
 }
 
 /// The interval rows of the entries that stand, in order. Refused only for want of memory.

@@ -1,6 +1,6 @@
 //! A meter's rows in a list, the oldest first.
 ghost use Rattle.std.specs.Prelude.{◌≡◌, ◌+◌, ◌≤◌, ◌<◌, ◌++◌, length, take, drop, find, IfSome};
-ghost use Rattle.std.specs.Prelude.{IfNone, None};
+ghost use Rattle.std.specs.Prelude.{IfNone, IsTrue, None};
 ghost use Rattle.energy_core.specs.Account.{last_of};
 ghost use Rattle.meter_journal.specs.Journal as journal;
 ghost use Rattle.meter_journal.specs.Fitting as fitting;
@@ -19,6 +19,19 @@ pub fn row_after(rows: &[EntryRow], kind: EntryKind, entry: Entry) -> EntryRow
         entry,
         stands: true,
     }
+}
+
+/// Whether each row has its place.
+pub fn are_numbered(rows: &[EntryRow]) -> bool
+    ensures so { IsTrue result → lists.AreNumbered (lists.latest_first rows.now) }
+    ensures if_so { lists.AreNumbered (lists.latest_first rows.now) → IsTrue result }
+{
+    for (index, row) in rows.iter().enumerate() {
+        if row.place != index as u64 + 2 {
+            return false;
+        }
+    }
+    true
 }
 
 /// Whether entries of this kind are readings.

@@ -1,24 +1,30 @@
 -- Installations whose next reading can be judged.
-use Rattle.std.specs.Prelude.{◌≡◌, ◌≤◌, ◌<◌, ◌+◌, Option, Result, Ok, Err, IfOk, IfSome}
-use Rattle.energy_core.specs.declared.limits.TheConstants.{MAX_CEILING, MAX_RANGE, MAX_TOTAL, MIN_RANGE}
+use Rattle.std.specs.Prelude.{◌≡◌, ◌≤◌, ◌<◌, ◌+◌, false, Option, Result, Ok, Err, IfOk, IfSome}
+use Rattle.energy_core.specs.declared.limits.TheConstants.{MAX_CEILING, MAX_RANGE, MIN_RANGE}
 use Rattle.energy_core.specs.declared.admission.TermFault.{TermFault}
 use Rattle.energy_core.specs.declared.entries.Entry.{Entry}
 use Rattle.energy_core.specs.declared.entries.Last.{Last}
 use Rattle.energy_core.specs.declared.entries.Step.{Step}
 use Rattle.energy_core.specs.Account.{IsScale}
 use Rattle.energy_core.specs.Admission.{entered}
+use Rattle.office_events.specs.declared.facts.Opening.{Opening}
 use Rattle.office_events.specs.declared.questions.Installation.{Installation}
 use Rattle.office_events.specs.declared.questions.EntryPlace.{EntryPlace}
+use Rattle.office_rules.specs.Meters.{opened}
+use Rattle.office_rules.specs.Ranges.{IsSound}
 use Rattle.office_books.specs.declared.faults.BooksFault.{BooksFault}
 use Rattle.office_books.specs.Ledgers.{Ledger, OnlyReads}
 
--- Its numbers are in their ranges.
-pub record IsSound (row : Installation) : Type 0 where
-  pub range : (MIN_RANGE ≤ row.opening.range) × (row.opening.range ≤ MAX_RANGE)
-  pub ceiling : (1 ≤ row.opening.ceiling) × (row.opening.ceiling ≤ MAX_CEILING)
-  pub raw : row.last.raw < row.opening.range
-  pub scale : IsScale row.last.sf
-  pub total : row.total ≤ MAX_TOTAL
+-- an installation that was just opened
+abbrev pub as_begun : Opening → Installation
+as_begun opening = record { opening = opening; last = opened opening; total = 0; ended = false }
+
+-- The numbers of an opening are in their ranges.
+pub record HasNumbers (opening : Opening) : Type 0 where
+  pub range : (MIN_RANGE ≤ opening.range) × (opening.range ≤ MAX_RANGE)
+  pub ceiling : (1 ≤ opening.ceiling) × (opening.ceiling ≤ MAX_CEILING)
+  pub raw : opening.raw < opening.range
+  pub scale : IsScale opening.sf
 
 -- A look-up that answers such installations alone, whatever the store gives.
 pub record ReadsInstallation (old new : Ledger) (result : Result (Option Installation) BooksFault) :

@@ -5,10 +5,12 @@ mod books;
 mod faults;
 mod named;
 mod next_entry;
+mod openings;
 mod soundness;
 
 pub use books::{Books, Repeat, RowSink};
 pub use faults::{BooksFault, StoreFault};
 pub use named::{list_at, meter_at};
 pub use next_entry::{enter, judge};
+pub use openings::{begun, has_numbers, installed, opened};
 pub use soundness::is_sound;

@@ -1,7 +1,8 @@
 //! The next entry of an installation.
 ghost use Rattle.std.specs.Prelude.{◌≡◌};
 ghost use Rattle.office_rules.specs.Readings.{judgement};
-ghost use Rattle.office_books.specs.Sound.{IsSound, MovesBy, StaysAt};
+ghost use Rattle.office_rules.specs.Ranges.{IsSound};
+ghost use Rattle.office_books.specs.Sound.{MovesBy, StaysAt};
 
 use energy_core::{Entry, Ranged, Reading, Terms, Verdict};
 use office_events::Installation;

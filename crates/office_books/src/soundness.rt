@@ -1,6 +1,6 @@
 //! Whether the next reading of an installation can be judged.
-ghost use Rattle.std.specs.Prelude.{IsTrue};
-ghost use Rattle.office_books.specs.Sound.{IsSound};
+ghost use Rattle.std.specs.Prelude.{◌≡◌, false, IsTrue};
+ghost use Rattle.office_rules.specs.Ranges.{IsSound};
 
 use energy_core::{MAX_CEILING, MAX_RANGE, MAX_TOTAL, MIN_RANGE};
 use office_events::Installation;
@@ -9,6 +9,7 @@ use office_events::Installation;
 pub fn is_sound(row: &Installation) -> bool
     ensures so { IsTrue result → IsSound row.now }
     ensures if_so { IsSound row.now → IsTrue result }
+    ensures unsound { result ≡ false → ¬ IsSound row.now }
 {
     let ranged = MIN_RANGE <= row.opening.range && row.opening.range <= MAX_RANGE;
     let limited = 1 <= row.opening.ceiling && row.opening.ceiling <= MAX_CEILING;

@@ -7,7 +7,7 @@ use Rattle.office_rules.specs.History.{History, Accepted, facts_of}
 use Rattle.office_rules.specs.Lawfulness.{IsPast}
 use Rattle.office_books.specs.declared.faults.BooksFault.{BooksFault}
 use Rattle.office_books.specs.Ledgers.{Ledger, OnlyReads, Moves}
-use Rattle.office_core.specs.Leaving.{MayBeLeft, StopLeaves, BooksStand}
+use Rattle.office_core.specs.Leaving.{MayBeLeft, StopLeaves, BooksStand, Leaves, LeftOnceDone, LeftOnceFailed}
 
 only_one : {X : Type 0} (P : X → Type 0) (x : X) → P x → All P (x ∷ [])
 only_one P x h zero d less = h
@@ -59,3 +59,23 @@ moved_not old new next past why moves is_past clean stand = record {
   holds = moves.refused stand.holds;
   leaves = leaves_err new next past stand.leaves.left stand.leaves.each is_past (moves.under_way stand.leaves.left stand.holds clean stand.leaves.may);
 }
+
+-- what a stop leaves then
+pub done_left : {T : Type 0} (old new : Ledger) (next : Accepted) (past : History) (x : T) → Moves old new (facts_of past) (facts_of (next ∷ past)) (Ok x)
+    → new.is_clean → BooksStand old past → Leaves old new (LeftOnceDone past next)
+done_left old new next past x moves clean stand = λ before may. elim (moves.settled before stand.holds clean may) [
+  | inl whole ↦ (facts_of (next ∷ past) ∷ [], inl refl, whole)
+  | inr same ↦ (before, inr (same.0, refl), same.1)
+]
+
+pub failed_left : {T : Type 0} (old new : Ledger) (next : Accepted) (past : History) (why : BooksFault) → Moves {T = T} old new (facts_of past) (facts_of (next ∷ past)) (Err why)
+    → IsPast (next ∷ past) → new.is_clean → BooksStand old past → Leaves old new (LeftOnceFailed past next)
+failed_left old new next past why moves is_past clean stand = λ before may. elim (moves.under_way before stand.holds clean may) [
+  | inl same ↦ (before, inl refl, same)
+  | inr more ↦ (before ++ facts_of (next ∷ past) ∷ [], inr (is_past, refl), more)
+]
+
+-- look-ups come first
+pub read_first : {T : Type 0} (old between new : Ledger) (result : Result T BooksFault) (so : (before after : List (List Fact)) → Type 0)
+    → OnlyReads old between result → Leaves between new so → Leaves old new so
+read_first old between new result so reads leaves = λ before may. leaves before (reads.keeps.left before may)

@@ -3,6 +3,8 @@ pub mod Taken
 pub mod Reopened
 pub mod Summing
 pub mod Runs
+pub mod Stops
 pub mod AddingUp
 mod Examples
+mod StopExamples
 pub mod RefusingLemmas

@@ -1,46 +1,67 @@
 -- How an opening leaves books.
-use Rattle.std.proofs.Common.{◌≡◌, ℕ, ◌∷◌, inl, inr, sym, subst, Ok, Err, Some, None}
+use Rattle.std.proofs.Common.{◌≡◌, ℕ, List, ◌∷◌, inl, inr, refl, sym, subst, Result, Ok, Err, Some, None}
 use Rattle.std.specs.declared.alloc.Global.{Global}
 use Rattle.std.specs.declared.vec.Vec.{Vec}
+use Rattle.office_events.specs.declared.facts.Fact.{Fact}
 use Rattle.office_events.specs.declared.refusals.Refusal.{Refusal}
+use Rattle.office_events.specs.declared.refusals.Refusal.TheVariants as refusal
 use Rattle.office_rules.specs.History.{History, Opened, facts_of}
 use Rattle.office_rules.specs.Refusals.{opening_refusal_of}
 use Rattle.office_rules.specs.Lawfulness.{IsPast}
 use Rattle.office_booking.specs.declared.sessions.slots.Slot.{Slot}
 use Rattle.office_books.specs.declared.faults.BooksFault.{BooksFault}
+use Rattle.office_books.specs.declared.faults.BooksFault.TheVariants.{Store, Memory}
 use Rattle.office_books.specs.Faults.{as_refusal, faults_after}
 use Rattle.office_books.specs.Ledgers.{Ledger, OnlyReads}
 use Rattle.office_booking.specs.Opening.OpenedOffice.{MayOpen, Opens}
-use Rattle.office_core.specs.Leaving.{BooksStand}
+use Rattle.office_core.specs.Leaving.{BooksStand, Leaves, LeftByOpening, LeftOnceDone, LeftOnceFailed}
 use Rattle.office_core.specs.Reopening.{IsNotOpened, IsReopened}
-use Rattle.office_core.proofs.Left.{read_stand, moved_on, moved_not}
+use Rattle.office_core.proofs.Left.{read_stand, moved_on, moved_not, done_left, failed_left, read_first}
 use Rattle.office_core.proofs.Taken.{failed_outside}
 
 opened_past : (past : History) (at : ℕ) → IsPast past → opening_refusal_of (facts_of past) at ≡ None → IsPast (Opened at ∷ past)
 opened_past past at is none = record { accepted = (none, is.accepted); planned = is.planned }
+
+-- what a stop leaves where an opening failed, or was refused
+opening_failed : (old new : Ledger) (past : History) (at : ℕ) (why : BooksFault) → Leaves old new (LeftOnceFailed past (Opened at))
+    → Leaves old new (LeftByOpening {T = Unit {0}} past at (Err (as_refusal why)))
+opening_failed old new past at (Store fault) left = left
+opening_failed old new past at Memory left = left
+
+left_by_refused : (past : History) (at : ℕ) (why : Refusal) (left : List (List Fact)) → LeftByOpening {T = Unit {0}} past at (Err why) left left
+left_by_refused past at (refusal.Store why) left = inl refl
+left_by_refused past at refusal.Memory left = inl refl
+left_by_refused past at why left = refl
+
+read_left : {T : Type 0} (old new : Ledger) (past : History) (at : ℕ) (result : Result T BooksFault) (why : Refusal) → OnlyReads old new result
+    → Leaves old new (LeftByOpening {T = Unit {0}} past at (Err why))
+read_left old new past at result why reads = λ before may. (before, left_by_refused past at why before, reads.keeps.left before may)
 
 -- the books could not say whether it is refused
 pub not_asked : {T : Type 0} (past : History) (at : ℕ) (old new : Ledger) (fault : BooksFault) (why : Refusal) → OnlyReads {T = T} old new (Err fault)
     → BooksStand old past → why ≡ as_refusal fault → IsNotOpened past at old new why
 not_asked {T = T} past at old new fault why reads stand is =
     subst (IsNotOpened past at old new) (sym is)
-    (record { books = read_stand old new past (Err fault) reads stand; reason = inr (failed_outside T _ _ fault reads.goes.faults) })
+    (record { books = read_stand old new past (Err fault) reads stand; leaves = read_left old new past at (Err fault) (as_refusal fault) reads; reason = inr (failed_outside T _ _ fault reads.goes.faults) })
 
 -- it is refused
 pub refused : {T : Type 0} (past : History) (at : ℕ) (old new : Ledger) (x : T) (why : Refusal) → OnlyReads old new (Ok x)
     → BooksStand old past → Some why ≡ opening_refusal_of (facts_of past) at → IsNotOpened past at old new why
 refused past at old new x why reads stand is =
-    record { books = read_stand old new past (Ok x) reads stand; reason = inl (sym is, reads.goes.faults) }
+    record { books = read_stand old new past (Ok x) reads stand; leaves = read_left old new past at (Ok x) why reads; reason = inl (sym is, reads.goes.faults) }
 
 -- it is booked, or that fails
 pub reopened : {T : Type 0} (past : History) (at : ℕ) (old between new : Ledger) (x : T) (slots : Vec Slot Global) → OnlyReads old between (Ok x)
     → BooksStand old past → None ≡ opening_refusal_of (facts_of past) at → new.is_clean
-    → (MayOpen past at → Opens past at between new (Ok slots)) → IsReopened past at new slots.items
+    → (MayOpen past at → Opens past at between new (Ok slots)) → IsReopened past at old new slots.items
 reopened past at old between new x slots reads stand none clean opens =
     let kept = read_stand old between past (Ok x) reads stand in
     let opened = opens (record { is_past = stand.is_past; accepted = sym none }) in
     record {
       books = moved_on between new (Opened at) past slots opened.books (opened_past past at stand.is_past (sym none)) clean kept;
+      leaves =
+          read_first old between new (Ok x) (LeftOnceDone past (Opened at)) reads
+          (done_left between new (Opened at) past slots opened.books clean kept);
       keeps = opened.slots kept.holds clean;
     }
 
@@ -53,5 +74,9 @@ not_booked past at old between new x fault why reads stand none clean opens is =
     subst (IsNotOpened past at old new) (sym is)
     (record {
       books = moved_not between new (Opened at) past fault opened.books (opened_past past at stand.is_past (sym none)) clean kept;
+      leaves =
+          opening_failed old new past at fault
+          (read_first old between new (Ok x) (LeftOnceFailed past (Opened at)) reads
+          (failed_left between new (Opened at) past fault opened.books (opened_past past at stand.is_past (sym none)) clean kept));
       reason = inr (failed_outside (Vec Slot Global) _ _ fault (subst (λ n. new.fault_count ≡ faults_after {T = Vec Slot Global} (Err fault) n) reads.goes.faults opened.books.goes.faults));
     })

@@ -5,6 +5,7 @@ use Rattle.std.proofs.lemmas.List.{take_more}
 use Rattle.std.proofs.lemmas.List.Elements.{All-append, All-cons, All-nil}
 use Rattle.office_events.specs.declared.answers.Answer.{Answer}
 use Rattle.office_events.specs.declared.events.Event.{Event}
+use Rattle.office_events.specs.declared.facts.Fact.{Fact}
 use Rattle.office_events.specs.declared.refusals.Refusal.{Refusal}
 use Rattle.office_events.specs.declared.refusals.Refusal.TheVariants as refusal
 use Rattle.office_rules.specs.History.{History, Opened}
@@ -12,10 +13,10 @@ use Rattle.office_rules.specs.Refusals.{with_answer}
 use Rattle.office_books.specs.Ledgers.{Ledger}
 use Rattle.office_core.specs.declared.office.Office.{Office}
 use Rattle.office_core.specs.Failing.{Counts, IsNotForWantOfDay, is_failure, stops}
-use Rattle.office_core.specs.Leaving.{BooksStand}
+use Rattle.office_core.specs.Leaving.{BooksStand, Leaves, LeftByEvent}
 use Rattle.office_core.specs.Standing.{After, Stands, books_in, is_stopped}
-use Rattle.office_core.specs.Taking.{IsAnswer, IsTold, IsQuiet, SettlesNothing, Ends, failures_of}
-use Rattle.office_core.specs.EventRun.{Answered, in_turn, history_after, IsAnswered, AreAnswered, TellsOfLast, StopsInTurn, CountInTurn}
+use Rattle.office_core.specs.Taking.{IsAnswer, IsTold, IsQuiet, LeavesEvent, SettlesNothing, Ends, failures_of}
+use Rattle.office_core.specs.EventRun.{Answered, in_turn, history_after, IsAnswered, AreAnswered, TellsOfLast, StopsInTurn, CountInTurn, LeftInTurn, LeftByRun}
 
 abbrev Events : Type 0
 Events = List (ℕ × Event)
@@ -53,6 +54,23 @@ answers_push past before between after [] one h k = (after, rw (sym h) k, refl)
 answers_push past before between after (f ∷ fed) one h k =
     (h.0, h.1, answers_push (with_answer past f.at f.event f.result) h.0 between after fed one h.2 k)
 
+left_push : (past : History) (before between after : List (List Fact)) (fed : List Answered) (one : Answered)
+    → LeftInTurn past fed before between → LeftByEvent (history_after past fed) one.at one.event one.result between after
+    → LeftInTurn past (fed ++ one ∷ []) before after
+left_push past before between after [] one h k = (after, rw (sym h) k, refl)
+left_push past before between after (f ∷ fed) one h k =
+    (h.0, h.1, left_push (with_answer past f.at f.event f.result) h.0 between after fed one h.2 k)
+
+-- one event more, after what a run has left so far
+run_push : (old between new : Ledger) (past : History) (opened : ℕ) (fed : List Answered) (one : Answered)
+    → Leaves old between (LeftByRun past opened fed)
+    → Leaves between new (LeftByEvent (history_after (Opened opened ∷ past) fed) one.at one.event one.result)
+    → Leaves old new (LeftByRun past opened (fed ++ one ∷ []))
+run_push old between new past opened fed one so leaves = λ before may.
+    let run = so before may in
+    let next = leaves run.0 run.2 in
+    (next.0, (run.1.0, run.1.1, left_push (Opened opened ∷ past) run.1.0 run.0 next.0 fed one run.1.2 next.1), next.2)
+
 told_push : {B : Type 0} (past : History) (fed : List Answered) (one : Answered) (office : Office B)
     → IsTold (history_after past fed) one.at one.event one.result office → TellsOfLast past (fed ++ one ∷ []) office
 told_push past [] one office told = told
@@ -84,6 +102,8 @@ pub record SoFar {B : Type 0} (ledger : B → Ledger) (books : B) (opened : ℕ)
       → Stands ledger (history_after (Opened opened ∷ past) fed) office
   pub answers : (past : History) → BooksStand (ledger books) past → (ledger (books_in office)).is_clean
       → AreAnswered (Opened opened ∷ past) (ledger books).fault_count (ledger (books_in office)).fault_count fed
+  pub leaves : (past : History) → BooksStand (ledger books) past → (ledger (books_in office)).is_clean
+      → Leaves (ledger books) (ledger (books_in office)) (LeftByRun past opened fed)
   pub told : (past : History) → BooksStand (ledger books) past → (ledger (books_in office)).is_clean
       → TellsOfLast (Opened opened ∷ past) fed office
   pub stops : StopsInTurn false (is_stopped office) fed
@@ -96,6 +116,7 @@ pub record SoFar {B : Type 0} (ledger : B → Ledger) (books : B) (opened : ℕ)
 pub record Feeds {B : Type 0} (ledger : B → Ledger) (old new : Office B) (one : Answered) : Type 0 where
   pub answers : After ledger old new (λ past. IsAnswer past one.at one.event (failures_of ledger old) (failures_of ledger new) one.result)
   pub stands : After ledger old new (λ past. Stands ledger (with_answer past one.at one.event one.result) new)
+  pub leaves : After ledger old new (LeavesEvent ledger one.at one.event old new one.result)
   pub told : After ledger old new (λ past. IsTold past one.at one.event one.result new)
   pub quiet : (past : History) → Stands ledger past old → is_stopped old ≡ false → SettlesNothing past one.at one.event
       → IsQuiet old new one.result
@@ -122,6 +143,10 @@ further ledger books opened fed old new one so feeds = record {
         answer = feeds.answers history before clean;
         quiet = λ nothing. not_failing ledger history old new one feeds before nothing (is_stopped old) refl;
       });
+  leaves = λ past stood clean.
+      let before = so.stands past stood (feeds.ends.clean clean) in
+      run_push (ledger books) (ledger (books_in old)) (ledger (books_in new)) past opened fed one
+      (so.leaves past stood (feeds.ends.clean clean)) (feeds.leaves (history_after (Opened opened ∷ past) fed) before clean);
   told = λ past stood clean.
       told_push (Opened opened ∷ past) fed one new
       (feeds.told (history_after (Opened opened ∷ past) fed) (so.stands past stood (feeds.ends.clean clean)) clean);

@@ -1,5 +1,5 @@
 -- What an accepted event leaves and tells.
-use Rattle.std.proofs.Common.{◌≡◌, ℕ, Bool, true, false, not, ◌&&◌, cond, List, [], ◌∷◌, inl, inr, refl, sym, ap, subst, ◌∙◌, Ok, Err}
+use Rattle.std.proofs.Common.{◌≡◌, ℕ, Bool, true, false, cond, List, [], ◌∷◌, inl, inr, refl, sym, ap, subst, ◌∙◌, Option, Some, None, Result, Ok, Err}
 use Rattle.office_events.specs.declared.answers.Answer.{Answer}
 use Rattle.office_events.specs.declared.answers.Answer.TheVariants as answer
 use Rattle.office_events.specs.declared.answers.CommandKind.{CommandKind}
@@ -7,8 +7,9 @@ use Rattle.office_events.specs.declared.events.Event.{Event}
 use Rattle.office_events.specs.declared.events.Event.TheVariants as event
 use Rattle.office_events.specs.declared.facts.Fact.{Fact}
 use Rattle.office_events.specs.declared.refusals.Refusal.{Refusal}
+use Rattle.office_events.specs.declared.refusals.Refusal.TheVariants as refusal
 use Rattle.office_rules.specs.Sessions.{Slot, command_in}
-use Rattle.office_rules.specs.History.{History, Fed, facts_of, slots_of, next_poll}
+use Rattle.office_rules.specs.History.{History, Fed, facts_of, slots_of, next_poll, settled_on}
 use Rattle.office_rules.specs.Refusals.{IsAccepted, refusal_of, unless_kept, unless_refused, decision_of, answer_of, is_start}
 use Rattle.office_rules.specs.Lawfulness.{IsPast, PutsPlanned}
 use Rattle.office_books.specs.declared.faults.BooksFault.{BooksFault}
@@ -18,14 +19,18 @@ use Rattle.office_books.specs.Faults.{as_refusal, faults_after}
 use Rattle.office_rules.specs.Refusals.{with_answer}
 use Rattle.office_rules.specs.Notes.{notes_of, outgoing_of, notes_after, outgoing_after}
 use Rattle.office_booking.specs.Sessions.Keeping.{KeepsSlots}
-use Rattle.office_books.specs.Ledgers.{Ledger, Moves}
+use Rattle.office_books.specs.Ledgers.{Ledger, KeepsFacts, Moves}
+use Rattle.office_booking.specs.Settling.Settling.{SettleNothing}
+use Rattle.poll_core.specs.Settling as session
+use Rattle.office_events.specs.declared.facts.Device.{Device}
 use Rattle.office_core.specs.declared.office.Office.{Office}
-use Rattle.office_core.specs.Events.{is_command}
+use Rattle.office_core.specs.Decisions.{IsNoChange}
+use Rattle.office_core.specs.Events.{is_command, may_settle}
 use Rattle.office_core.specs.Failing.{IsOutside, stops}
-use Rattle.office_core.specs.Leaving.{BooksStand}
+use Rattle.office_core.specs.Leaving.{BooksStand, Leaves, LeftByEvent, LeftOnceFailed}
 use Rattle.office_core.specs.Standing.{Goes, notes_in, outgoing_in}
-use Rattle.office_core.specs.Taking.{MayTake, Takes}
-use Rattle.office_core.proofs.Left.{moved_on, moved_not}
+use Rattle.office_core.specs.Taking.{LeavesEvent, MayTake, Takes}
+use Rattle.office_core.proofs.Left.{moved_on, moved_not, done_left, failed_left}
 
 -- an accepted event is answered as it is to be
 pub accepted_decision : (past : History) (at : ℕ) (e : Event) → IsAccepted past at e → decision_of past at e ≡ Ok (answer_of (slots_of past) (facts_of past) at e)
@@ -33,24 +38,47 @@ accepted_decision past at e accepted =
     ap (λ kept. unless_kept (unless_refused (answer_of (slots_of past) (facts_of past) at e) (refusal_of past at e)) kept) accepted.new
     ∙ ap (unless_refused (answer_of (slots_of past) (facts_of past) at e)) accepted.right
 
--- what follows an answer to an accepted event is never that it was asked before
-by_start : {X : Type 0} (f : Answer → X) (v : X) → ((n m k : ℕ) → f (answer.Started n m k) ≡ v) → ((k : CommandKind) → f (answer.Done k) ≡ v)
-    → (b : Bool) (n m k : ℕ) (kind : CommandKind) → f (cond b (answer.Started n m k) (answer.Done kind)) ≡ v
-by_start f v started done true n m k kind = started n m k
-by_start f v started done false n m k kind = done kind
+-- an accepted event is never answered that it was asked before
+by_start : (So : Answer → Type 0) → ((n m k : ℕ) → So (answer.Started n m k)) → ((k : CommandKind) → So (answer.Done k))
+    → (b : Bool) (n m k : ℕ) (kind : CommandKind) → So (cond b (answer.Started n m k) (answer.Done kind))
+by_start So started done true n m k kind = started n m k
+by_start So started done false n m k kind = done kind
 
-pub by_answer : {X : Type 0} (f : Answer → X) (v : X) → ((n m k : ℕ) → f (answer.Started n m k) ≡ v) → ((k : CommandKind) → f (answer.Done k) ≡ v)
-    → f answer.Noted ≡ v → (slots : List Slot) (facts : List Fact) (at : ℕ) (e : Event) → f (answer_of slots facts at e) ≡ v
-by_answer f v started done noted slots facts at (event.Connected given) = noted
-by_answer f v started done noted slots facts at (event.Bytes given piece) = noted
-by_answer f v started done noted slots facts at event.Tick = noted
-by_answer f v started done noted slots facts at (event.Gone given closing) = noted
-by_answer f v started done noted slots facts at (event.Command c) = by_start f v started done (is_start c) _ _ _ _
-by_answer f v started done noted slots facts at (event.Asked asked) = by_start f v started done (is_start asked.command) _ _ _ _
+pub by_answer : (So : Answer → Type 0) → ((n m k : ℕ) → So (answer.Started n m k)) → ((k : CommandKind) → So (answer.Done k))
+    → So answer.Noted → (slots : List Slot) (facts : List Fact) (at : ℕ) (e : Event) → So (answer_of slots facts at e)
+by_answer So started done noted slots facts at (event.Connected given) = noted
+by_answer So started done noted slots facts at (event.Bytes given piece) = noted
+by_answer So started done noted slots facts at event.Tick = noted
+by_answer So started done noted slots facts at (event.Gone given closing) = noted
+by_answer So started done noted slots facts at (event.Command c) = by_start So started done (is_start c) _ _ _ _
+by_answer So started done noted slots facts at (event.Asked asked) = by_start So started done (is_start asked.command) _ _ _ _
 
 -- an accepted event may follow
 pub one_more_past : (past : History) (at : ℕ) (e : Event) → IsPast past → IsAccepted past at e → PutsPlanned (command_in e) → IsPast (Fed at e ∷ past)
 one_more_past past at e is accepted planned = record { accepted = (accepted, is.accepted); planned = (planned, is.planned) }
+
+-- what a stop leaves where an event failed, or changes nothing
+pub event_failed : (old new : Ledger) (past : History) (at : ℕ) (e : Event) (why : BooksFault) → Leaves old new (LeftOnceFailed past (Fed at e))
+    → Leaves old new (LeftByEvent past at e (Err (as_refusal why)))
+event_failed old new past at e (Store fault) left = left
+event_failed old new past at e Memory left = left
+
+left_by_refused : (past : History) (at : ℕ) (e : Event) (why : Refusal) (left : List (List Fact)) → LeftByEvent past at e (Err why) left left
+left_by_refused past at e (refusal.Store why) left = inl refl
+left_by_refused past at e refusal.Memory left = inl refl
+left_by_refused past at e why left = refl
+
+left_by_kept : (past : History) (at : ℕ) (e : Event) (given : Answer) (left : List (List Fact)) → IsNoChange (Ok given) → LeftByEvent past at e (Ok given) left left
+left_by_kept past at e (answer.Again kind) left none = refl
+left_by_kept past at e given left none = absurd none
+
+pub unchanged_left : (old new : Ledger) (past : History) (at : ℕ) (e : Event) (given : Result Answer Refusal) → KeepsFacts old new → IsNoChange given
+    → Leaves old new (LeftByEvent past at e given)
+unchanged_left old new past at e (Ok given) keeps none = λ before may. (before, left_by_kept past at e given before none, keeps.left before may)
+unchanged_left old new past at e (Err why) keeps none = λ before may. (before, left_by_refused past at e why before, keeps.left before may)
+
+pub refused_left : (old new : Ledger) (past : History) (at : ℕ) (e : Event) (why : Refusal) → KeepsFacts old new → Leaves old new (LeftByEvent past at e (Err why))
+refused_left old new past at e why keeps = λ before may. (before, left_by_refused past at e why before, keeps.left before may)
 
 -- how failures of books are told and counted
 pub failed_outside : (T : Type 0) (before after : ℕ) (why : BooksFault) → after ≡ faults_after {T = T} (Err why) before
@@ -59,11 +87,34 @@ failed_outside T before after (Store Refused) is = is
 failed_outside T before after (Store Damaged) is = is
 failed_outside T before after Memory is = is
 
--- an event of a device that fails stops the office
-pub stops_failed : (e : Event) (why : BooksFault) → is_command e ≡ false → stops e (Err (as_refusal why)) ≡ true
-stops_failed e (Store Refused) device = ap (λ b. not b && true) device
-stops_failed e (Store Damaged) device = ap (λ b. not b && true) device
-stops_failed e Memory device = ap (λ b. not b && true) device
+-- an event of a device that fails stops the office, or is none that may settle polls
+pub goes_on_unsettling : (e : Event) (why : BooksFault) → stops e (Err (as_refusal why)) ≡ false → may_settle e ≡ false
+goes_on_unsettling (event.Connected given) why on = refl
+goes_on_unsettling (event.Bytes given piece) (Store fault) on = absurd (cc)
+goes_on_unsettling (event.Bytes given piece) Memory on = absurd (cc)
+goes_on_unsettling event.Tick (Store fault) on = absurd (cc)
+goes_on_unsettling event.Tick Memory on = absurd (cc)
+goes_on_unsettling (event.Gone given closing) (Store fault) on = absurd (cc)
+goes_on_unsettling (event.Gone given closing) Memory on = absurd (cc)
+goes_on_unsettling (event.Command c) why on = refl
+goes_on_unsettling (event.Asked asked) why on = refl
+
+settled_none : (number at : ℕ) (given : Option (List ℕ)) (device : Device) (present : Option (List session.Event)) → settled_on number at (event.Connected given) device present ≡ []
+settled_none number at given device None = refl
+settled_none number at given device (Some before) = refl
+
+connected_settles : (number at : ℕ) (given : Option (List ℕ)) (slots : List Slot) → SettleNothing number at (event.Connected given) slots
+connected_settles number at given [] = tt
+connected_settles number at given (slot ∷ slots) = (settled_none number at given slot.device slot.present, connected_settles number at given slots)
+
+-- such an event of a device settles nothing
+pub unsettling : (e : Event) (number at : ℕ) (slots : List Slot) → is_command e ≡ false → may_settle e ≡ false → SettleNothing number at e slots
+unsettling (event.Connected given) number at slots device none = connected_settles number at given slots
+unsettling (event.Bytes given piece) number at slots device none = absurd (cc)
+unsettling event.Tick number at slots device none = absurd (cc)
+unsettling (event.Gone given closing) number at slots device none = absurd (cc)
+unsettling (event.Command c) number at slots device none = absurd (cc)
+unsettling (event.Asked asked) number at slots device none = absurd (cc)
 
 -- an event of a device is noted, and wants nothing sent; one that asks a command brings no notes
 pub noted : (slots : List Slot) (facts : List Fact) (at : ℕ) (e : Event) → is_command e ≡ false → answer.Noted ≡ answer_of slots facts at e
@@ -101,18 +152,21 @@ pub taken : {B T : Type 0} (ledger : B → Ledger) (past : History) (at : ℕ) (
 taken ledger past at e old new x given may accepted clean moves is latest slots notes outgoing =
     let follows : with_answer past at e (Ok given) ≡ Fed at e ∷ past =
     ap (λ a. with_answer past at e (Ok a)) is
-    ∙ by_answer (λ a. with_answer past at e (Ok a)) (Fed at e ∷ past) (λ n m k. refl) (λ k. refl) refl (slots_of past) (facts_of past) at e in
+    ∙ by_answer (λ a. with_answer past at e (Ok a) ≡ Fed at e ∷ past) (λ n m k. refl) (λ k. refl) refl (slots_of past) (facts_of past) at e in
     let told : notes_after past at e (Ok given) ≡ notes_of (next_poll (facts_of past)) at e (slots_of past) (facts_of past) =
     ap (λ a. notes_after past at e (Ok a)) is
-    ∙ by_answer (λ a. notes_after past at e (Ok a)) _ (λ n m k. refl) (λ k. refl) refl (slots_of past) (facts_of past) at e in
+    ∙ by_answer (λ a. notes_after past at e (Ok a) ≡ notes_of (next_poll (facts_of past)) at e (slots_of past) (facts_of past)) (λ n m k. refl) (λ k. refl) refl (slots_of past) (facts_of past) at e in
     let sent : outgoing_after past at e (Ok given) ≡ outgoing_of (next_poll (facts_of past)) at e (slots_of past) (facts_of past) =
     ap (λ a. outgoing_after past at e (Ok a)) is
-    ∙ by_answer (λ a. outgoing_after past at e (Ok a)) _ (λ n m k. refl) (λ k. refl) refl (slots_of past) (facts_of past) at e in
+    ∙ by_answer (λ a. outgoing_after past at e (Ok a) ≡ outgoing_of (next_poll (facts_of past)) at e (slots_of past) (facts_of past)) (λ n m k. refl) (λ k. refl) refl (slots_of past) (facts_of past) at e in
+    let left = done_left (ledger old.books) (ledger new.books) (Fed at e) past x moves clean may.books in
+    let Left : Answer → Type 0 = λ a. LeavesEvent ledger at e old new (Ok a) past in
     record {
       answer = inl (ap (λ a. Ok a) is ∙ sym (accepted_decision past at e accepted), moves.goes.faults);
       books =
           subst (BooksStand (ledger new.books)) (sym follows)
           (moved_on (ledger old.books) (ledger new.books) (Fed at e) past x moves (one_more_past past at e may.books.is_past accepted may.planned) clean may.books);
+      leaves = subst Left (sym is) (by_answer Left (λ n m k. left) (λ k. left) left (slots_of past) (facts_of past) at e);
       goes = λ on. subst (λ h. Goes h new) (sym follows) (record { latest = latest; slots = slots });
       told = record { notes = notes ∙ sym told; outgoing = outgoing ∙ sym sent };
     }
@@ -128,6 +182,9 @@ not_taken {T = T} ledger past at e old new fault why may accepted clean moves is
     (record {
       answer = inr (failed_outside T _ _ fault moves.goes.faults);
       books = moved_not (ledger old.books) (ledger new.books) (Fed at e) past fault moves (one_more_past past at e may.books.is_past accepted may.planned) clean may.books;
+      leaves =
+          event_failed (ledger old.books) (ledger new.books) past at e fault
+          (failed_left (ledger old.books) (ledger new.books) (Fed at e) past fault moves (one_more_past past at e may.books.is_past accepted may.planned) clean may.books);
       goes = goes;
       told = record { notes = notes ∙ may.notes; outgoing = outgoing ∙ may.outgoing };
     })

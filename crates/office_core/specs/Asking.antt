@@ -163,11 +163,12 @@ pub record Asks {T : Type 0} (old new : Ledger) (result : Result T Refusal) : Ty
   pub clean : new.is_clean → old.is_clean
   pub zone : new.zone ≡ old.zone
 
--- It leaves the office as it was: it stands where it stood, and tells and sends what it did. It is refused as stopped
--- exactly where the office had stopped, and stops none.
+-- It leaves the office as it was: it stands where it stood, a stop leaves what it left, and it tells and sends what it did.
+-- It is refused as stopped exactly where the office had stopped, and stops none.
 pub record OnlyAsks {B T : Type 0} (ledger : B → Ledger) (old new : Office B)
     (result : Result T Refusal) : Type 0 where
   pub stands : (past : History) → Stands ledger past old → Stands ledger past new
+  pub keeps : KeepsFacts (ledger (books_in old)) (ledger (books_in new))
   pub notes : notes_in new ≡ notes_in old
   pub outgoing : outgoing_in new ≡ outgoing_in old
   pub stopped : (result ≡ Err refusal.Stopped) ↔ (is_stopped old ≡ true)

@@ -5,6 +5,7 @@ use Rattle.office_events.specs.declared.answers.Answer.{Answer}
 use Rattle.office_events.specs.declared.events.Event.{Event}
 use Rattle.office_events.specs.declared.refusals.Refusal.{Refusal}
 use Rattle.office_events.specs.declared.refusals.Refusal.TheVariants as refusal
+use Rattle.office_events.specs.declared.facts.Fact.{Fact}
 use Rattle.office_rules.specs.History.{History, Opened, facts_of}
 use Rattle.office_rules.specs.Refusals.{with_answer}
 use Rattle.office_rules.specs.Lawfulness.{IsPast, AreTrue}
@@ -13,7 +14,7 @@ use Rattle.office_core.specs.declared.office.Office.{Office}
 use Rattle.office_core.specs.declared.results.Run.{Run}
 use Rattle.office_core.specs.Failing.{Counts, IsNotForWantOfDay, is_failure, stops}
 use Rattle.office_core.specs.Headline.{HeadlineHolds}
-use Rattle.office_core.specs.Leaving.{BooksStand}
+use Rattle.office_core.specs.Leaving.{BooksStand, Leaves, LeftByEvent, LeftOnceDone}
 use Rattle.office_core.specs.Standing.{Stands, books_in, notes_in, outgoing_in, is_stopped}
 use Rattle.office_core.specs.Taking.{IsAnswer, IsTold, SettlesNothing}
 
@@ -76,6 +77,20 @@ CountInTurn before after [] = after ≡ before
 CountInTurn before after (fed ∷ later) =
     (between : ℕ) × Counts before between fed.result × CountInTurn between after later
 
+-- What a stop leaves goes on with each event: by the facts with those of this one, or it stays.
+abbrev pub LeftInTurn : History → List Answered → (before after : List (List Fact)) → Type 0
+LeftInTurn past [] before after = after ≡ before
+LeftInTurn past (fed ∷ later) before after =
+    (between : List (List Fact)) × LeftByEvent past fed.at fed.event fed.result before between
+    × LeftInTurn (with_answer past fed.at fed.event fed.result) later between after
+
+-- In a run the opening comes first, which was accepted.
+abbrev pub LeftByRun : History → (opened : ℕ) → List Answered → (before after : List (List Fact))
+    → Type 0
+LeftByRun past opened fed before after =
+    (between : List (List Fact)) × LeftOnceDone past (Opened opened) before between
+    × LeftInTurn (Opened opened ∷ past) fed between after
+
 -- Where books stood after what had been accepted, and no wrong answer of a store was taken as true, this holds of a run.
 abbrev pub Ran : {B : Type 0} → (B → Ledger) → (books : B)
     → Result (Run B) (B × Refusal) → (History → Run B → Type 0) → Type 0
@@ -87,6 +102,13 @@ pub record StandsAfter {B : Type 0} (ledger : B → Ledger)
     (begun : History) (events : List (ℕ × Event)) (run : Run B) : Type 0 where
   pub office : Stands ledger (history_after begun (events_of events run)) run.office
   pub told : TellsOfLast begun (events_of events run) run.office
+
+-- What a stop leaves in its end is by its events alone, and by what it left of the books that were handed in.
+abbrev pub LeavesInTurn : {B : Type 0} → (B → Ledger) → (books : B) → (opened : ℕ)
+    → List (ℕ × Event) → History → Run B → Type 0
+LeavesInTurn ledger books opened events past run =
+    Leaves (ledger books) (ledger (books_in run.office))
+    (LeftByRun past opened (events_of events run))
 
 -- Its answers: the count of the books' failures goes on with them.
 abbrev pub AnswersEach : {B : Type 0} → (B → Ledger) → (books : B)

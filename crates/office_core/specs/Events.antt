@@ -1,4 +1,4 @@
--- Events of devices, and such as ask a command.
+-- Events of devices, such as may settle polls, and such as ask a command.
 use Rattle.std.specs.Prelude.{Bool, true, false}
 use Rattle.office_events.specs.declared.events.Event.{Event}
 use Rattle.office_events.specs.declared.events.Event.TheVariants as event
@@ -11,3 +11,12 @@ is_command event.Tick = false
 is_command (event.Gone given closing) = false
 is_command (event.Command c) = true
 is_command (event.Asked asked) = true
+
+-- The event may settle polls: time goes on, or a device sends or ends something. That it connects settles none.
+abbrev pub may_settle : Event → Bool
+may_settle (event.Connected given) = false
+may_settle (event.Bytes given piece) = true
+may_settle event.Tick = true
+may_settle (event.Gone given closing) = true
+may_settle (event.Command c) = false
+may_settle (event.Asked asked) = false

@@ -1,5 +1,5 @@
 -- What a failure outside is answered, and what it leaves.
-use Rattle.std.specs.Prelude.{◌≡◌, ◌⊎◌, ℕ, Bool, true, false, not, ◌&&◌, Result, Ok, Err}
+use Rattle.std.specs.Prelude.{◌≡◌, ◌⊎◌, ℕ, Bool, true, false, ◌&&◌, Result, Ok, Err}
 use Rattle.office_events.specs.declared.answers.Answer.{Answer}
 use Rattle.office_events.specs.declared.events.Event.{Event}
 use Rattle.office_events.specs.declared.refusals.Refusal.{Refusal}
@@ -7,7 +7,7 @@ use Rattle.office_events.specs.declared.refusals.Refusal.TheVariants as refusal
 use Rattle.office_events.specs.declared.refusals.StoreCause.{StoreCause}
 use Rattle.office_events.specs.declared.refusals.StoreCause.TheVariants as store
 use Rattle.office_books.specs.Faults.{one_more}
-use Rattle.office_core.specs.Events.{is_command}
+use Rattle.office_core.specs.Events.{may_settle}
 
 -- A refusal for what does not lie in what was asked, over the count of the books' failures before and after: the books
 -- failed, and it is one more; or there was no memory, or the office had stopped, and it is the same.
@@ -59,6 +59,6 @@ is_failure (Err (refusal.Store why)) = true
 is_failure (Err refusal.Memory) = true
 is_failure (Err _) = false
 
--- An event of a device that fails stops the office.
+-- An event that may settle polls stops the office where it fails, since some of its sessions may have gone on.
 abbrev pub stops : Event → Result Answer Refusal → Bool
-stops e result = not (is_command e) && is_failure result
+stops e result = may_settle e && is_failure result

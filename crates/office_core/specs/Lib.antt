@@ -9,4 +9,5 @@ pub mod Asking
 pub mod DaySums
 pub mod Headline
 pub mod EventRun
+pub mod Stopping
 pub mod Refusing

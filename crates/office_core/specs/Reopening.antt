@@ -9,11 +9,15 @@ use Rattle.office_booking.specs.declared.sessions.slots.Slot.{Slot}
 use Rattle.office_booking.specs.Sessions.Keeping.{KeepsSlots}
 use Rattle.office_books.specs.Ledgers.{Ledger}
 use Rattle.office_core.specs.Failing.{CountsFailures, IsNotStopped, IsOutside, IsNotForWantOfDay}
-use Rattle.office_core.specs.Leaving.{BooksStand}
+use Rattle.office_core.specs.declared.office.Office.{Office}
+use Rattle.office_core.specs.Leaving.{BooksStand, Leaves, LeftByOpening}
+use Rattle.office_core.specs.Standing.{books_in}
 
--- An opening is refused as its definition says, or it failed outside; the books stand as they did.
+-- An opening is refused as its definition says, or it failed outside; the books stand as they did. A stop then leaves
+-- what it left, or, where the opening failed, also the facts with all that it would have recorded.
 pub record IsNotOpened (past : History) (at : ℕ) (old new : Ledger) (why : Refusal) : Type 0 where
   pub books : BooksStand new past
+  pub leaves : Leaves old new (LeftByOpening {T = Unit {0}} past at (Err why))
   pub reason :
       ((opening_refusal_of (facts_of past) at ≡ Some why) × (new.fault_count ≡ old.fault_count))
       ⊎ IsOutside old.fault_count new.fault_count why
@@ -24,14 +28,22 @@ abbrev pub HandsBackUnopened : {B : Type 0} → (B → Ledger) → (books : B) �
 HandsBackUnopened ledger books at past back =
     (ledger back.0).is_clean → IsNotOpened past at (ledger books) (ledger back.0) back.1
 
+-- A stop that comes after an opening leaves the facts with what it recorded; where it recorded nothing, what it left before.
+abbrev pub LeavesOpening : {B : Type 0} → (B → Ledger) → (books : B) → (at : ℕ) → History
+    → Office B → Type 0
+LeavesOpening ledger books at past office = (ledger (books_in office)).is_clean
+    → Leaves (ledger books) (ledger (books_in office)) (LeftByOpening past at (Ok office))
+
 -- The books stand after the opening, and there is a slot for each device.
-pub record IsReopened (past : History) (at : ℕ) (new : Ledger) (slots : List Slot) : Type 0 where
+pub record IsReopened (past : History) (at : ℕ) (old new : Ledger) (slots : List Slot) :
+    Type 0 where
   pub books : BooksStand new (Opened at ∷ past)
+  pub leaves : Leaves old new (LeftByOpening past at (Ok slots))
   pub keeps : KeepsSlots slots (slots_of (Opened at ∷ past))
 
 abbrev pub Reopens : History → (at : ℕ) → (old new : Ledger) → Result (Vec Slot Global) Refusal
     → Type 0
-Reopens past at old new (Ok slots) = IsReopened past at new slots.items
+Reopens past at old new (Ok slots) = IsReopened past at old new slots.items
 Reopens past at old new (Err why) = IsNotOpened past at old new why
 
 -- Whatever the books hold: the count of their failures goes up by those alone, a wrong answer of a store that was taken

@@ -1,11 +1,11 @@
 -- What taking an event leaves and answers.
-use Rattle.std.specs.Prelude.{◌≡◌, ◌⊎◌, ◌↔◌, ℕ, true, false, ◌||◌, [], Result, Err, IfErr}
+use Rattle.std.specs.Prelude.{◌≡◌, ◌⊎◌, ◌↔◌, ℕ, true, false, ◌||◌, [], None, Result, Err, IfErr}
 use Rattle.office_events.specs.declared.answers.Answer.{Answer}
 use Rattle.office_events.specs.declared.events.Event.{Event}
 use Rattle.office_events.specs.declared.refusals.Refusal.{Refusal}
 use Rattle.office_events.specs.declared.refusals.Refusal.TheVariants as refusal
 use Rattle.office_rules.specs.History.{History, facts_of, slots_of, next_poll}
-use Rattle.office_rules.specs.Refusals.{IsAccepted, decision_of, with_answer}
+use Rattle.office_rules.specs.Refusals.{IsAccepted, decision_of, refusal_of, with_answer}
 use Rattle.office_rules.specs.Notes.{notes_after, outgoing_after}
 use Rattle.office_rules.specs.Sessions.{command_in}
 use Rattle.office_rules.specs.Lawfulness.{PutsPlanned}
@@ -14,7 +14,7 @@ use Rattle.office_booking.specs.Settling.Settling.{SettleNothing}
 use Rattle.office_core.specs.declared.office.Office.{Office}
 use Rattle.office_core.specs.Events.{is_command}
 use Rattle.office_core.specs.Failing.{Counts, FailsOutside, IsNotStopped, IsNotForWantOfDay, is_failure, stops}
-use Rattle.office_core.specs.Leaving.{BooksStand}
+use Rattle.office_core.specs.Leaving.{BooksStand, Leaves, LeftByEvent}
 use Rattle.office_core.specs.Standing.{Goes, books_in, is_stopped, notes_in, outgoing_in}
 
 -- how often the books of an office failed
@@ -33,6 +33,12 @@ abbrev pub AnswersEvent : {B : Type 0} → (B → Ledger) → (at : ℕ) → Eve
 AnswersEvent ledger at e old new result past =
     IsAnswer past at e (failures_of ledger old) (failures_of ledger new) result
 
+-- A stop that comes after it leaves what it left before, or the facts with those of this event, by how it is answered.
+abbrev pub LeavesEvent : {B : Type 0} → (B → Ledger) → (at : ℕ) → Event → (old new : Office B)
+    → Result Answer Refusal → History → Type 0
+LeavesEvent ledger at e old new result past =
+    Leaves (ledger (books_in old)) (ledger (books_in new)) (LeftByEvent past at e result)
+
 -- What the office tells is of this event alone: its outcomes and readings, and the frames that it wants sent.
 pub record IsTold {B : Type 0} (past : History) (at : ℕ) (e : Event)
     (result : Result Answer Refusal) (office : Office B) : Type 0 where
@@ -40,7 +46,7 @@ pub record IsTold {B : Type 0} (past : History) (at : ℕ) (e : Event)
   pub outgoing : outgoing_in office ≡ outgoing_after past at e result
 
 -- Whatever the books hold, the office refuses since it stopped exactly where it had, and never since a row has no civil
--- day; it stops where an event of a device fails; the books' count of failures rises by those alone; a wrong answer of a
+-- day; it stops where an event that may settle polls fails; the books' count of failures rises by those alone; a wrong answer of a
 -- store that was taken as true stays one, and so does the zone.
 pub record Ends {B : Type 0} (ledger : B → Ledger) (old new : Office B) (e : Event)
     (result : Result Answer Refusal) : Type 0 where
@@ -51,10 +57,11 @@ pub record Ends {B : Type 0} (ledger : B → Ledger) (old new : Office B) (e : E
   pub clean : (ledger (books_in new)).is_clean → (ledger (books_in old)).is_clean
   pub zone : (ledger (books_in new)).zone ≡ (ledger (books_in old)).zone
 
--- The event is of a device, and settles no poll.
+-- The event is of a device, and settles no poll: it is refused, or none of the polls that wait ends by it.
 pub record SettlesNothing (past : History) (at : ℕ) (e : Event) : Type 0 where
   pub device : is_command e ≡ false
-  pub nothing : SettleNothing (next_poll (facts_of past)) at e (slots_of past)
+  pub nothing : refusal_of past at e ≡ None
+      → SettleNothing (next_poll (facts_of past)) at e (slots_of past)
 
 -- Neither the store nor memory fails, and no books are asked.
 pub record IsQuiet {B : Type 0} (old new : Office B) (result : Result Answer Refusal) : Type 0 where
@@ -76,6 +83,7 @@ pub record Takes {B : Type 0} (ledger : B → Ledger) (past : History) (at : ℕ
   pub answer : IsAnswer past at e
       (ledger (books_in old)).fault_count (ledger (books_in new)).fault_count result
   pub books : BooksStand (ledger (books_in new)) (with_answer past at e result)
+  pub leaves : LeavesEvent ledger at e old new result past
   pub goes : stops e result ≡ false → Goes (with_answer past at e result) new
   pub told : IsTold past at e result new
 

@@ -28,11 +28,32 @@ pub fn is_command(event: &Event) -> bool
     }
 }
 
+/// Whether an event may settle polls.
+fn may_settle(event: &Event) -> bool
+    ensures { result ≡ events.may_settle event.now }
+{
+    match event {
+        Event::Connected(_) => false,
+        Event::Bytes(_, _) => true,
+        Event::Tick => true,
+        Event::Gone(_, _) => true,
+        Event::Command(_) => false,
+        Event::Asked(_) => false,
+    }
+}
+
 /// Whether the books or memory failed.
-pub fn is_failure(given: &Result<Answer, Refusal>) -> bool
+fn is_failure(given: &Result<Answer, Refusal>) -> bool
     ensures { result ≡ failing.is_failure given.now }
 {
     matches!(given, Err(Refusal::Store(_)) | Err(Refusal::Memory))
+}
+
+/// Whether an office stops that answers an event so.
+pub fn stops(event: &Event, given: &Result<Answer, Refusal>) -> bool
+    ensures { result ≡ failing.stops event.now given.now }
+{
+    may_settle(event) && is_failure(given)
 }
 
 /// That a list that an event puts is planned.

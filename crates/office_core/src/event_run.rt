@@ -3,8 +3,8 @@ ghost use Rattle.std.specs.Prelude.{◌∷◌, Err, IfOk, IfErr};
 ghost use Rattle.office_rules.specs.History.{History, Opened};
 ghost use Rattle.office_core.specs.Leaving.{BooksStand};
 ghost use Rattle.office_core.specs.Reopening.{HandsBackUnopened, Passed};
-ghost use Rattle.office_core.specs.EventRun.{AnswersEach, EndsInTurn, Ran, RecordsAccepted};
-ghost use Rattle.office_core.specs.EventRun.{StandsAfter};
+ghost use Rattle.office_core.specs.EventRun.{AnswersEach, EndsInTurn, LeavesInTurn, Ran};
+ghost use Rattle.office_core.specs.EventRun.{RecordsAccepted, StandsAfter};
 
 use crate::office::Office;
 use crate::results::Run;
@@ -26,6 +26,7 @@ pub fn run<B: Books>(
     ensures headline { Ran B.ledger books result (RecordsAccepted B.ledger opened events.now) }
     ensures stands { Ran B.ledger books result
         (λ past run. StandsAfter B.ledger (Opened opened ∷ past) events.now run) }
+    ensures leaves { Ran B.ledger books result (LeavesInTurn B.ledger books opened events.now) }
     ensures answers { Ran B.ledger books result
         (λ past run. AnswersEach B.ledger books (Opened opened ∷ past) events.now run) }
     ensures ends { IfOk result (λ run. EndsInTurn B.ledger books events.now run) }

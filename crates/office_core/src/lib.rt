@@ -4,6 +4,7 @@
 mod day_sink;
 mod decisions;
 mod event_run;
+mod laws;
 mod office;
 mod questions;
 mod refusing;
@@ -11,6 +12,7 @@ mod reopened_office;
 mod results;
 
 pub use event_run::run;
+pub use laws::{events_are_left_whole, runs_are_left_whole};
 pub use office::Office;
 pub use office_books::{Books, BooksFault, RowSink, StoreFault};
 pub use office_events::{

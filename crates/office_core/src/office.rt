@@ -15,13 +15,14 @@ ghost use Rattle.office_core.specs.Asking.{TellsRow, TellsDays, TellsRows};
 ghost use Rattle.office_core.specs.Events as events;
 ghost use Rattle.office_core.specs.Failing.{IsNotForWantOfDay};
 ghost use Rattle.office_core.specs.Leaving.{BooksStand};
-ghost use Rattle.office_core.specs.Reopening.{HandsBackUnopened, Passed};
+ghost use Rattle.office_core.specs.Reopening.{HandsBackUnopened, LeavesOpening, Passed};
 ghost use Rattle.office_core.specs.Standing.{After, IsFresh, Stands, StandsIfClean};
 ghost use Rattle.office_core.specs.Standing.{books_in, is_stopped, notes_in, outgoing_in};
-ghost use Rattle.office_core.specs.Taking.{AnswersEvent, Ends, IsQuiet, IsTold, SettlesNothing};
-ghost use Rattle.office_core.specs.Taking.{MayTake, Passes, TakesAccepted, TakesAny};
+ghost use Rattle.office_core.specs.Taking.{AnswersEvent, Ends, IsQuiet, IsTold, LeavesEvent};
+ghost use Rattle.office_core.specs.Taking.{MayTake, Passes, SettlesNothing};
+ghost use Rattle.office_core.specs.Taking.{TakesAccepted, TakesAny};
 
-use crate::decisions::{asks_planned, decide, is_command, is_failure};
+use crate::decisions::{asks_planned, decide, is_command, stops};
 use crate::questions;
 use crate::reopened_office::reopen;
 use interval_core::{DayTotal, Share};
@@ -49,6 +50,8 @@ impl<B: Books> Office<B> {
     pub fn open(alloc: Global, mut books: B, moment: u64) -> Result<Office<B>, (B, Refusal)>
         ensures opened { (past : History) → BooksStand (B.ledger books) past
             → IfOk result (StandsIfClean B.ledger (Opened moment ∷ past)) }
+        ensures leaves { (past : History) → BooksStand (B.ledger books) past
+            → IfOk result (LeavesOpening B.ledger books moment past) }
         ensures fresh { IfOk result (λ office. IsFresh office) }
         ensures refused { (past : History) → BooksStand (B.ledger books) past
             → IfErr result (HandsBackUnopened B.ledger books moment past) }
@@ -130,14 +133,16 @@ impl<B: Books> Office<B> {
     }
 
     /// Takes an event. A refused one changes nothing, save that nothing is told and nothing wants to be sent; so does a
-    /// request that was asked before. Where the books or memory fail while an event of a device is settled, the office
-    /// stops, and refuses whatever comes until it is opened again. An event of a device that settles no poll takes no
-    /// memory. Moments are seconds since 1970-01-01 UTC.
+    /// request that was asked before. Where the books or memory fail while polls are settled, the office stops, and refuses
+    /// whatever comes until it is opened again. An event of a device that is refused, or settles no poll, takes no memory
+    /// and asks no books. Moments are seconds since 1970-01-01 UTC.
     pub fn feed(&mut self, moment: u64, event: &Event) -> Result<Answer, Refusal>
         ensures answers { After B.ledger self.old self.new
             (AnswersEvent B.ledger moment event.now self.old self.new result) }
         ensures stands { After B.ledger self.old self.new
             (λ past. Stands B.ledger (with_answer past moment event.now result) self.new) }
+        ensures leaves { After B.ledger self.old self.new
+            (LeavesEvent B.ledger moment event.now self.old self.new result) }
         ensures told { After B.ledger self.old self.new
             (λ past. IsTold past moment event.now result self.new) }
         ensures quiet { (past : History) → Stands B.ledger past self.old
@@ -152,7 +157,7 @@ impl<B: Books> Office<B> {
         }
         asks_planned(event);
         let answer = self.take(moment, event);
-        self.stopped = !is_command(event) && is_failure(&answer);
+        self.stopped = stops(event, &answer);
         answer
     }
 

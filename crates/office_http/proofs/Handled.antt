@@ -42,10 +42,10 @@ gives_since (Ok x) a b c bytes h gives = Appends-trans a b c [] bytes (keeps_app
 gives_since (Err e) a b c bytes h gives = (gives.0, gives.1, gives.2, Appends-trans a b c [] gives.0 (keeps_append a b h) gives.3)
 
 -- all that was read is what came
-came_is : (old new : List ℕ) (r s : Option (List ℕ)) → old ≡ [] → (came : Came old new r s) → new ≡ came.chunk
+pub came_is : (old new : List ℕ) (r s : Option (List ℕ)) → old ≡ [] → (came : Came old new r s) → new ≡ came.chunk
 came_is old new r s empty came = came.bytes ∙ ap (λ o. o ++ came.chunk) empty
 
-stopped : (P : List ℕ → Type 0) → ((bytes : List ℕ) → P bytes → IsUnfinished routes bytes) → (old new : Inbox) (was now : Option LastTake) (read : List ℕ)
+pub stopped : (P : List ℕ → Type 0) → ((bytes : List ℕ) → P bytes → IsUnfinished routes bytes) → (old new : Inbox) (was now : Option LastTake) (read : List ℕ)
     → bytes_in old ≡ [] → bytes_in new ≡ read → StopsAtOnce P old new was now → StopsReading read now
 stopped P goes old new was now read empty is (inl none) = inl (sym is ∙ none.bytes ∙ empty)
 stopped P goes old new was now read empty is (inr some) = inr record {
@@ -105,7 +105,7 @@ head_failed take.TurnsUsed old new remaining later given later_given last empty 
 
 -- ---- a reply was given
 
-does_reply : {B : Type 0} (ledger : B → Ledger) (at : ℕ) (old new : Office B) (link : Passage) (read : List ℕ) (result : Result (Unit {0}) HandleFault)
+pub does_reply : {B : Type 0} (ledger : B → Ledger) (at : ℕ) (old new : Office B) (link : Passage) (read : List ℕ) (result : Result (Unit {0}) HandleFault)
     → IsEnd result → Replies ledger at old new link read result → Does ledger at old new link read result
 does_reply ledger at old new link read (Ok x) end replies = replies
 does_reply ledger at old new link read (Err Write) end replies = replies

@@ -1,5 +1,5 @@
 -- Reports that are answered to what was read.
-use Rattle.std.proofs.Common.{◌≡◌, ◌∙◌, ◌⊎◌, ℕ, zero, suc, ◌+◌, ◌<◌, ◌≤◌, List, [], ◌∷◌, ◌++◌, length, take, drop, Option, Some, None, Result, Ok, Err, inl, inr, refl, sym, ap, subst, arith, append_assoc}
+use Rattle.std.proofs.Common.{◌≡◌, ◌∙◌, ◌⊎◌, true, ℕ, zero, suc, ◌+◌, ◌<◌, ◌≤◌, List, [], ◌∷◌, ◌++◌, length, take, drop, Option, Some, None, Result, Ok, Err, inl, inr, refl, sym, ap, subst, arith, append_assoc}
 use Rattle.std.specs.Prelude.{flat_map}
 use Rattle.std.specs.Option.{option_and_then}
 use Rattle.std.proofs.lemmas.Bool.Decides.{nat_tests}
@@ -15,7 +15,7 @@ use Rattle.office_books.specs.Ledgers.{Ledger}
 use Rattle.office_books.specs.Rows.{TakesAll}
 use Rattle.office_core.specs.Asking.{HandsDays, HandsRows, IsFound, is_there, or_not_found, rows_in}
 use Rattle.office_core.specs.Failing.{IsOutside}
-use Rattle.office_core.specs.Standing.{Stands, books_in}
+use Rattle.office_core.specs.Standing.{books_in, is_stopped}
 use Rattle.office_core.specs.Taking.{failures_of}
 use Rattle.office_core.specs.declared.office.Office.{Office as Run}
 use Rattle.interval_core.specs.Lines.{days_text, end_line}
@@ -32,6 +32,7 @@ use Rattle.office_http.proofs.RowsLemmas.Reports.{first_put}
 use Rattle.office_http.specs.Wants.Wanting.{AsksNothing}
 use Rattle.office_http.specs.Answering.{AnswersAt, IsRegister}
 use Rattle.office_http.specs.Serving.{Puts}
+use Rattle.office_http.proofs.Served.{StandsStill}
 
 abbrev most : ℕ
 most = 18446744073709551615
@@ -123,10 +124,17 @@ nil_take zero = refl
 nil_take (suc n) = refl
 
 module _ {B : Type 0} (ledger : B → Ledger) (past : History) (at : ℕ) (read : List ℕ) (old new : Run B) where
+  -- that the office had stopped is told only where it had
+  abbrev Told : Refusal → Type 0
+  Told why = why ≡ refusal.Stopped → is_stopped old ≡ true
+
+  abbrev Answers : Result (Unit {0}) Refusal → Type 0
+  Answers answer = answer ≡ Err refusal.Stopped → is_stopped old ≡ true
+
   -- a report that is whole
   whole_served : (text : List ℕ) (from out : Outgoing) (cut : Option Refusal) → failures_of ledger new ≡ failures_of ledger old → AsksNothing routes read
       → ((office : Office) → AnswersAt (ledger (books_in old)).zone past at office → IsReply office routes read (text_head ++ text))
-      → Stands ledger past new → sending.Puts from out (text_head ++ text) × (cut ≡ None) → Puts ledger past at read old new from out cut
+      → StandsStill ledger past old new → sending.Puts from out (text_head ++ text) × (cut ≡ None) → Puts ledger past at read old new from out cut
   whole_served text from out cut count nothing replies stands put =
       subst (Puts ledger past at read old new from out) (sym put.1) (record {
         put = text_head ++ text;
@@ -135,7 +143,8 @@ module _ {B : Type 0} (ledger : B → Ledger) (past : History) (at : ℕ) (read 
           is_put = refl;
           later = past;
           served = inl (record { replies = replies; asked = None; asks = nothing; accepts = refl }, count);
-          stands = stands;
+          stands = stands.stands;
+          leaves = inr (refl, stands.keeps);
         };
         puts = put.0;
       })
@@ -143,7 +152,7 @@ module _ {B : Type 0} (ledger : B → Ledger) (past : History) (at : ℕ) (read 
   -- one whose name is unknown
   unknown_served : (why : Refusal) (from out : Outgoing) (cut : Option Refusal) → failures_of ledger new ≡ failures_of ledger old → AsksNothing routes read
       → ((office : Office) → AnswersAt (ledger (books_in old)).zone past at office → IsReply office routes read (reply_bytes (refused why)))
-      → Stands ledger past new → sending.Puts from out (reply_bytes (refused why)) × (cut ≡ None) → Puts ledger past at read old new from out cut
+      → StandsStill ledger past old new → sending.Puts from out (reply_bytes (refused why)) × (cut ≡ None) → Puts ledger past at read old new from out cut
   unknown_served why from out cut count nothing replies stands put =
       subst (Puts ledger past at read old new from out) (sym put.1) (record {
         put = reply_bytes (refused why);
@@ -152,23 +161,25 @@ module _ {B : Type 0} (ledger : B → Ledger) (past : History) (at : ℕ) (read 
           is_put = refl;
           later = past;
           served = inl (record { replies = replies; asked = None; asks = nothing; accepts = refl }, count);
-          stands = stands;
+          stands = stands.stands;
+          leaves = inr (refl, stands.keeps);
         };
         puts = put.0;
       })
 
   -- one for which the books failed before the first row
-  failed_served : (why : Refusal) (from out : Outgoing) (cut : Option Refusal) → IsOutside (failures_of ledger old) (failures_of ledger new) why
-      → Stands ledger past new → sending.Puts from out (reply_bytes (refused why)) × (cut ≡ None) → Puts ledger past at read old new from out cut
-  failed_served why from out cut outside stands put =
+  failed_served : (why : Refusal) (from out : Outgoing) (cut : Option Refusal) → IsOutside (failures_of ledger old) (failures_of ledger new) why → Told why
+      → StandsStill ledger past old new → sending.Puts from out (reply_bytes (refused why)) × (cut ≡ None) → Puts ledger past at read old new from out cut
+  failed_served why from out cut outside told stands put =
       subst (Puts ledger past at read old new from out) (sym put.1) (record {
         put = reply_bytes (refused why);
         serves = record {
           reply = reply_bytes (refused why);
           is_put = refl;
           later = past;
-          served = inr record { why = why; outside = outside; tells = refl; unchanged = refl };
-          stands = stands;
+          served = inr record { why = why; stopped = told; outside = outside; tells = refl; unchanged = refl };
+          stands = stands.stands;
+          leaves = inr (refl, stands.keeps);
         };
         puts = put.0;
       })
@@ -177,7 +188,7 @@ module _ {B : Type 0} (ledger : B → Ledger) (past : History) (at : ℕ) (read 
   cut_served : (why : Refusal) (text put rows : List ℕ) (count : ℕ) (from to out : Outgoing) (cut : Option Refusal) → IsOutside (failures_of ledger old) (failures_of ledger new) why
       → AsksNothing routes read
       → ((office : Office) → AnswersAt (ledger (books_in old)).zone past at office → IsReply office routes read text)
-      → Stands ledger past new → text ≡ put ++ (rows ++ end_line count) → sending.Puts from to put → (out ≡ to) × (cut ≡ Some why) → Puts ledger past at read old new from out cut
+      → StandsStill ledger past old new → text ≡ put ++ (rows ++ end_line count) → sending.Puts from to put → (out ≡ to) × (cut ≡ Some why) → Puts ledger past at read old new from out cut
   cut_served why text put rows count from to out cut outside nothing replies stands is puts ends =
       subst (Puts ledger past at read old new from out) (sym ends.1) (record {
         put = put;
@@ -186,7 +197,8 @@ module _ {B : Type 0} (ledger : B → Ledger) (past : History) (at : ℕ) (read 
           is_put = record { rows = rows; count = count; lacks = is };
           later = past;
           served = (record { replies = replies; asked = None; asks = nothing; accepts = refl }, outside);
-          stands = stands;
+          stands = stands.stands;
+          leaves = inr (refl, stands.keeps);
         };
         puts = subst (λ o. sending.Puts from o put) (sym ends.0) puts;
       })
@@ -194,12 +206,12 @@ module _ {B : Type 0} (ledger : B → Ledger) (past : History) (at : ℕ) (read 
   -- the books failed after these rows
   after_rows : {T : Type 0} (line : T → List ℕ) (rows first : List T) (n : ℕ) (start lines : Report) (why : Refusal) (out : Outgoing) (cut : Option Refusal)
       → first ≡ take n rows → TakesAll (takes_lines line) start first lines → start.count ≡ 0 → EndsReport lines (Err why) out cut
-      → IsOutside (failures_of ledger old) (failures_of ledger new) why → AsksNothing routes read
+      → IsOutside (failures_of ledger old) (failures_of ledger new) why → Told why → AsksNothing routes read
       → ((office : Office) → AnswersAt (ledger (books_in old)).zone past at office → IsReply office routes read (text_head ++ report_text line rows))
-      → Stands ledger past new → Puts ledger past at read old new start.out out cut
-  after_rows line rows [] n start lines why out cut is took none ends outside nothing replies stands =
-      failed_served why start.out out cut outside stands (ended_refused start lines why out cut took none ends)
-  after_rows line rows (row ∷ rest) n start lines why out cut is took none ends outside nothing replies stands =
+      → StandsStill ledger past old new → Puts ledger past at read old new start.out out cut
+  after_rows line rows [] n start lines why out cut is took none ends outside told nothing replies stands =
+      failed_served why start.out out cut outside told stands (ended_refused start lines why out cut took none ends)
+  after_rows line rows (row ∷ rest) n start lines why out cut is took none ends outside told nothing replies stands =
       let first = row ∷ rest in
       let begun = first_put line start lines first none took in
       let some : 0 < lines.count = some_rows (length rest) lines.count (count_from start.count (length first) lines.count none begun.counts) in
@@ -211,25 +223,25 @@ module _ {B : Type 0} (ledger : B → Ledger) (past : History) (at : ℕ) (read 
       → HandsRows (takes_lines line) rows (failures_of ledger old) (failures_of ledger new) start lines answer → start.count ≡ 0 → EndsReport lines answer out cut
       → length (rows_in rows) ≤ most → AsksNothing routes read
       → ((office : Office) → AnswersAt (ledger (books_in old)).zone past at office → IsReply office routes read (reply_bytes (lines_reply (report_text line) (or_not_found rows))))
-      → Stands ledger past new → Puts ledger past at read old new start.out out cut
-  rows_told line None start lines (Ok x) out cut hands none ends few nothing replies stands = elim hands.answer [
+      → StandsStill ledger past old new → Answers answer → Puts ledger past at read old new start.out out cut
+  rows_told line None start lines (Ok x) out cut hands none ends few nothing replies stands told = elim hands.answer [
     | inl is ↦ absurd (not_found x is.0)
     | inr fails ↦ absurd fails
   ]
-  rows_told line (Some rows) start lines (Ok x) out cut hands none ends few nothing replies stands = elim hands.answer [
+  rows_told line (Some rows) start lines (Ok x) out cut hands none ends few nothing replies stands told = elim hands.answer [
     | inl is ↦ whole_served (report_text line rows) start.out out cut is.1 nothing replies stands (ended_whole line rows start lines out cut hands.whole none few ends)
     | inr fails ↦ absurd fails
   ]
-  rows_told line None start lines (Err why) out cut hands none ends few nothing replies stands =
+  rows_told line None start lines (Err why) out cut hands none ends few nothing replies stands told =
       let same : lines ≡ start = subst (λ rs. TakesAll (takes_lines line) start rs lines) (nil_take hands.begun.0) hands.begun.1 in
       let put = ended_refused start lines why out cut same none ends in
       elim hands.answer [
         | inl is ↦ unknown_served why start.out out cut is.1 nothing (λ office answers. subst (λ w. IsReply office routes read (reply_bytes (refused w))) (unknown why is.0) (replies office answers)) stands put
-        | inr fails ↦ failed_served why start.out out cut fails stands put
+        | inr fails ↦ failed_served why start.out out cut fails (λ is. told (ap Err is)) stands put
       ]
-  rows_told line (Some rows) start lines (Err why) out cut hands none ends few nothing replies stands = elim hands.answer [
+  rows_told line (Some rows) start lines (Err why) out cut hands none ends few nothing replies stands told = elim hands.answer [
     | inl is ↦ absurd (found_not why is.0)
-    | inr fails ↦ after_rows line rows (take hands.begun.0 rows) hands.begun.0 start lines why out cut refl hands.begun.1 none ends fails nothing replies stands
+    | inr fails ↦ after_rows line rows (take hands.begun.0 rows) hands.begun.0 start lines why out cut refl hands.begun.1 none ends fails (λ is. told (ap Err is)) nothing replies stands
   ]
 
   -- the days of a register that is known
@@ -237,7 +249,7 @@ module _ {B : Type 0} (ledger : B → Ledger) (past : History) (at : ℕ) (read 
       → HandsDays (takes_lines day_line) (ledger (books_in old)).zone (facts_of past) name (failures_of ledger old) (failures_of ledger new) start lines (Ok x)
       → start.count ≡ 0 → EndsReport lines (Ok x) out cut → AsksNothing routes read
       → ((office : Office) → IsReply office routes read (reply_bytes (lines_reply days_text (office.days name))))
-      → Stands ledger past new → (found : Option (Unit {0})) → is_there (option_and_then (register_of (facts_of past)) name) ≡ found
+      → StandsStill ledger past old new → (found : Option (Unit {0})) → is_there (option_and_then (register_of (facts_of past)) name) ≡ found
       → IsFound found (failures_of ledger old) (failures_of ledger new) (Ok x) → Puts ledger past at read old new start.out out cut
   days_whole name start lines x out cut hands none ends nothing replies stands found is (inr fails) = absurd fails
   days_whole name start lines x out cut hands none ends nothing replies stands None is (inl so) = absurd (not_found x so.0)
@@ -251,12 +263,12 @@ module _ {B : Type 0} (ledger : B → Ledger) (past : History) (at : ℕ) (read 
   days_refused : (name : Option (List ℕ)) (start lines : Report) (why : Refusal) (out : Outgoing) (cut : Option Refusal)
       → lines ≡ start → start.count ≡ 0 → EndsReport lines (Err why) out cut → AsksNothing routes read
       → ((office : Office) → IsReply office routes read (reply_bytes (lines_reply days_text (office.days name))))
-      → Stands ledger past new → (found : Option Register) → option_and_then (register_of (facts_of past)) name ≡ found
+      → StandsStill ledger past old new → Told why → (found : Option Register) → option_and_then (register_of (facts_of past)) name ≡ found
       → IsFound (is_there found) (failures_of ledger old) (failures_of ledger new) (Err why) → Puts ledger past at read old new start.out out cut
-  days_refused name start lines why out cut same none ends nothing replies stands found is (inr fails) =
-      failed_served why start.out out cut fails stands (ended_refused start lines why out cut same none ends)
-  days_refused name start lines why out cut same none ends nothing replies stands (Some r) is (inl so) = absurd (found_not why so.0)
-  days_refused name start lines why out cut same none ends nothing replies stands None is (inl so) =
+  days_refused name start lines why out cut same none ends nothing replies stands told found is (inr fails) =
+      failed_served why start.out out cut fails told stands (ended_refused start lines why out cut same none ends)
+  days_refused name start lines why out cut same none ends nothing replies stands told (Some r) is (inl so) = absurd (found_not why so.0)
+  days_refused name start lines why out cut same none ends nothing replies stands told None is (inl so) =
       unknown_served why start.out out cut so.1 nothing
       (λ office answers. subst (λ w. IsReply office routes read (reply_bytes (refused w))) (unknown why so.0)
       (subst (λ a. IsReply office routes read (reply_bytes (lines_reply days_text a))) (answers.days.unknown name is) (replies office))) stands
@@ -266,11 +278,11 @@ module _ {B : Type 0} (ledger : B → Ledger) (past : History) (at : ℕ) (read 
       → HandsDays (takes_lines day_line) (ledger (books_in old)).zone (facts_of past) name (failures_of ledger old) (failures_of ledger new) start lines answer
       → start.count ≡ 0 → EndsReport lines answer out cut → AsksNothing routes read
       → ((office : Office) → IsReply office routes read (reply_bytes (lines_reply days_text (office.days name))))
-      → Stands ledger past new → Puts ledger past at read old new start.out out cut
-  days_told name start lines (Ok x) out cut hands none ends nothing replies stands =
+      → StandsStill ledger past old new → Answers answer → Puts ledger past at read old new start.out out cut
+  days_told name start lines (Ok x) out cut hands none ends nothing replies stands told =
       days_whole name start lines x out cut hands none ends nothing replies stands (is_there (option_and_then (register_of (facts_of past)) name)) refl hands.answer
-  days_told name start lines (Err why) out cut hands none ends nothing replies stands =
-      days_refused name start lines why out cut hands.none none ends nothing replies stands (option_and_then (register_of (facts_of past)) name) refl hands.answer
+  days_told name start lines (Err why) out cut hands none ends nothing replies stands told =
+      days_refused name start lines why out cut hands.none none ends nothing replies stands (λ is. told (ap Err is)) (option_and_then (register_of (facts_of past)) name) refl hands.answer
 
 zero_or_more : (n : ℕ) → (n ≡ 0) ⊎ (0 < n)
 zero_or_more zero = inl refl

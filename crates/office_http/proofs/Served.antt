@@ -8,10 +8,10 @@ use Rattle.office_events.specs.declared.refusals.Refusal.{Refusal}
 use Rattle.office_events.specs.declared.refusals.Refusal.TheVariants as refusal
 use Rattle.office_rules.specs.History.{History}
 use Rattle.office_rules.specs.Refusals.{with_answer}
-use Rattle.office_books.specs.Ledgers.{Ledger}
+use Rattle.office_books.specs.Ledgers.{Ledger, KeepsFacts}
 use Rattle.office_core.specs.Asking.{IsFound, OnlyAsks, or_not_found}
 use Rattle.office_core.specs.Standing.{Stands, books_in, is_stopped}
-use Rattle.office_core.specs.Taking.{Ends, IsAnswer, failures_of}
+use Rattle.office_core.specs.Taking.{Ends, IsAnswer, LeavesEvent, failures_of}
 use Rattle.office_core.specs.declared.office.Office.{Office as Run}
 use Rattle.http_commands.specs.declared.fault.CommandFault.{CommandFault}
 use Rattle.http_request.specs.Routing.Routes.{routes}
@@ -23,6 +23,20 @@ use Rattle.office_http.specs.Wants.Wanting.{AsksNothing, IsAskedFor, IsNoCommand
 use Rattle.office_http.specs.Answering.{AnswersAt, told}
 use Rattle.office_http.specs.Serving.{Lasts, Serves}
 
+-- an office that was asked nothing keeps what it has
+keeps_same : {B : Type 0} (ledger : B → Ledger) (old new : Run B) → new ≡ old → KeepsFacts (ledger (books_in old)) (ledger (books_in new))
+keeps_same {B} ledger old new same =
+    subst (λ (o : Run B). KeepsFacts (ledger (books_in old)) (ledger (books_in o))) (sym same) (record { facts = λ known h. h; left = λ left may. may })
+
+-- one that was asked a question stands where it stood, and a stop leaves what it left
+pub record StandsStill {B : Type 0} (ledger : B → Ledger) (past : History) (old new : Run B) : Type 0 where
+  pub stands : Stands ledger past new
+  pub keeps : KeepsFacts (ledger (books_in old)) (ledger (books_in new))
+
+pub still : {B T : Type 0} (ledger : B → Ledger) (past : History) (old new : Run B) (answer : Result T Refusal) → OnlyAsks ledger old new answer
+    → Stands ledger past old → StandsStill ledger past old new
+still ledger past old new answer asks stands = record { stands = asks.stands past stands; keeps = asks.keeps }
+
 -- a reply that no office is asked for
 pub told_off : {B : Type 0} (ledger : B → Ledger) (past : History) (at : ℕ) (read : List ℕ) (old new : Run B) (text : List ℕ)
     → new ≡ old → AsksNothing routes read → ((office : Office) → IsReply office routes read text) → Stands ledger past old
@@ -33,7 +47,11 @@ told_off ledger past at read old new text same nothing reply stands = record {
   later = past;
   served = inl (record { replies = λ office answers. reply office; asked = None; asks = nothing; accepts = refl }, ap (failures_of ledger) same);
   stands = subst (Stands ledger past) (sym same) stands;
+  leaves = inr (refl, keeps_same ledger old new same);
 }
+
+not_stopped : refusal.Memory ≡ refusal.Stopped → ⊥
+not_stopped is = cc is
 
 -- want of memory before the office was asked
 pub no_memory : {B : Type 0} (ledger : B → Ledger) (past : History) (at : ℕ) (read : List ℕ) (old new : Run B)
@@ -42,16 +60,18 @@ no_memory ledger past at read old new same stands = record {
   reply = reply_bytes (refused refusal.Memory);
   is_put = refl;
   later = past;
-  served = inr record { why = refusal.Memory; outside = ap (failures_of ledger) same; tells = refl; unchanged = refl };
+  served = inr record { why = refusal.Memory; stopped = λ is. absurd (not_stopped is); outside = ap (failures_of ledger) same; tells = refl; unchanged = refl };
   stands = subst (Stands ledger past) (sym same) stands;
+  leaves = inr (refl, keeps_same ledger old new same);
 }
 
 -- the answer to a question for one row
 pub row_told : {B T : Type 0} (ledger : B → Ledger) (past : History) (at : ℕ) (read : List ℕ) (old new : Run B) (text : T → List ℕ)
     (found : Option T) (answer : Result T Refusal) → IsFound found (failures_of ledger old) (failures_of ledger new) answer
     → AsksNothing routes read → ((office : Office) → AnswersAt (ledger (books_in old)).zone past at office → IsReply office routes read (reply_bytes (row_reply text (or_not_found found))))
-    → Stands ledger past new → Serves ledger past at read old new None (reply_bytes (row_reply text answer))
-row_told ledger past at read old new text found answer (inl is) nothing reply stands = record {
+    → StandsStill ledger past old new → (answer ≡ Err refusal.Stopped → is_stopped old ≡ true)
+    → Serves ledger past at read old new None (reply_bytes (row_reply text answer))
+row_told ledger past at read old new text found answer (inl is) nothing reply stands stopped = record {
   reply = reply_bytes (row_reply text answer);
   is_put = refl;
   later = past;
@@ -64,15 +84,17 @@ row_told ledger past at read old new text found answer (inl is) nothing reply st
     },
     is.1,
   );
-  stands = stands;
+  stands = stands.stands;
+  leaves = inr (refl, stands.keeps);
 }
-row_told ledger past at read old new text found (Ok x) (inr fails) nothing reply stands = absurd fails
-row_told ledger past at read old new text found (Err why) (inr fails) nothing reply stands = record {
+row_told ledger past at read old new text found (Ok x) (inr fails) nothing reply stands stopped = absurd fails
+row_told ledger past at read old new text found (Err why) (inr fails) nothing reply stands stopped = record {
   reply = reply_bytes (refused why);
   is_put = refl;
   later = past;
-  served = inr record { why = why; outside = fails; tells = refl; unchanged = refl };
-  stands = stands;
+  served = inr record { why = why; stopped = λ is. stopped (ap Err is); outside = fails; tells = refl; unchanged = refl };
+  stands = stands.stands;
+  leaves = inr (refl, stands.keeps);
 }
 
 -- the answer to a command
@@ -80,8 +102,9 @@ pub command_told : {B : Type 0} (ledger : B → Ledger) (past : History) (at : �
     (answer : Result Answer Refusal) → IsAskedFor routes read asked
     → IsAnswer past at (event.Asked asked) (failures_of ledger old) (failures_of ledger new) answer
     → Stands ledger (with_answer past at (event.Asked asked) answer) new
+    → LeavesEvent ledger at (event.Asked asked) old new answer past → (answer ≡ Err refusal.Stopped → is_stopped old ≡ true)
     → Serves ledger past at read old new None (reply_bytes (row_reply done_text (told answer)))
-command_told ledger past at read old new asked answer wanted (inl is) stands = record {
+command_told ledger past at read old new asked answer wanted (inl is) stands leaves stopped = record {
   reply = reply_bytes (row_reply done_text (told answer));
   is_put = refl;
   later = with_answer past at (event.Asked asked) answer;
@@ -96,14 +119,16 @@ command_told ledger past at read old new asked answer wanted (inl is) stands = r
     is.1,
   );
   stands = stands;
+  leaves = inl (record { asked = asked; asks = wanted.asks; answer = answer; accepts = refl; leaves = leaves });
 }
-command_told ledger past at read old new asked (Ok answer) wanted (inr fails) stands = absurd fails
-command_told ledger past at read old new asked (Err why) wanted (inr fails) stands = record {
+command_told ledger past at read old new asked (Ok answer) wanted (inr fails) stands leaves stopped = absurd fails
+command_told ledger past at read old new asked (Err why) wanted (inr fails) stands leaves stopped = record {
   reply = reply_bytes (refused why);
   is_put = refl;
   later = past;
-  served = inr record { why = why; outside = fails; tells = refl; unchanged = refl };
+  served = inr record { why = why; stopped = λ is. stopped (ap Err is); outside = fails; tells = refl; unchanged = refl };
   stands = stands;
+  leaves = inl (record { asked = asked; asks = wanted.asks; answer = Err why; accepts = refl; leaves = leaves });
 }
 
 or_none : (b : Bool) → (b || false) ≡ b

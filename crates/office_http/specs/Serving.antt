@@ -1,13 +1,16 @@
 -- What is replied to the bytes that were read, and what the office has accepted then.
-use Rattle.std.specs.Prelude.{◌≡◌, ◌⊎◌, ◌++◌, ℕ, List, Option, Some, None}
+use Rattle.std.specs.Prelude.{◌≡◌, ◌⊎◌, ◌++◌, ℕ, Bool, true, List, Option, Some, None, Result}
 use Rattle.interval_core.specs.declared.zone.Zone.{Zone}
+use Rattle.office_events.specs.declared.answers.Answer.{Answer}
 use Rattle.office_events.specs.declared.events.Asked.{Asked}
 use Rattle.office_events.specs.declared.events.Event.TheVariants as event
 use Rattle.office_events.specs.declared.refusals.Refusal.{Refusal}
+use Rattle.office_events.specs.declared.refusals.Refusal.TheVariants as refusal
 use Rattle.office_rules.specs.History.{History}
 use Rattle.office_rules.specs.Refusals.{decision_of, with_answer}
-use Rattle.office_books.specs.Ledgers.{Ledger}
+use Rattle.office_books.specs.Ledgers.{Ledger, KeepsFacts}
 use Rattle.office_core.specs.Failing.{IsOutside}
+use Rattle.office_core.specs.Leaving.{Leaves, LeftByEvent}
 use Rattle.office_core.specs.Standing.{After, Stands, books_in, is_stopped}
 use Rattle.office_core.specs.Taking.{failures_of}
 use Rattle.office_core.specs.declared.office.Office.{Office as Run}
@@ -41,22 +44,24 @@ pub record IsAnswered (zone : Zone) (past : History) (at : ℕ) (read reply : Li
   pub asks : Asks read asked
   pub accepts : later ≡ with_asked past at asked
 
--- The store or memory failed, or the office had stopped: the reply tells so, and nothing is accepted.
-pub record IsUnavailable (past : History) (before after : ℕ) (reply : List ℕ) (later : History) :
-    Type 0 where
+-- The store or memory failed, or the office had stopped: the reply tells so, and nothing is accepted. That it had stopped
+-- is told only where it had.
+pub record IsUnavailable (past : History) (had_stopped : Bool) (before after : ℕ)
+    (reply : List ℕ) (later : History) : Type 0 where
   pub why : Refusal
+  pub stopped : why ≡ refusal.Stopped → had_stopped ≡ true
   pub outside : IsOutside before after why
   pub tells : reply ≡ reply_bytes (refused why)
   pub unchanged : later ≡ past
 
 -- What is replied, over the count of the books' failures before and after. A reply is cut off where the books fail while
 -- its rows are handed on.
-abbrev pub IsServed : Zone → (past : History) → (at : ℕ) → (read : List ℕ) → (before after : ℕ)
-    → (cut : Option Refusal) → (reply : List ℕ) → (later : History) → Type 0
-IsServed zone past at read before after None reply later =
+abbrev pub IsServed : Zone → (past : History) → (at : ℕ) → (read : List ℕ) → (had_stopped : Bool)
+    → (before after : ℕ) → (cut : Option Refusal) → (reply : List ℕ) → (later : History) → Type 0
+IsServed zone past at read had_stopped before after None reply later =
     (IsAnswered zone past at read reply later × (after ≡ before))
-    ⊎ IsUnavailable past before after reply later
-IsServed zone past at read before after (Some why) reply later =
+    ⊎ IsUnavailable past had_stopped before after reply later
+IsServed zone past at read had_stopped before after (Some why) reply later =
     IsAnswered zone past at read reply later × IsOutside before after why
 
 -- A reply that is cut off lacks rows, or none of them, and its last line, which counts them.
@@ -70,15 +75,33 @@ abbrev pub IsPut : (cut : Option Refusal) → (put reply : List ℕ) → Type 0
 IsPut None put reply = reply ≡ put
 IsPut (Some why) put reply = IsCutOff put reply
 
+-- The office was fed the command that the bytes ask, and answered it so. A stop leaves what it left before, or the facts with
+-- those of this command.
+pub record IsFed (old new : Ledger) (past : History) (at : ℕ) (read : List ℕ) (later : History) :
+    Type 0 where
+  pub asked : Asked
+  pub asks : AsksOffice routes read asked
+  pub answer : Result Answer Refusal
+  pub accepts : later ≡ with_answer past at (event.Asked asked) answer
+  pub leaves : Leaves old new (LeftByEvent past at (event.Asked asked) answer)
+
+-- It was fed that command, or nothing; then a stop leaves what it left.
+abbrev pub LeavesServed : (old new : Ledger) → (past : History) → (at : ℕ) → (read : List ℕ)
+    → (later : History) → Type 0
+LeavesServed old new past at read later =
+    IsFed old new past at read later ⊎ ((later ≡ past) × KeepsFacts old new)
+
 -- A reply is answered to the bytes that were read, or what was put of it, and the office stands after what it has accepted.
+-- What a stop leaves changes by the command that was asked alone.
 pub record Serves {B : Type 0} (ledger : B → Ledger) (past : History) (at : ℕ) (read : List ℕ)
     (old new : Run B) (cut : Option Refusal) (put : List ℕ) : Type 0 where
   pub reply : List ℕ
   pub is_put : IsPut cut put reply
   pub later : History
-  pub served : IsServed (ledger (books_in old)).zone past at read
+  pub served : IsServed (ledger (books_in old)).zone past at read (is_stopped old)
       (failures_of ledger old) (failures_of ledger new) cut reply later
   pub stands : Stands ledger later new
+  pub leaves : LeavesServed (ledger (books_in old)) (ledger (books_in new)) past at read later
 
 -- it was put to an outlet
 pub record Puts {B : Type 0} (ledger : B → Ledger) (past : History) (at : ℕ) (read : List ℕ)

@@ -1,5 +1,8 @@
-//! HTTP on a listener: connections, one after the other.
+//! HTTP on a listener: connections, one after the other, of who may ask.
 
 mod connections;
+mod named;
+mod time;
 
-pub use connections::{MOST_SECONDS, serve_on};
+pub use connections::{MOST_SECONDS, serve_named_on, serve_on};
+pub use named::{handle_named, turn_away};

@@ -22,8 +22,8 @@ use office_core::Office;
 use office_events::Refusal;
 use std::alloc::Global;
 
-// How a request ends to which a reply was put.
-fn ended(sent: Result<(), LinkFailed>, cut: Option<Refusal>) -> Result<(), HandleFault>
+/// How a request ends to which a reply was put.
+pub(crate) fn ended(sent: Result<(), LinkFailed>, cut: Option<Refusal>) -> Result<(), HandleFault>
     ensures { result ≡ ended sent cut }
 {
     sent.map_err(|_| HandleFault::Write)?;
@@ -33,8 +33,8 @@ fn ended(sent: Result<(), LinkFailed>, cut: Option<Refusal>) -> Result<(), Handl
     }
 }
 
-// Reads a head, for which there is room, and replies that there is no memory for more.
-fn refuse<L: Link>(link: &mut L) -> Result<(), HandleFault>
+/// Reads a head, for which there is room, and replies that there is no memory for more.
+pub(crate) fn refuse<L: Link>(link: &mut L) -> Result<(), HandleFault>
     ensures handles { HandlesBare (passage (L.remaining link.old) (L.remaining link.new)
         (L.given link.old) (L.given link.new) (L.last link.new)) result }
     ensures counts { CountsLink result (L.failed link.old) (L.failed link.new)
@@ -50,8 +50,8 @@ fn refuse<L: Link>(link: &mut L) -> Result<(), HandleFault>
     ended(sent, None)
 }
 
-// Replies to a request that was read.
-fn reply<L: Link, B: Books>(
+/// Replies to a request that was read.
+pub(crate) fn reply<L: Link, B: Books>(
     bytes: &[u8],
     want: Want<'_>,
     link: &mut L,

@@ -12,7 +12,7 @@ use Rattle.office_program.specs.Texts.Reports.{Asks, ReportPrints}
 use Rattle.office_program.specs.Texts.EndTexts.{TellsEnd}
 use Rattle.office_program.specs.Opened.{WithOffice}
 use Rattle.office_program.specs.Report.{Reports, TellsReport}
-use Rattle.office_program.specs.HttpPort.{Serves, ServesPort, TellsServing}
+use Rattle.office_program.specs.HttpPort.{Port, Serves, ServesPort, TellsServing}
 use Rattle.office_program.specs.declared.http_port.ServeEnd.{ServeEnd}
 use Rattle.office_program.specs.declared.http_port.ServeEnd.TheVariants.{Served, Unopened, NoPort, Broken}
 use Rattle.office_program.specs.PortRound.{PollsPort, TellsPolling}
@@ -54,14 +54,14 @@ reported {W = W} ledger contents past register name moments later books back ope
       handed = is;
     })
 
-pub served : {B : Type 0} (ledger : B → Ledger) (past : History) (connections : ℕ) (moments then later : Option (List ℕ))
+pub served : {B : Type 0} (ledger : B → Ledger) (past : History) (at : Port) (moments then later : Option (List ℕ))
     (books back : B) (opened left : Office B) (had holds : Option (List ℕ)) (end : ServeEnd)
     → ((ledger (books_in opened)).is_clean → Opens ledger past moments then opened)
     → ((ledger (books_in left)).is_clean → (ledger (books_in opened)).is_clean)
-    → After ledger opened left (λ behind. ServesPort connections ledger behind opened left end)
+    → After ledger opened left (λ behind. ServesPort at then later ledger behind opened left end)
     → holds ≡ had → back ≡ books_in left → (ledger back).is_clean
-    → TellsServing ledger past connections moments later books back had holds end
-served ledger past connections moments then later books back opened left had holds Served opens lasts serves silent is clean =
+    → TellsServing ledger past at moments later books back had holds end
+served ledger past at moments then later books back opened left had holds Served opens lasts serves silent is clean =
     let whole = kept ledger left back is clean in
     let behind = opens (lasts whole) in
     record {
@@ -72,7 +72,7 @@ served ledger past connections moments then later books back opened left had hol
       handed = is;
       does = record { serves = serves _ behind.stands whole; silent = silent };
     }
-served ledger past connections moments then later books back opened left had holds NoPort opens lasts serves silent is clean =
+served ledger past at moments then later books back opened left had holds NoPort opens lasts serves silent is clean =
     let whole = kept ledger left back is clean in
     let behind = opens (lasts whole) in
     record {
@@ -83,7 +83,7 @@ served ledger past connections moments then later books back opened left had hol
       handed = is;
       does = record { serves = serves _ behind.stands whole; silent = silent };
     }
-served ledger past connections moments then later books back opened left had holds Broken opens lasts serves silent is clean =
+served ledger past at moments then later books back opened left had holds Broken opens lasts serves silent is clean =
     let whole = kept ledger left back is clean in
     let behind = opens (lasts whole) in
     record {
@@ -94,7 +94,7 @@ served ledger past connections moments then later books back opened left had hol
       handed = is;
       does = record { serves = serves _ behind.stands whole; silent = silent };
     }
-served ledger past connections moments then later books back opened left had holds (Unopened status) opens lasts serves silent is clean =
+served ledger past at moments then later books back opened left had holds (Unopened status) opens lasts serves silent is clean =
     let whole = kept ledger left back is clean in
     let behind = opens (lasts whole) in absurd (serves _ behind.stands whole)
 

@@ -9,26 +9,37 @@ use Rattle.office_program.specs.Opened.{WithOffice}
 use Rattle.office_program.specs.declared.http_port.ServeEnd.{ServeEnd}
 use Rattle.office_program.specs.declared.http_port.ServeEnd.TheVariants.{Served, Unopened, NoPort, Broken}
 
--- What serving on a port leaves of an office: as many requests at most, or none where there is no port.
-abbrev pub ServesPort : {B : Type 0} → (connections : ℕ) → (B → Ledger) → (past : History)
-    → (opened left : Office B) → ServeEnd → Type 0
-ServesPort connections ledger past opened left NoPort = left ≡ opened
-ServesPort connections ledger past opened left Served = ServesUpTo connections ledger past left
-ServesPort connections ledger past opened left Broken = ServesUpTo connections ledger past left
-ServesPort connections ledger past opened left (Unopened status) = ⊥
+-- What is served on a port: by which names it may be asked besides those of this machine, and how many connections.
+pub record Port : Type 0 where
+  pub names : List (List ℕ)
+  pub connections : ℕ
+
+abbrev pub port : (names : List (List ℕ)) → (connections : ℕ) → Port
+port names connections = record { names = names; connections = connections }
+
+-- What serving on a port leaves of an office: as many connections at most, each at the moment that the clock told for it,
+-- or none where there is no port.
+abbrev pub ServesPort : {B : Type 0} → Port → (then later : Option (List ℕ)) → (B → Ledger)
+    → (past : History) → (opened left : Office B) → ServeEnd → Type 0
+ServesPort at then later ledger past opened left NoPort = left ≡ opened
+ServesPort at then later ledger past opened left Served =
+    ServesUpTo at.names at.connections then later ledger past left
+ServesPort at then later ledger past opened left Broken =
+    ServesUpTo at.names at.connections then later ledger past left
+ServesPort at then later ledger past opened left (Unopened status) = ⊥
 
 -- The office served so on a port, and nothing was printed.
-pub record Serves {B : Type 0} (ledger : B → Ledger) (connections : ℕ) (had holds : Option (List ℕ))
-    (end : ServeEnd)
+pub record Serves {B : Type 0} (ledger : B → Ledger) (at : Port)
+    (later had holds : Option (List ℕ)) (end : ServeEnd)
     (behind : History) (then : Option (List ℕ)) (opened left : Office B) : Type 0 where
-  pub serves : ServesPort connections ledger behind opened left end
+  pub serves : ServesPort at then later ledger behind opened left end
   pub silent : holds ≡ had
 
 -- The opening was refused, and that alone was printed; or the office was opened, and served.
-abbrev pub TellsServing : {B : Type 0} → (B → Ledger) → (past : History) → (connections : ℕ)
+abbrev pub TellsServing : {B : Type 0} → (B → Ledger) → (past : History) → Port
     → (moments later : Option (List ℕ)) → (books back : B) → (had holds : Option (List ℕ))
     → ServeEnd → Type 0
-TellsServing ledger past connections moments later books back had holds (Unopened status) =
+TellsServing ledger past at moments later books back had holds (Unopened status) =
     TellsUnopened past moments later (ledger books) (ledger back) status had holds
-TellsServing ledger past connections moments later books back had holds end =
-    WithOffice ledger past moments back (Serves ledger connections had holds end)
+TellsServing ledger past at moments later books back had holds end =
+    WithOffice ledger past moments back (Serves ledger at later had holds end)

@@ -1,17 +1,18 @@
 //! HTTP on a port.
+ghost use Rattle.http_request.specs.Hosts.{texts};
 ghost use Rattle.office_core.specs.Leaving.{BooksStand};
 ghost use Rattle.office_core.specs.Standing.{After};
 ghost use Rattle.office_http.specs.Serving as http;
 ghost use Rattle.office_rules.specs.History.{History};
 ghost use Rattle.office_program.specs.Texts.Passing.{Lasts};
-ghost use Rattle.office_program.specs.HttpPort.{ServesPort, TellsServing};
+ghost use Rattle.office_program.specs.HttpPort.{ServesPort, TellsServing, port};
 
 use crate::command_end::CommandEnd;
 use crate::texts::open_office;
 use command_io::ExitStatus;
 use office_books::Books;
 use office_core::Office;
-use office_http::serve_on;
+use office_http::serve_named_on;
 use socket_link::Clock;
 use std::alloc::Global;
 use std::io::Write;
@@ -31,48 +32,60 @@ pub enum ServeEnd {
 }
 
 // Serves on a port.
-fn serve_port<R: Net, B: Books, C: Clock>(
-    net: &R,
+fn serve_port<R: Net + std::rt::Clock, B: Books, C: Clock>(
+    rt: &R,
     alloc: Global,
     office: &mut Office<B>,
     place: (&str, u16),
+    names: &[&str],
     connections: u32,
     clock: &mut C,
 ) -> ServeEnd
     ensures serves { After B.ledger office.old office.new
-        (λ past. ServesPort connections B.ledger past office.old office.new result) }
+        (λ past. ServesPort (port (texts names.now) connections) (C.moments clock.old)
+        (C.moments clock.new) B.ledger past office.old office.new result) }
     ensures lasts { http.Lasts B.ledger office.old office.new }
 {
-    let Ok(listener) = TcpListener::bind(net, place) else {
+    let Ok(listener) = TcpListener::bind(rt, place) else {
         return ServeEnd::NoPort;
     };
-    match serve_on(alloc, &listener, u64::from(connections), office, clock) {
+    match serve_named_on(
+        rt,
+        alloc,
+        &listener,
+        u64::from(connections),
+        names,
+        office,
+        clock,
+    ) {
         Ok(()) => ServeEnd::Served,
         Err(_) => ServeEnd::Broken,
     }
 }
 
 /// Opens an office over books at the moment that the clock tells, and then serves requests by HTTP/1.1 on so many connections
-/// at a port of a host, as `serve_on` does. Where the opening is refused, `refused N` is printed, and the port stays
+/// at a port of a host, as `serve_named_on` does by these names. Where the opening is refused, `refused N` is printed, and the port stays
 /// untouched; nothing else is printed. The books are handed back.
-pub fn serve_books<R: Net, B: Books, C: Clock, W: Write>(
-    net: &R,
+pub fn serve_books<R: Net + std::rt::Clock, B: Books, C: Clock, W: Write>(
+    rt: &R,
     alloc: Global,
     books: B,
     place: (&str, u16),
+    names: &[&str],
     connections: u32,
     clock: &mut C,
     output: &mut W,
 ) -> CommandEnd<B, ServeEnd>
     ensures tells { (past : History) → BooksStand (B.ledger books) past
         → (B.ledger result.books).is_clean
-        → TellsServing B.ledger past connections (C.moments clock.old) (C.moments clock.new)
+        → TellsServing B.ledger past (port (texts names.now) connections)
+        (C.moments clock.old) (C.moments clock.new)
         books result.books (W.contents output.old) (W.contents output.new) result.end }
     ensures lasts { Lasts (B.ledger books) (B.ledger result.books) }
 {
     match open_office(alloc, books, clock, output) {
         Ok(mut office) => {
-            let end = serve_port(net, alloc, &mut office, place, connections, clock);
+            let end = serve_port(rt, alloc, &mut office, place, names, connections, clock);
             CommandEnd {
                 books: office.into_books(),
                 end,

@@ -1,88 +1,56 @@
 -- One more event of a round.
-use Rattle.std.proofs.Common.{◌≡◌, inl, ℕ, ◌+◌, ◌-◌, Bool, List, [], ◌∷◌, ◌++◌, Option, Result, Ok, Err, refl, sym, ap, ◌∙◌, subst, arith}
-use Rattle.std.specs.List.{count_by}
+use Rattle.std.proofs.Common.{◌≡◌, inl, ℕ, Bool, List, [], ◌∷◌, ◌++◌, Option, Result, Ok, Err, refl, sym, ap, ◌∙◌, subst}
 use Rattle.std.proofs.KnownBytes.{Appends-trans}
 use Rattle.std.specs.Io.KnownBytes.{Appends}
 use Rattle.sun_points.specs.Writing.{GotPart}
 use Rattle.script_text.proofs.Got.{got_both}
 use Rattle.socket_link.specs.Clocks.{TellsMoment}
 use Rattle.office_events.specs.declared.answers.Answer.{Answer}
-use Rattle.office_events.specs.declared.answers.Note.{Note}
 use Rattle.office_events.specs.declared.events.Event.{Event}
 use Rattle.office_events.specs.declared.refusals.Refusal.{Refusal}
-use Rattle.office_rules.specs.History.{History, Fed, latest_of}
-use Rattle.office_rules.specs.Notes.{notes_after}
-use Rattle.office_rules.specs.Refusals.{with_answer}
+use Rattle.office_rules.specs.History.{History, latest_of}
+use Rattle.office_rules.specs.Lawfulness.{IsPast}
 use Rattle.office_books.specs.Ledgers.{Ledger}
 use Rattle.office_core.specs.EventRun.{Answered}
 use Rattle.office_core.specs.Standing.{notes_in}
 use Rattle.office_core.specs.declared.office.Office.{Office}
-use Rattle.office_rounds.specs.Course.{Does, endings_of, first_by, first_poll, is_ending, next_in, planned_by, polls_ended, reads_started, started_by}
+use Rattle.office_rounds.specs.Course.{Does, next_in}
+use Rattle.office_rounds.specs.Polling.{Holds, RoundsHold, round_after}
 use Rattle.office_rounds.specs.Rounds.{RoundState}
-use Rattle.office_rounds.specs.Stepping.{Broken, Counts, FeedStops, Feeds, RoundGoesOn, Going, IsTaken, IsUnprinted, Prints, Told, counted, latest_after}
+use Rattle.office_rounds.specs.Stepping.{Broken, FeedStops, Feeds, RoundGoesOn, Going, IsTaken, IsUnprinted, Prints, Told, latest_after}
 use Rattle.office_rounds.specs.FedEvents.{history_behind, text_after, told_text}
 use Rattle.office_rounds.specs.declared.fault.RoundFault.{RoundFault}
 use Rattle.office_rounds.specs.declared.fault.RoundFault.TheVariants.{Refused, Link, Output, TurnsUsed}
+use Rattle.office_rounds.specs.declared.device_rounds.round.Round.{Round}
 use Rattle.office_rounds.specs.declared.progress.Progress.{Progress}
 use Rattle.office_rounds.proofs.Timely.{of_round, one_accepted}
 
 abbrev pub fed_one : (at : ℕ) → Event → Result Answer Refusal → Answered
 fed_one at e result = record { at = at; event = e; result = result }
 
--- what a round counts of an accepted event
-pub record Notes (old new : Progress) (at : ℕ) (given : Answer) (notes : List Note) (endings : ℕ) : Type 0 where
-  pub device : new.device ≡ old.device
-  pub latest : new.latest ≡ at
-  pub first : new.first ≡ first_by old.first given
-  pub started : new.started ≡ counted (old.started + started_by given)
-  pub planned : new.planned ≡ planned_by old.planned given
-  pub endings_are : endings ≡ count_by (is_ending old.first) notes
-  pub ended : new.ended ≡ counted (old.ended + endings)
-
-counted_more : (m n : ℕ) → counted (counted m + n) ≡ counted (m + n)
-counted_more m n = omega arith
-
-counts_more : (device : Option (List ℕ)) (past : History) (fed : List Answered) (old new : Progress) (at : ℕ) (e : Event) (given : Answer)
-    (notes : List Note) (endings : ℕ) → Counts device past fed old → Notes old new at given notes endings
-    → notes ≡ notes_after (history_behind past fed) at e (Ok given)
-    → with_answer (history_behind past fed) at e (Ok given) ≡ Fed at e ∷ history_behind past fed
-    → (endings ≡ endings_of past fed (fed_one at e (Ok given))) × Counts device past (fed_one at e (Ok given) ∷ fed) new
-counts_more device past fed old new at e given notes endings counts noted told accepted =
-    let ends : endings ≡ endings_of past fed (fed_one at e (Ok given)) =
-    noted.endings_are ∙ ap (λ first. count_by (is_ending first) notes) counts.first ∙ ap (count_by (is_ending (first_poll fed))) told in (
-      ends,
-      record {
-        device_is = noted.device ∙ counts.device_is;
-        latest = noted.latest ∙ sym (ap latest_of accepted);
-        first = noted.first ∙ ap (λ first. first_by first given) counts.first;
-        started = noted.started ∙ ap (λ n. counted (n + started_by given)) counts.started ∙ counted_more (reads_started fed) (started_by given);
-        planned = noted.planned ∙ ap (λ n. planned_by n given) counts.planned;
-        ended = noted.ended ∙ ap (λ n. counted (n + endings)) counts.ended ∙ counted_more (polls_ended past fed) endings
-            ∙ ap (λ n. counted (polls_ended past fed + n)) ends;
-      },
-    )
-
 -- an accepted event goes on
-pub goes_on : {B : Type 0} (ledger : B → Ledger) (device : Option (List ℕ)) (past : History) (begun was now : RoundState) (before office : Office B)
-    (fed : List Answered) (old new : Progress) (at : ℕ) (e : Event) (given : Answer) (endings : ℕ)
+pub goes_on : {B : Type 0} (rounds : RoundsHold) (ledger : B → Ledger) (device : Option (List ℕ)) (past : History) (begun was now : RoundState)
+    (before office : Office B) (fed : List Answered) (old new : Progress) (at : ℕ) (e : Event) (given : Answer)
     → Going ledger device past begun was before fed old → Does device (next_in past fed) e → TellsMoment was.moments now.moments at
     → IsTaken ledger (history_behind past fed) at e (Ok given) was now office
     → Appends was.printed now.printed (told_text (history_behind past fed) at e (Ok given))
-    → Notes old new at given (notes_in office) endings
-    → RoundGoesOn ledger device past begun now office fed (fed_one at e (Ok given)) new endings
-goes_on ledger device past begun was now before office fed old new at e given endings going does tells taken printed noted =
-    let accepted = one_accepted (history_behind past fed) at e was.failures now.failures given (of_round device (next_in past fed) e does) taken.answer in
-    let counts = counts_more device past fed old new at e given (notes_in office) endings going.counts noted taken.told.notes accepted in
+    → new.round ≡ round_after e given (notes_in office) old.round → new.latest ≡ at
+    → RoundGoesOn ledger device past begun now office fed (fed_one at e (Ok given)) new
+goes_on rounds ledger device past begun was now before office fed old new at e given going does tells taken printed round latest =
+    let history = history_behind past fed in
+    let accepted = one_accepted history at e was.failures now.failures given (of_round device (next_in past fed) e does) taken.answer in
+    let holds = rounds device past fed old.round at e was.failures now.failures given going.holds does taken.answer (subst IsPast accepted taken.stands.books.is_past) in
     record {
       going = record {
         leaves = record { stands = taken.stands; answered = (was.failures, going.leaves.answered, taken.answer) };
         next = (going.next, does, refl);
         timed = (was.moments, going.timed, tells);
         printed = Appends-trans begun.printed was.printed now.printed (text_after past fed) _ going.printed printed;
-        counts = counts.1;
+        holds = subst (Holds device past (fed_one at e (Ok given) ∷ fed))
+            (sym (round ∙ ap (λ notes. round_after e given notes old.round) taken.told.notes)) holds;
+        latest = latest ∙ sym (ap latest_of accepted);
       };
       told = taken.told.outgoing;
-      ended = counts.0;
     }
 
 -- a refused one breaks the round off
@@ -90,15 +58,15 @@ pub breaks_off : {B : Type 0} (ledger : B → Ledger) (device : Option (List ℕ
     (fed : List Answered) (old new : Progress) (at : ℕ) (e : Event) (why : Refusal)
     → Going ledger device past begun was before fed old → Does device (next_in past fed) e → TellsMoment was.moments now.moments at
     → IsTaken ledger (history_behind past fed) at e (Err why) was now office → Appends was.printed now.printed []
-    → new.device ≡ old.device → new.latest ≡ old.latest
+    → new.round ≡ old.round → new.latest ≡ old.latest
     → Broken ledger device past begun now office (fed_one at e (Err why) ∷ fed) new (Refused why)
 breaks_off ledger device past begun was now before office fed old new at e why going does tells taken printed same latest = record {
   leaves = record { stands = taken.stands; answered = (was.failures, going.leaves.answered, taken.answer) };
   course = inl (going.next, does, refl);
   timed = (was.moments, going.timed, tells);
   printed = Appends-trans begun.printed was.printed now.printed (text_after past fed) [] going.printed printed;
-  device_is = same ∙ going.counts.device_is;
-  latest = latest ∙ going.counts.latest;
+  device_is = ap (λ (r : Round). r.device) same ∙ going.holds.device_is;
+  latest = latest ∙ going.latest;
 }
 
 pub part_more : (a b c : Option (List ℕ)) (x y : List ℕ) → Appends a b x → GotPart y b c → GotPart (x ++ y) a c
@@ -109,7 +77,7 @@ part_more a b c x y first second =
 pub unprinted : {B : Type 0} (ledger : B → Ledger) (device : Option (List ℕ)) (past : History) (begun was now : RoundState) (before office : Office B)
     (fed : List Answered) (old new : Progress) (at : ℕ) (e : Event)
     → Going ledger device past begun was before fed old → Does device (next_in past fed) e → TellsMoment was.moments now.moments at
-    → (taken : IsUnprinted ledger (history_behind past fed) at e was now office) → new.device ≡ old.device → new.latest ≡ at
+    → (taken : IsUnprinted ledger (history_behind past fed) at e was now office) → new.round ≡ old.round → new.latest ≡ at
     → Broken ledger device past begun now office (fed_one at e (Ok taken.given) ∷ fed) new Output
 unprinted ledger device past begun was now before office fed old new at e going does tells taken same latest =
     let accepted = one_accepted (history_behind past fed) at e was.failures now.failures taken.given (of_round device (next_in past fed) e does) taken.taken.answer in
@@ -118,7 +86,7 @@ unprinted ledger device past begun was now before office fed old new at e going 
       course = (going.next, does, refl);
       timed = (was.moments, going.timed, tells);
       printed = part_more begun.printed was.printed now.printed (text_after past fed) _ going.printed taken.printed;
-      device_is = same ∙ going.counts.device_is;
+      device_is = ap (λ (r : Round). r.device) same ∙ going.holds.device_is;
       latest = latest ∙ sym (ap latest_of accepted);
     }
 
@@ -141,7 +109,7 @@ fed_printed ledger past at e given was now office text (Err TurnsUsed) taken h i
 pub told_broken : {B : Type 0} (ledger : B → Ledger) (device : Option (List ℕ)) (past : History) (begun was now : RoundState) (before office : Office B)
     (fed : List Answered) (old new : Progress) (at : ℕ) (e : Event) (cause : RoundFault)
     → Going ledger device past begun was before fed old → Does device (next_in past fed) e → TellsMoment was.moments now.moments at
-    → Feeds ledger (history_behind past fed) at e was now office (Err cause) → new.device ≡ old.device
+    → Feeds ledger (history_behind past fed) at e was now office (Err cause) → new.round ≡ old.round
     → new.latest ≡ latest_after cause at old.latest
     → (one : Answered) × (one.event ≡ e) × Told ledger device past begun now office fed one new (Err cause)
 told_broken ledger device past begun was now before office fed old new at e (Refused why) going does tells feeds same latest = (

@@ -1,8 +1,15 @@
+mod Examples
 pub mod Absent
 pub mod Timely
 pub mod Wires
 pub mod Nexts
+pub mod Told
+pub mod Numbers
+pub mod Beyond
+pub mod Starts
+pub mod OnSession
 pub mod Goings
+pub mod Holding
 pub mod Stages
 pub mod Connecting
 pub mod Closings

@@ -1,10 +1,8 @@
 -- The steps of a round.
-use Rattle.std.proofs.Common.{◌≡◌, inl, inr, ℕ, ◌<◌, ◌≤◌, ◌+◌, ◌-◌, ◌^◌, nat_lt, nat_le, ◌==◌, Bool, true, false, cond, List, [], ◌∷◌, ◌++◌, Option, Result, Ok, Err, refl, sym, ap, ◌∙◌, subst, arith, append-nil}
-use Rattle.std.proofs.lemmas.Bool.{eqb-true, le-leb, lt-ltb, ltb-true, leb-true}
+use Rattle.std.proofs.Common.{◌≡◌, inl, inr, ℕ, ◌<◌, ◌+◌, Bool, List, [], ◌∷◌, ◌++◌, Option, Some, None, Result, Ok, Err, refl, sym, ap, ◌∙◌, subst, arith, append-nil}
 use Rattle.std.proofs.KnownBytes.{Appends-kept, Appends-trans, Consumes-kept, Consumes-trans}
 use Rattle.std.specs.Io.KnownBytes.{Appends, Consumes, Keeps}
 use Rattle.sun_points.specs.Writing.{GotPart}
-use Rattle.poll_core.specs.declared.outcome.Closing.TheVariants as closing
 use Rattle.office_events.specs.declared.answers.Answer.{Answer}
 use Rattle.office_events.specs.declared.events.Event.{Event}
 use Rattle.office_events.specs.declared.events.Event.TheVariants as event
@@ -15,19 +13,24 @@ use Rattle.office_books.specs.Ledgers.{Ledger}
 use Rattle.office_core.specs.EventRun.{Answered}
 use Rattle.office_core.specs.Standing.{books_in, outgoing_in}
 use Rattle.office_core.specs.declared.office.Office.{Office}
-use Rattle.office_rounds.specs.Course.{Does, IsTaken, Leave, Next, StartFrom, Take, next_in, next_left, start_from}
-use Rattle.office_rounds.specs.Faults.{AreGiven, IsPrinted, OfOffice, OnlyLink, TakesOn, is_link_fault}
+use Rattle.office_rounds.specs.Course.{Connect, Does, IsTaken, Leave, Next, Over, StartFrom, Take, next_in, start_from}
+use Rattle.office_rounds.specs.DeviceRounds.Rounds.{wish_at, wish_of}
+use Rattle.office_rounds.specs.Faults.{AreGiven, IsPrinted, OnlyLink}
+use Rattle.office_rounds.specs.Polling.{Holds, StandsAt, is_over, next_at, settled}
 use Rattle.office_rounds.specs.Rounds.{BreaksOff, RoundState, Wire}
-use Rattle.office_rounds.specs.Stepping.{Broken, Going, IsUnsent, IsWired, Scene, Steps, StepsFrom, counted}
+use Rattle.office_rounds.specs.Stepping.{Broken, Going, IsUnsent, IsWired, Scene, Steps, StepsFrom}
 use Rattle.mb_wire.specs.declared.link.LastTake.{LastTake}
 use Rattle.office_rounds.specs.Passing.{AreAtMost, AreTakes}
-use Rattle.office_rounds.specs.Taking.{Brings, TurnTakes, next_by, over_or_take}
+use Rattle.office_rounds.specs.Taking.{Brings, TurnTakes, over_or_take}
 use Rattle.office_rounds.specs.FedEvents.{frames_after, history_behind, piece_in, pieces_after, text_after}
+use Rattle.office_rounds.specs.declared.device_rounds.round.Round.{Round}
+use Rattle.office_rounds.specs.declared.device_rounds.stage.Stage.{Stage}
+use Rattle.office_rounds.specs.declared.device_rounds.stage.Stage.TheVariants.{Off, Joining, Starting, Waiting, Leaving}
 use Rattle.office_rounds.specs.declared.fault.RoundFault.{RoundFault}
 use Rattle.office_rounds.specs.declared.fault.RoundFault.TheVariants.{Refused, Link, Output, TurnsUsed}
 use Rattle.office_rounds.specs.declared.progress.Progress.{Progress}
 use Rattle.office_rounds.proofs.Goings.{part_more}
-use Rattle.office_rounds.proofs.Nexts.{start_next}
+use Rattle.office_rounds.proofs.Nexts.{connection_next, end_next, start_next}
 use Rattle.office_rounds.proofs.Wires.{appends_nothing, consumes_nothing, part_of_all}
 
 -- a round that was going is broken off
@@ -40,8 +43,8 @@ broken ledger device past begun now office fed round cause going course printed 
   course = course;
   timed = going.timed;
   printed = printed;
-  device_is = going.counts.device_is;
-  latest = going.counts.latest;
+  device_is = going.holds.device_is;
+  latest = going.latest;
 }
 
 given_broken : (cause : RoundFault) (h : History) (at : ℕ) (e : Event) (result : Result Answer Refusal) (a b : Option (List ℕ))
@@ -63,91 +66,113 @@ wired_broken past from to fed one e cause taken given is unsent = record {
   given = given_broken cause (history_behind past fed) one.at one.event one.result from.given to.given (frames_after past fed) unsent given;
 }
 
--- The link of a round that goes on, where nothing is to be sent.
-pub wired_on : (past : History) (from to : Wire) (fed : List Answered) (one : Answered) (e : Event)
-    → Consumes from.remaining to.remaining (pieces_after fed ++ piece_in e) → Appends from.given to.given (frames_after past fed)
-    → one.event ≡ e → outgoing_after (history_behind past fed) one.at one.event one.result ≡ []
-    → IsWired {X = Unit {0}} past from to (one ∷ fed) (Ok tt)
-wired_on past from to fed one e taken given is none = record {
-  taken =
-      let P : Event → Type 0 = λ x. Consumes from.remaining to.remaining (pieces_after fed ++ piece_in x) in
-      subst P (sym is) taken;
-  given = appends_nothing from.given to.given (frames_after past fed) _ given none;
-}
-
--- The link of a round that has given the frames of a start, or not all of them.
-pub wired_started : (past : History) (from mid to : Wire) (fed : List Answered) (one : Answered) (device : Option (List ℕ)) (read : ℕ)
-    (frames : List ℕ) → IsWired {X = Unit {0}} past from mid fed (Ok tt) → one.event ≡ start_from device read
+-- The link of a round that has given the frames of an event, or not all of them.
+pub wired_sent : (past : History) (from mid to : Wire) (fed : List Answered) (one : Answered) (e : Event) (frames : List ℕ)
+    → Consumes from.remaining mid.remaining (pieces_after fed ++ piece_in e) → Appends from.given mid.given (frames_after past fed) → one.event ≡ e
     → frames ≡ outgoing_after (history_behind past fed) one.at one.event one.result → Keeps mid.remaining to.remaining
     → Appends mid.given to.given frames → IsWired {X = Unit {0}} past from to (one ∷ fed) (Ok tt)
-wired_started past from mid to fed one device read frames wired is told kept given = record {
-  taken = consumes_nothing from.remaining to.remaining (pieces_after fed) _
-      (Consumes-kept from.remaining mid.remaining to.remaining (pieces_after fed) wired.taken kept) (ap piece_in is);
-  given = Appends-trans from.given mid.given to.given (frames_after past fed) _ wired.given (subst (Appends mid.given to.given) told given);
+wired_sent past from mid to fed one e frames taken had is told kept given = record {
+  taken =
+      let P : Event → Type 0 = λ x. Consumes from.remaining to.remaining (pieces_after fed ++ piece_in x) in
+      subst P (sym is) (Consumes-kept from.remaining mid.remaining to.remaining (pieces_after fed ++ piece_in e) taken kept);
+  given = Appends-trans from.given mid.given to.given (frames_after past fed) _ had (subst (Appends mid.given to.given) told given);
 }
 
-pub wired_unstarted : (past : History) (from mid to : Wire) (fed : List Answered) (one : Answered) (device : Option (List ℕ)) (read : ℕ)
-    (frames : List ℕ) → IsWired {X = Unit {0}} past from mid fed (Ok tt) → one.event ≡ start_from device read
+pub wired_unsent : (past : History) (from mid to : Wire) (fed : List Answered) (one : Answered) (e : Event) (frames : List ℕ)
+    → Consumes from.remaining mid.remaining (pieces_after fed ++ piece_in e) → Appends from.given mid.given (frames_after past fed) → one.event ≡ e
     → frames ≡ outgoing_after (history_behind past fed) one.at one.event one.result → Keeps mid.remaining to.remaining
     → GotPart frames mid.given to.given → IsWired {X = Unit {0}} past from to (one ∷ fed) (Err Link)
-wired_unstarted past from mid to fed one device read frames wired is told kept given = record {
-  taken = consumes_nothing from.remaining to.remaining (pieces_after fed) _
-      (Consumes-kept from.remaining mid.remaining to.remaining (pieces_after fed) wired.taken kept) (ap piece_in is);
+wired_unsent past from mid to fed one e frames taken had is told kept given = record {
+  taken =
+      let P : Event → Type 0 = λ x. Consumes from.remaining to.remaining (pieces_after fed ++ piece_in x) in
+      subst P (sym is) (Consumes-kept from.remaining mid.remaining to.remaining (pieces_after fed ++ piece_in e) taken kept);
   given =
       let P : List ℕ → Type 0 = λ x. GotPart x mid.given to.given in
-      part_more from.given mid.given to.given (frames_after past fed) _ wired.given (subst P told given);
+      part_more from.given mid.given to.given (frames_after past fed) _ had (subst P told given);
 }
-
-pub does_start : (device same : Option (List ℕ)) (read : ℕ) (next : Next) → next ≡ StartFrom read → same ≡ device
-    → Does device next (start_from same read)
-does_start device same read next is equal = rw is (ap (λ d. start_from d read) equal)
-
-pub does_leave : (device same : Option (List ℕ)) (next : Next) → next ≡ Leave → same ≡ device
-    → Does device next (event.Gone same closing.Gone)
-does_leave device same next is equal = rw is (ap (λ d. event.Gone d closing.Gone) equal)
 
 pub does_take : (device same : Option (List ℕ)) (next : Next) (e : Event) → next ≡ Take → same ≡ device → IsTaken same e → Does device next e
 does_take device same next e is equal taken =
     let P : Option (List ℕ) → Type 0 = λ d. IsTaken d e in
     rw is (subst P equal taken)
 
+-- What a round wants is next, and brings nothing from the link.
+pub record Wanted (device : Option (List ℕ)) (past : History) (fed : List Answered) (e : Event) : Type 0 where
+  pub does : Does device (next_in past fed) e
+  pub piece : piece_in e ≡ []
+  pub after : (one : Answered) → one.event ≡ e → next_in past (one ∷ fed) ≡ settled (next_in past fed)
+
+wanted_event : (device : Option (List ℕ)) (past : History) (fed : List Answered) (now : Next) (wish e : Event) → wish ≡ e → next_in past fed ≡ now
+    → Does device now wish → piece_in wish ≡ [] → ((one : Answered) → one.event ≡ wish → next_in past (one ∷ fed) ≡ settled now)
+    → Wanted device past fed e
+wanted_event device past fed now wish e same is does piece after = record {
+  does = rw is (subst (Does device now) same does);
+  piece = sym (ap piece_in same) ∙ piece;
+  after = λ one its. after one (its ∙ sym same) ∙ ap settled (sym is);
+}
+
+wanted_at : (device : Option (List ℕ)) (past : History) (fed : List Answered) (round : Round) (stage : Stage) (started : ℕ) (e : Event)
+    → StandsAt stage device past fed round → next_in past fed ≡ next_at stage started → wish_at stage device started ≡ Some e
+    → Wanted device past fed e
+wanted_at device past fed round Off started e stands is wish = absurd (cc)
+wanted_at device past fed round Joining started e stands is wish =
+    wanted_event device past fed Connect (event.Connected device) e (cc) is refl refl (λ one its. connection_next past fed one device its)
+wanted_at device past fed round Starting started e stands is wish =
+    wanted_event device past fed (StartFrom started) (start_from device started) e (cc) is refl refl (λ one its. start_next past fed one device started its)
+wanted_at device past fed round Waiting started e stands is wish = absurd (cc)
+wanted_at device past fed round (Leaving cause) started e stands is wish =
+    wanted_event device past fed Leave (event.Gone device cause) e (cc) is (ap (λ c. event.Gone device c) stands) refl
+    (λ one its. end_next past fed one device cause its)
+
+pub wanted : (device : Option (List ℕ)) (past : History) (fed : List Answered) (round : Round) (e : Event) → Holds device past fed round
+    → wish_of round ≡ Some e → Wanted device past fed e
+wanted device past fed round e holds wish =
+    wanted_at device past fed round round.stage round.started e holds.stands holds.next
+    (sym (ap (λ d. wish_at round.stage d round.started) holds.device_is) ∙ wish)
+
+rests_at : (device : Option (List ℕ)) (stage : Stage) (started : ℕ) → wish_at stage device started ≡ None
+    → settled (next_at stage started) ≡ next_at stage started
+rests_at device Off started wish = refl
+rests_at device Joining started wish = absurd (cc)
+rests_at device Starting started wish = absurd (cc)
+rests_at device Waiting started wish = refl
+rests_at device (Leaving cause) started wish = absurd (cc)
+
+-- Where it wants nothing, what is next stays.
+pub rests : (device : Option (List ℕ)) (past : History) (fed : List Answered) (round : Round) (now : Next) → Holds device past fed round
+    → wish_of round ≡ None → next_in past fed ≡ now → next_in past fed ≡ settled now
+rests device past fed round now holds wish is =
+    holds.next ∙ sym (rests_at round.device round.stage round.started wish) ∙ ap settled (sym holds.next ∙ is)
+
+-- After what was taken a round that wants nothing more is over, or takes on.
+over_by : (now : Next) (stage : Stage) (started : ℕ) → (now ≡ Connect → ⊥) → settled now ≡ next_at stage started
+    → next_at stage started ≡ over_or_take (is_over stage)
+over_by now Off started anew is = refl
+over_by Connect Joining started anew is = absurd (anew refl)
+over_by (StartFrom read) Joining started anew is = absurd (cc)
+over_by Leave Joining started anew is = absurd (cc)
+over_by Take Joining started anew is = absurd (cc)
+over_by Over Joining started anew is = absurd (cc)
+over_by Connect Starting started anew is = absurd (anew refl)
+over_by (StartFrom read) Starting started anew is = absurd (cc)
+over_by Leave Starting started anew is = absurd (cc)
+over_by Take Starting started anew is = absurd (cc)
+over_by Over Starting started anew is = absurd (cc)
+over_by now Waiting started anew is = refl
+over_by Connect (Leaving cause) started anew is = absurd (anew refl)
+over_by (StartFrom read) (Leaving cause) started anew is = absurd (cc)
+over_by Leave (Leaving cause) started anew is = absurd (cc)
+over_by Take (Leaving cause) started anew is = absurd (cc)
+over_by Over (Leaving cause) started anew is = absurd (cc)
+
+pub over_as : (device : Option (List ℕ)) (past : History) (fed : List Answered) (round : Round) (now : Next) (over : Bool) → Holds device past fed round
+    → next_in past fed ≡ settled now → (now ≡ Connect → ⊥) → over ≡ is_over round.stage → next_in past fed ≡ over_or_take over
+over_as device past fed round now over holds is anew told =
+    holds.next ∙ over_by now round.stage round.started anew (sym is ∙ holds.next) ∙ ap over_or_take (sym told)
+
 pub nothing_left : (fed : List Answered) (e : Event) (from to : Wire) → piece_in e ≡ [] → Consumes from.remaining to.remaining (pieces_after fed)
     → Consumes from.remaining to.remaining (pieces_after fed ++ piece_in e)
 nothing_left fed e from to none taken = consumes_nothing from.remaining to.remaining (pieces_after fed) (piece_in e) taken none
-
--- which of the reads that are left are next
-left_by : (start leave : Bool) (started ended planned : ℕ) → nat_lt started planned ≡ start → nat_le planned ended ≡ leave
-    → next_left started ended planned ≡ cond start (StartFrom started) (cond leave Leave Take)
-left_by start leave started ended planned is ends = rw (is, ends) refl
-
-not_less : (b : Bool) (m n : ℕ) → n ≤ m → nat_lt m n ≡ b → b ≡ false
-not_less true m n h is = absurd (let less = ltb-true m n is in omega arith)
-not_less false m n h is = refl
-
-not_most : (b : Bool) (m n : ℕ) → n < m → nat_le m n ≡ b → b ≡ false
-not_most true m n h is = absurd (let most = leb-true m n is in omega arith)
-not_most false m n h is = refl
-
-pub left_start : (started ended planned s p : ℕ) → s ≡ counted started → p ≡ planned → p ≤ 2 ^ 64 - 1 → s < p
-    → next_left started ended planned ≡ StartFrom s
-left_start started ended planned s p is same fits less =
-    let whole : started ≡ s = omega arith in
-    let below : started < planned = omega arith in
-    left_by true (nat_le planned ended) started ended planned (lt-ltb started planned below) refl ∙ ap StartFrom whole
-
-pub left_leave : (started ended planned s p e : ℕ) → s ≡ counted started → p ≡ planned → e ≡ counted ended → p ≤ s → p ≤ e
-    → next_left started ended planned ≡ Leave
-left_leave started ended planned s p e is same ends all done =
-    let none : planned ≤ started = omega arith in
-    let over : planned ≤ ended = omega arith in
-    left_by false true started ended planned (not_less (nat_lt started planned) started planned none refl) (le-leb planned ended over)
-
-pub left_take : (started ended planned s p e : ℕ) → s ≡ counted started → p ≡ planned → e ≡ counted ended → p ≤ 2 ^ 64 - 1 → p ≤ s → e < p
-    → next_left started ended planned ≡ Take
-left_take started ended planned s p e is same ends fits all some =
-    let none : planned ≤ started = omega arith in
-    let waits : ended < planned = omega arith in
-    left_by false false started ended planned (not_less (nat_lt started planned) started planned none refl) (not_most (nat_le planned ended) planned ended waits refl)
 
 -- what a take brought
 pub taken_wire : (past : History) (from old new : Wire) (fed : List Answered) (e : Event) → IsWired {X = Unit {0}} past from old fed (Ok tt)
@@ -172,83 +197,51 @@ pub of_device : (device same : Option (List ℕ)) (e : Event) → same ≡ devic
 of_device device same e equal taken = let P : Option (List ℕ) → Type 0 = λ d. IsTaken d e in subst P equal taken
 
 -- One step after another.
-pub compose : {B X Y : Type 0} (ledger : B → Ledger) (old mid new : Scene B) (now : Progress → List Answered → History → Next)
-    (x : X) (after : X → Next) (next : Progress → List Answered → History → Next) (result : Result Y RoundFault) (final : Y → Next)
-    → StepsFrom ledger old mid now (Ok x) after
-    → ((round : Progress) (fed : List Answered) (past : History) → next_in past fed ≡ after x → next_in past fed ≡ next round fed past)
+pub compose : {B X Y : Type 0} (ledger : B → Ledger) (old mid new : Scene B) (now : Next) (x : X) (after : X → Next) (next : Next)
+    (result : Result Y RoundFault) (final : Y → Next) → StepsFrom ledger old mid now (Ok x) after → after x ≡ next
     → StepsFrom ledger mid new next result final
     → ((ledger (books_in new.office)).is_clean → (ledger (books_in mid.office)).is_clean) → StepsFrom ledger old new now result final
 compose ledger old mid new now x after next result final first meets second lasts = λ device past begun from fed going wired is clean.
     let between = first device past begun from fed going wired is (lasts clean) in
-    second device past begun from between.0 between.1.0 between.1.1 (meets mid.round between.0 past between.1.2) clean
+    second device past begun from between.0 between.1.0 between.1.1 (between.1.2 ∙ meets) clean
 
 -- A round that is going ends, since its takes are used up.
-pub used_up : {B X Y : Type 0} (ledger : B → Ledger) (old new : Scene B) (now : Progress → List Answered → History → Next) (x : X)
+pub used_up : {B X Y : Type 0} (ledger : B → Ledger) (old new : Scene B) (now : Next) (x : X)
     (after : X → Next) (final : Y → Next) → StepsFrom ledger old new now (Ok x) after
     → StepsFrom {X = Y} ledger old new now (Err TurnsUsed) final
 used_up ledger old new now x after final first = λ device past begun from fed going wired is clean.
     let so = first device past begun from fed going wired is clean in (
       so.0,
       (
-        broken ledger device past begun new.round_state new.office so.0 new.round TurnsUsed so.1.0 so.1.0.next so.1.0.printed,
+        broken ledger device past begun new.round_state new.office so.0 new.progress TurnsUsed so.1.0 so.1.0.next so.1.0.printed,
         record { taken = so.1.1.taken; given = so.1.1.given },
       ),
     )
 
--- a round that is told to be over, or to take on, where nothing is done
-pub stays : {B X : Type 0} (ledger : B → Ledger) (at : Scene B) (now : Progress → List Answered → History → Next) (x : X)
-    (final : X → Next)
-    → ((device : Option (List ℕ)) (past : History) (begun : RoundState) (fed : List Answered) → Going ledger device past begun at.round_state at.office fed at.round
-    → now at.round fed past ≡ final x) → StepsFrom ledger at at now (Ok x) final
-stays ledger at now x final same = λ device past begun from fed going wired is clean.
-    (fed, (going, wired, is ∙ same device past begun fed going))
-
--- a step that does another, which is next
-pub steps_as : {B X : Type 0} (ledger : B → Ledger) (old new : Scene B) (now next : Progress → List Answered → History → Next)
-    (result : Result X RoundFault) (final : X → Next) → StepsFrom ledger old new next result final
-    → ((device : Option (List ℕ)) (past : History) (begun : RoundState) (fed : List Answered) → Going ledger device past begun old.round_state old.office fed old.round
-    → now old.round fed past ≡ next old.round fed past) → StepsFrom ledger old new now result final
-steps_as ledger old new now next result final step same = λ device past begun from fed going wired is clean.
-    step device past begun from fed going wired (is ∙ same device past begun fed going) clean
-
-by_some : (is_end none : Bool) (endings : ℕ) (next : Next) → is_end ≡ false → (endings == 0) ≡ none → none ≡ false → next_by is_end endings next ≡ next
-by_some true none endings next on is some = absurd (cc)
-by_some false none endings next on is some = ap (λ b. cond b Take next) (is ∙ some)
-
-not_none : (none : Bool) (n : ℕ) → (n == 0) ≡ none → (n ≡ 0 → ⊥) → none ≡ false
-not_none true n is some = absurd (some (eqb-true n 0 is))
-not_none false n is some = refl
-
--- Where polls have ended, the reads that are left are next.
-pub by_left : (is_end : Bool) (endings : ℕ) (next : Next) → is_end ≡ false → (endings ≡ 0 → ⊥) → next_by is_end endings next ≡ next
-by_left is_end endings next on some = by_some is_end (endings == 0) endings next on refl (not_none (endings == 0) endings refl some)
-
--- The frames of a start were given, or not all of them.
+-- The frames of an event were given, or not all of them.
 pub sent : {B : Type 0} (ledger : B → Ledger) (device : Option (List ℕ)) (past : History) (begun : RoundState) (from mid to : Wire) (now : RoundState)
-    (office : Office B) (fed : List Answered) (one : Answered) (round : Progress) (same : Option (List ℕ)) (read : ℕ)
-    (result : Result (Unit {0}) RoundFault) (frames : List ℕ) → IsWired {X = Unit {0}} past from mid fed (Ok tt)
-    → one.event ≡ start_from same read → Going ledger device past begun now office (one ∷ fed) round
+    (office : Office B) (fed : List Answered) (one : Answered) (progress : Progress) (e : Event)
+    (result : Result (Unit {0}) RoundFault) (frames : List ℕ) → Consumes from.remaining mid.remaining (pieces_after fed ++ piece_in e)
+    → Appends from.given mid.given (frames_after past fed) → one.event ≡ e → Going ledger device past begun now office (one ∷ fed) progress
     → outgoing_in office ≡ outgoing_after (history_behind past fed) one.at one.event one.result → frames ≡ outgoing_in office
     → Keeps mid.remaining to.remaining → AreGiven result frames mid.given to.given → OnlyLink result
-    → (later : List Answered) × Steps ledger device past begun now from to office later round result (λ done. Take)
-sent ledger device past begun from mid to now office fed one round same read (Ok x) frames wired is going told are kept given only = (
-  one ∷ fed,
-  (
-    going,
-    wired_started past from mid to fed one same read frames wired is (are ∙ told) kept given,
-    start_next past fed one same read is,
-  ),
+    → Steps ledger device past begun now from to office (one ∷ fed) progress result (λ done. next_in past (one ∷ fed))
+sent ledger device past begun from mid to now office fed one progress e (Ok x) frames taken had is going told are kept given only =
+    (going, wired_sent past from mid to fed one e frames taken had is (are ∙ told) kept given, refl)
+sent ledger device past begun from mid to now office fed one progress e (Err (Refused why)) frames taken had is going told are kept given only = absurd only
+sent ledger device past begun from mid to now office fed one progress e (Err Link) frames taken had is going told are kept given only = (
+  broken ledger device past begun now office (one ∷ fed) progress Link going going.next going.printed,
+  wired_unsent past from mid to fed one e frames taken had is (are ∙ told) kept given,
 )
-sent ledger device past begun from mid to now office fed one round same read (Err (Refused why)) frames wired is going told are kept given only = absurd only
-sent ledger device past begun from mid to now office fed one round same read (Err Link) frames wired is going told are kept given only = (
-  one ∷ fed,
-  (
-    broken ledger device past begun now office (one ∷ fed) round Link going going.next going.printed,
-    wired_unstarted past from mid to fed one same read frames wired is (are ∙ told) kept given,
-  ),
-)
-sent ledger device past begun from mid to now office fed one round same read (Err Output) frames wired is going told are kept given only = absurd only
-sent ledger device past begun from mid to now office fed one round same read (Err TurnsUsed) frames wired is going told are kept given only = absurd only
+sent ledger device past begun from mid to now office fed one progress e (Err Output) frames taken had is going told are kept given only = absurd only
+sent ledger device past begun from mid to now office fed one progress e (Err TurnsUsed) frames taken had is going told are kept given only = absurd only
+
+-- What comes to be next is told otherwise.
+pub next_as : {B X : Type 0} (ledger : B → Ledger) (device : Option (List ℕ)) (past : History) (begun now : RoundState) (from to : Wire) (office : Office B)
+    (fed : List Answered) (progress : Progress) (result : Result X RoundFault) (first second : X → Next) → ((x : X) → first x ≡ second x)
+    → Steps ledger device past begun now from to office fed progress result first → Steps ledger device past begun now from to office fed progress result second
+next_as ledger device past begun now from to office fed progress (Ok x) first second same steps = (steps.0, steps.1, steps.2 ∙ same x)
+next_as ledger device past begun now from to office fed progress (Err cause) first second same steps = steps
 
 -- A turn that took nothing breaks the round off.
 pub not_taken : {B : Type 0} (ledger : B → Ledger) (device : Option (List ℕ)) (past : History) (begun now : RoundState) (from to : Wire)
@@ -267,26 +260,11 @@ not_taken ledger device past begun now from to office fed round same Link before
 not_taken ledger device past begun now from to office fed round same Output before after last brings going taken given = absurd brings
 not_taken ledger device past begun now from to office fed round same TurnsUsed before after last brings going taken given = absurd brings
 
--- a fault of the office is none of the link's
-pub no_link : {X : Type 0} (result : Result X RoundFault) → OfOffice result → is_link_fault result ≡ false
-no_link (Ok x) h = refl
-no_link (Err (Refused why)) h = refl
-no_link (Err Link) h = absurd h
-no_link (Err Output) h = refl
-no_link (Err TurnsUsed) h = absurd h
-
-pub takes_on : {X : Type 0} (result : Result X RoundFault) → OfOffice result → TakesOn result
-takes_on (Ok x) h = tt
-takes_on (Err (Refused why)) h = tt
-takes_on (Err Link) h = absurd h
-takes_on (Err Output) h = tt
-takes_on (Err TurnsUsed) h = absurd h
-
 -- what a turn has told
-pub as_turn : {B : Type 0} (ledger : B → Ledger) (old new : Scene B) (now : Progress → List Answered → History → Next) (is_over b : Bool)
-    → StepsFrom ledger old new now (Ok is_over) over_or_take → is_over ≡ b
+pub as_turn : {B : Type 0} (ledger : B → Ledger) (old new : Scene B) (now : Next) (over b : Bool)
+    → StepsFrom ledger old new now (Ok over) over_or_take → over ≡ b
     → StepsFrom {X = Unit {0}} ledger old new now (Ok tt) (λ done. over_or_take b)
-as_turn ledger old new now is_over b first same = λ device past begun from fed going wired is clean.
+as_turn ledger old new now over b first same = λ device past begun from fed going wired is clean.
     let so = first device past begun from fed going wired is clean in
     (so.0, (so.1.0, so.1.1, so.1.2 ∙ ap over_or_take same))
 

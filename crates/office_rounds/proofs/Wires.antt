@@ -1,19 +1,9 @@
 -- What passes over a link, call by call.
-use Rattle.std.proofs.Common.{◌≡◌, ℕ, List, [], ◌++◌, Option, None, Some, Result, refl, sym, ap, ◌∙◌, append-nil, take, drop, subst}
-use Rattle.std.proofs.lemmas.List.{take-append-drop}
-use Rattle.std.proofs.KnownBytes.{Appends-trans, Consumes-kept, Consumes-nil}
+use Rattle.std.proofs.Common.{◌≡◌, ℕ, List, [], ◌++◌, Option, Result, Ok, Err, sym, ap, ◌∙◌, append-nil, subst}
+use Rattle.std.proofs.KnownBytes.{Consumes-kept, Consumes-nil}
 use Rattle.std.specs.Io.KnownBytes.{Appends, Consumes, Keeps}
+use Rattle.mb_wire.specs.Links.{Gives}
 use Rattle.sun_points.specs.Writing.{GotPart, GotText}
-use Rattle.script_text.proofs.Got.{got_both}
-
-pub kept_nothing : (a b : Option (List ℕ)) → Keeps a b → Appends a b []
-kept_nothing None b h = tt
-kept_nothing (Some xs) None h = absurd h
-kept_nothing (Some xs) (Some ys) h = h ∙ sym (append-nil xs)
-
-pub appends_kept : (a b c : Option (List ℕ)) (x : List ℕ) → Appends a b x → Keeps b c → Appends a c x
-appends_kept a b c x first second =
-    subst (Appends a c) (append-nil x) (Appends-trans a b c x [] first (kept_nothing b c second))
 
 pub appends_nothing : (a b : Option (List ℕ)) (x y : List ℕ) → Appends a b x → y ≡ [] → Appends a b (x ++ y)
 appends_nothing a b x y got none = subst (Appends a b) (sym (ap (λ z. x ++ z) none ∙ append-nil x)) got
@@ -21,13 +11,10 @@ appends_nothing a b x y got none = subst (Appends a b) (sym (ap (λ z. x ++ z) n
 pub consumes_nothing : (a b : Option (List ℕ)) (x y : List ℕ) → Consumes a b x → y ≡ [] → Consumes a b (x ++ y)
 consumes_nothing a b x y got none = subst (Consumes a b) (sym (ap (λ z. x ++ z) none ∙ append-nil x)) got
 
-pub nothing_given : (a b : Option (List ℕ)) (bytes : List ℕ) → Keeps a b → GotPart bytes a b
-nothing_given a b bytes h = ([], bytes, refl, kept_nothing a b h)
-
-pub given_then : {X E : Type 0} (result : Result X E) (a b c : Option (List ℕ)) (bytes : List ℕ) (n : ℕ) → Appends a b (take n bytes)
-    → GotText result (drop n bytes) b c → GotText result bytes a c
-given_then result a b c bytes n first second =
-    got_both result a b c (take n bytes) (drop n bytes) bytes first second (take-append-drop n bytes)
+-- what was given whole was got, and of what was not, a part
+pub got_of : {X E : Type 0} (result : Result X E) (a b : Option (List ℕ)) (bytes : List ℕ) → Gives result a b bytes → GotText result bytes a b
+got_of (Ok done) a b bytes gives = gives
+got_of (Err error) a b bytes gives = (gives.part, gives.unsent, gives.whole, gives.given)
 
 -- all of a text that was got is a part of it
 pub part_of_all : (a b : Option (List ℕ)) (x : List ℕ) → Appends a b x → GotPart x a b

@@ -1,6 +1,6 @@
 -- What each call of a round does between what it found and what it left: of the round, its link, the office, the clock and
 -- the writer. A result comes last.
-use Rattle.std.specs.Prelude.{◌≡◌, ℕ, Bool, List, ◌++◌, Option, Result, Ok, Err}
+use Rattle.std.specs.Prelude.{◌≡◌, ℕ, Bool, List, ◌∷◌, ◌++◌, Option, Result, Ok, Err}
 use Rattle.std.specs.Io.KnownBytes.{Appends, Consumes}
 use Rattle.std.specs.declared.io.Write as writers
 use Rattle.mb_wire.specs.declared.link.Link as links
@@ -8,16 +8,18 @@ use Rattle.socket_link.specs.declared.clock.Clock as clocks
 use Rattle.script_text.specs.AnswerText.{accepted_text}
 use Rattle.office_events.specs.declared.answers.Answer.{Answer}
 use Rattle.office_events.specs.declared.events.Event.{Event}
+use Rattle.office_events.specs.declared.events.Event.TheVariants as event
 use Rattle.office_rules.specs.History.{History}
 use Rattle.office_books.specs.declared.books.Books as stores
 use Rattle.office_core.specs.EventRun.{Answered}
 use Rattle.office_core.specs.Standing.{After, books_in, notes_in, outgoing_in}
 use Rattle.office_core.specs.Taking.{failures_of}
 use Rattle.office_core.specs.declared.office.Office.{Office}
-use Rattle.office_rounds.specs.Course.{Does, IsTaken, Leave, Next, Over, StartFrom, Take, next_in}
+use Rattle.office_rounds.specs.Course.{Connect, Does, IsTaken, Next, Over, StartFrom, Take, next_in}
 use Rattle.office_rounds.specs.FedEvents.{frames_after, piece_in, pieces_after}
 use Rattle.office_rounds.specs.Rounds.{RoundState, Passage, Rounds, Wire, round_state, passage, wire}
-use Rattle.office_rounds.specs.Stepping.{Broken, Closes, Connects, EndsPrinted, EndsUnprinted, Feeds, Going, IsWired, Prints, Scene, Steps, StepsFrom, Told, next_after_taken, next_left_in, scene}
+use Rattle.office_rounds.specs.Stepping.{Broken, Closes, Connects, EndsPrinted, EndsUnprinted, Feeds, Going, IsNew, IsWired, Prints, Scene, Steps, StepsFrom, Told, scene}
+use Rattle.office_rounds.specs.Polling.{settled}
 use Rattle.office_rounds.specs.Taking.{over_or_take}
 use Rattle.office_rounds.specs.declared.fault.RoundFault.{RoundFault}
 use Rattle.office_rounds.specs.declared.progress.Progress.{Progress}
@@ -71,11 +73,17 @@ module _ {B C W : Type 0} (b : stores.Ghosts B) (c : clocks.Ghosts C) (w : write
   -- The office is told of a new round that its device is connected.
   abbrev pub TellsConnection : (from to : Progress) → Leaves (Result (Unit {0}) RoundFault)
   TellsConnection from to old new before after had holds result =
-      After b.ledger old new (λ past. Connects b.ledger from.device past
+      After b.ledger old new (λ past. Connects b.ledger from.round.device past
       (desk_of old before had) (desk_of new after holds) new to result)
 
-  -- Where an event is next in a round that goes on, it is fed and printed; the result tells how many polls ended with it.
-  abbrev pub TellsNext : Event → (from to : Progress) → Leaves (Result ℕ RoundFault)
+  -- So it is of a round of which nothing was fed, if the event is that.
+  abbrev pub TellsFirst : Event → (from to : Progress) → Leaves (Result (Unit {0}) RoundFault)
+  TellsFirst e from to old new before after had holds result =
+      IsNew from → e ≡ event.Connected from.round.device
+      → TellsConnection from to old new before after had holds result
+
+  -- Where an event is next in a round that goes on, it is fed and printed.
+  abbrev pub TellsNext : Event → (from to : Progress) → Leaves (Result (Unit {0}) RoundFault)
   TellsNext e from to old new before after had holds result =
       (device : Option (List ℕ)) (past : History) (begun : RoundState) (fed : List Answered)
       → Going b.ledger device past begun (desk_of old before had) old fed from
@@ -85,33 +93,27 @@ module _ {B C W : Type 0} (b : stores.Ghosts B) (c : clocks.Ghosts C) (w : write
 
   -- A round that was broken off is closed: the last thing that is fed is that its device is gone.
   abbrev pub ClosesBroken : Progress → (cause : RoundFault) → Leaves RoundFault
-  ClosesBroken round cause old new before after had holds fault =
+  ClosesBroken progress cause old new before after had holds fault =
       (device : Option (List ℕ)) (past : History) (begun : RoundState) (fed : List Answered)
-      → Broken b.ledger device past begun (desk_of old before had) old fed round cause
+      → Broken b.ledger device past begun (desk_of old before had) old fed progress cause
       → (b.ledger (books_in new)).is_clean
       → Closes b.ledger device past begun (desk_of new after holds) new fed cause fault
 
   -- A round whose connection was not told is over, and its link is as it was.
   abbrev pub EndsUnconnected : Progress → (cause : RoundFault) → Leaves RoundFault
-  EndsUnconnected round cause old new before after had holds fault =
+  EndsUnconnected progress cause old new before after had holds fault =
       (device : Option (List ℕ)) (past : History) (begun : RoundState) (wire : Wire)
-      → Connects b.ledger device past begun (desk_of old before had) old round (Err cause)
+      → Connects b.ledger device past begun (desk_of old before had) old progress (Err cause)
       → (b.ledger (books_in new)).is_clean
       → Rounds b.ledger device past (passage begun (desk_of new after holds) wire wire) new
       (Err fault)
-
-  -- The device is gone, since all polls of the round have ended; the link is as it was.
-  abbrev pub TellsGone : (from to : Progress) → Leaves (Result Bool RoundFault)
-  TellsGone from to old new before after had holds result =
-      (wire : Wire) → StepsFrom b.ledger (scene old (desk_of old before had) wire from)
-      (scene new (desk_of new after holds) wire to) (λ round fed past. Leave) result over_or_take
 
 module _ {L B C W : Type 0} (l : links.Ghosts L) (b : stores.Ghosts B) (c : clocks.Ghosts C)
     (w : writers.Ghosts W) where
   -- where a step finds a round, or leaves it
   abbrev pub scene_of : Progress → L → Office B → C → W → Scene B
-  scene_of round link office clock output =
-      scene office (desk_of b c w office clock output) (wire_of l link) round
+  scene_of progress link office clock output =
+      scene office (desk_of b c w office clock output) (wire_of l link) progress
 
   -- the passage of a round from what it found to what it left
   abbrev pub passage_of : (from to : L) → (old new : Office B) → (before after : C)
@@ -124,42 +126,38 @@ module _ {L B C W : Type 0} (l : links.Ghosts L) (b : stores.Ghosts B) (c : cloc
   abbrev pub StepsBetween : Type 0 → Type 1
   StepsBetween X = (here there : Progress) → (from to : L) → Leaves b c w (Result X RoundFault)
 
-  -- A step does what is next, and this comes to be next.
-  abbrev pub StepsOn : {X : Type 0} → (now : Progress → List Answered → History → Next)
-      → (then : X → Next) → StepsBetween X
+  -- A step does this, which is next, and that comes to be next.
+  abbrev pub StepsOn : {X : Type 0} → (now : Next) → (then : X → Next) → StepsBetween X
   StepsOn now then here there from to old new before after had holds result =
       StepsFrom b.ledger (scene_of here from old before had) (scene_of there to new after holds)
       now result then
 
-  -- The reads that are left are started, after which something is taken.
-  abbrev pub StartsReads : StepsBetween (Unit {0})
-  StartsReads = StepsOn (λ round fed past. StartFrom round.started) (λ done. Take)
+  -- An event is fed where it is next, after what it brings was taken, and what the office wants sent is given.
+  abbrev pub Puts : Event → StepsBetween (Unit {0})
+  Puts e here there from to old new before after had holds result =
+      (device : Option (List ℕ)) (past : History) (begun : RoundState) (first : Wire)
+      (fed : List Answered)
+      → Going b.ledger device past begun (desk_of b c w old before had) old fed here
+      → Consumes first.remaining (l.remaining from) (pieces_after fed ++ piece_in e)
+      → Appends first.given (l.given from) (frames_after past fed)
+      → Does device (next_in past fed) e → (b.ledger (books_in new)).is_clean
+      → (one : Answered) × (one.event ≡ e)
+      × Steps b.ledger device past begun (desk_of b c w new after holds) first
+      (wire_of l to) new (one ∷ fed) there result (λ done. next_in past (one ∷ fed))
 
-  -- So it is as a step that says whether the round is over.
-  abbrev pub StartsLeft : StepsBetween Bool
-  StartsLeft = StepsOn (λ round fed past. StartFrom round.started) over_or_take
+  -- What the round wants is fed, whatever is next.
+  abbrev pub GoesOn : StepsBetween (Unit {0})
+  GoesOn here there from to old new before after had holds result =
+      (now : Next) → StepsOn now (λ done. settled now) here there from to old new before after had
+      holds result
 
-  -- What is left after the end of a poll is done.
+  -- After what was taken from the link what the round wants is fed, and the result says whether the round is over.
   abbrev pub Follows : StepsBetween Bool
-  Follows = StepsOn next_left_in over_or_take
+  Follows here there from to old new before after had holds result =
+      (now : Next) → (now ≡ Connect → ⊥)
+      → StepsOn now over_or_take here there from to old new before after had holds result
 
-  -- What is next after an event that was taken is done.
-  abbrev pub FollowsTaken : (is_end : Bool) → (endings : ℕ) → StepsBetween Bool
-  FollowsTaken is_end endings = StepsOn (next_after_taken is_end endings) over_or_take
-
-  -- A turn is taken, and the result says whether the round is over.
-  abbrev pub TakesTurn : StepsBetween Bool
-  TakesTurn = StepsOn (λ round fed past. Take) over_or_take
-
-  -- Turns are taken until the round is over.
-  abbrev pub TakesTurns : StepsBetween (Unit {0})
-  TakesTurns = StepsOn (λ round fed past. Take) (λ done. Over)
-
-  -- The reads are started, and turns are taken until the round is over.
-  abbrev pub PollsOut : StepsBetween (Unit {0})
-  PollsOut = StepsOn (λ round fed past. StartFrom round.started) (λ done. Over)
-
-  -- An event that was taken from the link is fed where it is next, and what is next after it is done.
+  -- What is taken from the link is fed, and what the round wants thereafter; the result says whether the round is over.
   abbrev pub FeedsTaken : Event → StepsBetween Bool
   FeedsTaken e here there from to old new before after had holds result =
       (device : Option (List ℕ)) (past : History) (begun : RoundState) (first : Wire)
@@ -167,19 +165,31 @@ module _ {L B C W : Type 0} (l : links.Ghosts L) (b : stores.Ghosts B) (c : cloc
       → Going b.ledger device past begun (desk_of b c w old before had) old fed here
       → Consumes first.remaining (l.remaining from) (pieces_after fed ++ piece_in e)
       → Appends first.given (l.given from) (frames_after past fed)
-      → next_in past fed ≡ Take → IsTaken here.device e → (b.ledger (books_in new)).is_clean
+      → next_in past fed ≡ Take → IsTaken here.round.device e → (b.ledger (books_in new)).is_clean
       → (later : List Answered)
       × Steps b.ledger device past begun (desk_of b c w new after holds) first
       (wire_of l to) new later there result over_or_take
 
+  -- A turn is taken, and the result says whether the round is over.
+  abbrev pub TakesTurn : StepsBetween Bool
+  TakesTurn = StepsOn Take over_or_take
+
+  -- Turns are taken until the round is over.
+  abbrev pub TakesTurns : StepsBetween (Unit {0})
+  TakesTurns = StepsOn Take (λ done. Over)
+
+  -- The reads are started, and turns are taken until the round is over.
+  abbrev pub PollsOut : StepsBetween (Unit {0})
+  PollsOut = StepsOn (StartFrom 0) (λ done. Over)
+
   -- A round whose reads are to be started is polled to its end.
   abbrev pub PollsToEnd : Progress → (from to : L) → Leaves b c w (Result (Unit {0}) RoundFault)
-  PollsToEnd round from to old new before after had holds result =
+  PollsToEnd progress from to old new before after had holds result =
       (device : Option (List ℕ)) (past : History) (begun : RoundState) (first : Wire)
       (fed : List Answered)
-      → Going b.ledger device past begun (desk_of b c w old before had) old fed round
+      → Going b.ledger device past begun (desk_of b c w old before had) old fed progress
       → IsWired {X = Unit {0}} past first (wire_of l from) fed (Ok tt)
-      → next_in past fed ≡ StartFrom round.started → (b.ledger (books_in new)).is_clean
+      → next_in past fed ≡ StartFrom 0 → (b.ledger (books_in new)).is_clean
       → Rounds b.ledger device past
       (passage begun (desk_of b c w new after holds) first (wire_of l to)) new result
 

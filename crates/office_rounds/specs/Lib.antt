@@ -3,8 +3,9 @@ pub mod FedEvents
 pub mod Course
 pub mod Rounds
 pub mod Passing
+pub mod DeviceRounds
+pub mod Polling
 pub mod Taking
 pub mod Stepping
 pub mod Between
-pub mod DeviceRounds
 pub mod Driver

@@ -1,5 +1,5 @@
 -- How far a round has come, between its steps.
-use Rattle.std.specs.Prelude.{◌≡◌, ◌⊎◌, ◌||◌, ℕ, ◌-◌, ◌^◌, min, Bool, true, false, List, [], ◌∷◌, Option, None, Result, Ok, Err}
+use Rattle.std.specs.Prelude.{◌≡◌, ◌⊎◌, ◌||◌, ℕ, Bool, true, false, List, [], ◌∷◌, Option, Result, Ok, Err}
 use Rattle.std.specs.Io.KnownBytes.{Appends, Consumes}
 use Rattle.office_events.specs.declared.events.Event.{Event}
 use Rattle.office_events.specs.declared.events.Event.TheVariants as event
@@ -18,21 +18,18 @@ use Rattle.office_core.specs.Standing.{Stands, books_in, is_stopped, outgoing_in
 use Rattle.office_core.specs.Taking.{IsAnswer, IsTold}
 use Rattle.office_core.specs.declared.office.Office.{Office}
 use Rattle.sun_points.specs.Writing.{GotPart}
-use Rattle.office_rounds.specs.Course.{AreNext, Next, endings_of, first_poll, next_in, next_left, polls_ended, reads_planned, reads_started}
+use Rattle.office_rounds.specs.Course.{AreNext, Next, next_in}
+use Rattle.office_rounds.specs.DeviceRounds.Rounds.{joined, unconnected}
 use Rattle.office_rounds.specs.Faults.{AreGiven, IsPrinted}
 use Rattle.office_rounds.specs.Rounds.{BreaksOff, RoundState, IsFed, IsGoneAt, IsSettled, IsToldOf, Wire}
 use Rattle.office_rounds.specs.FedEvents.{AreTimed, frames_after, history_behind, pieces_after, text_after, told_text}
-use Rattle.office_rounds.specs.Taking.{next_by}
+use Rattle.office_rounds.specs.Polling.{Holds}
 use Rattle.office_rounds.specs.declared.fault.RoundFault.{RoundFault}
 use Rattle.office_rounds.specs.declared.fault.RoundFault.TheVariants.{Refused, Link, Output, TurnsUsed}
 use Rattle.office_rounds.specs.declared.progress.Progress.{Progress}
 
 abbrev pub connection : (device : Option (List ℕ)) → (at : ℕ) → Result Answer Refusal → Answered
 connection device at result = record { at = at; event = event.Connected device; result = result }
-
--- a count, which stays at 2^64 - 1
-abbrev pub counted : ℕ → ℕ
-counted n = min n (2 ^ 64 - 1)
 
 -- the office stands after the answer to an event, and tells of it
 pub record IsTaken {B : Type 0} (ledger : B → Ledger) (past : History) (at : ℕ) (e : Event)
@@ -51,8 +48,8 @@ pub record IsUnprinted {B : Type 0} (ledger : B → Ledger) (past : History) (at
   pub printed : IsPrinted {X = Unit {0}} (Err Output) (told_text past at e (Ok given)) begun.printed
       now.printed
 
-abbrev pub Feeds : {B : Type 0} → (B → Ledger) → History → (at : ℕ) → Event → (begun now : RoundState)
-    → Office B
+abbrev pub Feeds : {B : Type 0} → (B → Ledger) → History → (at : ℕ) → Event
+    → (begun now : RoundState) → Office B
     → Result Answer RoundFault → Type 0
 Feeds ledger past at e begun now office (Ok given) =
     IsTaken ledger past at e (Ok given) begun now office
@@ -125,55 +122,37 @@ latest_after Link at latest = latest
 latest_after Output at latest = at
 latest_after TurnsUsed at latest = latest
 
--- what a round has counted
-pub record Counts (device : Option (List ℕ)) (past : History) (fed : List Answered)
-    (round : Progress) : Type 0 where
-  pub device_is : round.device ≡ device
-  pub latest : round.latest ≡ latest_of (history_behind past fed)
-  pub first : round.first ≡ first_poll fed
-  pub started : round.started ≡ counted (reads_started fed)
-  pub planned : round.planned ≡ reads_planned fed
-  pub ended : round.ended ≡ counted (polls_ended past fed)
-
 -- before anything was fed
 abbrev pub unfed : (device : Option (List ℕ)) → Progress
-unfed device = record {
-  device = device;
-  latest = 0;
-  first = None;
-  started = 0;
-  planned = 0;
-  ended = 0;
-}
+unfed device = record { round = joined (unconnected device); latest = 0 }
 
--- nothing was counted yet
-pub record IsNew (round : Progress) : Type 0 where
-  pub first : round.first ≡ None
-  pub started : round.started ≡ 0
-  pub planned : round.planned ≡ 0
-  pub ended : round.ended ≡ 0
+-- nothing was fed yet
+abbrev pub IsNew : Progress → Type 0
+IsNew progress = progress.round ≡ joined (unconnected progress.round.device)
 
 -- All that was next was fed so far, and printed.
 pub record Going {B : Type 0} (ledger : B → Ledger) (device : Option (List ℕ)) (past : History)
     (begun now : RoundState)
-    (office : Office B) (fed : List Answered) (round : Progress) : Type 0 where
+    (office : Office B) (fed : List Answered) (progress : Progress) : Type 0 where
   pub leaves : IsFed ledger past begun now office fed
   pub next : AreNext device past fed
   pub timed : AreTimed begun.moments now.moments fed
   pub printed : Appends begun.printed now.printed (text_after past fed)
-  pub counts : Counts device past fed round
+  pub holds : Holds device past fed progress.round
+  pub latest : progress.latest ≡ latest_of (history_behind past fed)
 
 -- It was broken off.
 pub record Broken {B : Type 0} (ledger : B → Ledger) (device : Option (List ℕ)) (past : History)
     (begun now : RoundState)
-    (office : Office B) (fed : List Answered) (round : Progress) (cause : RoundFault) : Type 0 where
-  pub leaves : IsFed ledger past begun now office fed
-  pub course : BreaksOff device past cause fed
-  pub timed : AreTimed begun.moments now.moments fed
-  pub printed : IsPrinted {X = Unit {0}} (Err cause) (text_after past fed) begun.printed
-      now.printed
-  pub device_is : round.device ≡ device
-  pub latest : round.latest ≡ latest_of (history_behind past fed)
+    (office : Office B) (fed : List Answered) (progress : Progress) (cause : RoundFault) : Type 0
+  where
+    pub leaves : IsFed ledger past begun now office fed
+    pub course : BreaksOff device past cause fed
+    pub timed : AreTimed begun.moments now.moments fed
+    pub printed : IsPrinted {X = Unit {0}} (Err cause) (text_after past fed) begun.printed
+        now.printed
+    pub device_is : progress.round.device ≡ device
+    pub latest : progress.latest ≡ latest_of (history_behind past fed)
 
 -- what was taken from the link is what was fed, and what was given to it is what the office wanted sent
 pub record IsWired {X : Type 0} (past : History) (from to : Wire) (fed : List Answered)
@@ -182,14 +161,12 @@ pub record IsWired {X : Type 0} (past : History) (from to : Wire) (fed : List An
   pub given : AreGiven result (frames_after past fed) from.given to.given
 
 -- One more event was fed, which was next.
-pub record RoundGoesOn {B : Type 0} (ledger : B → Ledger) (device : Option (List ℕ)) (past : History)
-    (begun now : RoundState)
-    (office : Office B) (fed : List Answered) (one : Answered) (round : Progress) (endings : ℕ) :
-    Type 0 where
-  pub going : Going ledger device past begun now office (one ∷ fed) round
+pub record RoundGoesOn {B : Type 0} (ledger : B → Ledger) (device : Option (List ℕ))
+    (past : History) (begun now : RoundState)
+    (office : Office B) (fed : List Answered) (one : Answered) (progress : Progress) : Type 0 where
+  pub going : Going ledger device past begun now office (one ∷ fed) progress
   pub told : outgoing_in office
       ≡ outgoing_after (history_behind past fed) one.at one.event one.result
-  pub ended : endings ≡ endings_of past fed one
 
 -- of an event that was refused no frames are sent; of one that was not printed they are not sent either
 abbrev pub IsUnsent : RoundFault → Result Answer Refusal → Type 0
@@ -200,21 +177,22 @@ IsUnsent TurnsUsed result = ⊥
 
 abbrev pub Told : {B : Type 0} → (B → Ledger) → (device : Option (List ℕ)) → History
     → (begun now : RoundState) → Office B
-    → List Answered → Answered → Progress → Result ℕ RoundFault → Type 0
-Told ledger device past begun now office fed one round (Ok endings) =
-    RoundGoesOn ledger device past begun now office fed one round endings
-Told ledger device past begun now office fed one round (Err cause) =
-    Broken ledger device past begun now office (one ∷ fed) round cause × IsUnsent cause one.result
+    → List Answered → Answered → Progress → Result (Unit {0}) RoundFault → Type 0
+Told ledger device past begun now office fed one progress (Ok done) =
+    RoundGoesOn ledger device past begun now office fed one progress
+Told ledger device past begun now office fed one progress (Err cause) =
+    Broken ledger device past begun now office (one ∷ fed) progress cause
+    × IsUnsent cause one.result
 
 -- What a step of a round does that was going: it goes on, or is broken off.
 abbrev pub Steps : {B X : Type 0} → (B → Ledger) → (device : Option (List ℕ)) → History
     → (begun now : RoundState) → (from to : Wire)
     → Office B → List Answered → Progress → Result X RoundFault → (X → Next) → Type 0
-Steps ledger device past begun now from to office fed round (Ok x) next =
-    Going ledger device past begun now office fed round
+Steps ledger device past begun now from to office fed progress (Ok x) next =
+    Going ledger device past begun now office fed progress
     × IsWired {X = Unit {0}} past from to fed (Ok tt) × (next_in past fed ≡ next x)
-Steps ledger device past begun now from to office fed round (Err cause) next =
-    Broken ledger device past begun now office fed round cause
+Steps ledger device past begun now from to office fed progress (Err cause) next =
+    Broken ledger device past begun now office fed progress cause
     × IsWired {X = Unit {0}} past from to fed (Err cause)
 
 -- where a step of a round finds it and leaves it
@@ -222,53 +200,43 @@ pub record Scene (B : Type 0) : Type 0 where
   pub office : Office B
   pub round_state : RoundState
   pub wire : Wire
-  pub round : Progress
+  pub progress : Progress
 
 abbrev pub scene : {B : Type 0} → Office B → RoundState → Wire → Progress → Scene B
-scene office round_state wire round = record { office = office; round_state = round_state; wire = wire; round = round }
+scene office round_state wire progress =
+    record { office = office; round_state = round_state; wire = wire; progress = progress }
 
 -- A step does so of every round that has come so far and is to do this next, if no wrong answer of a store was taken as
 -- true until now.
-abbrev pub StepsFrom : {B X : Type 0} → (B → Ledger) → (old new : Scene B)
-    → (now : Progress → List Answered → History → Next)
+abbrev pub StepsFrom : {B X : Type 0} → (B → Ledger) → (old new : Scene B) → (now : Next)
     → Result X RoundFault → (X → Next) → Type 0
 StepsFrom ledger old new now result next =
-    (device : Option (List ℕ)) (past : History) (begun : RoundState) (from : Wire) (fed : List Answered)
-    → Going ledger device past begun old.round_state old.office fed old.round
+    (device : Option (List ℕ)) (past : History) (begun : RoundState) (from : Wire)
+    (fed : List Answered)
+    → Going ledger device past begun old.round_state old.office fed old.progress
     → IsWired {X = Unit {0}} past from old.wire fed (Ok tt)
-    → next_in past fed ≡ now old.round fed past → (ledger (books_in new.office)).is_clean
+    → next_in past fed ≡ now → (ledger (books_in new.office)).is_clean
     → (later : List Answered)
-    × Steps ledger device past begun new.round_state from new.wire new.office later new.round result next
-
--- what is next where the reads that are left are started
-abbrev pub next_left_in : Progress → List Answered → History → Next
-next_left_in round fed past =
-    next_left (reads_started fed) (polls_ended past fed) (reads_planned fed)
-
--- what is next after an event that was taken, with which so many polls have ended
-abbrev pub next_after_taken : (is_end : Bool) → (endings : ℕ) → Progress → List Answered → History
-    → Next
-next_after_taken is_end endings round fed past =
-    next_by is_end endings (next_left_in round fed past)
+    × Steps ledger device past begun new.round_state from new.wire new.office later new.progress
+    result next
 
 -- what the connection of a device does
 abbrev pub Connects : {B : Type 0} → (B → Ledger) → (device : Option (List ℕ)) → History
     → (begun now : RoundState) → Office B → Progress
     → Result (Unit {0}) RoundFault → Type 0
-Connects ledger device past begun now office round (Ok x) =
+Connects ledger device past begun now office progress (Ok x) =
     (at : ℕ) × ((given : Answer)
-    × Going ledger device past begun now office (connection device at (Ok given) ∷ []) round
-    × (round.started ≡ 0))
-Connects ledger device past begun now office round (Err (Refused why)) =
+    × Going ledger device past begun now office (connection device at (Ok given) ∷ []) progress)
+Connects ledger device past begun now office progress (Err (Refused why)) =
     (at : ℕ) × IsFed ledger past begun now office (connection device at (Err why) ∷ [])
     × TellsMoment begun.moments now.moments at
     × Appends begun.printed now.printed []
-Connects ledger device past begun now office round (Err Output) =
+Connects ledger device past begun now office progress (Err Output) =
     (at : ℕ) × ((given : Answer)
-    × Broken ledger device past begun now office (connection device at (Ok given) ∷ []) round
+    × Broken ledger device past begun now office (connection device at (Ok given) ∷ []) progress
     Output)
-Connects ledger device past begun now office round (Err Link) = ⊥
-Connects ledger device past begun now office round (Err TurnsUsed) = ⊥
+Connects ledger device past begun now office progress (Err Link) = ⊥
+Connects ledger device past begun now office progress (Err TurnsUsed) = ⊥
 
 -- A round that was broken off is closed: the last thing that was fed is that the device is gone.
 pub record Closes {B : Type 0} (ledger : B → Ledger) (device : Option (List ℕ)) (past : History)

@@ -1,5 +1,5 @@
 -- What a turn of a round brings from the link, and what its takes count.
-use Rattle.std.specs.Prelude.{◌≡◌, ◌⊎◌, ◌==◌, if◌then◌else◌, ℕ, Bool, true, false, List, [], length, Option, Some, Result, Ok, Err}
+use Rattle.std.specs.Prelude.{◌≡◌, ◌⊎◌, ℕ, Bool, true, false, List, [], length, Option, Some, Result, Ok, Err}
 use Rattle.mb_wire.specs.Links.{risen}
 use Rattle.mb_wire.specs.declared.link.LastTake.{LastTake}
 use Rattle.mb_wire.specs.declared.link.LinkFailed.{LinkFailed}
@@ -18,11 +18,6 @@ use Rattle.office_rounds.specs.declared.fault.RoundFault.TheVariants.{Refused, L
 abbrev pub over_or_take : Bool → Next
 over_or_take true = Over
 over_or_take false = Take
-
--- what is next after an event that was taken: nothing after the end, a take where no poll has ended, else this
-abbrev pub next_by : (is_end : Bool) → (endings : ℕ) → Next → Next
-next_by true endings next = Over
-next_by false endings next = if endings == 0 then Take else next
 
 -- what the answer of a take is to the office: a piece of the device, that it is gone at the end, a tick where nothing came
 abbrev pub IsEventOf : (device : Option (List ℕ)) → Result Took LinkFailed → Event → Type 0
@@ -52,15 +47,6 @@ Brings device (Err TurnsUsed) before after last = ⊥
 abbrev pub brought : Result Event RoundFault → List ℕ
 brought (Ok e) = piece_in e
 brought (Err fault) = []
-
--- the link has come to its end
-abbrev pub is_end : Event → Bool
-is_end (event.Connected given) = false
-is_end (event.Bytes given piece) = false
-is_end event.Tick = false
-is_end (event.Gone given cause) = true
-is_end (event.Command c) = false
-is_end (event.Asked asked) = false
 
 -- how a turn counts the takes
 abbrev pub TurnTakes : {X : Type 0} → Result X RoundFault → (before after : ℕ) → Type 0

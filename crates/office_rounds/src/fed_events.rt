@@ -1,13 +1,14 @@
 //! Events that are fed to the office, and what it tells of them.
 ghost use Rattle.std.specs.Prelude.{◌≡◌};
 ghost use Rattle.office_core.specs.Standing.{is_stopped};
-ghost use Rattle.office_rounds.specs.Between.{FeedsAndPrints, PrintsTold, TellsNext};
+ghost use Rattle.office_rounds.specs.Between.{FeedsAndPrints, PrintsTold, TellsFirst, TellsNext};
 ghost use Rattle.office_rounds.specs.Faults.{OfOffice};
 ghost use Rattle.office_rounds.specs.Passing.{Lasts};
 ghost use Rattle.office_rounds.specs.Stepping as stepping;
 ghost use Rattle.office_rounds.specs.Stepping.{FeedStops};
 
 use crate::fault::RoundFault;
+use crate::laws::rounds_hold;
 use crate::progress::Progress;
 use office_books::Books;
 use office_core::Office;
@@ -62,24 +63,30 @@ pub(crate) fn latest_after(fault: RoundFault, at: u64, latest: u64) -> u64
     }
 }
 
-/// Feeds the next event of a round at the moment that the clock tells, and says how many of its polls have ended with it.
+/// Feeds the next event of a round at the moment that the clock tells.
 pub(crate) fn tell<B: Books, C: Clock, W: Write>(
-    round: &mut Progress,
+    progress: &mut Progress,
     event: &Event,
     office: &mut Office<B>,
     clock: &mut C,
     output: &mut W,
-) -> Result<u64, RoundFault>
-    ensures tells { TellsNext B.Books C.Clock W.Write event.now round.old round.new
+) -> Result<(), RoundFault>
+    ensures tells { TellsNext B.Books C.Clock W.Write event.now progress.old progress.new
+        office.old office.new clock.old clock.new output.old output.new result }
+    ensures connects { TellsFirst B.Books C.Clock W.Write event.now progress.old progress.new
         office.old office.new clock.old clock.new output.old output.new result }
     ensures kind { OfOffice result }
     ensures lasts { Lasts B.ledger office.old office.new }
 {
+    rounds_hold();
     let at = clock.now();
     match feed(office, at, event, output) {
-        Ok(answer) => Ok(round.note(at, &answer, office.notes())),
+        Ok(answer) => {
+            progress.note(at, event, answer, office.notes());
+            Ok(())
+        }
         Err(fault) => {
-            round.latest = latest_after(fault, at, round.latest);
+            progress.latest = latest_after(fault, at, progress.latest);
             Err(fault)
         }
     }

@@ -13,12 +13,5 @@ pub(crate) fn give_all<L: Link>(link: &mut L, bytes: &[u8]) -> Result<(), LinkFa
     ensures failures { L.failed link.new ≡ risen (is_err result) (L.failed link.old) }
     ensures takes { L.taken link.new ≡ L.taken link.old }
 {
-    if bytes.is_empty() {
-        return Ok(());
-    }
-    let count = link.give(bytes)?;
-    if count == 0 {
-        return Err(LinkFailed);
-    }
-    give_all(link, &bytes[count..])
+    mb_wire::give_all(link, bytes)
 }

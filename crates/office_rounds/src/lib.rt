@@ -6,6 +6,7 @@ mod driver;
 mod fault;
 mod fed_events;
 mod gives;
+mod laws;
 mod progress;
 mod round;
 mod round_end;

@@ -1,115 +1,65 @@
-//! How far a round has come.
-ghost use Rattle.std.specs.Prelude.{◌≡◌, ◌+◌, Some};
-ghost use Rattle.std.specs.List.{count_by};
-ghost use Rattle.office_rounds.specs.Course as course;
-ghost use Rattle.office_rounds.specs.Stepping.{counted, unfed};
+//! How far a round over a link has come.
+ghost use Rattle.std.specs.Prelude.{◌≡◌};
+ghost use Rattle.office_rounds.specs.Polling as polling;
+ghost use Rattle.office_rounds.specs.Polling.{ended_by, round_after};
+ghost use Rattle.office_rounds.specs.Stepping.{unfed};
 
-use office_events::{Answer, Name, Note};
+use crate::device_rounds::{Round, Stage};
+use office_events::{Answer, Event, Name, Note};
 
-/// How far a round of a device has come, by what the office told.
-#[derive(Clone, Copy, Debug, PartialEq, Eq)]
+/// The round of a device over a link.
+#[derive(Drop)]
 pub(crate) struct Progress {
-    pub(crate) device: Option<Name>,
+    pub(crate) round: Round,
     /// The moment of the latest event that was accepted.
     pub(crate) latest: u64,
-    /// The number of the round's first poll, once a read was started.
-    pub(crate) first: Option<u64>,
-    /// How many reads were started.
-    pub(crate) started: u64,
-    /// How many reads the plan has.
-    pub(crate) planned: u64,
-    /// How many of the polls have ended.
-    pub(crate) ended: u64,
 }
 
-// Whether a note tells how a poll ended that is one from the first on.
-fn is_ending(first: Option<u64>, note: &Note) -> bool
-    ensures { result ≡ course.is_ending first note.now }
+// The connection ends with an event, if it is one of its end.
+fn end_by(round: &mut Round, event: &Event)
+    ensures { round.new ≡ ended_by event.now round.old }
 {
-    match (first, note) {
-        (Some(first), Note::Outcome { poll, .. }) => first <= *poll,
-        (None, Note::Outcome { .. }) => false,
-        (_, Note::Reading { .. }) => false,
-        (_, Note::Held { .. }) => false,
-    }
-}
-
-// How many polls ended, of those from the first on.
-fn endings(first: Option<u64>, notes: &[Note]) -> u64
-    ensures { result ≡ count_by (course.is_ending first) notes.now }
-{
-    notes.iter().filter(|note| is_ending(first, note)).count() as u64
-}
-
-// The first poll of a round, by an answer, where there was none before.
-fn first_by(first: Option<u64>, answer: &Answer) -> Option<u64>
-    ensures { result ≡ course.first_by first answer.now }
-{
-    match (first, answer) {
-        (Some(first), _) => Some(first),
-        (None, Answer::Noted) => None,
-        (None, Answer::Done(_)) => None,
-        (None, Answer::Again(_)) => None,
-        (None, Answer::Started { first, .. }) => Some(*first),
-    }
-}
-
-// How many reads an answer has started.
-fn started_by(answer: &Answer) -> u64
-    ensures { result ≡ course.started_by answer.now }
-{
-    match answer {
-        Answer::Noted => 0,
-        Answer::Done(_) => 0,
-        Answer::Again(_) => 0,
-        Answer::Started { count, .. } => *count,
-    }
-}
-
-// How many reads the plan has, by an answer that tells it.
-fn planned_by(planned: u64, answer: &Answer) -> u64
-    ensures { result ≡ course.planned_by planned answer.now }
-{
-    match answer {
-        Answer::Noted => planned,
-        Answer::Done(_) => planned,
-        Answer::Again(_) => planned,
-        Answer::Started { of, .. } => *of,
+    match event {
+        Event::Connected(_) => {}
+        Event::Bytes(_, _) => {}
+        Event::Tick => {}
+        Event::Gone(_, closing) => round.leave(*closing),
+        Event::Command(_) => {}
+        Event::Asked(_) => {}
     }
 }
 
 impl Progress {
-    /// Nothing was fed.
+    /// The connection stands, and nothing was fed.
     pub(crate) fn new(device: Option<Name>) -> Progress
         ensures { result ≡ unfed device }
     {
-        Progress {
-            device,
-            latest: 0,
-            first: None,
-            started: 0,
-            planned: 0,
-            ended: 0,
-        }
+        let mut round = Round::new(device);
+        round.join();
+        Progress { round, latest: 0 }
     }
 
-    /// Takes note of an accepted event, and says how many of the polls have ended with it.
-    pub(crate) fn note(&mut self, at: u64, answer: &Answer, notes: &[Note]) -> u64
-        ensures device { self.new.device ≡ self.old.device }
+    /// Takes note of an accepted event, and of what the office told of it.
+    pub(crate) fn note(&mut self, at: u64, event: &Event, answer: Answer, notes: &[Note])
+        ensures round { self.new.round ≡ round_after event.now answer notes.now self.old.round }
         ensures latest { self.new.latest ≡ at }
-        ensures first { self.new.first ≡ course.first_by self.old.first answer.now }
-        ensures started { self.new.started
-            ≡ counted (self.old.started + course.started_by answer.now) }
-        ensures planned { self.new.planned ≡ course.planned_by self.old.planned answer.now }
-        ensures endings { result ≡ count_by (course.is_ending self.old.first) notes.now }
-        ensures ended { self.new.ended ≡ counted (self.old.ended + result) }
     {
-        let ended = endings(self.first, notes);
+        end_by(&mut self.round, event);
+        self.round.answer(Ok(answer));
+        self.round.apply_notes(notes);
         self.latest = at;
-        self.first = first_by(self.first, answer);
-        self.started = self.started.saturating_add(started_by(answer));
-        self.planned = planned_by(self.planned, answer);
-        self.ended = self.ended.saturating_add(ended);
-        ended
+    }
+
+    /// Whether the round is over.
+    pub(crate) fn is_over(&self) -> bool
+        ensures { result ≡ polling.is_over self.now.round.stage }
+    {
+        match self.round.stage {
+            Stage::Off => true,
+            Stage::Joining => false,
+            Stage::Starting => false,
+            Stage::Waiting => false,
+            Stage::Leaving(_) => false,
+        }
     }
 }

@@ -8,14 +8,14 @@ ghost use Rattle.office_rounds.specs.Rounds.{IsToldOf};
 ghost use Rattle.office_rounds.specs.Stepping.{IsNew};
 
 use crate::fault::RoundFault;
-use crate::fed_events::{feed, latest_after};
+use crate::fed_events::tell;
 use crate::progress::Progress;
 use crate::round_end::close;
-use crate::steps::{start, turn};
+use crate::steps::{go_on, turn};
 use mb_wire::Link;
 use office_books::Books;
 use office_core::Office;
-use office_events::{Event, Name};
+use office_events::Name;
 use socket_link::Clock;
 use std::alloc::Global;
 use std::io::Write;
@@ -25,41 +25,34 @@ pub const MOST_TAKES: u32 = 100_000;
 
 // Tells the office that the device is connected.
 fn connect<B: Books, C: Clock, W: Write>(
-    round: &mut Progress,
+    progress: &mut Progress,
     office: &mut Office<B>,
     clock: &mut C,
     output: &mut W,
 ) -> Result<(), RoundFault>
-    requires { IsNew round.old }
-    ensures connects { TellsConnection B.Books C.Clock W.Write round.old round.new
+    requires { IsNew progress.old }
+    ensures connects { TellsConnection B.Books C.Clock W.Write progress.old progress.new
         office.old office.new clock.old clock.new output.old output.new result }
     ensures kind { OfOffice result }
     ensures lasts { Lasts B.ledger office.old office.new }
 {
-    let at = clock.now();
-    match feed(office, at, &Event::Connected(round.device), output) {
-        Ok(_) => {
-            round.latest = at;
-            Ok(())
-        }
-        Err(fault) => {
-            round.latest = latest_after(fault, at, round.latest);
-            Err(fault)
-        }
+    match progress.round.event_wanted() {
+        Some(connected) => tell(progress, &connected, office, clock, output),
+        None => Ok(()),
     }
 }
 
 // Takes turns, until the round is over.
 fn take_turns<L: Link, B: Books, C: Clock, W: Write>(
     alloc: Global,
-    round: &mut Progress,
+    progress: &mut Progress,
     link: &mut L,
     office: &mut Office<B>,
     clock: &mut C,
     output: &mut W,
 ) -> Result<(), RoundFault>
-    ensures steps { TakesTurns L.Link B.Books C.Clock W.Write round.old round.new link.old link.new
-        office.old office.new clock.old clock.new output.old output.new result }
+    ensures steps { TakesTurns L.Link B.Books C.Clock W.Write progress.old progress.new
+        link.old link.new office.old office.new clock.old clock.new output.old output.new result }
     ensures failures { L.failed link.new ≡ risen (is_link_fault result) (L.failed link.old) }
     ensures takes { AreAtMost 100000 (L.taken link.old) (L.taken link.new) }
     ensures used { result ≡ Err RoundFault.TurnsUsed
@@ -67,7 +60,7 @@ fn take_turns<L: Link, B: Books, C: Clock, W: Write>(
     ensures lasts { Lasts B.ledger office.old office.new }
 {
     for _turn in 0..MOST_TAKES {
-        let is_over = turn(alloc, round, link, office, clock, output)?;
+        let is_over = turn(alloc, progress, link, office, clock, output)?;
         if is_over {
             return Ok(());
         }
@@ -78,22 +71,22 @@ fn take_turns<L: Link, B: Books, C: Clock, W: Write>(
 // Polls a device that is connected, until the round is over.
 fn poll_connected<L: Link, B: Books, C: Clock, W: Write>(
     alloc: Global,
-    round: &mut Progress,
+    progress: &mut Progress,
     link: &mut L,
     office: &mut Office<B>,
     clock: &mut C,
     output: &mut W,
 ) -> Result<(), RoundFault>
-    ensures steps { PollsOut L.Link B.Books C.Clock W.Write round.old round.new link.old link.new
-        office.old office.new clock.old clock.new output.old output.new result }
+    ensures steps { PollsOut L.Link B.Books C.Clock W.Write progress.old progress.new
+        link.old link.new office.old office.new clock.old clock.new output.old output.new result }
     ensures failures { L.failed link.new ≡ risen (is_link_fault result) (L.failed link.old) }
     ensures takes { AreAtMost 100000 (L.taken link.old) (L.taken link.new) }
     ensures used { result ≡ Err RoundFault.TurnsUsed
         → AreTakes 100000 (L.taken link.old) (L.taken link.new) }
     ensures lasts { Lasts B.ledger office.old office.new }
 {
-    match start(round, link, office, clock, output) {
-        Ok(()) => take_turns(alloc, round, link, office, clock, output),
+    match go_on(progress, link, office, clock, output) {
+        Ok(()) => take_turns(alloc, progress, link, office, clock, output),
         Err(fault) => Err(fault),
     }
 }
@@ -101,13 +94,13 @@ fn poll_connected<L: Link, B: Books, C: Clock, W: Write>(
 // Polls a device that is connected, and tells that it is gone where the round is broken off.
 fn poll_to_end<L: Link, B: Books, C: Clock, W: Write>(
     alloc: Global,
-    round: &mut Progress,
+    progress: &mut Progress,
     link: &mut L,
     office: &mut Office<B>,
     clock: &mut C,
     output: &mut W,
 ) -> Result<(), RoundFault>
-    ensures polls { PollsToEnd L.Link B.Books C.Clock W.Write round.old link.old link.new
+    ensures polls { PollsToEnd L.Link B.Books C.Clock W.Write progress.old link.old link.new
         office.old office.new clock.old clock.new output.old output.new result }
     ensures turns { AreAtMost 100000 (L.taken link.old) (L.taken link.new) }
     ensures used { result ≡ Err RoundFault.TurnsUsed
@@ -115,30 +108,30 @@ fn poll_to_end<L: Link, B: Books, C: Clock, W: Write>(
     ensures failures { CountsFailures result (L.failed link.old) (L.failed link.new) }
     ensures lasts { Lasts B.ledger office.old office.new }
 {
-    match poll_connected(alloc, round, link, office, clock, output) {
+    match poll_connected(alloc, progress, link, office, clock, output) {
         Ok(()) => Ok(()),
-        Err(fault) => Err(close(round, fault, office, clock, output)),
+        Err(fault) => Err(close(progress, fault, office, clock, output)),
     }
 }
 
 // Tells that a device is gone, unless its connection was refused.
 fn end_unconnected<B: Books, C: Clock, W: Write>(
-    round: &Progress,
+    progress: &Progress,
     fault: RoundFault,
     office: &mut Office<B>,
     clock: &mut C,
     output: &mut W,
 ) -> RoundFault
-    ensures ends { EndsUnconnected B.Books C.Clock W.Write round.now fault
+    ensures ends { EndsUnconnected B.Books C.Clock W.Write progress.now fault
         office.old office.new clock.old clock.new output.old output.new result }
     ensures told { IsToldOf fault result }
     ensures lasts { Lasts B.ledger office.old office.new }
 {
     match fault {
         RoundFault::Refused(_) => fault,
-        RoundFault::Link => close(round, fault, office, clock, output),
-        RoundFault::Output => close(round, fault, office, clock, output),
-        RoundFault::TurnsUsed => close(round, fault, office, clock, output),
+        RoundFault::Link => close(progress, fault, office, clock, output),
+        RoundFault::Output => close(progress, fault, office, clock, output),
+        RoundFault::TurnsUsed => close(progress, fault, office, clock, output),
     }
 }
 
@@ -170,9 +163,9 @@ pub fn round_over<L: Link, B: Books, C: Clock, W: Write>(
     ensures failures { CountsFailures result (L.failed link.old) (L.failed link.new) }
     ensures lasts { Lasts B.ledger office.old office.new }
 {
-    let mut round = Progress::new(device);
-    match connect(&mut round, office, clock, output) {
-        Ok(()) => poll_to_end(alloc, &mut round, link, office, clock, output),
-        Err(fault) => Err(end_unconnected(&round, fault, office, clock, output)),
+    let mut progress = Progress::new(device);
+    match connect(&mut progress, office, clock, output) {
+        Ok(()) => poll_to_end(alloc, &mut progress, link, office, clock, output),
+        Err(fault) => Err(end_unconnected(&progress, fault, office, clock, output)),
     }
 }

@@ -82,20 +82,20 @@ fn end_unprinted<B: Books>(at: u64, gone: &Event, office: &mut Office<B>)
 /// Feeds that the device is gone, as by a failed read or write, and prints what is told of it, unless a writing was what
 /// failed. It answers the fault, or that a writing has failed now.
 pub(crate) fn close<B: Books, C: Clock, W: Write>(
-    round: &Progress,
+    progress: &Progress,
     cause: RoundFault,
     office: &mut Office<B>,
     clock: &mut C,
     output: &mut W,
 ) -> RoundFault
-    ensures closes { ClosesBroken B.Books C.Clock W.Write round.now cause
+    ensures closes { ClosesBroken B.Books C.Clock W.Write progress.now cause
         office.old office.new clock.old clock.new output.old output.new result }
     ensures told { IsToldOf cause result }
     ensures lasts { Lasts B.ledger office.old office.new }
 {
     let moment = clock.now();
-    let at = gone_at(round.latest, moment);
-    let gone = Event::Gone(round.device, Closing::Failed);
+    let at = gone_at(progress.latest, moment);
+    let gone = Event::Gone(progress.round.device, Closing::Failed);
     if is_output(cause) {
         end_unprinted(at, &gone, office);
         return RoundFault::Output;

@@ -15,7 +15,7 @@ use Rattle.office_events.specs.declared.questions.EntryPlace.{EntryPlace}
 use Rattle.office_rules.specs.Facts.{opening_of, installed_at}
 use Rattle.office_rules.specs.Lawful.{OpeningFits, AreLawful}
 use Rattle.office_rules.specs.Meters.{installed, journal_of, rows_of, installation_of, meter_of, installation_at, if_open, open_at, place_in, entry_at}
-use Rattle.office_rules.specs.Ranges.{IsInRange, InstallationsAreInRange}
+use Rattle.office_rules.specs.Ranges.{IsSound, InstallationsAreInRange}
 use Rattle.office_rules.proofs.Journals.{IsInstalled, by_opening, installed_fits, well, found}
 use Rattle.office_rules.proofs.Openings.{found_installed}
 use Rattle.office_rules.proofs.Stepping.{installed_so}
@@ -40,14 +40,14 @@ terms (fact.Poll p ∷ facts) o h there = terms facts o h.1 there
 terms (fact.Outcome e ∷ facts) o h there = terms facts o h.1 there
 terms (fact.Reply r ∷ facts) o h there = terms facts o h.1 there
 
-in_range : JournalsAreKept → (facts : List Fact) (o : Opening) → AreLawful facts → IsInstalled facts o → IsInRange (installation_of facts o)
+in_range : JournalsAreKept → (facts : List Fact) (o : Opening) → AreLawful facts → IsInstalled facts o → IsSound (installation_of facts o)
 in_range law facts o h there =
     let own = terms facts o h there in
     let kept = law (installed o) (journal_of facts o.meter) (well facts o h there) (installed_fits facts o h there) in
     record { range = own.range; ceiling = own.ceiling; raw = kept.sound.raw; scale = kept.sound.scale; total = kept.account.within }
 
 place_in_range : PlacesWereKept → (facts : List Fact) (o : Opening) (place : ℕ) (a : journal.Around) → AreLawful facts → IsInstalled facts o
-    → journal.row_at place (rows_of facts o) ≡ Some a → IsInRange (place_in facts o a).before
+    → journal.row_at place (rows_of facts o) ≡ Some a → IsSound (place_in facts o a).before
 place_in_range law facts o place a h there found =
     let own = terms facts o h there in
     let kept = law (installed o) (journal_of facts o.meter) place a (well facts o h there) (installed_fits facts o h there) found in
@@ -58,15 +58,15 @@ bound_some : {X Y : Type 0} (f : X → Option Y) (o : Option X) (y : Y) → opti
 bound_some f None y h = absurd (cc)
 bound_some f (Some x) y h = (x, refl, h)
 
-named_in_range : JournalsAreKept → (facts : List Fact) (m : List ℕ) (row : Installation) → AreLawful facts → meter_of facts m ≡ Some row → IsInRange row
+named_in_range : JournalsAreKept → (facts : List Fact) (m : List ℕ) (row : Installation) → AreLawful facts → meter_of facts m ≡ Some row → IsSound row
 named_in_range law facts m row h there =
     let o = mapped_some (installation_of facts) (opening_of facts m) row there in
-    subst IsInRange o.2 (in_range law facts o.0 h (installed_so facts m o.0 o.1))
+    subst IsSound o.2 (in_range law facts o.0 h (installed_so facts m o.0 o.1))
 
-installed_in_range : JournalsAreKept → (facts : List Fact) (r : List ℕ) (row : Installation) → AreLawful facts → installation_at facts r ≡ Some row → IsInRange row
+installed_in_range : JournalsAreKept → (facts : List Fact) (r : List ℕ) (row : Installation) → AreLawful facts → installation_at facts r ≡ Some row → IsSound row
 installed_in_range law facts r row h there =
     let o = mapped_some (installation_of facts) (installed_at facts r) row there in
-    subst IsInRange o.2 (in_range law facts o.0 h (found_installed facts r o.0 h o.1))
+    subst IsSound o.2 (in_range law facts o.0 h (found_installed facts r o.0 h o.1))
 
 open_is : (row other : Installation) → if_open other ≡ Some row → other ≡ row
 open_is row other h =
@@ -75,16 +75,16 @@ open_is row other h =
       | inr e ↦ same_Some other row (sym (cond-false _ _ _ e) ∙ h)
     ]
 
-open_in_range : JournalsAreKept → (facts : List Fact) (r : List ℕ) (row : Installation) → AreLawful facts → open_at facts r ≡ Some row → IsInRange row
+open_in_range : JournalsAreKept → (facts : List Fact) (r : List ℕ) (row : Installation) → AreLawful facts → open_at facts r ≡ Some row → IsSound row
 open_in_range law facts r row h there =
     let other = bound_some if_open (installation_at facts r) row there in
-    subst IsInRange (open_is row other.0 other.2) (installed_in_range law facts r other.0 h other.1)
+    subst IsSound (open_is row other.0 other.2) (installed_in_range law facts r other.0 h other.1)
 
-placed_in_range : PlacesWereKept → (facts : List Fact) (m : List ℕ) (place : ℕ) (p : EntryPlace) → AreLawful facts → entry_at facts m place ≡ Some p → IsInRange p.before
+placed_in_range : PlacesWereKept → (facts : List Fact) (m : List ℕ) (place : ℕ) (p : EntryPlace) → AreLawful facts → entry_at facts m place ≡ Some p → IsSound p.before
 placed_in_range law facts m place p h there =
     let o = bound_some (λ (x : Opening). option_map (place_in facts x) (journal.row_at place (rows_of facts x))) (opening_of facts m) p there in
     let a = mapped_some (place_in facts o.0) (journal.row_at place (rows_of facts o.0)) p o.2 in
-    subst (λ (x : EntryPlace). IsInRange x.before) a.2 (place_in_range law facts o.0 place a.0 h (installed_so facts m o.0 o.1) a.1)
+    subst (λ (x : EntryPlace). IsSound x.before) a.2 (place_in_range law facts o.0 place a.0 h (installed_so facts m o.0 o.1) a.1)
 
 pub installations_are_in_range : JournalsAreKept → PlacesWereKept → InstallationsAreInRange
 installations_are_in_range kept places facts h =

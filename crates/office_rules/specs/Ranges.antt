@@ -11,7 +11,7 @@ use Rattle.office_rules.specs.Meters.{installation_of, meter_of, installation_at
 use Rattle.office_rules.specs.Laws.{IsRecorded}
 
 -- The numbers of an installation are in their ranges, so that its next entry can be judged.
-pub record IsInRange (row : Installation) : Type 0 where
+pub record IsSound (row : Installation) : Type 0 where
   pub range : (MIN_RANGE ≤ row.opening.range) × (row.opening.range ≤ MAX_RANGE)
   pub ceiling : (1 ≤ row.opening.ceiling) × (row.opening.ceiling ≤ MAX_CEILING)
   pub raw : row.last.raw < row.opening.range
@@ -21,16 +21,16 @@ pub record IsInRange (row : Installation) : Type 0 where
 -- So are those of each installation that is recorded or looked up, and where one stood before an entry.
 pub record AreInRange (facts : List Fact) : Type 0 where
   pub recorded : (opening : Opening) → IsRecorded facts opening
-      → IsInRange (installation_of facts opening)
+      → IsSound (installation_of facts opening)
   pub by_name : (meter : List ℕ) (row : Installation) → meter_of facts meter ≡ Some row
-      → IsInRange row
+      → IsSound row
   pub at_register : (register : List ℕ) (row : Installation)
-      → installation_at facts register ≡ Some row → IsInRange row
+      → installation_at facts register ≡ Some row → IsSound row
   pub unended : (register : List ℕ) (row : Installation) → open_at facts register ≡ Some row
-      → IsInRange row
+      → IsSound row
   pub placed : (meter : List ℕ) (place : ℕ) (found : EntryPlace)
       → entry_at facts meter place ≡ Some found
-      → IsInRange found.before
+      → IsSound found.before
 
 abbrev pub InstallationsAreInRange : Type 0
 InstallationsAreInRange = (facts : List Fact) → AreLawful facts → AreInRange facts

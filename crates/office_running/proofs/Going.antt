@@ -1,5 +1,7 @@
--- The steps of a run.
-use Rattle.std.proofs.Common.{◌≡◌, ◌⊎◌, inl, inr, ℕ, List, [], ◌∷◌, ◌++◌, Option, refl, sym, ap, ◌∙◌, subst}
+-- The steps of a run, and its turns.
+use Rattle.std.proofs.Common.{◌≡◌, ◌⊎◌, inl, inr, ℕ, true, false, Bool, List, [], ◌∷◌, ◌++◌, Option, Some, None, refl, sym, ap, ◌∙◌, subst, append_assoc}
+use Rattle.std.specs.Prelude.{max, position, slice_get, if◌then◌else◌}
+use Rattle.office_events.specs.declared.events.Event.{Event}
 use Rattle.office_rules.specs.History.{History, Opened}
 use Rattle.office_rules.specs.Refusals.{with_answer}
 use Rattle.office_books.specs.Ledgers.{KeepsFacts, Ledger}
@@ -7,111 +9,237 @@ use Rattle.office_core.specs.Leaving.{BooksStand}
 use Rattle.office_core.specs.EventRun.{Answered}
 use Rattle.office_core.specs.Standing.{After, Stands, books_in}
 use Rattle.office_core.specs.declared.office.Office.{Office}
+use Rattle.office_http.specs.Connections.Connections.{ServesOne}
+use Rattle.office_http.specs.Connections.Named.{MayAsk}
 use Rattle.office_http.specs.Serving as http
-use Rattle.office_http.specs.Serving.{with_asked}
+use Rattle.office_http.proofs.ConnectionsLemmas.Served.{handled}
 use Rattle.office_rounds.specs.Passing as rounds
 use Rattle.office_rounds.specs.FedEvents as telling
-use Rattle.office_http.specs.Connections.Connections as serving
-use Rattle.office_http.specs.Connections.Connections.{Request, ServesUpTo}
-use Rattle.office_http.proofs.ConnectionsLemmas.Served.{handled}
+use Rattle.office_rounds.specs.Driver.Going as driver
+use Rattle.office_rounds.specs.Driver.Going.{Start, TakesTurn as TakesDeviceTurn, scene}
+use Rattle.office_rounds.specs.Driver.Showing.{Shown}
+use Rattle.office_rounds.specs.Driver.Turns as table
+use Rattle.office_rounds.specs.Driver.Turns.{Table, Wished}
+use Rattle.office_rounds.specs.DeviceRounds.Rounds.{is_wishing, wish_at, wish_of}
 use Rattle.office_rounds.specs.declared.device_rounds.round.Round.{Round}
+use Rattle.office_rounds.specs.declared.device_rounds.stage.Stage.{Stage}
+use Rattle.office_rounds.specs.declared.device_rounds.stage.Stage.TheVariants.{Off, Joining, Starting, Waiting, Leaving}
+use Rattle.office_rounds.specs.declared.driver.device_events.DeviceEvent.{DeviceEvent}
+use Rattle.office_rounds.specs.declared.driver.device_events.DeviceEvent.TheVariants.{Connected, Received, Closed, Tick}
+use Rattle.office_program.specs.Texts.OpenedOffice.{Opens}
+use Rattle.office_program.specs.Texts.Passing.{Lasts}
 use Rattle.run_status.specs.RunHttp.Answer as asking
 use Rattle.run_status.specs.declared.run_http.answer.PeerReply.{PeerReply}
 use Rattle.run_status.specs.declared.run_http.answer.PeerReply.TheVariants.{Open, Replied, Failed}
-use Rattle.office_rounds.specs.Driver.Going.{Start, TakesTurn, scene}
-use Rattle.office_rounds.specs.Driver.Showing.{Shown}
-use Rattle.office_program.specs.Texts.OpenedOffice.{Opens}
-use Rattle.office_program.specs.Texts.Passing.{Lasts}
-use Rattle.office_running.specs.Runs.{BooksRun, Goes, Step, Fed, Asks, history_behind, with_step}
+use Rattle.http_request.specs.Hosts.{may_ask_in}
+use Rattle.http_request.specs.declared.status.Status.TheVariants.{Misdirected}
+use Rattle.run_status.specs.RunHttp.StatusRoute.{IsFor, route_in}
+use Rattle.run_status.specs.declared.run_http.route.StatusRoute.{StatusRoute}
+use Rattle.run_status.specs.declared.run_http.route.StatusRoute.TheVariants.{Rejected}
+use Rattle.office_running.specs.Runs.{AreAt, BooksRun, Goes, IsOfRound, RunsOn, Step, Fed, Asks, TakesTurn, TakesTurns, history_behind, latest_of, steps_of, with_step}
+
+-- ---- At one moment
 
 -- nothing came
-pub goes_none : {B : Type 0} (ledger : B → Ledger) (office : Office B) → Goes ledger office office
-goes_none ledger office = record {
-  stands = λ past stands clean. record { steps = []; stands = stands };
+pub goes_none : {B : Type 0} (names : List (List ℕ)) (at : ℕ) (ledger : B → Ledger) (office : Office B) → Goes names at ledger office office
+goes_none names at ledger office = record {
+  stands = λ past stands clean. record { steps = []; each = tt; stands = stands };
   clean = λ clean. clean;
   zone = refl;
 }
 
-after_both : (past : History) (later earlier : List Step)
+after_both : {names : List (List ℕ)} (past : History) (later earlier : List (Step names))
     → history_behind past (later ++ earlier) ≡ history_behind (history_behind past earlier) later
 after_both past [] earlier = refl
 after_both past (one ∷ later) earlier = ap (λ h. with_step h one) (after_both past later earlier)
 
+each_of_both : {names : List (List ℕ)} (at : ℕ) (later earlier : List (Step names)) → AreAt at later → AreAt at earlier → AreAt at (later ++ earlier)
+each_of_both at [] earlier a b = b
+each_of_both at (one ∷ later) earlier a b = (a.0, each_of_both at later earlier a.1 b)
+
 -- What comes comes one after the other.
-pub goes_both : {B : Type 0} (ledger : B → Ledger) (a b c : Office B) → Goes ledger a b → Goes ledger b c → Goes ledger a c
-goes_both ledger a b c first next = record {
+pub goes_both : {B : Type 0} (names : List (List ℕ)) (at : ℕ) (ledger : B → Ledger) (a b c : Office B) → Goes names at ledger a b → Goes names at ledger b c
+    → Goes names at ledger a c
+goes_both names at ledger a b c first next = record {
   stands = λ past stands clean.
       let one = first.stands past stands (next.clean clean) in
-      let then = next.stands (history_behind past one.steps) one.stands clean in
+      let after = next.stands (history_behind past one.steps) one.stands clean in
       record {
-        steps = then.steps ++ one.steps;
+        steps = after.steps ++ one.steps;
+        each = each_of_both at after.steps one.steps after.each one.each;
         stands =
             let P : History → Type 0 = λ h. Stands ledger h c in
-            subst P (sym (after_both past then.steps one.steps)) then.stands;
+            subst P (sym (after_both past after.steps one.steps)) after.stands;
       };
   clean = λ clean. first.clean (next.clean clean);
   zone = next.zone ∙ first.zone;
 }
 
-abbrev of_events : List Answered → List Step
-of_events [] = []
-of_events (one ∷ earlier) = Fed one ∷ of_events earlier
+-- ---- A turn of the devices
 
-after_events : (past : History) (fed : List Answered) → history_behind past (of_events fed) ≡ telling.history_behind past fed
-after_events past [] = refl
-after_events past (one ∷ earlier) = ap (λ h. with_answer h one.at one.event one.result) (after_events past earlier)
+abbrev of_events : (names : List (List ℕ)) → List Answered → List (Step names)
+of_events names [] = []
+of_events names (one ∷ earlier) = Fed one ∷ of_events names earlier
 
--- a turn of the devices
-pub goes_turn : {B V : Type 0} (ledger : B → Ledger) (sees : V → Shown → V → Type 0) (at : ℕ) (old new : Office B) (begun : Start V)
-    (failures : ℕ) (turned : List Round) (observer : V)
-    → After ledger old new (λ past. TakesTurn ledger sees past begun at (scene new failures turned observer))
-    → rounds.Lasts ledger old new → Goes ledger old new
-goes_turn ledger sees at old new begun failures turned observer turns lasts = record {
+after_events : (names : List (List ℕ)) (past : History) (fed : List Answered) → history_behind past (of_events names fed) ≡ telling.history_behind past fed
+after_events names past [] = refl
+after_events names past (one ∷ earlier) = ap (λ h. with_answer h one.at one.event one.result) (after_events names past earlier)
+
+-- what a round wishes is of a round
+abbrev WishesOfRound : Option Event → Type 0
+WishesOfRound None = Unit {0}
+WishesOfRound (Some e) = IsOfRound e
+
+abbrev IsWishedOfRound : Option Wished → Type 0
+IsWishedOfRound None = Unit {0}
+IsWishedOfRound (Some one) = IsOfRound one.event
+
+wish_is : (stage : Stage) (device : Option (List ℕ)) (started : ℕ) → WishesOfRound (wish_at stage device started)
+wish_is Off device started = tt
+wish_is Joining device started = tt
+wish_is Starting device started = tt
+wish_is Waiting device started = tt
+wish_is (Leaving closing) device started = tt
+
+wished_is : (place : ℕ) (wish : Option Event) → WishesOfRound wish → IsWishedOfRound (table.wished_at place wish)
+wished_is place None h = tt
+wished_is place (Some e) h = h
+
+in_is : (place : ℕ) (round : Option Round) → IsWishedOfRound (table.wish_in place round)
+in_is place None = tt
+in_is place (Some round) = wished_is place (wish_of round) (wish_is round.stage round.device round.started)
+
+from_is : (place : Option ℕ) (rounds : List Round) → IsWishedOfRound (table.wish_from place rounds)
+from_is None rounds = tt
+from_is (Some place) rounds = in_is place (slice_get rounds place)
+
+first_is : (rounds : List Round) → IsWishedOfRound (table.first_wish rounds)
+first_is rounds = from_is (position is_wishing rounds) rounds
+
+next_is : (first : Option Wished) (rounds : List Round) → IsWishedOfRound first → IsWishedOfRound (table.next_by first rounds)
+next_is None rounds h = first_is rounds
+next_is (Some one) rounds h = h
+
+behind_is : (past : History) (from : Table) (fed : List Answered) → IsWishedOfRound from.first → IsWishedOfRound (table.table_behind past from fed).first
+behind_is past from [] h = h
+behind_is past from (one ∷ earlier) h = tt
+
+event_is : (next : Option Wished) (e : Event) → IsWishedOfRound next → table.IsNext next e → IsOfRound e
+event_is None e h is = absurd is
+event_is (Some one) e h is = subst IsOfRound (sym is) h
+
+each_fed : (names : List (List ℕ)) (at : ℕ) (past : History) (from : Table) (fed : List Answered) → IsWishedOfRound from.first → table.AreNext past from fed
+    → driver.AreAt at fed → AreAt at (of_events names fed)
+each_fed names at past from [] h next timed = tt
+each_fed names at past from (one ∷ earlier) h next timed =
+    let before = table.table_behind past from earlier in (
+      (timed.1, event_is (table.next_of before) one.event (next_is before.first before.rounds (behind_is past from earlier h)) next.1),
+      each_fed names at past from earlier h next.0 timed.0,
+    )
+
+came_at_is : (stage : Stage) (place : ℕ) (device : Option (List ℕ)) (piece : List ℕ) → IsWishedOfRound (table.came_at stage place device piece)
+came_at_is Off place device piece = tt
+came_at_is Joining place device piece = tt
+came_at_is Starting place device piece = tt
+came_at_is Waiting place device piece = tt
+came_at_is (Leaving closing) place device piece = tt
+
+came_is : (place : ℕ) (round : Option Round) (piece : List ℕ) → IsWishedOfRound (table.came place round piece)
+came_is place None piece = tt
+came_is place (Some round) piece = came_at_is round.stage place round.device piece
+
+pub opened_is : (device_event : DeviceEvent) (rounds : List Round) → IsWishedOfRound (table.opened device_event rounds).first
+opened_is (Connected place) rounds = tt
+opened_is (Received place piece) rounds = came_is place (slice_get rounds place) piece
+opened_is (Closed place closing) rounds = tt
+opened_is Tick rounds = tt
+
+pub goes_turn : {B V : Type 0} (names : List (List ℕ)) (ledger : B → Ledger) (sees : V → Shown → V → Type 0) (at : ℕ) (old new : Office B) (begun : Start V)
+    (failures : ℕ) (turned : List Round) (observer : V) → IsWishedOfRound begun.table.first
+    → After ledger old new (λ past. TakesDeviceTurn ledger sees past begun at (scene new failures turned observer))
+    → rounds.Lasts ledger old new → Goes names at ledger old new
+goes_turn names ledger sees at old new begun failures turned observer opened turns lasts = record {
   stands = λ past stands clean.
       let takes = turns past stands clean in
       record {
-        steps = of_events takes.fed;
+        steps = of_events names takes.fed;
+        each = each_fed names at past begun.table takes.fed opened takes.going.next takes.going.timed;
         stands =
             let P : History → Type 0 = λ h. Stands ledger h new in
-            subst P (sym (after_events past takes.fed)) takes.going.leaves.stands;
+            subst P (sym (after_events names past takes.fed)) takes.going.leaves.stands;
       };
   clean = lasts.clean;
   zone = lasts.zone;
 }
 
-abbrev of_requests : List Request → List Step
-of_requests [] = []
-of_requests (one ∷ earlier) = Asks one ∷ of_requests earlier
+-- ---- A request of a peer
 
-after_requests : (past : History) (asked : List Request)
-    → history_behind past (of_requests asked) ≡ serving.history_behind past asked
-after_requests past [] = refl
-after_requests past (one ∷ earlier) = ap (λ h. with_asked h one.at one.asked) (after_requests past earlier)
+may_of : (may : Bool) (route : Option StatusRoute) → None ≡ (if may then route else Some (Rejected Misdirected)) → may ≡ true
+may_of true route is = refl
+may_of false route is = cc is
 
-asked_once : {B : Type 0} (ledger : B → Ledger) (at : ℕ) (old new : Office B) (request : List ℕ) (asked : PeerReply)
-    → asking.Asks ledger at old new request asked → After ledger old new (λ past. ServesUpTo 1 ledger past new)
-asked_once ledger at old new request Open h = handled ledger at old new _ _ h.1.handles
-asked_once ledger at old new request (Replied reply) (inl h) = handled ledger at old new _ _ h.handles
-asked_once ledger at old new request (Replied reply) (inr h) = handled ledger at old new _ _ h.handles
-asked_once ledger at old new request Failed (reply, inl h) = handled ledger at old new _ _ h.handles
-asked_once ledger at old new request Failed (reply, inr (inl h)) = handled ledger at old new _ _ h.handles
-asked_once ledger at old new request Failed (reply, inr (inr h)) = handled ledger at old new _ _ h.handles
+-- what is left to the office may ask
+pub may_ask_of : (names : List (List ℕ)) (request : List ℕ) → IsFor names request None → (left read : List ℕ) → request ≡ read ++ left → MayAsk names read
+may_ask_of names request for left read is = record {
+  tested = request;
+  same = inr (record { rest = left; is = is });
+  head_state = for.head_state;
+  finds = for.looks;
+  may = may_of (may_ask_in names request for.head_state) (route_in request for.head_state) for.asks;
+}
 
--- a request of a peer
-pub goes_asked : {B : Type 0} (ledger : B → Ledger) (at : ℕ) (old new : Office B) (request : List ℕ) (asked : PeerReply)
-    → asking.Asks ledger at old new request asked → http.Lasts ledger old new → Goes ledger old new
-goes_asked ledger at old new request asked asks lasts = record {
+asked_once : {B : Type 0} (names : List (List ℕ)) (ledger : B → Ledger) (at : ℕ) (old new : Office B) (request : List ℕ) (asked : PeerReply)
+    → ((left read : List ℕ) → request ≡ read ++ left → MayAsk names read)
+    → asking.Asks ledger at old new request asked → After ledger old new (λ past. ServesOne names at ledger past new)
+asked_once names ledger at old new request Open may h = handled names ledger at old new _ _ (may h.1.left) h.1.handles
+asked_once names ledger at old new request (Replied reply) may (inl h) = handled names ledger at old new _ _ (may h.left) h.handles
+asked_once names ledger at old new request (Replied reply) may (inr h) = handled names ledger at old new _ _ (may h.left) h.handles
+asked_once names ledger at old new request Failed may (reply, inl h) = handled names ledger at old new _ _ (may h.left) h.handles
+asked_once names ledger at old new request Failed may (reply, inr (inl h)) = handled names ledger at old new _ _ (may h.left) h.handles
+asked_once names ledger at old new request Failed may (reply, inr (inr h)) = handled names ledger at old new _ _ (may h.left) h.handles
+
+pub goes_asked : {B : Type 0} (names : List (List ℕ)) (ledger : B → Ledger) (at : ℕ) (old new : Office B) (request : List ℕ) (asked : PeerReply)
+    → ((left read : List ℕ) → request ≡ read ++ left → MayAsk names read)
+    → asking.Asks ledger at old new request asked → http.Lasts ledger old new → Goes names at ledger old new
+goes_asked names ledger at old new request asked may asks lasts = record {
   stands = λ past stands clean.
-      let served = asked_once ledger at old new request asked asks past stands clean in
-      record {
-        steps = of_requests served.requests;
-        stands =
-            let P : History → Type 0 = λ h. Stands ledger h new in
-            subst P (sym (after_requests past served.requests)) served.stands;
-      };
+      let served = asked_once names ledger at old new request asked may asks past stands clean in
+      record { steps = Asks served.connection ∷ []; each = (served.moment, tt); stands = served.stands };
   clean = lasts.clean;
   zone = lasts.zone;
 }
+
+-- ---- Turns
+
+pub no_turns : {B : Type 0} (names : List (List ℕ)) (ledger : B → Ledger) (first : ℕ) (begun : Option (List ℕ)) (office : Office B)
+    → TakesTurns names ledger first first begun begun office office
+no_turns names ledger first begun office = record {
+  stands = λ past stands clean. record { turns = []; are = refl; is_latest = refl; stands = stands };
+  clean = λ clean. clean;
+  zone = refl;
+}
+
+pub one_turn : {B : Type 0} (names : List (List ℕ)) (ledger : B → Ledger) (first before latest : ℕ) (begun between now : Option (List ℕ)) (a b c : Office B)
+    → TakesTurns names ledger first before begun between a b → TakesTurn names ledger before latest between now b c
+    → TakesTurns names ledger first latest begun now a c
+one_turn names ledger first before latest begun between now a b c turns turn = record {
+  stands = λ past stands clean.
+      let some = turns.stands past stands (turn.goes.clean clean) in
+      let after = turn.goes.stands (history_behind past (steps_of some.turns)) some.stands clean in
+      let is : latest ≡ latest_of first (record { told = turn.reads.told; steps = after.steps } ∷ some.turns) = turn.reads.is_latest ∙ ap (λ n. max n turn.reads.told) some.is_latest in
+      record {
+        turns = record { told = turn.reads.told; steps = after.steps } ∷ some.turns;
+        are = (between, some.are, turn.reads.tells, subst (λ n. AreAt n after.steps) is after.each);
+        is_latest = is;
+        stands =
+            let P : History → Type 0 = λ h. Stands ledger h c in
+            subst P (sym (after_both past after.steps (steps_of some.turns))) after.stands;
+      };
+  clean = λ clean. turns.clean (turn.goes.clean clean);
+  zone = turn.goes.zone ∙ turns.zone;
+}
+
+-- ---- A run
 
 -- Books that are only read stand as they did.
 pub reads_stand : (old new : Ledger) (past : History) → KeepsFacts old new → BooksStand old past → BooksStand new past
@@ -126,23 +254,34 @@ reads_stand old new past keeps stands = record {
 }
 
 -- A run after an opening.
-pub ran_opened : {B : Type 0} (ledger : B → Ledger) (past : History) (moments later : Option (List ℕ)) (office new : Office B) (books : B)
-    → books ≡ books_in new → ((ledger (books_in office)).is_clean → Opens ledger past moments later office) → Goes ledger office new
-    → (ledger books).is_clean → BooksRun (ledger books) past
-ran_opened {B = B} ledger past moments later office new books is opens goes clean =
+pub ran_opened : {B : Type 0} (names : List (List ℕ)) (ledger : B → Ledger) (past : History) (begun opened now : Option (List ℕ)) (office new : Office B) (books : B)
+    → books ≡ books_in new → ((ledger (books_in office)).is_clean → Opens ledger past begun opened office) → RunsOn names ledger opened now office new
+    → (ledger books).is_clean → BooksRun names begun now (ledger books) past
+ran_opened {B = B} names ledger past begun opened now office new books is opens runs clean =
     let P : B → Type 0 = λ b. (ledger b).is_clean in
-    let Q : B → Type 0 = λ b. BooksRun (ledger b) past in
-    let now = subst P is clean in
-    let opened = opens (goes.clean now) in
-    let so = goes.stands (Opened opened.at ∷ past) opened.stands now in
-    subst Q (sym is) (inr (record { at = opened.at; steps = so.steps; stand = so.stands.books }))
+    let Q : B → Type 0 = λ b. BooksRun names begun now (ledger b) past in
+    let whole = subst P is clean in
+    let turns = runs.turns.turns in
+    let opening = opens (turns.clean whole) in
+    let so = turns.stands (Opened opening.at ∷ past) opening.stands whole in
+    subst Q (sym is) (inr (record {
+      at = opening.at;
+      opened = opened;
+      tells_opening = opening.timed;
+      first = runs.first;
+      between = runs.between;
+      tells = runs.tells;
+      turns = so.turns;
+      are = so.are;
+      stand = so.stands.books;
+    }))
 
 -- A wrong answer that was taken as true stays one.
 pub lasts_both : (a b c : Ledger) → Lasts a b → Lasts b c → Lasts a c
 lasts_both a b c first next = record { clean = λ clean. first.clean (next.clean clean); zone = next.zone ∙ first.zone }
 
-pub lasts_run : {B : Type 0} (ledger : B → Ledger) (office new : Office B) (books : B) → books ≡ books_in new → Goes ledger office new
-    → Lasts (ledger (books_in office)) (ledger books)
-lasts_run {B = B} ledger office new books is goes =
+pub lasts_run : {B : Type 0} (names : List (List ℕ)) (ledger : B → Ledger) (begun now : Option (List ℕ)) (office new : Office B) (books : B) → books ≡ books_in new
+    → RunsOn names ledger begun now office new → Lasts (ledger (books_in office)) (ledger books)
+lasts_run {B = B} names ledger begun now office new books is runs =
     let Q : B → Type 0 = λ b. Lasts (ledger (books_in office)) (ledger b) in
-    subst Q (sym is) (record { clean = goes.clean; zone = goes.zone })
+    subst Q (sym is) (record { clean = runs.turns.turns.clean; zone = runs.turns.turns.zone })

@@ -1,6 +1,8 @@
 //! The devices of a run.
+ghost use Rattle.std.specs.Prelude.{ℕ, List};
 ghost use Rattle.office_running.specs.Runs.{Goes};
 
+use crate::clocks::Now;
 use crate::devices::{Seen, Slot};
 use crate::settings::Site;
 use crate::voice::{Standing, Voice};
@@ -28,12 +30,12 @@ impl Polling {
         alloc: Global,
         sites: &[Site],
         every: u64,
-        now: u64,
+        time: u64,
     ) -> Result<Polling, AllocError> {
         let mut slots = Vec::new(alloc);
         let mut rounds = Vec::new(alloc);
         for site in sites {
-            slots.push(Slot::new(alloc, *site, every, now))?;
+            slots.push(Slot::new(alloc, *site, every, time))?;
             rounds.push(Round::new(site.name))?;
         }
         Ok(Polling {
@@ -61,15 +63,15 @@ impl Polling {
     }
 
     // The connection of a place could not be made.
-    fn fail(&mut self, place: usize, voice: &mut Voice, moment: u64) {
+    fn fail(&mut self, place: usize, voice: &mut Voice, now: Now) {
         if place < self.slots.len() {
             let every = self.every;
             let slot = &mut self.slots[place];
             let before = slot.standing;
-            slot.fail(every, moment);
+            slot.fail(every, now.time);
             slot.standing = Standing::Unreachable;
             let name = slot.site.name;
-            voice.tell_standing(moment, &name, before, Standing::Unreachable);
+            voice.tell_standing(now.moment, &name, before, Standing::Unreachable);
         }
     }
 
@@ -81,13 +83,13 @@ impl Polling {
         first: usize,
         place: usize,
         voice: &mut Voice,
-        moment: u64,
+        now: Now,
     ) {
-        if place < self.slots.len() && self.slots[place].timing.is_due(moment) {
+        if place < self.slots.len() && self.slots[place].timing.is_due(now.time) {
             let token = Token(first.saturating_add(place));
-            let works = self.slots[place].begin(rt, registry, token, moment);
+            let works = self.slots[place].begin(rt, registry, token, now.time);
             if !works {
-                self.fail(place, voice, moment);
+                self.fail(place, voice, now);
             }
         }
     }
@@ -99,33 +101,33 @@ impl Polling {
         registry: &Registry,
         first: usize,
         voice: &mut Voice,
-        moment: u64,
+        now: Now,
     ) {
         for place in 0..self.slots.len() {
-            self.begin(rt, registry, first, place, voice, moment);
+            self.begin(rt, registry, first, place, voice, now);
         }
     }
 
     // Tells how the round of a place ended, and closes its connection.
-    fn finish(&mut self, place: usize, voice: &mut Voice, moment: u64) {
+    fn finish(&mut self, place: usize, voice: &mut Voice, now: Now) {
         if place < self.slots.len() && place < self.rounds.len() {
             let sum = self.rounds[place].sum;
             let every = self.every;
             let slot = &mut self.slots[place];
             let name = slot.site.name;
-            slot.standing = voice.tell_round(moment, &name, slot.standing, sum);
-            slot.rest(every, moment);
+            slot.standing = voice.tell_round(now.moment, &name, slot.standing, sum);
+            slot.rest(every, now.time);
         }
     }
 
     // Sends what is to be sent to a device, or closes its connection where its round is over.
-    fn settle(&mut self, place: usize, voice: &mut Voice, moment: u64) {
+    fn settle(&mut self, place: usize, voice: &mut Voice, now: Now) {
         if place < self.slots.len() && place < self.rounds.len() {
             if self.slots[place].timing.phase != Phase::Polling {
                 return;
             }
             if self.rounds[place].stage == Stage::Off {
-                self.finish(place, voice, moment);
+                self.finish(place, voice, now);
             } else {
                 let frames = voice.monitor.take_outgoing(place);
                 self.slots[place].send_more(&frames);
@@ -133,9 +135,9 @@ impl Polling {
         }
     }
 
-    fn settle_all(&mut self, voice: &mut Voice, moment: u64) {
+    fn settle_all(&mut self, voice: &mut Voice, now: Now) {
         for place in 0..self.slots.len() {
-            self.settle(place, voice, moment);
+            self.settle(place, voice, now);
         }
     }
 
@@ -145,12 +147,13 @@ impl Polling {
         device_event: DeviceEvent,
         office: &mut Office<B>,
         voice: &mut Voice,
-        moment: u64,
+        now: Now,
     )
-        ensures { Goes B.ledger office.old office.new }
+        ensures { (names : List (List ℕ))
+            → Goes names now.moment B.ledger office.old office.new }
     {
-        turn(&mut self.rounds, device_event, office, moment, voice);
-        self.settle_all(voice, moment);
+        turn(&mut self.rounds, device_event, office, now.moment, voice);
+        self.settle_all(voice, now);
     }
 
     // What is seen at the connection of a place that is being made.
@@ -159,33 +162,33 @@ impl Polling {
         place: usize,
         seen: &Seen,
         voice: &mut Voice,
-        moment: u64,
+        now: Now,
     ) -> Option<DeviceEvent> {
         match seen {
             Seen::Nothing => None,
             Seen::Stands => {
                 if place < self.slots.len() {
                     let every = self.every;
-                    self.slots[place].timing.stand(every, moment);
+                    self.slots[place].timing.stand(every, now.time);
                 }
                 Some(DeviceEvent::Connected(place))
             }
             _ => {
-                self.fail(place, voice, moment);
+                self.fail(place, voice, now);
                 None
             }
         }
     }
 
     // What a look at the connection of a place sees, as it happens to the office.
-    fn look(&mut self, place: usize, voice: &mut Voice, moment: u64) -> Option<DeviceEvent> {
+    fn look(&mut self, place: usize, voice: &mut Voice, now: Now) -> Option<DeviceEvent> {
         if place >= self.slots.len() {
             return None;
         }
         let phase = self.slots[place].timing.phase;
         let seen = self.slots[place].look();
         if phase == Phase::Connecting {
-            return self.joined(place, &seen, voice, moment);
+            return self.joined(place, &seen, voice, now);
         }
         match seen {
             Seen::Nothing | Seen::Stands => None,
@@ -196,29 +199,24 @@ impl Polling {
     }
 
     // What the device of a place does that takes too long.
-    fn expire(&mut self, place: usize, voice: &mut Voice, moment: u64) -> Option<DeviceEvent> {
+    fn expire(&mut self, place: usize, voice: &mut Voice, now: Now) -> Option<DeviceEvent> {
         if place < self.slots.len() && self.slots[place].timing.phase == Phase::Connecting {
-            self.fail(place, voice, moment);
+            self.fail(place, voice, now);
             return None;
         }
         Some(DeviceEvent::Closed(place, Closing::Failed))
     }
 
     // What happens at a place.
-    fn device_event(
-        &mut self,
-        place: usize,
-        voice: &mut Voice,
-        moment: u64,
-    ) -> Option<DeviceEvent> {
+    fn device_event(&mut self, place: usize, voice: &mut Voice, now: Now) -> Option<DeviceEvent> {
         if place >= self.slots.len() {
             return None;
         }
-        if self.slots[place].timing.is_over(moment) {
-            return self.expire(place, voice, moment);
+        if self.slots[place].timing.is_over(now.time) {
+            return self.expire(place, voice, now);
         }
         if self.slots[place].ready {
-            return self.look(place, voice, moment);
+            return self.look(place, voice, now);
         }
         None
     }
@@ -230,12 +228,13 @@ impl Polling {
         place: usize,
         office: &mut Office<B>,
         voice: &mut Voice,
-        moment: u64,
+        now: Now,
     )
-        ensures { Goes B.ledger office.old office.new }
+        ensures { (names : List (List ℕ))
+            → Goes names now.moment B.ledger office.old office.new }
     {
-        if let Some(device_event) = self.device_event(place, voice, moment) {
-            self.feed(device_event, office, voice, moment);
+        if let Some(device_event) = self.device_event(place, voice, now) {
+            self.feed(device_event, office, voice, now);
         }
     }
 }

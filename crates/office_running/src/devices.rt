@@ -59,11 +59,11 @@ fn spacing(every: u64) -> u64
     every.max(1).min(MOST_EVERY)
 }
 
-// A moment that a time between rounds can be added to.
-fn bounded(moment: u64) -> u64
+// A time that one between rounds can be added to.
+fn bounded(time: u64) -> u64
     ensures { result ≤ 2 ^ 62 }
 {
-    moment.min(1 << 62)
+    time.min(1 << 62)
 }
 
 impl Slot {
@@ -100,10 +100,10 @@ impl Slot {
         rt: &R,
         registry: &Registry,
         token: Token,
-        moment: u64,
+        time: u64,
     ) -> bool {
         self.unsent = Outbox::empty(self.alloc);
-        self.timing.begin(moment);
+        self.timing.begin(time);
         self.connect(rt, registry, token)
     }
 
@@ -115,15 +115,15 @@ impl Slot {
     }
 
     /// The round is over: the connection is closed, and the device rests until it is due.
-    pub(crate) fn rest(&mut self, every: u64, moment: u64) {
+    pub(crate) fn rest(&mut self, every: u64, time: u64) {
         self.close();
-        self.timing.rest(spacing(every), bounded(moment));
+        self.timing.rest(spacing(every), bounded(time));
     }
 
     /// The connection could not be made: the device is tried again after a pause that grows.
-    pub(crate) fn fail(&mut self, every: u64, moment: u64) {
+    pub(crate) fn fail(&mut self, every: u64, time: u64) {
         self.close();
-        self.timing.fail(spacing(every), bounded(moment));
+        self.timing.fail(spacing(every), bounded(time));
     }
 
     // Looks whether the connection stands.

@@ -1,6 +1,9 @@
 //! The loop of a run: clock, tick, devices, peers, lines, and the wait for sockets.
-ghost use Rattle.office_running.specs.Runs.{Goes};
+ghost use Rattle.std.specs.Prelude.{ℕ, List};
+ghost use Rattle.http_request.specs.Hosts.{texts};
+ghost use Rattle.office_running.specs.Runs.{Goes, RunsOn, TakesTurn, TakesTurns, TurnsFrom};
 
+use crate::clocks::{Now, read_clock, read_time, time_from, to_next_second};
 use crate::device_polls::Polling;
 use crate::fault::RunFault;
 use crate::http_port::Serving;
@@ -12,12 +15,12 @@ use office_books::Books;
 use office_core::Office;
 use office_rounds::DeviceEvent;
 use poll_core::Closing;
-use run_schedule::{MOST_PEERS, SteadyClock};
+use run_schedule::{MOST_PEERS, RunTime, SteadyClock};
 use socket_link::Clock;
 use std::alloc::{AllocError, Global};
 use std::io::{ErrorKind, Write};
 use std::net::Net;
-use std::time::{Duration, SystemTime, UNIX_EPOCH};
+use std::time::Duration;
 
 /// The token of the first device.
 const FIRST_DEVICE: usize = MOST_PEERS + 1;
@@ -32,22 +35,8 @@ struct Running {
     polling: Polling,
     serving: Serving,
     voice: Voice,
-    steady_clock: SteadyClock,
-    /// The moment of the latest tick.
+    /// The time of the latest tick.
     ticked: u64,
-}
-
-// How many milliseconds it takes to the next second.
-fn to_next_second<R: std::rt::Clock>(rt: &R) -> u64 {
-    let Ok(now) = SystemTime::now(rt) else {
-        return RETRY;
-    };
-    match now.duration_since(UNIX_EPOCH) {
-        Ok(since) => 1000u64
-            .saturating_sub(u64::from(since.subsec_millis()))
-            .max(1),
-        Err(_) => RETRY,
-    }
 }
 
 // Prints, and gives out at once.
@@ -79,14 +68,14 @@ impl Running {
     fn open<R: Net>(
         rt: &R,
         alloc: Global,
-        settings: &Settings,
+        settings: &Settings<'_>,
         sites: &[Site],
-        now: u64,
+        time: u64,
     ) -> Result<Running, RunFault> {
         let Ok(poll) = Poll::new(rt) else {
             return Err(RunFault::Sockets);
         };
-        let polling = Polling::new(alloc, sites, settings.every, now)?;
+        let polling = Polling::new(alloc, sites, settings.every, time)?;
         let voice = voice_of(alloc, sites, settings.verbose)?;
         let serving = Serving::open(rt, alloc, poll.registry(), settings.listen)?;
         Ok(Running {
@@ -94,25 +83,8 @@ impl Running {
             polling,
             serving,
             voice,
-            steady_clock: SteadyClock::new(now),
-            ticked: now,
+            ticked: time,
         })
-    }
-
-    // The moment of what comes now. A clock that was set back is told.
-    fn read_clock<C: Clock, W: Write>(
-        &mut self,
-        clock: &mut C,
-        output: &mut W,
-    ) -> Result<u64, RunFault> {
-        let reading = self.steady_clock.read(clock.now());
-        let moment = reading.moment;
-        if let Some(seconds) = reading.set_back {
-            if writeln!(output, "{moment} clock set back {seconds}").is_err() {
-                return Err(RunFault::Output);
-            }
-        }
-        Ok(moment)
     }
 
     // Prints what is to be told.
@@ -122,78 +94,94 @@ impl Running {
     }
 
     // What is to be done once a second, but for the office.
-    fn begin_second<R: Net>(&mut self, rt: &R, moment: u64) {
-        self.ticked = moment;
-        self.serving.sweep(moment);
-        self.polling.begin_all(
-            rt,
-            self.poll.registry(),
-            FIRST_DEVICE,
-            &mut self.voice,
-            moment,
-        );
+    fn begin_second<R: Net>(&mut self, rt: &R, now: Now) {
+        self.ticked = now.time;
+        self.serving.sweep(now.time);
+        self.polling.begin_all(rt, self.poll.registry(), FIRST_DEVICE, &mut self.voice, now);
     }
 
     // A second has passed, unless none has.
     #[tactic(auto, using(crate::proofs::Going::goes_none, crate::proofs::Going::goes_both))]
-    fn tick<R: Net, B: Books>(&mut self, rt: &R, office: &mut Office<B>, moment: u64)
-        ensures { Goes B.ledger office.old office.new }
+    fn tick<R: Net, B: Books>(&mut self, rt: &R, office: &mut Office<B>, now: Now)
+        ensures { (names : List (List ℕ))
+            → Goes names now.moment B.ledger office.old office.new }
     {
-        if self.ticked < moment {
+        if self.ticked < now.time {
             self.polling
-                .feed(DeviceEvent::Tick, office, &mut self.voice, moment);
-            self.begin_second(rt, moment);
+                .feed(DeviceEvent::Tick, office, &mut self.voice, now);
+            self.begin_second(rt, now);
         }
     }
 
     // Goes on with each device.
-    fn attend_devices<B: Books>(&mut self, office: &mut Office<B>, moment: u64)
-        ensures { Goes B.ledger office.old office.new }
+    fn attend_devices<B: Books>(&mut self, office: &mut Office<B>, now: Now)
+        ensures { (names : List (List ℕ))
+            → Goes names now.moment B.ledger office.old office.new }
     {
         for place in 0..self.polling.count() {
-            self.polling.attend(place, office, &mut self.voice, moment);
+            self.polling.attend(place, office, &mut self.voice, now);
         }
     }
 
     // Goes on with each connection.
-    fn attend_peers<B: Books>(&mut self, office: &mut Office<B>, moment: u64)
-        ensures { Goes B.ledger office.old office.new }
+    fn attend_peers<B: Books>(&mut self, names: &[&str], office: &mut Office<B>, now: Now)
+        ensures { Goes (texts names.now) now.moment B.ledger office.old office.new }
     {
         for place in 0..MOST_PEERS {
-            self.serving.attend(place, office, &self.voice, moment);
+            self.serving.attend(place, names, office, &self.voice, now);
         }
     }
 
     // Goes on with all.
-    fn go_on<R: Net, B: Books>(&mut self, rt: &R, office: &mut Office<B>, moment: u64)
-        ensures { Goes B.ledger office.old office.new }
+    fn go_on<R: Net, B: Books>(&mut self, rt: &R, names: &[&str], office: &mut Office<B>, now: Now)
+        ensures { Goes (texts names.now) now.moment B.ledger office.old office.new }
     {
-        self.tick(rt, office, moment);
-        self.attend_devices(office, moment);
-        self.serving.accept(self.poll.registry(), moment);
-        self.attend_peers(office, moment);
+        self.tick(rt, office, now);
+        self.attend_devices(office, now);
+        self.serving.accept(self.poll.registry(), now.time);
+        self.attend_peers(names, office, now);
     }
 
     // Ends the rounds that go on.
-    fn end_rounds<B: Books>(&mut self, office: &mut Office<B>, moment: u64)
-        ensures { Goes B.ledger office.old office.new }
+    fn end_rounds<B: Books>(&mut self, office: &mut Office<B>, now: Now)
+        ensures { (names : List (List ℕ))
+            → Goes names now.moment B.ledger office.old office.new }
     {
         for place in 0..self.polling.count() {
             self.polling.feed(
                 DeviceEvent::Closed(place, Closing::Gone),
                 office,
                 &mut self.voice,
-                moment,
+                now,
             );
         }
     }
 
+    // Goes on with all, and ends the rounds where the time is up. It answers whether it is.
+    fn act<R: Net, B: Books>(
+        &mut self,
+        rt: &R,
+        names: &[&str],
+        office: &mut Office<B>,
+        now: Now,
+        until: u64,
+    ) -> bool
+        ensures { Goes (texts names.now) now.moment B.ledger office.old office.new }
+    {
+        self.go_on(rt, names, office, now);
+        if now.time < until {
+            return false;
+        }
+        self.end_rounds(office, now);
+        true
+    }
+
     // How many milliseconds to wait for the sockets.
-    fn patience<R: std::rt::Clock>(&self, rt: &R) -> u64 {
+    fn patience<R: std::rt::Clock>(&self, rt: &R, time: &mut RunTime) -> u64 {
         if self.polling.is_ready() || self.serving.is_ready() {
             return 0;
         }
-        let second = to_next_second(rt);
+        let second = to_next_second(rt, time);
         if self.serving.is_waiting() {
             second.min(RETRY)
         } else {
@@ -205,9 +193,10 @@ impl Running {
     fn wait<R: std::rt::Clock>(
         &mut self,
         rt: &R,
+        time: &mut RunTime,
         events: &mut Events<Global>,
     ) -> Result<(), RunFault> {
-        let wait = Duration::from_millis(self.patience(rt));
+        let wait = Duration::from_millis(self.patience(rt, time));
         match self.poll.poll(events, Some(wait)) {
             Ok(()) => {}
             Err(error) if error.kind() == ErrorKind::Interrupted => return Ok(()),
@@ -224,46 +213,75 @@ impl Running {
         Ok(())
     }
 
-    // One turn of the loop, which prints what it has to tell. It answers the moment at which it came.
-    #[tactic(auto, using(crate::proofs::Going::goes_none, crate::proofs::Going::goes_both))]
-    fn turn<R: Net + std::rt::Clock, B: Books, C: Clock, W: Write>(
+    // Prints what is to be told, and waits unless the time is up.
+    fn rest<R: std::rt::Clock, W: Write>(
         &mut self,
         rt: &R,
-        office: &mut Office<B>,
-        clock: &mut C,
+        time: &mut RunTime,
         events: &mut Events<Global>,
         output: &mut W,
-    ) -> Result<u64, RunFault>
-        ensures { Goes B.ledger office.old office.new }
-    {
-        let moment = self.read_clock(clock, output)?;
-        self.go_on(rt, office, moment);
+        is_over: bool,
+    ) -> Result<(), RunFault> {
         self.print(output)?;
         if self.voice.stopped {
             return Err(RunFault::Stopped);
         }
-        self.wait(rt, events)?;
-        Ok(moment)
+        if is_over {
+            return Ok(());
+        }
+        self.wait(rt, time, events)
     }
 
-    // Turns until the time is up.
-    #[tactic(auto, using(crate::proofs::Going::goes_none, crate::proofs::Going::goes_both))]
-    fn turns<R: Net + std::rt::Clock, B: Books, C: Clock, W: Write>(
+    // One turn of the loop. It answers whether the time is up.
+    fn turn<R: Net + std::rt::Clock, B: Books, C: Clock, W: Write, E: Write>(
         &mut self,
         rt: &R,
+        names: &[&str],
         office: &mut Office<B>,
         clock: &mut C,
+        steady: &mut SteadyClock,
+        time: &mut RunTime,
         events: &mut Events<Global>,
         until: u64,
         output: &mut W,
+        errors: &mut E,
+    ) -> Result<bool, RunFault>
+        ensures { TakesTurn (texts names.now) B.ledger steady.old.latest steady.new.latest
+            (C.moments clock.old) (C.moments clock.new) office.old office.new }
+    {
+        let moment = read_clock(steady, clock, output, errors)?;
+        let now = Now {
+            time: read_time(rt, time),
+            moment,
+        };
+        let is_over = self.act(rt, names, office, now, until);
+        self.rest(rt, time, events, output, is_over)?;
+        Ok(is_over)
+    }
+
+    // Turns until the time is up.
+    fn turns<R: Net + std::rt::Clock, B: Books, C: Clock, W: Write, E: Write>(
+        &mut self,
+        rt: &R,
+        names: &[&str],
+        office: &mut Office<B>,
+        clock: &mut C,
+        steady: &mut SteadyClock,
+        time: &mut RunTime,
+        events: &mut Events<Global>,
+        until: u64,
+        output: &mut W,
+        errors: &mut E,
     ) -> Result<(), RunFault>
-        ensures { Goes B.ledger office.old office.new }
+        ensures { TakesTurns (texts names.now) B.ledger steady.old.latest steady.new.latest
+            (C.moments clock.old) (C.moments clock.new) office.old office.new }
     {
         for _turn in 0..u64::MAX {
-            let moment = self.turn(rt, office, clock, events, output)?;
-            if until <= moment {
-                self.end_rounds(office, moment);
-                return self.print(output);
+            let is_over = self.turn(
+                rt, names, office, clock, steady, time, events, until, output, errors,
+            )?;
+            if is_over {
+                return Ok(());
             }
         }
         Ok(())
@@ -271,35 +289,85 @@ impl Running {
 }
 
 // When a run ends that begins now.
-fn end_of(settings: &Settings, now: u64) -> u64 {
+fn end_of(settings: &Settings<'_>, now: u64) -> u64 {
     match settings.lasts {
         Some(seconds) => now.saturating_add(seconds),
         None => u64::MAX,
     }
 }
 
-/// Tells what was left in the books of an open office, polls its devices and answers HTTP, until the time is up.
-#[tactic(auto, using(crate::proofs::Going::goes_none, crate::proofs::Going::goes_both))]
-pub(crate) fn run_open<R: Net + std::rt::Clock, B: Books, C: Clock, W: Write>(
+// Tells what was left in the books of an open office, and that its port is open.
+fn open<R: Net, W: Write>(
     rt: &R,
     alloc: Global,
     left: Option<Left>,
-    settings: &Settings,
+    settings: &Settings<'_>,
     sites: &[Site],
-    office: &mut Office<B>,
-    clock: &mut C,
+    time: u64,
     output: &mut W,
-) -> Result<(), RunFault>
-    ensures { Goes B.ledger office.old office.new }
-{
+) -> Result<Running, RunFault> {
     print_left(left, output)?;
-    let now = clock.now();
-    let mut events = Events::with_capacity(alloc, 64)?;
-    let mut running = Running::open(rt, alloc, settings, sites, now)?;
+    let running = Running::open(rt, alloc, settings, sites, time)?;
     let port = settings.listen.port();
     if writeln!(output, "listening {port}").is_err() || output.flush().is_err() {
         return Err(RunFault::Output);
     }
-    let until = end_of(settings, now);
-    running.turns(rt, office, clock, &mut events, until, output)
+    Ok(running)
+}
+
+// The same from a moment on, and then turns until the time is up.
+fn run_from<R: Net + std::rt::Clock, B: Books, C: Clock, W: Write, E: Write>(
+    rt: &R,
+    alloc: Global,
+    left: Option<Left>,
+    settings: &Settings<'_>,
+    sites: &[Site],
+    office: &mut Office<B>,
+    moment: u64,
+    clock: &mut C,
+    output: &mut W,
+    errors: &mut E,
+) -> Result<(), RunFault>
+    ensures { TurnsFrom (texts settings.now.host_names.now) B.ledger moment
+        (C.moments clock.old) (C.moments clock.new) office.old office.new }
+{
+    let mut steady = SteadyClock::new(moment);
+    let mut time = time_from(rt, moment);
+    let mut events = Events::with_capacity(alloc, 64)?;
+    let begun = time.seconds();
+    let mut running = open(rt, alloc, left, settings, sites, begun, output)?;
+    let until = end_of(settings, begun);
+    running.turns(
+        rt,
+        settings.host_names,
+        office,
+        clock,
+        &mut steady,
+        &mut time,
+        &mut events,
+        until,
+        output,
+        errors,
+    )
+}
+
+/// Tells what was left in the books of an open office, polls its devices and answers HTTP, until the time is up.
+pub(crate) fn run_open<R: Net + std::rt::Clock, B: Books, C: Clock, W: Write, E: Write>(
+    rt: &R,
+    alloc: Global,
+    left: Option<Left>,
+    settings: &Settings<'_>,
+    sites: &[Site],
+    office: &mut Office<B>,
+    clock: &mut C,
+    output: &mut W,
+    errors: &mut E,
+) -> Result<(), RunFault>
+    ensures { RunsOn (texts settings.now.host_names.now) B.ledger
+        (C.moments clock.old) (C.moments clock.new) office.old office.new }
+{
+    let moment = clock.now();
+    run_from(
+        rt, alloc, left, settings, sites, office, moment, clock, output, errors,
+    )
 }

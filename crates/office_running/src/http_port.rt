@@ -1,9 +1,13 @@
 //! HTTP on a port.
+ghost use Rattle.http_request.specs.Hosts.{texts};
 ghost use Rattle.office_running.specs.Runs.{Goes};
 
+use crate::clocks::Now;
 use crate::fault::RunFault;
 use crate::peers::Peer;
 use crate::voice::Voice;
+use http_request::{Route, router};
+use matchit::Router;
 use mio::net::{TcpListener, TcpStream};
 use mio::{Interest, Registry, Token};
 use office_books::Books;
@@ -20,6 +24,7 @@ pub(crate) struct Serving {
     alloc: Global,
     listener: TcpListener,
     waiting: bool,
+    router: Router<Route>,
     peers: Peers,
     connections: Vec<Option<Peer>>,
 }
@@ -33,9 +38,9 @@ fn is_ready(connection: &Option<Peer>) -> bool {
 }
 
 // Whether the connection of a place was replied to, and may be dropped.
-fn is_done(connection: &Option<Peer>, moment: u64) -> bool {
+fn is_done(connection: &Option<Peer>, time: u64) -> bool {
     match connection {
-        Some(peer) => peer.is_done(moment),
+        Some(peer) => peer.is_done(time),
         None => false,
     }
 }
@@ -66,11 +71,13 @@ impl Serving {
         {
             return Err(RunFault::Sockets);
         }
+        let router = router(alloc)?;
         let connections = no_connections(alloc)?;
         Ok(Serving {
             alloc,
             listener,
             waiting: true,
+            router,
             peers: Peers::new(),
             connections,
         })
@@ -106,11 +113,11 @@ impl Serving {
     }
 
     /// Drops the connections that took too long, and those that were replied to.
-    pub(crate) fn sweep(&mut self, moment: u64) {
+    pub(crate) fn sweep(&mut self, time: u64) {
         for place in 0..MOST_PEERS {
-            let is_late = self.peers.is_over(place, moment);
+            let is_late = self.peers.is_over(place, time);
             if is_late
-                || place < self.connections.len() && is_done(&self.connections[place], moment)
+                || place < self.connections.len() && is_done(&self.connections[place], time)
             {
                 self.end(place);
             }
@@ -118,7 +125,7 @@ impl Serving {
     }
 
     // Whether there is a place for one more connection: a free one, or that of one which has not asked for a second.
-    fn has_room(&self, moment: u64) -> bool {
+    fn has_room(&self, time: u64) -> bool {
         let Some(place) = place_for(&self.peers.places) else {
             return false;
         };
@@ -126,14 +133,14 @@ impl Serving {
             return false;
         }
         match self.peers.places[place].silent_until() {
-            Some(until) => until < moment.saturating_add(PEER_SECONDS),
+            Some(until) => until < time.saturating_add(PEER_SECONDS),
             None => true,
         }
     }
 
     // Gives a connection a place.
-    fn admit(&mut self, mut stream: TcpStream, registry: &Registry, moment: u64) {
-        let Some(admission) = self.peers.admit(moment, PEER_SECONDS) else {
+    fn admit(&mut self, mut stream: TcpStream, registry: &Registry, time: u64) {
+        let Some(admission) = self.peers.admit(time, PEER_SECONDS) else {
             return;
         };
         let both = Interest::READABLE | Interest::WRITABLE;
@@ -154,13 +161,13 @@ impl Serving {
     }
 
     /// Accepts what waits, as far as there are places.
-    pub(crate) fn accept(&mut self, registry: &Registry, moment: u64) {
+    pub(crate) fn accept(&mut self, registry: &Registry, time: u64) {
         for _connection in 0..MOST_PEERS {
-            if !self.waiting || !self.has_room(moment) {
+            if !self.waiting || !self.has_room(time) {
                 return;
             }
             match self.listener.accept() {
-                Ok((stream, _)) => self.admit(stream, registry, moment),
+                Ok((stream, _)) => self.admit(stream, registry, time),
                 Err(error) => {
                     self.waiting = error.kind() != ErrorKind::WouldBlock;
                     return;
@@ -169,7 +176,7 @@ impl Serving {
         }
     }
 
-    // The reply of a route that is answered by what was counted.
+    // The reply of a route that is answered without the office.
     fn reply_status(&self, route: StatusRoute, voice: &Voice) -> PeerReply {
         let mut text = Vec::new(self.alloc);
         let monitor = &voice.monitor;
@@ -185,20 +192,21 @@ impl Serving {
         }
     }
 
-    // What comes of what a peer has asked.
+    // What comes of what a peer has asked. Who asks is tested before all else.
     #[tactic(auto, using(crate::proofs::Going::goes_none, crate::proofs::Going::goes_both))]
     fn reply<B: Books>(
         &self,
+        names: &[&str],
         request: &[u8],
         office: &mut Office<B>,
         voice: &Voice,
-        moment: u64,
+        now: Now,
     ) -> PeerReply
-        ensures { Goes B.ledger office.old office.new }
+        ensures { Goes (texts names.now) now.moment B.ledger office.old office.new }
     {
-        match status_route(request) {
+        match status_route(names, request) {
             Some(route) => self.reply_status(route, voice),
-            None => ask(self.alloc, request, office, moment),
+            None => ask(self.alloc, request, office, now.moment),
         }
     }
 
@@ -211,8 +219,8 @@ impl Serving {
     }
 
     // Writes the reply of a peer, where it has one, and puts its connection back unless that is over.
-    fn put_back(&mut self, place: usize, mut peer: Peer, moment: u64) {
-        peer.give(moment);
+    fn put_back(&mut self, place: usize, mut peer: Peer, time: u64) {
+        peer.give(time);
         if peer.is_over() {
             self.end(place);
         } else if place < MOST_PEERS && place < self.connections.len() {
@@ -228,19 +236,20 @@ impl Serving {
     pub(crate) fn attend<B: Books>(
         &mut self,
         place: usize,
+        names: &[&str],
         office: &mut Office<B>,
         voice: &Voice,
-        moment: u64,
+        now: Now,
     )
-        ensures { Goes B.ledger office.old office.new }
+        ensures { Goes (texts names.now) now.moment B.ledger office.old office.new }
     {
         let Some(mut peer) = self.take_ready(place) else {
             return;
         };
-        if peer.hear() {
-            let asked = self.reply(&peer.asked, office, voice, moment);
+        if peer.hear(&self.router) {
+            let asked = self.reply(names, &peer.asked, office, voice, now);
             peer.take(asked);
         }
-        self.put_back(place, peer, moment);
+        self.put_back(place, peer, now.time);
     }
 }

@@ -1,6 +1,7 @@
 //! One thread that polls devices on a schedule and answers HTTP on a port, over one open office.
 #![tactic(auto)]
 
+mod clocks;
 mod device_polls;
 mod devices;
 mod event_loop;

@@ -1,4 +1,5 @@
 //! A run over books.
+ghost use Rattle.http_request.specs.Hosts.{texts};
 ghost use Rattle.office_core.specs.Leaving.{BooksStand};
 ghost use Rattle.office_rules.specs.History.{History};
 ghost use Rattle.office_program.specs.Texts.Passing.{Lasts};
@@ -26,23 +27,35 @@ pub struct Ran<B> {
 /// up to which moment the books go and how many polls are lost, and `listening PORT` once the port is open; then a line an
 /// event. A clock that is set back is told once, and what comes then comes at the latest moment. All that the office is fed comes
 /// at moments of the clock, in seconds since 1970-01-01 UTC.
-pub fn run_office<R: Net + std::rt::Clock, B: Books, C: Clock, W: Write>(
+pub fn run_office<R: Net + std::rt::Clock, B: Books, C: Clock, W: Write, E: Write>(
     rt: &R,
     alloc: Global,
     mut books: B,
-    settings: &Settings,
+    settings: &Settings<'_>,
     sites: &[Site],
     clock: &mut C,
     output: &mut W,
+    errors: &mut E,
 ) -> Ran<B>
     ensures books { (past : History) → BooksStand (B.ledger books) past
-        → (B.ledger result.books).is_clean → BooksRun (B.ledger result.books) past }
+        → (B.ledger result.books).is_clean → BooksRun (texts settings.now.host_names.now)
+        (C.moments clock.old) (C.moments clock.new) (B.ledger result.books) past }
     ensures lasts { Lasts (B.ledger books) (B.ledger result.books) }
 {
     let left = left_in(&mut books);
     match open_office(alloc, books, clock, output) {
         Ok(mut office) => {
-            let end = run_open(rt, alloc, left, settings, sites, &mut office, clock, output);
+            let end = run_open(
+                rt,
+                alloc,
+                left,
+                settings,
+                sites,
+                &mut office,
+                clock,
+                output,
+                errors,
+            );
             Ran {
                 books: office.into_books(),
                 end,

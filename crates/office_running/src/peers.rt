@@ -1,14 +1,12 @@
 //! The connections of peers.
 use crate::outbox::{MOST_CALLS, Outbox, Went, went_by};
-use http_request::{MOST_BYTES, MOST_ROOM};
+use http_request::{MOST_ROOM, Route, is_whole};
+use matchit::Router;
 use mio::net::TcpStream;
 use run_status::PeerReply;
 use std::alloc::Global;
 use std::io::Read;
 use std::net::Shutdown;
-
-/// How often a request may be tried whether it is whole, as its pieces come.
-const MOST_TRIES: u32 = 256;
 
 /// A connection of a peer.
 #[derive(Drop)]
@@ -21,16 +19,14 @@ pub(crate) struct Peer {
     /// Until when what still comes is dropped, once the reply was written.
     pub(crate) lingers: Option<u64>,
     reply: Outbox,
-    tries: u32,
     ended: bool,
     over: bool,
 }
 
-// Whether an empty line has come, or more than any head may have.
-fn has_head(asked: &[u8]) -> bool {
-    MOST_BYTES <= asked.len()
-        || asked.windows(2).any(|w| w == b"\n\n".as_slice())
-        || asked.windows(3).any(|w| w == b"\n\r\n".as_slice())
+// As much of a piece as there is room for behind what has come. No request needs more.
+fn fitting<'p>(asked: &[u8], piece: &'p [u8]) -> &'p [u8] {
+    let room = MOST_ROOM.saturating_sub(asked.len());
+    piece.get(..room).unwrap_or(piece)
 }
 
 impl Peer {
@@ -41,7 +37,6 @@ impl Peer {
             ready: true,
             lingers: None,
             reply: Outbox::empty(alloc),
-            tries: 0,
             ended: false,
             over: false,
         }
@@ -62,10 +57,7 @@ impl Peer {
         if self.has_reply() {
             return Went::On;
         }
-        if MOST_ROOM < self.asked.len().saturating_add(piece.len()) {
-            return Went::Over;
-        }
-        match self.asked.extend_from_slice(piece) {
+        match self.asked.extend_from_slice(fitting(&self.asked, piece)) {
             Ok(()) => Went::On,
             Err(_) => Went::Over,
         }
@@ -100,8 +92,8 @@ impl Peer {
         self.has_reply() && self.lingers.is_none()
     }
 
-    /// Reads what came. It answers whether the office is to be asked what comes of it.
-    pub(crate) fn hear(&mut self) -> bool {
+    /// Reads what came. It answers whether a whole request has come, or a bad head, so that a reply is due.
+    pub(crate) fn hear(&mut self, router: &Router<Route>) -> bool {
         if self.is_given() {
             self.ready = false;
             return false;
@@ -110,14 +102,10 @@ impl Peer {
         let went = self.read_all();
         self.ready = went == Went::On;
         self.ended = went == Went::Over;
-        let has_more = before < self.asked.len() && has_head(&self.asked);
-        if has_more && self.tries < MOST_TRIES {
-            self.tries = self.tries.saturating_add(1);
+        if before < self.asked.len() && is_whole(router, &self.asked) {
             return true;
         }
-        if self.ended || has_more {
-            self.over = true;
-        }
+        self.over = self.ended;
         false
     }
 
@@ -136,30 +124,30 @@ impl Peer {
     /// Writes the reply, as far as the socket takes it, and says that nothing more comes. What the peer sends until it has
     /// closed is dropped, for a second or two: a socket that is closed with bytes unread is reset, and the peer may then lose its
     /// reply.
-    pub(crate) fn give(&mut self, moment: u64) {
+    pub(crate) fn give(&mut self, time: u64) {
         if self.over || self.lingers.is_some() || !self.has_reply() {
             return;
         }
         match self.reply.write_all(&self.stream) {
             Went::Waits => {}
             Went::Over => self.over = true,
-            Went::On => self.close(moment),
+            Went::On => self.close(time),
         }
     }
 
     // Says that nothing more comes, where the whole reply was written.
-    fn close(&mut self, moment: u64) {
+    fn close(&mut self, time: u64) {
         self.ready = true;
         if self.reply.is_written() {
             self.over = self.stream.shutdown(Shutdown::Write).is_err();
-            self.lingers = Some(moment.saturating_add(2));
+            self.lingers = Some(time.saturating_add(2));
         }
     }
 
     /// Whether the reply was written, and what still comes was dropped long enough.
-    pub(crate) fn is_done(&self, moment: u64) -> bool {
+    pub(crate) fn is_done(&self, time: u64) -> bool {
         match self.lingers {
-            Some(until) => until <= moment,
+            Some(until) => until <= time,
             None => false,
         }
     }

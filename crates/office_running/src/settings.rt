@@ -11,13 +11,15 @@ pub struct Site {
 
 /// How a process runs. Times are in seconds.
 #[derive(Clone, Copy)]
-pub struct Settings {
+pub struct Settings<'n> {
     /// Where HTTP is answered.
     pub listen: SocketAddr,
     /// From one round of a device to its next, 1 to 86,400; what lies outside is taken as the nearest of these.
     pub every: u64,
     /// How long the process runs; without an end where that is `None`.
     pub lasts: Option<u64>,
+    /// By which names HTTP may be asked, besides those of this machine alone.
+    pub host_names: &'n [&'n str],
     /// Whether each poll has a line.
     pub verbose: bool,
 }

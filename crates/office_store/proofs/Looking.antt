@@ -68,11 +68,6 @@ pub finds : {S T : Type 0} {Says : List Fact → T → Type 0} {AreSound : List 
     → finding.Finds g old new found Says AreSound → Finds (ledger_of g old n zone) (ledger_of g new m zone) answer Says
 finds {Says = Says} g old new n m zone found answer is it = tells g old new n m zone Says found answer is it.answer
 
-pub finds_meter : {S T : Type 0} {Says : List Fact → T → Type 0} (g : Ghosts S) (old new : Held S) (n m : ℕ) (zone : Zone)
-    (found : Result T RowFault) (answer : Result T BooksFault) → answer ≡ answer_of found
-    → metering.Finds g old new found Says → Finds (ledger_of g old n zone) (ledger_of g new m zone) answer Says
-finds_meter {Says = Says} g old new n m zone found answer is it = tells g old new n m zone Says found answer is it.found
-
 -- so of what is promised of each answer
 pub sound : {T : Type 0} (Says : T → Type 0) (found : Result T RowFault) (answer : Result T BooksFault) → answer ≡ answer_of found
     → IfOk found Says → IfOk answer Says
@@ -85,14 +80,14 @@ told_on Q (Ok x) q = q
 told_on Q (Err e) q = tt
 
 -- rows are handed on as the tables hand them on
-pub hands_on : {S K : Type 0} (g : Ghosts S) (old new : Held S) (n m : ℕ) (zone : Zone) (takes : K → Share → K → Type 0) (before after : K)
+pub hands_on : {S K : Type 0} {AreSound : List Fact → Type 0} (g : Ghosts S) (old new : Held S) (n m : ℕ) (zone : Zone) (takes : K → Share → K → Type 0) (before after : K)
     (rows : List Fact → List Share) (found : Result (Unit {0}) RowFault) (answer : Result (Unit {0}) BooksFault) → answer ≡ answer_of found
-    → metering.HandsOn g old new takes before after found rows
+    → metering.HandsOn g old new takes before after found rows AreSound
     → HandsOn takes (ledger_of g old n zone) (ledger_of g new m zone) before after answer rows
 hands_on g old new n m zone takes before after rows found answer is hands = record {
   begun = λ content h clean. hands.begun h.zone content h.holds clean;
   whole = λ content h clean.
       let P : Result (Unit {0}) BooksFault → Type 0 = λ a. OnOk a (TakesAll takes before (rows content) after) in
       subst P (sym is) (told_on (TakesAll takes before (rows content) after) found (hands.whole h.zone content h.holds clean));
-  some = hands.some;
+  some = (hands.some.0, hands.some.2);
 }

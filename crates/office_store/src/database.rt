@@ -74,7 +74,8 @@ impl<S: Alter> SqlBooks<S> {
             → connection.in_transaction ≡ false → IsTrue (state S.Store connection).is_open
             → (layout : TheLayout) (content : Content)
             → AreTablesIn (schema_of layout) (state S.Store connection).committed content
-            → (m : Meta) → IsMarked m content → TellsOpening (version_of layout) m (told_by result) }
+            → (m : Meta) → IsMarked m content → TellsOpening (version_of layout) m
+            (state S.Store connection) (state S.Store (connection_in result)) (told_by result) }
         ensures opened { HasCleanDisk (state S.Store (connection_in result))
             → (layout : TheLayout) (zone : List ℕ) (content : Content)
             → (IsTrue (state S.Store connection).is_open

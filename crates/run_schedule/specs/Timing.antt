@@ -1,3 +1,4 @@
 pub mod Pauses
-pub mod Timings
+pub mod RunTimes
 pub mod SteadyClocks
+pub mod Timings

@@ -6,6 +6,6 @@ mod timing;
 
 pub use http_peers::{Admission, MOST_PEERS, Peers, place_for};
 pub use timing::{
-    MOST_EVERY, PEER_SECONDS, Phase, SteadyClock, Timing, next_due, next_pause, retry_at,
+    MOST_EVERY, PEER_SECONDS, Phase, RunTime, SteadyClock, Timing, next_due, next_pause, retry_at,
     round_until,
 };

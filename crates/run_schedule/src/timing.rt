@@ -1,14 +1,16 @@
-//! When devices are due, how long things may take, and which moment an event comes at. Times are whole seconds since
-//! 1970-01-01 UTC, or counts of them.
+//! When devices are due, how long things may take, and which moment an event comes at. Times are whole seconds of the run,
+//! whose time begins as the clock does, or counts of them.
 
 mod grid;
 mod limits;
 mod pauses;
+mod run_time;
 mod steady_clock;
 mod timing;
 
 pub use grid::next_due;
 pub use limits::{CONNECT_SECONDS, LEAST_ROUND, MOST_EVERY, PEER_SECONDS, round_until, until};
 pub use pauses::{MOST_PAUSE, next_pause, retry_at};
+pub use run_time::RunTime;
 pub use steady_clock::{ClockReading, SteadyClock};
 pub use timing::{Phase, Timing};

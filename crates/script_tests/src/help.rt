@@ -41,6 +41,7 @@ Commands:
   replay    Runs a script from standard input over books in memory
   plan      Prints the reads that a point list from standard input needs
   chain     Lists the SunSpec models of an image from standard input
+  scan      Lists the SunSpec models of a live device, which it only reads
   create    Makes the tables of a new office in a file
   serve     Answers HTTP on 127.0.0.1, one connection after the other
   round     Polls the whole plan of one device once
@@ -61,13 +62,14 @@ Exit status: 0 fine, 1 refused, 2 wrong words, 3 a file, stream or socket failed
 static SERVE: &str = "\
 Answers HTTP on 127.0.0.1, one connection after the other
 
-Usage: sunreg serve --db <FILE> --port <N> --connections <N>
+Usage: sunreg serve [OPTIONS] --db <FILE> --port <N> --connections <N>
 
 Options:
-      --db <FILE>        The office's file
-      --port <N>         Port on 127.0.0.1, 1 to 65535
-      --connections <N>  Ends after this many connections, 1 to 1000000
-  -h, --help             Print help
+      --db <FILE>         The office's file
+      --port <N>          Port on 127.0.0.1, 1 to 65535
+      --connections <N>   Ends after this many connections, 1 to 1000000
+      --host-name <NAME>  Another name that Host may say; may stand several times
+  -h, --help              Print help
 
 Example: sunreg serve --db office.db --port 8080 --connections 100
 ";
@@ -78,13 +80,14 @@ Polls devices on a schedule and answers HTTP, until it is ended
 Usage: sunreg run [OPTIONS] --db <FILE> --listen <PORT> --every <SECONDS> --devices <LIST>
 
 Options:
-      --db <FILE>        The office's file
-      --listen <PORT>    Port of HTTP on 127.0.0.1, 1 to 65535
-      --every <SECONDS>  From one round of a device to its next, 1 to 86400
-      --devices <LIST>   1 to 64 of NAME=HOST:PORT, joined by commas
-      --for <SECONDS>    Ends after this long, 1 to 4000000000
-      --verbose          Prints more of what goes on
-  -h, --help             Print help
+      --db <FILE>         The office's file
+      --listen <PORT>     Port of HTTP on 127.0.0.1, 1 to 65535
+      --every <SECONDS>   From one round of a device to its next, 1 to 86400
+      --devices <LIST>    1 to 64 of NAME=HOST:PORT, joined by commas
+      --for <SECONDS>     Ends after this long, 1 to 4000000000
+      --host-name <NAME>  Another name that Host may say; may stand several times
+      --verbose           Prints more of what goes on
+  -h, --help              Print help
 
 Example:
   sunreg run --db office.db --listen 8080 --every 60 --devices inv=192.0.2.7:502

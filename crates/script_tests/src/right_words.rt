@@ -1,7 +1,7 @@
 //! Words that spell a command.
 use command_words::{CommandLine, Device, command_of};
 
-const RIGHT: [(&[&str], CommandLine<'static>); 14] = [
+const RIGHT: [(&[&str], CommandLine<'static>); 16] = [
     // no word is replay
     (&[], CommandLine::Replay { zone: "UTC0" }),
     (&["replay"], CommandLine::Replay { zone: "UTC0" }),
@@ -31,22 +31,6 @@ const RIGHT: [(&[&str], CommandLine<'static>); 14] = [
         CommandLine::Create {
             db: "a b.db",
             zone: "UTC0",
-        },
-    ),
-    (
-        &[
-            "serve",
-            "--db",
-            "o.db",
-            "--port",
-            "8080",
-            "--connections",
-            "7",
-        ],
-        CommandLine::Serve {
-            db: "o.db",
-            port: 8080,
-            connections: 7,
         },
     ),
     (
@@ -82,6 +66,61 @@ const RIGHT: [(&[&str], CommandLine<'static>); 14] = [
         CommandLine::Report {
             db: "o.db",
             register: "Main,=1 \u{3bc}",
+        },
+    ),
+    // unit 1 and five seconds where none are given
+    (
+        &["scan", "--port", "502"],
+        CommandLine::Scan {
+            host: "127.0.0.1",
+            port: 502,
+            unit: 1,
+            timeout: 5,
+            list: false,
+            setup: None,
+        },
+    ),
+    (
+        &[
+            "scan",
+            "--host",
+            "meter.lan",
+            "--port",
+            "502",
+            "--list",
+            "--unit",
+            "255",
+            "--timeout",
+            "60",
+        ],
+        CommandLine::Scan {
+            host: "meter.lan",
+            port: 502,
+            unit: 255,
+            timeout: 60,
+            list: true,
+            setup: None,
+        },
+    ),
+    (
+        &[
+            "scan",
+            "--port",
+            "502",
+            "--setup",
+            "inv",
+            "--unit",
+            "2",
+            "--timeout",
+            "1",
+        ],
+        CommandLine::Scan {
+            host: "127.0.0.1",
+            port: 502,
+            unit: 2,
+            timeout: 1,
+            list: false,
+            setup: Some("inv"),
         },
     ),
     (
@@ -135,7 +174,7 @@ static RUN: [&str; 9] = [
     "inv=192.0.2.7:502",
 ];
 
-static RUN_ALL: [&str; 10] = [
+static RUN_ALL: [&str; 11] = [
     "run",
     "--verbose",
     "--db=o.db",
@@ -145,6 +184,7 @@ static RUN_ALL: [&str; 10] = [
     "inv=meter.lan:502,b=[::1]:1",
     "--for",
     "3600",
+    "--host-name=a.example",
     "--",
 ];
 
@@ -167,6 +207,56 @@ static ALL_DEVICES: [Device<'static>; 2] = [
     },
 ];
 
+const SERVE: [&str; 7] = [
+    "serve",
+    "--db",
+    "o.db",
+    "--port",
+    "8080",
+    "--connections",
+    "7",
+];
+
+const SERVE_NAMED: [&str; 9] = [
+    "serve",
+    "--host-name=a.example",
+    "--db",
+    "o.db",
+    "--port=8080",
+    "--host-name",
+    "b.example",
+    "--connections",
+    "7",
+];
+
+#[test]
+fn serve_goes_by_its_own_names_where_none_is_given(rt: HostRuntime) {
+    match command_of(rt.alloc(), &SERVE) {
+        Ok(
+            CommandLine::Serve {
+                db,
+                port,
+                connections,
+                host_names,
+            },
+        ) => {
+            assert!(rt; db == "o.db" && port == 8080 && connections == 7);
+            assert!(rt; host_names.is_empty());
+        }
+        _ => panic!(rt; "no serve"),
+    }
+}
+
+#[test]
+fn serve_takes_each_name(rt: HostRuntime) {
+    match command_of(rt.alloc(), &SERVE_NAMED) {
+        Ok(CommandLine::Serve { host_names, .. }) => {
+            assert!(rt; host_names.as_slice() == ["a.example", "b.example"].as_slice());
+        }
+        _ => panic!(rt; "no serve"),
+    }
+}
+
 #[test]
 fn run_goes_on_where_no_end_is_given(rt: HostRuntime) {
     match command_of(rt.alloc(), &RUN) {
@@ -177,9 +267,11 @@ fn run_goes_on_where_no_end_is_given(rt: HostRuntime) {
                 every,
                 devices,
                 lasts,
+                host_names,
                 verbose,
             },
         ) => {
+            assert!(rt; host_names.is_empty());
             assert!(rt; db == "o.db" && listen == 8080 && every == 60);
             assert!(rt; lasts == None && !verbose);
             assert!(rt; devices.as_slice() == DEVICES.as_slice());
@@ -195,10 +287,12 @@ fn run_takes_an_end_and_verbose(rt: HostRuntime) {
             CommandLine::Run {
                 devices,
                 lasts,
+                host_names,
                 verbose,
                 ..
             },
         ) => {
+            assert!(rt; host_names.as_slice() == ["a.example"].as_slice());
             assert!(rt; lasts == Some(3600) && verbose);
             assert!(rt; devices.as_slice() == ALL_DEVICES.as_slice());
         }

@@ -1,7 +1,7 @@
 //! Words that spell no command.
 use command_words::{WordsFault, command_of};
 
-static WRONG: [&[&str]; 26] = [
+static WRONG: [&[&str]; 30] = [
     &["bogus"],
     &[""],
     &["Plan"],
@@ -35,6 +35,10 @@ static WRONG: [&[&str]; 26] = [
     &["round", "--db", "x", "--port", "1"],
     &["round", "--db", "x", "--device", "d"],
     &["report", "--db", "x"],
+    &["scan", "--host", "h"],
+    &["scan", "--port", "1", "--unit", "256"],
+    &["scan", "--port", "1", "--timeout", "61"],
+    &["scan", "--port", "1", "--list", "--setup", "inv"],
     &["stand-in", "--connections", "1"],
     &["loop", "--db", "x"],
     &["run", "--db", "x", "--listen", "1", "--every", "1"],

@@ -1,2 +1,3 @@
 pub mod DevicesLemmas
 pub mod PollsLemmas
+mod Examples

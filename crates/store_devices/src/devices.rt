@@ -6,7 +6,7 @@ mod points;
 mod registers;
 mod rows;
 
-pub use columns::{read_device, read_point, read_register};
+pub use columns::{fits_a_read, read_device, read_point, read_register};
 pub use devices::{device_rows, insert_device, last_device_rows};
 pub use points::{point_rows, replace_points};
 pub use registers::{

@@ -6,8 +6,9 @@ mod polls;
 
 pub use devices::{
     Device, DeviceRow, Point, PointRow, Register, RegisterRow, RegisterScale, device_rows,
-    insert_device, insert_register, last_device_rows, last_register_rows, point_rows, read_device,
-    read_point, read_register, register_count, register_of, register_rows, replace_points,
+    fits_a_read, insert_device, insert_register, last_device_rows, last_register_rows, point_rows,
+    read_device, read_point, read_register, register_count, register_of, register_rows,
+    replace_points,
 };
 pub use polls::{
     HoldRow, OutcomeRow, Poll, PollRow, Repeat, ReplyKind, insert_hold, insert_outcome,

@@ -29,7 +29,7 @@ of_steps old new r Makes one = record {
 
 -- one question
 pub of_answer : {S A D E X : Type 0} (g : Ghosts S) (old new : Held S) (tree : ℕ) (columns : X → Row) (Answers : List X → A → Type 0) (a : A)
-    → AsksInside {X = A} {E = D} g old new (Ok a) → TellsAnswer {E = D} g old new tree columns (Ok a) Answers
+    → AsksInside {X = A} {E = D} g old new (Ok a) → TellsAnswer g old new tree columns (Ok a) Answers
     → Goes {X = A} {E = E} (state g old) (state g new) (Ok a) (Told tree columns Answers a)
 of_answer g old new tree columns Answers a asks tells = record {
   kept = λ clean inside content has. asks.kept clean content has;

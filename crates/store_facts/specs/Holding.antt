@@ -8,6 +8,7 @@ use Rattle.sqlite.specs.State.{HasCleanDisk, KeepsCommit}
 use Rattle.office_events.specs.declared.facts.Fact.{Fact}
 use Rattle.office_rules.specs.Lawful.{AreLawful}
 use Rattle.store_tables.specs.Content.{Content, AreTables}
+use Rattle.store_tables.specs.Failing.{GoesOn}
 use Rattle.store_facts.specs.Tables.{AreOf}
 
 -- A database has the tables of these facts.
@@ -40,7 +41,7 @@ module _ {S : Type 0} (g : Ghosts S) (zone : List ℕ) where
   LeavesFacts h left = HasCleanDisk (state g h) → (trees : Trees) → (state g h).may_leave trees
       → IsLeft zone left trees
 
-  -- A look-up outside a transaction commits nothing, and a stop leaves what it left.
+  -- A look-up outside a transaction commits nothing, and a stop leaves what it left. The store goes on.
   pub record OnlyLooks (old new : Held S) : Type 0 where
     pub clean : HasCleanDisk (state g new) → HasCleanDisk (state g old)
     pub mode : old.in_transaction ≡ false → new.in_transaction ≡ false
@@ -48,6 +49,8 @@ module _ {S : Type 0} (g : Ghosts S) (zone : List ℕ) where
         → KeepsCommit (state g old) (state g new)
     pub left : (facts : List Fact) → HoldsFacts old facts → HasCleanDisk (state g new)
         → (trees : Trees) → (state g new).may_leave trees → (state g old).may_leave trees
+    pub goes : (facts : List Fact) → HoldsFacts old facts → HasCleanDisk (state g new)
+        → GoesOn (state g old) (state g new)
 
   -- Facts that may follow those that are known were booked at Ok, all of them, and a stop leaves nothing else from then on.
   -- At a fault none is known, and a stop may yet leave all of them. To book no facts does nothing.

@@ -1,6 +1,7 @@
 //! Names, as texts of the tables.
 ghost use Rattle.std.specs.Prelude.{◌≡◌, IfOk, IfErr, IsUtf8};
 ghost use Rattle.office_events.specs.Names.{named};
+ghost use Rattle.store_tables.specs.declared.faults.RowFault.TheVariants.{Damaged};
 ghost use Rattle.store_tables.specs.Columns.{or_damaged};
 
 use office_events::Name;
@@ -10,7 +11,7 @@ use store_tables::RowFault;
 /// The text of a name. One that is no text is damage.
 pub fn text(name: &Name) -> Result<&str, RowFault>
     ensures text { IfOk result (λ text. text.now ≡ name.now) }
-    ensures fault { IsUtf8 name.now → IfErr result (λ _. ⊥) }
+    ensures fault { IfErr result (λ e. (e ≡ Damaged) × (¬ IsUtf8 name.now)) }
 {
     match str::from_utf8(name.as_bytes()) {
         Ok(text) => Ok(text),

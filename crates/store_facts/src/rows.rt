@@ -3,7 +3,7 @@ ghost use Rattle.std.specs.Prelude.{◌≡◌, ◌≤◌, true, IsTrue};
 ghost use Rattle.energy_core.specs.Account.{moment_of};
 ghost use Rattle.store_tables.specs.Columns.{is_within};
 ghost use Rattle.store_tables.specs.Limits.{IsPlace, latest_moment};
-ghost use Rattle.store_devices.specs.Devices.Rows.{IsSoundDevice, IsSoundRegister, IsSoundScale};
+ghost use Rattle.store_devices.specs.Devices.Rows.{IsSoundDevice, IsSoundRegister, IsSoundScale, fits_a_read};
 ghost use Rattle.store_tables.specs.Meters.Rows.{IsSoundInstallation};
 ghost use Rattle.store_tables.specs.Entries.Rows.{IsSoundEntry};
 ghost use Rattle.store_devices.specs.Polls.Rows.{IsSoundPoll};
@@ -46,7 +46,9 @@ fn scale(source: ScaleSource) -> RegisterScale
 pub fn register_row(register: Register, place: u64) -> RegisterRow
     ensures row { result ≡ (rows.registered place register).row }
     ensures sound { IsPlace place → register.address ≤ LAST_COUNTER
-        → IsSoundScale (rows.scale_as register.scale) → IsSoundRegister result }
+        → IsSoundScale (rows.scale_as register.scale)
+        → fits_a_read register.address (rows.scale_as register.scale) ≡ true
+        → IsSoundRegister result }
 {
     RegisterRow {
         place,

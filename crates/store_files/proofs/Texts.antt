@@ -9,6 +9,7 @@ use Rattle.sqlite_tied.specs.Compute.{everything}
 use Rattle.sqlite.specs.Listing.{understood, reads_listing}
 use Rattle.sqlite.proofs.Callers.{IsPlain, command_of, statement_of}
 use Rattle.sqlite.specs.Table.{Table}
+use Rattle.store_tables.proofs.Failures.{Suits, suits_scan}
 use Rattle.store_tables.proofs.Scans.{scan, no_limit}
 use Rattle.store_tables.specs.Schema.{books_schema, meta_table, devices_table, points_table, registers_table, installations_table, entries_table, polls_table, holds_table, outcomes_table, intervals_table, replies_table, ranges_table, voids_table}
 use Rattle.store_files.specs.declared.layouts.Layout.{Layout}
@@ -217,6 +218,12 @@ unfolding understood everything
 meta_rows_plain First = (refl, refl)
 meta_rows_plain Second = (refl, refl)
 meta_rows_plain Third = (refl, refl)
+
+pub meta_rows_suits : (layout : Layout) → Suits (schema_of layout) meta_rows []
+unfolding understood everything
+meta_rows_suits First = suits_scan 0 [] meta_rows_project [] no_limit meta_rows meta_rows_names [] (refl, refl, refl) (meta_rows_plain First) (meta_rows_unlisted First) (meta_rows_is First) refl
+meta_rows_suits Second = suits_scan 0 [] meta_rows_project [] no_limit meta_rows meta_rows_names [] (refl, refl, refl) (meta_rows_plain Second) (meta_rows_unlisted Second) (meta_rows_is Second) refl
+meta_rows_suits Third = suits_scan 0 [] meta_rows_project [] no_limit meta_rows meta_rows_names [] (refl, refl, refl) (meta_rows_plain Third) (meta_rows_unlisted Third) (meta_rows_is Third) refl
 
 -- ---- meters
 

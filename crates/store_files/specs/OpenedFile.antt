@@ -1,12 +1,13 @@
 -- What the row of `meta` tells to whom opens the file, and what the finding of it leaves.
-use Rattle.std.specs.Prelude.{◌≡◌, ◌≢◌, ℕ, [], ◌∷◌, Vec, Result, OnOk, IfOk, IfErr, IsUtf8}
+use Rattle.std.specs.Prelude.{◌≡◌, ◌≢◌, ◌⊎◌, ℕ, [], ◌∷◌, Vec, Result, Err, OnOk, OnErr, IfOk, IfErr, IsUtf8}
 use Rattle.sqlite.specs.Order.{Row}
 use Rattle.sqlite.specs.State.{State, KeepsCommit, Survives, IsUnchanged}
 use Rattle.interval_core.specs.declared.zone.Zone.{Zone}
 use Rattle.interval_core.specs.Zone.{HasRule}
 use Rattle.store_tables.specs.Content.{Content}
 use Rattle.store_files.specs.declared.faults.OpenFault.{OpenFault}
-use Rattle.store_files.specs.declared.faults.OpenFault.TheVariants.{NotOurs, Zone as NoZone}
+use Rattle.store_files.specs.declared.faults.OpenFault.TheVariants.{NotOurs, Zone as NoZone, Memory}
+use Rattle.store_files.specs.Faults.{IsOwnFault}
 use Rattle.store_files.specs.declared.layouts.Layout.{Layout}
 use Rattle.store_files.specs.Layouts.{version_of}
 use Rattle.store_files.specs.Meta.{Meta, meta_shown, IsMarked}
@@ -17,13 +18,26 @@ abbrev pub ShowsMeta : {Z : Type 0} → Content → (old new : State) → Vec Ro
 ShowsMeta content old new rows =
     IsUnchanged old new × ((m : Meta) → IsMarked m content → rows.items ≡ meta_shown m ∷ [])
 
--- A file that tells another version is not opened, nor one whose zone is none. A file of this version is ours, and its zone is answered.
-pub record TellsOpening (version : ℕ) (m : Meta) (result : Result Zone OpenFault) : Type 0 where
-  pub other : m.version ≢ version → OnOk result ⊥ × IfErr result (λ e. e ≢ NoZone)
+-- What the row of `meta` tells: another version is not ours, and a text that is no zone is none.
+pub record ReadsMeta (version : ℕ) (m : Meta) (result : Result Zone OpenFault) : Type 0 where
+  pub other : m.version ≢ version → result ≡ Err NotOurs
+  pub ours : m.version ≡ version → IfErr result (λ e. (e ≡ NoZone) ⊎ (e ≡ Memory))
+  pub zone : IfOk result (HasRule m.zone)
+  pub rule : IsUtf8 m.zone → IsZone m.zone → IfErr result (λ e. e ≢ NoZone)
+  pub none : (IsZone m.zone → ⊥) → OnOk result ⊥
+
+-- A file that tells another version is not opened, nor one whose zone is none, and the fault tells which, unless the store
+-- itself failed. A file of this version is ours, and its zone is answered.
+pub record TellsOpening (version : ℕ) (m : Meta) (old new : State) (result : Result Zone OpenFault) :
+    Type 0 where
+  pub other : m.version ≢ version
+      → OnOk result ⊥ × IfErr result (λ e. (e ≡ NotOurs) ⊎ IsOwnFault old new e)
   pub ours : m.version ≡ version → IfErr result (λ e. e ≢ NotOurs)
   pub zone : IfOk result (HasRule m.zone)
   pub rule : IsUtf8 m.zone → IsZone m.zone → IfErr result (λ e. e ≢ NoZone)
   pub none : (IsZone m.zone → ⊥) → OnOk result ⊥
+      × (m.version ≡ version → IfErr result (λ e. (e ≡ NoZone) ⊎ IsOwnFault old new e))
+  pub kept : OnErr result (KeepsCommit old new)
 
 -- The zone is asked for where the tables are those of this layout. The question changes nothing and commits nothing.
 pub record FindsZone (layout : Layout) (content : Content) (old new : State)
@@ -31,4 +45,4 @@ pub record FindsZone (layout : Layout) (content : Content) (old new : State)
   pub kept : KeepsCommit old new
   pub unchanged : OnOk result (IsUnchanged old new)
   pub survives : Survives old new (λ _. ⊥)
-  pub told : (m : Meta) → IsMarked m content → TellsOpening (version_of layout) m result
+  pub told : (m : Meta) → IsMarked m content → TellsOpening (version_of layout) m old new result

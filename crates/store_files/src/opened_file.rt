@@ -10,7 +10,8 @@ ghost use Rattle.store_files.specs.Layouts.{version_of, schema_of, IsNamedAs};
 ghost use Rattle.store_files.specs.Meta.{Meta, meta_shown, IsMarked};
 ghost use Rattle.store_files.specs.Zones.{IsZone};
 ghost use Rattle.store_files.specs.Upgrade.{IsFile, OpensFile, IsOpenTo};
-ghost use Rattle.store_files.specs.OpenedFile.{ShowsMeta, TellsOpening, FindsZone};
+ghost use Rattle.store_files.specs.OpenedFile.{ShowsMeta, ReadsMeta, TellsOpening, FindsZone};
+ghost use Rattle.store_tables.specs.Failing.{IsStoreError};
 
 use crate::faults::{OpenFault, fault_of};
 use crate::layouts::{Layout, layout_of};
@@ -30,6 +31,9 @@ fn meta_rows<S: Alter>(conn: &mut Connection<S>) -> Result<Vec<Row>, Error>
     ensures shows { HasCleanDisk (state S.Store conn.new) → (layout : TheLayout) (content : Content)
         → AreTablesIn (schema_of layout) (state S.Store conn.old).now content
         → IfOk result (ShowsMeta content (state S.Store conn.old) (state S.Store conn.new)) }
+    ensures fails { HasCleanDisk (state S.Store conn.new) → (layout : TheLayout) (content : Content)
+        → AreTablesIn (schema_of layout) (state S.Store conn.old).now content
+        → IfErr result (IsStoreError (state S.Store conn.old) (state S.Store conn.new)) }
     ensures survives { (layout : TheLayout) (content : Content)
         → AreTablesIn (schema_of layout) (state S.Store conn.old).now content
         → Survives (state S.Store conn.old) (state S.Store conn.new) (λ _. ⊥) }
@@ -46,7 +50,8 @@ fn has_version(row: &Row, version: u64) -> bool
 
 /// The zone that the row of `meta` tells.
 fn told_zone(row: &Row) -> Result<Zone, OpenFault>
-    ensures ours { IfErr result (λ e. e ≢ OpenFault.NotOurs) }
+    ensures fault { (m : Meta) → row.now ≡ meta_shown m
+        → IfErr result (λ e. (e ≡ OpenFault.Zone) ⊎ (e ≡ OpenFault.Memory)) }
     ensures zone { (m : Meta) → row.now ≡ meta_shown m
         → IfOk result (λ zone. HasRule m.zone zone × IsZone m.zone) }
     ensures rule { (m : Meta) → row.now ≡ meta_shown m → IsUtf8 m.zone → IsZone m.zone
@@ -61,7 +66,7 @@ fn told_zone(row: &Row) -> Result<Zone, OpenFault>
 
 /// The zone that the rows of `meta` tell, if they tell this version.
 fn zone_in(rows: &[Row], version: u64) -> Result<Zone, OpenFault>
-    ensures tells { (m : Meta) → rows.now ≡ meta_shown m ∷ [] → TellsOpening version m result }
+    ensures tells { (m : Meta) → rows.now ≡ meta_shown m ∷ [] → ReadsMeta version m result }
 {
     match rows {
         [row] => {
@@ -111,8 +116,11 @@ fn open_settled<S: Alter>(conn: &mut Connection<S>, layout: Layout) -> Result<Zo
     ensures autocommit { conn.new.in_transaction ≡ false }
     ensures clean { HasCleanDisk (state S.Store conn.new) → HasCleanDisk (state S.Store conn.old) }
     ensures told { HasCleanDisk (state S.Store conn.new) → (content : Content)
+        → IsTrue (state S.Store conn.old).is_open
+        → (state S.Store conn.old).now ≡ (state S.Store conn.old).committed
         → AreTablesIn (schema_of layout) (state S.Store conn.old).now content
-        → (m : Meta) → IsMarked m content → TellsOpening (version_of layout) m result }
+        → (m : Meta) → IsMarked m content → TellsOpening (version_of layout) m
+        (state S.Store conn.old) (state S.Store conn.new) result }
     ensures opened { HasCleanDisk (state S.Store conn.new) → (zone : _) (content : Content)
         → IsOpenTo layout zone content (state S.Store conn.old)
         → OpensFile layout zone content (state S.Store conn.old) (state S.Store conn.new) result }
@@ -133,7 +141,8 @@ fn open_as<S: Alter>(conn: &mut Connection<S>, found: Layout) -> Result<Zone, Op
     ensures told { HasCleanDisk (state S.Store conn.new) → IsTrue (state S.Store conn.old).is_open
         → (layout : TheLayout) (content : Content)
         → AreTablesIn (schema_of layout) (state S.Store conn.old).committed content
-        → (m : Meta) → IsMarked m content → TellsOpening (version_of layout) m result }
+        → (m : Meta) → IsMarked m content → TellsOpening (version_of layout) m
+        (state S.Store conn.old) (state S.Store conn.new) result }
     ensures opened { HasCleanDisk (state S.Store conn.new)
         → (layout : TheLayout) (zone : _) (content : Content)
         → (IsTrue (state S.Store conn.old).is_open
@@ -162,7 +171,8 @@ pub fn open<S: Alter>(conn: &mut Connection<S>) -> Result<Zone, OpenFault>
         → IsTrue (state S.Store conn.old).is_open
         → (layout : TheLayout) (content : Content)
         → AreTablesIn (schema_of layout) (state S.Store conn.old).committed content
-        → (m : Meta) → IsMarked m content → TellsOpening (version_of layout) m result }
+        → (m : Meta) → IsMarked m content → TellsOpening (version_of layout) m
+        (state S.Store conn.old) (state S.Store conn.new) result }
     ensures opened { HasCleanDisk (state S.Store conn.new)
         → (layout : TheLayout) (zone : _) (content : Content)
         → (IsTrue (state S.Store conn.old).is_open

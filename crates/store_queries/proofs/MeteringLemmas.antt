@@ -1,6 +1,5 @@
 pub mod Orders
 pub mod Picked
-pub mod Looked
 pub mod Found
 pub mod Shared
 pub mod Handed

@@ -1,4 +1,4 @@
+pub mod Sound
 pub mod Looking
 pub mod Meters
 pub mod Entries
-pub mod Places

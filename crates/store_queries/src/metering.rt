@@ -11,5 +11,5 @@ mod streams;
 pub use entries::entry;
 pub use journal::journal_rows;
 pub use meters::{installation, installation_count, meter};
-pub use places::{are_numbered, tally};
+pub use places::tally;
 pub use streams::{intervals, register_intervals};

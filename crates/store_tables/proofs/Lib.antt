@@ -9,6 +9,7 @@ pub mod Scans
 pub mod Updates
 pub mod Selects
 pub mod Apart
+pub mod Failures
 pub mod StepLemmas
 pub mod LookUps
 pub mod ReadLemmas

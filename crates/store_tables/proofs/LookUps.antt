@@ -1,5 +1,5 @@
 -- From the rows that a query shows to what a look-up answers.
-use Rattle.std.proofs.Common.{◌≡◌, ◌≢◌, ◌≤◌, ℕ, List, [], ◌∷◌, map, take, slice_get, Bool, Option, Some, None, Ok, Err, Result, IfOk, IfSome, IsErrAnd, refl, sym, ap, subst, ◌∙◌}
+use Rattle.std.proofs.Common.{◌≡◌, ◌≤◌, ℕ, List, [], ◌∷◌, map, take, slice_get, Bool, Option, Some, None, Ok, Err, Result, IfOk, IfSome, IsErrAnd, refl, sym, ap, subst, ◌∙◌}
 use Rattle.std.specs.List.{AllByRecursion}
 use Rattle.std.proofs.lemmas.List.Sorted.{All-permutation}
 use Rattle.std.proofs.lemmas.List.Elements.{All-from_recursion, recursion_from_All}
@@ -7,20 +7,31 @@ use Rattle.sqlite_keyed.proofs.ListLemmas.{all-filter}
 use Rattle.sqlite.specs.Order.{Row, column}
 use Rattle.sqlite.specs.declared.error.Error.{Error}
 use Rattle.sqlite.specs.Store.{Ghosts}
-use Rattle.sqlite.specs.Held.{Held}
+use Rattle.sqlite.specs.Held.{Held, state}
+use Rattle.sqlite.specs.State.{HasCleanDisk}
 use Rattle.store_tables.specs.declared.faults.RowFault.{RowFault}
-use Rattle.store_tables.specs.declared.faults.RowFault.TheVariants.{Sql, Damaged}
+use Rattle.store_tables.specs.declared.faults.RowFault.TheVariants.{Sql}
 use Rattle.store_tables.specs.Answer.{AreFound}
+use Rattle.store_tables.specs.Content.{Content, AreTables, HasRows}
+use Rattle.store_tables.specs.Failing.{IsStoreError, IsFault}
+use Rattle.store_tables.proofs.Failures.{row_fault}
 use Rattle.store_tables.specs.Columns.{whole_in, first_of, first_in, or_damaged, and_then}
 use Rattle.store_tables.specs.Asking.{Asks, TellsAnswer, ShowsFirst, ReadsRow, LooksUp}
 
 module _ {S A X : Type 0} (g : Ghosts S) (old new : Held S) (tree : ℕ) (columns : X → Row) (IsSound : X → Type 0) (Answers : List X → A → Type 0) (asks : Asks g old new) where
   -- the query failed
-  pub refused : (e : Error) → LooksUp g old new tree columns IsSound (Err (Sql e)) Answers
-  refused e = record { asks = asks; answer = λ clean content has rows of. tt; fault = λ clean content has rows of sound is. let f = is in cc }
+  pub refused : (e : Error) (r : Result A RowFault)
+      → (HasCleanDisk (state g new) → (content : Content) → AreTables (state g old).now content → (rows : List X) → HasRows tree columns rows content → IsStoreError (state g old) (state g new) e)
+      → IsErrAnd r (λ d. d ≡ Sql e) → LooksUp g old new tree columns IsSound r Answers
+  refused e (Ok a) fails is = absurd is
+  refused e (Err d) fails is = record {
+    asks = asks;
+    answer = λ clean content has rows of. tt;
+    fault = λ clean content has rows of. subst (IsFault (state g old) (state g new) (AllByRecursion IsSound rows)) (sym is) (fails clean content has rows of);
+  }
 
 module _ {S A X : Type 0} (g : Ghosts S) (old new : Held S) (tree : ℕ) (columns : X → Row) (IsSound : X → Type 0) (asks : Asks g old new) (passes : X → Bool) (Later : X → X → Type 0) (shown : X → Row)
-    (items : List Row) (shows : TellsAnswer {E = Error} g old new tree columns (Ok items) (ShowsFirst passes Later shown)) (Answers : List X → Option A → Type 0) where
+    (items : List Row) (shows : TellsAnswer {A = List Row} g old new tree columns (Ok items) (ShowsFirst passes Later shown)) (Answers : List X → Option A → Type 0) where
   is_empty : (rows : List Row) → slice_get rows 0 ≡ None → rows ≡ []
   is_empty [] e = refl
   is_empty (r ∷ rows) e = absurd (let f = e in cc)
@@ -38,7 +49,7 @@ module _ {S A X : Type 0} (g : Ghosts S) (old new : Held S) (tree : ℕ) (column
   looked_none is tells = record {
     asks = asks;
     answer = λ clean content has rows of. let it = shows clean content has rows of in tells rows it.0 it.1 (none_shown it.0 (sym (is_empty items is) ∙ it.2));
-    fault = λ clean content has rows of sound. tt;
+    fault = λ clean content has rows of. tt;
   }
 
   -- the first row is read
@@ -50,7 +61,7 @@ module _ {S A X : Type 0} (g : Ghosts S) (old new : Held S) (tree : ℕ) (column
         let it = shows clean content has rows of in
         let one = some_shown row it.0 is it.2 in
         tells rows it.0 one.0 it.1 one.1 (reads.read one.0 one.2);
-    fault = λ clean content has rows of sound. tt;
+    fault = λ clean content has rows of. tt;
   }
 
   one_sound : (xs found : List X) (x : X) → AreFound passes Later xs found → AllByRecursion IsSound xs → slice_get found 0 ≡ Some x → IsSound x
@@ -66,16 +77,17 @@ module _ {S A X : Type 0} (g : Ghosts S) (old new : Held S) (tree : ℕ) (column
   looked_fault IsSeen row e (Err d) is reads fails = record {
     asks = asks;
     answer = λ clean content has rows of. tt;
-    fault = λ clean content has rows of sound.
+    fault = λ clean content has rows of.
         let it = shows clean content has rows of in
         let one = some_shown row it.0 is it.2 in
-        subst (λ f. f ≢ Damaged) (sym fails) (reads.fault one.0 one.2 (one_sound rows it.0 one.0 it.1 sound one.1));
+        subst (IsFault (state g old) (state g new) (AllByRecursion IsSound rows)) (sym fails)
+        (row_fault (state g old) (state g new) (AllByRecursion IsSound rows) (IsSound one.0) e (λ sound. one_sound rows it.0 one.0 it.1 sound one.1) (reads.fault one.0 one.2));
   }
 
 -- ---- the number of the first row
 
 module _ {S X : Type 0} (g : Ghosts S) (old new : Held S) (tree : ℕ) (columns : X → Row) (IsSound : X → Type 0) (asks : Asks g old new) (passes : X → Bool) (Later : X → X → Type 0) (shown : X → Row)
-    (items : List Row) (shows : TellsAnswer {E = Error} g old new tree columns (Ok items) (ShowsFirst passes Later shown)) (Answers : List X → Option ℕ → Type 0) (low high : ℕ) (of : X → ℕ)
+    (items : List Row) (shows : TellsAnswer {A = List Row} g old new tree columns (Ok items) (ShowsFirst passes Later shown)) (Answers : List X → Option ℕ → Type 0) (low high : ℕ) (of : X → ℕ)
     (reads : (row : Row) (r : Result ℕ RowFault) → r ≡ or_damaged (whole_in low high (column row 0)) → ReadsRow row shown (λ x n. n ≡ of x) IsSound r)
     (none : (xs found : List X) → AreFound passes Later xs found → slice_get found 0 ≡ None → Answers xs None)
     (some : (xs found : List X) (x : X) (n : ℕ) → AreFound passes Later xs found → slice_get found 0 ≡ Some x → n ≡ of x → Answers xs (Some n)) where

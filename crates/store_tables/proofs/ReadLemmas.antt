@@ -8,19 +8,25 @@ use Rattle.sqlite.specs.declared.types.Value.{Value}
 use Rattle.sqlite.specs.declared.types.Value.TheVariants.{Null, Int, Real, Text, Blob}
 use Rattle.sqlite.specs.Order.{Row, column}
 use Rattle.store_tables.specs.declared.faults.RowFault.{RowFault}
-use Rattle.store_tables.specs.declared.faults.RowFault.TheVariants.{Damaged}
+use Rattle.store_tables.specs.declared.faults.RowFault.TheVariants.{Sql, Damaged}
+use Rattle.store_tables.specs.Failing.{IsRowFault}
 use Rattle.store_tables.specs.Columns.{whole_in, within, is_within, function_in, or_damaged, and_then}
 use Rattle.store_tables.specs.Asking.{ReadsRow}
 
 -- It reads as this, and is damaged only where it is unsound.
 pub record IsFair {A : Type 0} (Sound : Type 0) (Is : A → Type 0) (result : Result A RowFault) : Type 0 where
   pub read : IfOk result Is
-  pub fault : Sound → IfErr result (λ e. e ≢ Damaged)
+  pub fault : IfErr result (IsRowFault Sound)
+
+-- what is not sound has a part that is not
+pub less_sound : (Sound Part : Type 0) → (Sound → Part) → (e : RowFault) → IsRowFault Part e → IsRowFault Sound e
+less_sound Sound Part part (Sql e) is = is
+less_sound Sound Part part Damaged not = λ sound. not (part sound)
 
 module _ {A B : Type 0} (Sound : Type 0) (Is : B → Type 0) (next : A → Result B RowFault) where
   tested : (b : Bool) (x : A) → (Sound → b ≡ true) → IsFair Sound Is (next x) → IsFair Sound Is (and_then (or_damaged (if b then Some x else None)) next)
   tested true x sound rest = rest
-  tested false x sound rest = record { read = tt; fault = λ is e. absurd (let f = sound is in cc) }
+  tested false x sound rest = record { read = tt; fault = λ is. let f = sound is in cc }
 
   -- a column that is read as it is
   pub fair_some : (o : Option A) (x : A) → o ≡ Some x → IsFair Sound Is (next x) → IsFair Sound Is (and_then (or_damaged o) next)
@@ -39,13 +45,13 @@ module _ {B : Type 0} (Sound : Type 0) (Is : B → Type 0) where
   fair_within next bound n sound rest = tested Sound Is next (is_within bound n) n sound rest
 
   if_fair : (b : Bool) (x : B) → (Sound → b ≡ true) → Is x → IsFair Sound Is (or_damaged (if b then Some x else None))
-  if_fair true x sound is = record { read = is; fault = λ s. tt }
-  if_fair false x sound is = record { read = tt; fault = λ s e. absurd (let f = sound s in cc) }
+  if_fair true x sound is = record { read = is; fault = tt }
+  if_fair false x sound is = record { read = tt; fault = λ s. let f = sound s in cc }
 
   -- a part of the row that is read by itself
   pub fair_then : {A : Type 0} (Part : Type 0) (a : A) (first : Result A RowFault) (next : A → Result B RowFault) → (Sound → Part) → IsFair Part (λ x. x ≡ a) first → IsFair Sound Is (next a) → IsFair Sound Is (and_then first next)
   fair_then Part a (Ok x) next part one rest = subst (λ y. IsFair Sound Is (next y)) (sym one.read) rest
-  fair_then Part a (Err e) next part one rest = record { read = tt; fault = λ s. one.fault (part s) }
+  fair_then Part a (Err e) next part one rest = record { read = tt; fault = less_sound Sound Part part e one.fault }
 
 -- the last number of a row
 pub fair_last : (Sound : Type 0) (Is : ℕ → Type 0) (low high n : ℕ) → (Sound → (low ≤ n) × (n ≤ high)) → Is n → IsFair Sound Is (or_damaged (whole_in low high (Int (pos n))))

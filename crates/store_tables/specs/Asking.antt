@@ -1,12 +1,13 @@
 -- What a question does and answers.
-use Rattle.std.specs.Prelude.{◌≡◌, ◌≢◌, ℕ, Bool, false, List, take, map, Result, Vec, IsTrue, IfOk, IfErr, OnOk}
+use Rattle.std.specs.Prelude.{◌≡◌, ℕ, Bool, false, List, take, map, Result, Vec, IsTrue, IfOk, IfErr, OnOk, MatchResult}
 use Rattle.std.specs.List.{AllByRecursion}
 use Rattle.sqlite.specs.Order.{Row}
+use Rattle.sqlite.specs.declared.error.Error.{Error}
 use Rattle.sqlite.specs.Store.{Ghosts}
 use Rattle.sqlite.specs.Held.{Held, state}
 use Rattle.sqlite.specs.State.{HasCleanDisk, KeepsCommit, Survives}
 use Rattle.store_tables.specs.declared.faults.RowFault.{RowFault}
-use Rattle.store_tables.specs.declared.faults.RowFault.TheVariants.{Damaged}
+use Rattle.store_tables.specs.Failing.{IsStoreError, IsFault, IsRowFault}
 use Rattle.store_tables.specs.Content.{Content, AreTables, HasRows}
 use Rattle.store_tables.specs.Answer.{AreFound}
 
@@ -42,33 +43,38 @@ abbrev pub ShowsFirst : {X : Type 0} → (passes : X → Bool) → (Later : X �
 ShowsFirst {X} passes Later shown rows answer =
     (found : List X) × AreFound passes Later rows found × (answer ≡ take 1 (map shown found))
 
--- The answer is told of the rows of one table, whatever they are.
-abbrev pub TellsAnswer : {S A E X : Type 0} → Ghosts S → (old new : Held S) → (tree : ℕ)
-    → (columns : X → Row) → (result : Result A E) → (Answers : List X → A → Type 0) → Type 0
-TellsAnswer {S} {A} {E} {X} g old new tree columns result Answers =
+-- The answer is told of the rows of one table, whatever they are. An error is one of the store's own.
+abbrev pub TellsAnswer : {S A X : Type 0} → Ghosts S → (old new : Held S) → (tree : ℕ)
+    → (columns : X → Row) → (result : Result A Error) → (Answers : List X → A → Type 0) → Type 0
+TellsAnswer {S} {A} {X} g old new tree columns result Answers =
     HasCleanDisk (state g new) → (content : Content) → AreTables (state g old).now content
-    → (rows : List X) → HasRows tree columns rows content → IfOk result (Answers rows)
+    → (rows : List X) → HasRows tree columns rows content
+    → MatchResult result (Answers rows) (IsStoreError (state g old) (state g new))
 
 -- the same where the answer is rows too
-abbrev pub TellsRows : {S E X Z : Type 0} → Ghosts S → (old new : Held S) → (tree : ℕ)
-    → (columns : X → Row) → (result : Result (Vec Row Z) E)
+abbrev pub TellsRows : {S X Z : Type 0} → Ghosts S → (old new : Held S) → (tree : ℕ)
+    → (columns : X → Row) → (result : Result (Vec Row Z) Error)
     → (Answers : List X → List Row → Type 0) → Type 0
-TellsRows {S} {E} {X} {Z} g old new tree columns result Answers =
+TellsRows {S} {X} {Z} g old new tree columns result Answers =
     TellsAnswer g old new tree columns result (λ rows answer. Answers rows answer.items)
 
--- A row that stands for a value is read as that value. Damage is told only where the value is out of its ranges.
+-- A row that stands for a value is read as that value. Damage is told only of a value out of its ranges, and where it is
+-- not, only want of memory keeps it from being read.
 pub record ReadsRow {A X : Type 0} (row : Row) (shown : X → Row) (IsSeen : X → A → Type 0)
     (IsSound : X → Type 0) (result : Result A RowFault) : Type 0 where
   pub read : (x : X) → row ≡ shown x → IfOk result (IsSeen x)
-  pub fault : (x : X) → row ≡ shown x → IsSound x → IfErr result (λ e. e ≢ Damaged)
+  pub fault : (x : X) → row ≡ shown x → IfErr result (IsRowFault (IsSound x))
 
--- A look-up asks, and answers of the rows of one table. Damage is told only where some row is out of its ranges.
+-- A look-up asks, and answers of the rows of one table. Damage is told only where some row is out of its ranges, and any
+-- other fault is one of the store's own.
 pub record LooksUp {S A X : Type 0} (g : Ghosts S) (old new : Held S) (tree : ℕ) (columns : X → Row)
     (IsSound : X → Type 0) (result : Result A RowFault) (Answers : List X → A → Type 0) : Type 0
   where
     pub asks : Asks g old new
-    pub answer : TellsAnswer g old new tree columns result Answers
+    pub answer : HasCleanDisk (state g new) → (content : Content)
+        → AreTables (state g old).now content
+        → (rows : List X) → HasRows tree columns rows content → IfOk result (Answers rows)
     pub fault : HasCleanDisk (state g new) → (content : Content)
         → AreTables (state g old).now content
-        → (rows : List X) → HasRows tree columns rows content → AllByRecursion IsSound rows
-        → IfErr result (λ e. e ≢ Damaged)
+        → (rows : List X) → HasRows tree columns rows content
+        → IfErr result (IsFault (state g old) (state g new) (AllByRecursion IsSound rows))

@@ -3,6 +3,7 @@ pub mod Content
 pub mod Steps
 pub mod Answer
 pub mod Columns
+pub mod Failing
 pub mod Asking
 pub mod Limits
 pub mod Meters

@@ -1,10 +1,8 @@
 //! Columns of a row that a query answered.
 ghost use Rattle.std.specs.Prelude.{◌≡◌, ◌≤◌, string_bytes, IsUtf8, IfOk, IfErr, IfSome};
 ghost use Rattle.sqlite.specs.declared.types.Value.TheVariants.{Text};
-ghost use Rattle.sqlite.specs.declared.error.ErrorCode.TheVariants.{OutOfMemory};
-ghost use Rattle.sqlite.specs.declared.error.Error.TheVariants.{SqliteFailure};
 ghost use Rattle.sqlite.specs.Order.{column};
-ghost use Rattle.store_tables.specs.declared.faults.RowFault.TheVariants.{Sql};
+ghost use Rattle.store_tables.specs.Failing.{IsRowFault};
 ghost use Rattle.store_tables.specs.Columns.{whole_in, first_in, within, function_in, or_damaged};
 
 use crate::faults::RowFault;
@@ -71,11 +69,10 @@ pub fn function(row: &Row, at: usize) -> Result<ReadFunction, RowFault>
     }
 }
 
-/// A column that is a text.
+/// A column that is a text. One that is none, or no UTF-8, is damage.
 pub fn text(row: &Row, at: usize) -> Result<String, RowFault>
     ensures read { IfOk result (λ s. column row.now at ≡ Text (string_bytes s)) }
-    ensures fault { (t : _) → column row.now at ≡ Text t → IsUtf8 t
-        → IfErr result (λ e. e ≡ Sql (SqliteFailure OutOfMemory)) }
+    ensures fault { (t : _) → column row.now at ≡ Text t → IfErr result (IsRowFault (IsUtf8 t)) }
 {
     match row.get::<String>(at) {
         Ok(text) => Ok(text),

@@ -1,7 +1,8 @@
 //! A call that finds out whether the store still answers.
-ghost use Rattle.std.specs.Prelude.{◌≡◌, false, IsTrue, OnOk};
+ghost use Rattle.std.specs.Prelude.{◌≡◌, false, IsTrue, OnOk, IfErr};
 ghost use Rattle.sqlite.specs.State.{HasCleanDisk, KeepsCommit, Survives};
 ghost use Rattle.sqlite.specs.Held.{state};
+ghost use Rattle.store_tables.specs.Failing.{IsStoreError};
 
 use sqlite::{Alter, Connection, Error};
 
@@ -14,6 +15,8 @@ pub fn check_open<S: Alter>(conn: &mut Connection<S>) -> Result<(), Error>
         × ((state S.Store conn.new).now ≡ (state S.Store conn.new).committed)) }
     ensures kept { HasCleanDisk (state S.Store conn.new)
         → KeepsCommit (state S.Store conn.old) (state S.Store conn.new) }
+    ensures fails { HasCleanDisk (state S.Store conn.new)
+        → IfErr result (IsStoreError (state S.Store conn.old) (state S.Store conn.new)) }
     ensures survives { Survives (state S.Store conn.old) (state S.Store conn.new) (λ _. ⊥) }
 {
     let _plan = conn.prepare("SELECT 1")?;

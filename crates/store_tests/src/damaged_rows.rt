@@ -60,6 +60,20 @@ fn rows_of_devices(rt: HostRuntime) -> Result<(), Fail> {
     Ok(())
 }
 
+/// The first scale that one read of 125 registers doesn't reach with its counter at 40094, and the last that it does.
+const FAR: &str = "UPDATE registers SET scale = 40219 WHERE name = 'main'";
+
+const NEAR: &str = "UPDATE registers SET scale = 40218 WHERE name = 'main'";
+
+#[test]
+fn scales_that_one_read_reaches(rt: HostRuntime) -> Result<(), Fail> {
+    let mut far = devices_changed(rt.alloc(), FAR)?;
+    assert!(rt; is_damage(register_of(&mut far, "main")));
+    let mut near = devices_changed(rt.alloc(), NEAR)?;
+    assert!(rt; matches!(register_of(&mut near, "main"), Ok(Some(_))));
+    Ok(())
+}
+
 /// Three polls and a kept request after this was done.
 fn polls_changed(alloc: Global, change: &str) -> Result<Connection<MemStore>, Error> {
     let mut conn = three_polls(alloc)?;

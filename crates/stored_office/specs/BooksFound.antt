@@ -10,7 +10,7 @@ use Rattle.office_store.specs.Stored.{ledger_of}
 use Rattle.office_store.specs.Database.{HasFile, HoldsAlone}
 use Rattle.office_store.specs.declared.books.SqlBooks.{SqlBooks}
 use Rattle.office_program.specs.Report.{TellsReport}
-use Rattle.office_program.specs.HttpPort.{TellsServing}
+use Rattle.office_program.specs.HttpPort.{Port, TellsServing}
 use Rattle.office_program.specs.PortRound.{TellsPolling}
 use Rattle.office_program.specs.declared.http_port.ServeEnd.{ServeEnd}
 use Rattle.office_program.specs.declared.port_round.PollEnd.{PollEnd}
@@ -41,10 +41,10 @@ module _ {S : Type 0} (g : Ghosts S) where
   Reports past register moments later had holds status = OverBooks past (λ found left.
       TellsReport ledger_in past register moments later found left had holds status)
 
-  abbrev pub Serves : (past : History) → (connections : ℕ)
+  abbrev pub Serves : (past : History) → Port
       → (moments later had holds : Option (List ℕ)) → ServeEnd → Type 0
-  Serves past connections moments later had holds end = OverBooks past (λ found left.
-      TellsServing ledger_in past connections moments later found left had holds end)
+  Serves past at moments later had holds end = OverBooks past (λ found left.
+      TellsServing ledger_in past at moments later found left had holds end)
 
   abbrev pub Polls : (past : History) → (device : List ℕ)
       → (moments later had holds : Option (List ℕ)) → PollEnd → Type 0

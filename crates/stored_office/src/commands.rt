@@ -4,6 +4,8 @@ ghost use Rattle.office_rules.specs.History.{History};
 ghost use Rattle.store_files.specs.declared.layouts.Layout.{Layout as TheLayout};
 ghost use Rattle.store_files.specs.Layouts.{no_schema, IsNamedAs};
 ghost use Rattle.store_files.specs.Zones.{IsZone};
+ghost use Rattle.http_request.specs.Hosts.{texts};
+ghost use Rattle.office_program.specs.HttpPort.{port};
 ghost use Rattle.stored_office.specs.BooksFound.{HasPast, Reports, Serves, Polls};
 
 use command_io::ExitStatus;
@@ -61,11 +63,12 @@ pub fn report_stored<S: Alter + Drop, C: Clock, W: Write>(
 
 /// Finds the books of a database, and serves HTTP over them, as `serve_books` does. Where there are no books, nothing is
 /// printed.
-pub fn serve_stored<R: Net, S: Alter + Drop, C: Clock, W: Write>(
-    net: &R,
+pub fn serve_stored<R: Net + std::rt::Clock, S: Alter + Drop, C: Clock, W: Write>(
+    rt: &R,
     alloc: Global,
     connection: Connection<S>,
     place: (&str, u16),
+    names: &[&str],
     connections: u32,
     clock: &mut C,
     output: &mut W,
@@ -74,12 +77,12 @@ pub fn serve_stored<R: Net, S: Alter + Drop, C: Clock, W: Write>(
         → result ≡ Err OpenFault.NotOurs }
     ensures silent { IfErr result (λ fault. output.new ≡ output.old) }
     ensures serves { (past : History) → HasPast S.Store connection past
-        → IfOk result (Serves S.Store past connections (C.moments clock.old) (C.moments clock.new)
-        (W.contents output.old) (W.contents output.new)) }
+        → IfOk result (Serves S.Store past (port (texts names.now) connections)
+        (C.moments clock.old) (C.moments clock.new) (W.contents output.old) (W.contents output.new)) }
 {
     match SqlBooks::open(alloc, connection) {
         Ok(books) => {
-            let done = serve_books(net, alloc, books, place, connections, clock, output);
+            let done = serve_books(rt, alloc, books, place, names, connections, clock, output);
             Ok(done.end)
         }
         Err(unopened) => Err(unopened.fault),

@@ -1,6 +1,7 @@
 //! The commands, over the streams and sockets of the process.
 use crate::offices::{create, report, round, run, serve};
 use crate::run_words::settings_of;
+use crate::scans::{Target, scan};
 use command_io::{Buffered, ExitStatus};
 use command_words::CommandLine;
 use interval_core::Zone;
@@ -19,6 +20,22 @@ pub(crate) fn carry_out<'a>(rt: &HostRuntime, line: &CommandLine<'a>) -> Ending<
         CommandLine::Loop { zone } => run_loop(rt, *zone),
         CommandLine::Plan => print_plan(rt),
         CommandLine::Chain => print_chain(rt),
+        CommandLine::Scan {
+            host,
+            port,
+            unit,
+            timeout,
+            list,
+            setup,
+        } => {
+            let target = Target {
+                host: *host,
+                port: *port,
+                unit: *unit,
+                timeout: *timeout,
+            };
+            scan(rt, target, *list, *setup)
+        }
         CommandLine::StandIn {
             host,
             port,
@@ -29,7 +46,8 @@ pub(crate) fn carry_out<'a>(rt: &HostRuntime, line: &CommandLine<'a>) -> Ending<
             db,
             port,
             connections,
-        } => serve(rt, *db, *port, *connections),
+            host_names,
+        } => serve(rt, *db, *port, host_names.as_slice(), *connections),
         CommandLine::Round {
             db,
             device,
@@ -43,9 +61,10 @@ pub(crate) fn carry_out<'a>(rt: &HostRuntime, line: &CommandLine<'a>) -> Ending<
             every,
             devices,
             lasts,
+            host_names,
             verbose,
         } => {
-            let settings = settings_of(*listen, *every, *lasts, *verbose);
+            let settings = settings_of(*listen, *every, *lasts, host_names.as_slice(), *verbose);
             run(rt, *db, devices, &settings)
         }
     }

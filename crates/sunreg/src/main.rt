@@ -7,10 +7,13 @@ ghost use Rattle.stored_office.specs.Ends.Endings.{ending_number};
 
 mod command_output;
 mod commands;
+mod escaped;
 mod offices;
 mod run_words;
+mod scans;
 
 use crate::commands::carry_out;
+use crate::escaped::Escaped;
 use command_words::{WordsFault, command_of};
 use std::alloc::{AllocError, Global};
 use std::env;
@@ -70,7 +73,7 @@ fn print_help(rt: &HostRuntime, text: &str) -> Ending<'static> {
 fn ended(rt: &HostRuntime, ending: &Ending<'_>) -> ExitCode
     ensures { exit_status result ≡ ending_number ending.now }
 {
-    let mut errors = rt.stderr();
+    let mut errors = Escaped::new(rt.stderr());
     say(ending, &mut errors);
     ExitCode::from(ending.number())
 }

@@ -9,7 +9,9 @@ use interval_core::Zone;
 use office_running::Settings;
 use socket_link::SystemClock;
 use sqlite::{Alter, Connection, FileFrom, FileStore, Unknown};
+use std::fs::{self, Permissions};
 use std::io::{self, Printer, Write};
+use std::os::unix::fs::PermissionsExt;
 use stored_office::{
     Done, Ending, Failure, FileFault, Task, carry_out_stored, create_stored, ending_of_done,
     make_file, open_file,
@@ -49,6 +51,19 @@ impl<'a> Databases for OfficeFile<'a> {
     }
 }
 
+// Lets only its owner read and write a file, where it is there and that can be set.
+fn keep_private(rt: &HostRuntime, path: &str) {
+    let _set = fs::set_permissions(rt, path, Permissions::from_mode(0o600));
+}
+
+// So it does with a database and its log.
+fn keep_files_private(rt: &HostRuntime, path: &str) {
+    keep_private(rt, path);
+    if let Ok(log) = format!(in rt.alloc(); "{path}-wal") {
+        keep_private(rt, log.as_str());
+    }
+}
+
 // Makes the tables of a new office in the database at a path.
 fn create_in<'a, D: Databases>(
     rt: &HostRuntime,
@@ -56,11 +71,16 @@ fn create_in<'a, D: Databases>(
     path: &'a str,
     zone: &str,
 ) -> Result<(), Failure<'a>> {
+    let is_new = matches!(fs::exists(rt, path), Ok(false));
     let connection = match databases.make() {
         Ok(connection) => connection,
         Err(fault) => return Err(Failure::File { path, fault }),
     };
-    match create_stored(rt.alloc(), connection, zone) {
+    let made = create_stored(rt.alloc(), connection, zone);
+    if is_new {
+        keep_files_private(rt, path);
+    }
+    match made {
         Ok(()) => Ok(()),
         Err(fault) => Err(Failure::Unmade { path, fault }),
     }
@@ -81,7 +101,16 @@ fn carry_out_in<'a, D: Databases, W: Write>(
         Err(fault) => return Err(Failure::File { path, fault }),
     };
     let mut clock = SystemClock::new(rt);
-    match carry_out_stored(rt, rt.alloc(), connection, task, &mut clock, output) {
+    let mut errors = rt.stderr();
+    match carry_out_stored(
+        rt,
+        rt.alloc(),
+        connection,
+        task,
+        &mut clock,
+        output,
+        &mut errors,
+    ) {
         Ok(done) => Ok(done),
         Err(fault) => Err(Failure::Unopened { path, fault }),
     }
@@ -126,11 +155,13 @@ pub(crate) fn serve<'a>(
     rt: &HostRuntime,
     path: &'a str,
     port: u16,
+    names: &[&str],
     connections: u32,
 ) -> Ending<'a> {
     let task = Task::Serve {
         host: OWN_HOST,
         port,
+        names,
         connections,
     };
     let mut output = CommandOutput::in_pieces(io::writer(rt));
@@ -167,7 +198,7 @@ pub(crate) fn run<'a>(
     rt: &HostRuntime,
     path: &'a str,
     devices: &[Device<'a>],
-    settings: &Settings,
+    settings: &Settings<'_>,
 ) -> Ending<'a> {
     let sites = match sites_of(rt, devices) {
         Ok(sites) => sites,

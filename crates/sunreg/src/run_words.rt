@@ -6,7 +6,13 @@ use std::net::{SocketAddr, ToSocketAddrs};
 use stored_office::Failure;
 
 /// The settings of a run that answers on a port of this machine alone.
-pub(crate) fn settings_of(listen: u16, every: u32, lasts: Option<u32>, verbose: bool) -> Settings {
+pub(crate) fn settings_of<'n>(
+    listen: u16,
+    every: u32,
+    lasts: Option<u32>,
+    host_names: &'n [&'n str],
+    verbose: bool,
+) -> Settings<'n> {
     Settings {
         listen: SocketAddr::from(([127, 0, 0, 1], listen)),
         every: u64::from(every),
@@ -14,14 +20,23 @@ pub(crate) fn settings_of(listen: u16, every: u32, lasts: Option<u32>, verbose: 
             Some(seconds) => Some(u64::from(seconds)),
             None => None,
         },
+        host_names,
         verbose,
+    }
+}
+
+// A host, without the brackets round an IPv6 address (RFC 3986, section 3.2.2).
+fn bare_host(host: &str) -> &str {
+    match host.strip_prefix('[') {
+        Some(rest) => rest.strip_suffix(']').unwrap_or(host),
+        None => host,
     }
 }
 
 // The first address of a device.
 fn site_of<'a>(rt: &HostRuntime, device: Device<'a>) -> Result<Site, Failure<'a>> {
     let Device { name, host, port } = device;
-    let Ok(mut addresses) = (host, port).to_socket_addrs(rt) else {
+    let Ok(mut addresses) = (bare_host(host), port).to_socket_addrs(rt) else {
         return Err(Failure::Host { host });
     };
     match addresses.next() {

@@ -4,3 +4,4 @@ mod chain_printout;
 mod image_lines;
 
 pub use chain_printout::chain_text;
+pub(crate) use chain_printout::{print_image, print_lack};

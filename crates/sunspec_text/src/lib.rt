@@ -1,8 +1,10 @@
-//! The chain of models in a device's words, and the plan of a point list, read and printed.
+//! The chain of models in a device's words, read from lines or from a live device, and the plan of a point list, printed.
 #![tactic(auto)]
 
 mod chains;
 mod lists;
+mod scans;
 
 pub use chains::chain_text;
 pub use lists::{plan_text, print_plan};
+pub use scans::{ScanForm, Site, scan_text};

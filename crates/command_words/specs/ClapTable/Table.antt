@@ -2,7 +2,7 @@
 use Rattle.std.specs.Prelude.{◌≡◌, Some, List, Result, true, fold, map}
 use Rattle.std.specs.Borrow.{Bor}
 use Rattle.clap.specs.Words.{App, FailsBy, Rule, Text, fault_of, new_app, new_rule, subcommand_of, subcommand_rows_of, with_rule, with_subcommand}
-use Rattle.clap.specs.declared.builder.action.ArgAction.TheVariants.{SetTrue}
+use Rattle.clap.specs.declared.builder.action.ArgAction.TheVariants.{Append, SetTrue}
 use Rattle.clap.specs.declared.error.Error.{Error}
 use Rattle.clap.specs.declared.parser.matches.ArgMatches.{ArgMatches}
 use Rattle.command_words.specs.declared.clap_table.tables.CommandText.{CommandText}
@@ -15,12 +15,15 @@ use Rattle.command_words.specs.declared.clap_table.tables.Value.TheVariants as v
 abbrev pub long_rule : Text → Rule
 long_rule name = record (new_rule name) { long = Some name }
 
--- one that must stand, one that may lack, and one without a value
+-- one that must stand, one that may lack, one that may stand several times, and one without a value
 abbrev pub required_option : Text → Rule
 required_option name = record (long_rule name) { value_names = 1; required = true }
 
 abbrev pub optional_option : Text → Rule
 optional_option name = record (long_rule name) { value_names = 1 }
+
+abbrev pub repeated_option : Text → Rule
+repeated_option name = record (long_rule name) { value_names = 1; action = Some Append }
 
 abbrev pub flag : Text → Rule
 flag name = record (long_rule name) { action = Some SetTrue }
@@ -43,6 +46,7 @@ program_with name commands =
 abbrev pub rule_by : Text → Value → Rule
 rule_by name (value.Required shown) = required_option name
 rule_by name (value.Optional shown) = optional_option name
+rule_by name (value.Repeated shown) = repeated_option name
 rule_by name value.Absent = flag name
 
 abbrev pub option_rule : OptionText → Rule

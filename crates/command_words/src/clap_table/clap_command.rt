@@ -20,6 +20,7 @@ fn argument<'a>(alloc: Global, option: OptionText<'a>) -> Arg<'a>
     match option.value {
         Value::Required(shown) => argument.value_name(shown).required(true),
         Value::Optional(shown) => argument.value_name(shown),
+        Value::Repeated(shown) => argument.value_name(shown).action(ArgAction::Append),
         Value::Absent => argument.action(ArgAction::SetTrue),
     }
 }

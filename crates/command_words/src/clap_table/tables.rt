@@ -7,6 +7,8 @@ pub enum Value<'a> {
     Required(&'a str),
     /// The option may lack; where it stands it has a value.
     Optional(&'a str),
+    /// The option may lack, or stand several times; each time it has a value.
+    Repeated(&'a str),
     /// The option is a flag, which has no value and may lack.
     Absent,
 }

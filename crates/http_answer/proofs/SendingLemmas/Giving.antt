@@ -1,28 +1,10 @@
 -- Bytes that are given in parts.
-use Rattle.std.proofs.Common.{◌≡◌, ◌∙◌, ℕ, ◌-◌, Bool, true, false, List, [], ◌++◌, length, take, drop, Option, Result, Ok, Err, refl, sym, ap, subst, append_assoc, is_err, not, ◌&&◌}
+use Rattle.std.proofs.Common.{◌≡◌, ◌∙◌, ℕ, Bool, true, false, List, [], ◌++◌, Option, Result, Ok, Err, refl, sym, ap, subst, append_assoc, is_err, not, ◌&&◌}
 use Rattle.std.specs.Io.KnownBytes.{Appends}
 use Rattle.std.proofs.KnownBytes.{Appends-nil, Appends-trans, Keeps-refl, Keeps-trans}
-use Rattle.std.proofs.lemmas.List.{append-nil, take-append-drop, take_rest}
-use Rattle.http_answer.specs.Sending.Giving.{Gives}
-use Rattle.mb_wire.specs.Links.{risen}
+use Rattle.std.proofs.lemmas.List.{append-nil}
+use Rattle.mb_wire.specs.Links.{Gives, risen}
 use Rattle.http_answer.specs.Sending.Sending.{OnlyGives, Outgoing, Puts, Sends}
-
--- the slice from a place on, as a call is passed it
-abbrev pub from : ℕ → List ℕ → List ℕ
-from n bytes = take (length bytes - n) (drop n bytes)
-
-whole_again : (n : ℕ) (bytes : List ℕ) → take n bytes ++ from n bytes ≡ bytes
-whole_again n bytes = ap (λ t. take n bytes ++ t) (take_rest bytes n) ∙ take-append-drop n bytes
-
--- a part was taken, and the rest is given
-pub Gives-then : {X E : Type 0} (result : Result X E) (a b c : Option (List ℕ)) (bytes : List ℕ) (n : ℕ) → Appends a b (take n bytes) → Gives result b c (from n bytes) → Gives result a c bytes
-Gives-then (Ok x) a b c bytes n first next = subst (Appends a c) (whole_again n bytes) (Appends-trans a b c _ _ first next)
-Gives-then (Err e) a b c bytes n first next = (
-  take n bytes ++ next.0,
-  next.1,
-  sym (whole_again n bytes) ∙ ap (λ t. take n bytes ++ t) next.2 ∙ sym (append_assoc (take n bytes) next.0 next.1),
-  Appends-trans a b c _ _ first next.3,
-)
 
 -- what was left is given, and then more, in one give
 pub Sends-given : {X E : Type 0} (result : Result X E) (base a b : Option (List ℕ)) (buffered kept : List ℕ) (old new : Bool) (all more : List ℕ) → old ≡ false → new ≡ is_err result → kept ≡ []
@@ -41,10 +23,10 @@ Sends-given (Err e) base a b buffered kept old new all more works failed none so
     let rest = so_far.whole works in
     let order : all ++ more ≡ so_far.sent ++ left = ap (λ t. t ++ more) so_far.in_order ∙ append_assoc so_far.sent so_far.left more ∙ ap (λ t. so_far.sent ++ (t ++ more)) rest ∙ ap (λ t. so_far.sent ++ t) is in
     record {
-      sent = so_far.sent ++ gives.0;
-      left = gives.1;
-      in_order = order ∙ ap (λ t. so_far.sent ++ t) gives.2 ∙ sym (append_assoc so_far.sent gives.0 gives.1);
-      came = Appends-trans base a b _ _ so_far.came gives.3;
+      sent = so_far.sent ++ gives.part;
+      left = gives.unsent;
+      in_order = order ∙ ap (λ t. so_far.sent ++ t) gives.whole ∙ sym (append_assoc so_far.sent gives.part gives.unsent);
+      came = Appends-trans base a b _ _ so_far.came gives.given;
       whole = λ w. absurd cc;
     }
 

@@ -1,11 +1,10 @@
 //! Bytes that are buffered until there are enough of them to give.
 ghost use Rattle.std.specs.Prelude.{◌≡◌, ◌≤◌, ◌<◌, ◌+◌, ◌++◌, [], length};
-ghost use Rattle.std.specs.Prelude.{true, false, is_err, not, ◌&&◌};
+ghost use Rattle.std.specs.Prelude.{true, false, not, ◌&&◌};
 ghost use Rattle.std.specs.Io.KnownBytes.{Keeps};
 ghost use Rattle.mb_wire.specs.Links.{risen};
-ghost use Rattle.http_answer.specs.Sending.Giving.{Gives};
 
-use mb_wire::{Link, LinkFailed};
+use mb_wire::{Link, give_all};
 
 // How many bytes are buffered at most.
 const ROOM: usize = 512;
@@ -17,24 +16,6 @@ pub(crate) struct Outbox {
     pub(crate) filled: usize,
     pub(crate) failed: bool,
     ghost room: { filled ≤ length buffered },
-}
-
-// Gives all of the bytes, in as many gives as it takes.
-fn give_all<L: Link>(link: &mut L, bytes: &[u8]) -> Result<(), LinkFailed>
-    ensures given { Gives result (L.given link.old) (L.given link.new) bytes.now }
-    ensures remaining { Keeps (L.remaining link.old) (L.remaining link.new) }
-    ensures failures { L.failed link.new ≡ risen (is_err result) (L.failed link.old) }
-    ensures takes { L.taken link.new ≡ L.taken link.old }
-    ensures last { L.last link.new ≡ L.last link.old }
-{
-    if bytes.is_empty() {
-        return Ok(());
-    }
-    let count = link.give(bytes)?;
-    if count == 0 {
-        return Err(LinkFailed);
-    }
-    give_all(link, &bytes[count..])
 }
 
 impl Outbox {

@@ -1,7 +1,7 @@
 -- The statuses of replies (RFC 9110, section 15; RFC 6585, section 5).
 use Rattle.std.specs.Prelude.{ℕ, List, codes}
 use Rattle.http_request.specs.declared.status.Status.{Status}
-use Rattle.http_request.specs.declared.status.Status.TheVariants.{Fine, BadRequest, NotFound, MethodNotAllowed, Conflict, LengthRequired, ContentTooLarge, Unprocessable, FieldsTooLarge, Unavailable}
+use Rattle.http_request.specs.declared.status.Status.TheVariants.{Fine, BadRequest, NotFound, MethodNotAllowed, Conflict, LengthRequired, ContentTooLarge, Misdirected, Unprocessable, FieldsTooLarge, Unavailable}
 
 abbrev pub number_of_status : Status → ℕ
 number_of_status Fine = 200
@@ -11,6 +11,7 @@ number_of_status MethodNotAllowed = 405
 number_of_status Conflict = 409
 number_of_status LengthRequired = 411
 number_of_status ContentTooLarge = 413
+number_of_status Misdirected = 421
 number_of_status Unprocessable = 422
 number_of_status FieldsTooLarge = 431
 number_of_status Unavailable = 503
@@ -23,6 +24,7 @@ reason_of_status MethodNotAllowed = codes "Method Not Allowed"
 reason_of_status Conflict = codes "Conflict"
 reason_of_status LengthRequired = codes "Length Required"
 reason_of_status ContentTooLarge = codes "Content Too Large"
+reason_of_status Misdirected = codes "Misdirected Request"
 reason_of_status Unprocessable = codes "Unprocessable Content"
 reason_of_status FieldsTooLarge = codes "Request Header Fields Too Large"
 reason_of_status Unavailable = codes "Service Unavailable"

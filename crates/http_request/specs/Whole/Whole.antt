@@ -53,6 +53,10 @@ Holds table bytes TooLarge = Looks bytes TooLarge
 Holds table bytes NoHead = Looks bytes NoHead
 Holds table bytes (Whole at) = IsWhole table bytes at
 
+-- they hold one of them
+abbrev pub IsReadWhole : Table → List ℕ → Type 0
+IsReadWhole table bytes = (head_state : HeadState) × Holds table bytes head_state
+
 -- A whole request or a bad head was read; or taking failed, and neither was.
 abbrev pub ReadsRequest : Table → Result HeadState TakeFault → List ℕ → List ℕ → Option (List ℕ)
     → Option (List ℕ) → Type 0

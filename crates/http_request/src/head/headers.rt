@@ -13,7 +13,8 @@ pub enum Given<'b> {
     Often,
 }
 
-fn same_name(one: &[u8], other: &[u8]) -> bool
+/// Whether two names are one but for the case of letters.
+pub(crate) fn same_name(one: &[u8], other: &[u8]) -> bool
     ensures { result ≡ same_name one.now other.now }
 {
     one.eq_ignore_ascii_case(other)

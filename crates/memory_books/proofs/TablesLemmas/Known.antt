@@ -15,7 +15,7 @@ use Rattle.office_rules.specs.Meters.{installed, journal_of, rows_of}
 use Rattle.office_rules.specs.Laws.{IsRecorded, JournalsFit}
 use Rattle.office_rules.specs.Ranges.{InstallationsAreInRange}
 use Rattle.office_rules.proofs.Journals.{found, well as well_installed}
-use Rattle.memory_books.specs.Tables.Accounts.{HasNumbers}
+use Rattle.office_books.specs.Sound.{HasNumbers}
 
 pub record IsKnown (facts : List Fact) (o : Opening) : Type 0 where
   pub numbers : HasNumbers o

@@ -23,19 +23,18 @@ use Rattle.office_events.specs.declared.facts.VoidedEntry.{VoidedEntry}
 use Rattle.office_events.specs.declared.facts.Fact.{Fact}
 use Rattle.office_events.specs.declared.facts.Fact.TheVariants as fact
 use Rattle.office_events.specs.declared.questions.Installation.{Installation}
-use Rattle.office_books.specs.Sound.{IsSound}
+use Rattle.office_rules.specs.Ranges.{IsSound, InstallationsAreInRange}
 use Rattle.office_rules.specs.Facts.{same, openings_in, opening_of}
 use Rattle.office_rules.specs.Lawful.{AreLawful, LineFits}
 use Rattle.office_rules.specs.Meters.{line_of, opened, installed, journal_of, rows_of, is_ended, standing, installation_of}
 use Rattle.office_rules.specs.Laws.{IsRecorded, JournalsFit}
-use Rattle.office_rules.specs.Ranges.{InstallationsAreInRange, IsInRange}
 use Rattle.office_rules.specs.Steps.{Stays, OtherMetersStay, HoldsChangeNothing, OpeningsBegin, EntriesMoveOn, moved_by}
 use Rattle.office_rules.proofs.Journals.{by_name, none_and_some}
 use Rattle.office_rules.proofs.Stepping.{named as named_so, own_line, line_after}
 use Rattle.memory_books.specs.declared.tables.keys.Key.{Key}
 use Rattle.memory_books.specs.declared.tables.meter.Meter.{Meter}
 use Rattle.memory_books.specs.declared.tables.meters.Meters.{Meters}
-use Rattle.memory_books.specs.Tables.Accounts.{HasNumbers}
+use Rattle.office_books.specs.Sound.{HasNumbers}
 use Rattle.memory_books.specs.Tables.Keys.{key_cmp, named}
 use Rattle.memory_books.specs.Tables.Meters.{meter_at, Stands, IsMeter, AreMeters, Changes, Begins, IfThere}
 use Rattle.memory_books.specs.Tables.Moving.{MayEnter, HasBegun, HasEntered, IsSame, HasStruck}
@@ -129,7 +128,7 @@ no_line : (line : journal.Line) (b : Bool) → b ≡ false → let o : Option jo
 no_line line b is = cond-false _ _ _ is
 
 -- an entry
-pub sound_so : (row : Installation) → IsInRange row → IsSound row
+pub sound_so : (row : Installation) → IsSound row → IsSound row
 sound_so row h = record { range = h.range; ceiling = h.ceiling; raw = h.raw; scale = h.scale; total = h.total }
 
 booked_so : Last → Step → Result (Last × Step) TermFault

@@ -1,7 +1,5 @@
--- What an opening needs so that its meter's entries can be added up.
-use Rattle.std.specs.Prelude.{◌≡◌, ◌≤◌, ◌<◌, Bool, false, List, Option, Some}
-use Rattle.energy_core.specs.declared.limits.TheConstants.{MAX_CEILING, MAX_RANGE, MIN_RANGE}
-use Rattle.energy_core.specs.Account.{IsScale}
+-- When the entries of a meter can be added up, and where it stands then.
+use Rattle.std.specs.Prelude.{◌≡◌, Bool, List, Option, Some}
 use Rattle.meter_journal.specs.declared.lines.EntryRow.{EntryRow}
 use Rattle.meter_journal.specs.declared.lines.Installed.{Installed}
 use Rattle.meter_journal.specs.Books.{HasAccount}
@@ -9,18 +7,8 @@ use Rattle.meter_journal.specs.Journal.{entries_in}
 use Rattle.meter_journal.specs.Lists.{latest_first}
 use Rattle.office_events.specs.declared.facts.Opening.{Opening}
 use Rattle.office_events.specs.declared.questions.Installation.{Installation}
-use Rattle.office_rules.specs.Meters.{opened, installed, standing}
-
--- an installation that was just opened
-abbrev pub as_begun : Opening → Installation
-as_begun opening = record { opening = opening; last = opened opening; total = 0; ended = false }
-
--- its numbers are in their ranges
-pub record HasNumbers (opening : Opening) : Type 0 where
-  pub range : (MIN_RANGE ≤ opening.range) × (opening.range ≤ MAX_RANGE)
-  pub ceiling : (1 ≤ opening.ceiling) × (opening.ceiling ≤ MAX_CEILING)
-  pub raw : opening.raw < opening.range
-  pub scale : IsScale opening.sf
+use Rattle.office_rules.specs.Meters.{installed, standing}
+use Rattle.office_books.specs.Sound.{HasNumbers}
 
 -- the entries that stand among a meter's rows, the oldest first, can be added up
 abbrev pub HaveAccount : Installed → List EntryRow → Type 0

@@ -12,12 +12,12 @@ use Rattle.office_events.specs.declared.facts.Opening.{Opening}
 use Rattle.office_events.specs.declared.facts.BookedEntry.{BookedEntry}
 use Rattle.office_events.specs.declared.facts.Fact.{Fact}
 use Rattle.office_events.specs.declared.questions.Installation.{Installation}
-use Rattle.office_books.specs.Sound.{IsSound}
+use Rattle.office_rules.specs.Ranges.{IsSound}
 use Rattle.office_rules.specs.Laws.{IsRecorded}
 use Rattle.office_rules.specs.Steps.{moved_by}
 use Rattle.office_rules.specs.Lawful.{AreLawful}
 use Rattle.office_rules.specs.Meters.{opened, installed, standing, rows_of, installation_of}
-use Rattle.memory_books.specs.Tables.Accounts.{as_begun, HasNumbers}
+use Rattle.office_books.specs.Sound.{as_begun, HasNumbers}
 use Rattle.memory_books.specs.declared.tables.meter.Meter.{Meter}
 
 -- the entry may be booked where the counter stands

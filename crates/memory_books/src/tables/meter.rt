@@ -1,37 +1,26 @@
 //! A meter as it stands.
 ghost use Rattle.std.specs.Prelude.{◌≡◌, take, IsTrue, OnOk, OnErr, IfSome};
 ghost use Rattle.std.specs.Option.{option_map};
-ghost use Rattle.meter_journal.specs.Journal as journal;
 ghost use Rattle.meter_journal.specs.Journal.{row_at};
 ghost use Rattle.meter_journal.specs.Lists as lists;
 ghost use Rattle.office_books.specs.Rows.{TakesAll};
-ghost use Rattle.office_books.specs.Sound.{IsSound};
+ghost use Rattle.office_rules.specs.Ranges.{IsSound};
 ghost use Rattle.office_rules.specs.Steps.{moved_by};
 ghost use Rattle.office_rules.specs.Intervals.{rows_of_opening};
 ghost use Rattle.office_rules.specs.Meters.{place_in, rows_of};
 ghost use Rattle.memory_books.specs.Tables.IntervalRows.{TakesSome};
 ghost use Rattle.memory_books.specs.Tables.Moving.{MayEnter, VoidsAt};
 
-use crate::tables::accounts::{begun, hand_on, opened, standing};
+use crate::tables::accounts::{hand_on, standing};
 use energy_core::Last;
 use interval_core::Share;
 use meter_journal::{
-    EntryKind, EntryRow, find_row, journals_are_kept, places_were_kept, row_after, strike,
+    EntryRow, are_numbered, find_row, journals_are_kept, places_were_kept, row_after, strike,
 };
-use office_books::{RowSink, enter, is_sound};
+use office_books::{RowSink, begun, enter, is_sound, opened};
 use office_events::{BookedEntry, EntryPlace, Installation, Opening};
 use office_rules::{installations_are_in_range, journals_fit};
 use std::alloc::{AllocError, Global};
-
-/// Whether entries of a kind close their meter.
-fn is_closing(kind: EntryKind) -> bool
-    ensures { result ≡ journal.is_closing kind }
-{
-    match kind {
-        EntryKind::Closing => true,
-        EntryKind::Reading | EntryKind::Manual | EntryKind::Reset | EntryKind::Rescale => false,
-    }
-}
 
 /// An installation after one more entry.
 fn moved(row: &Installation, booked: &BookedEntry) -> Installation
@@ -46,21 +35,8 @@ fn moved(row: &Installation, booked: &BookedEntry) -> Installation
         opening: entered.opening,
         last: entered.last,
         total: entered.total,
-        ended: is_closing(booked.kind) || entered.ended,
+        ended: booked.kind.is_closing() || entered.ended,
     }
-}
-
-/// Whether each row has its place.
-pub(crate) fn are_numbered(rows: &[EntryRow]) -> bool
-    ensures so { IsTrue result → lists.AreNumbered (lists.latest_first rows.now) }
-    ensures if_so { lists.AreNumbered (lists.latest_first rows.now) → IsTrue result }
-{
-    for (index, row) in rows.iter().enumerate() {
-        if row.place != index as u64 + 2 {
-            return false;
-        }
-    }
-    true
 }
 
 /// Voids the entry at a place, if there is one.

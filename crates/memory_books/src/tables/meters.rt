@@ -2,7 +2,7 @@
 ghost use Rattle.std.specs.Prelude.{◌≡◌, List, [], OnOk, OnErr, IfSome};
 ghost use Rattle.office_events.specs.declared.facts.Fact.{Fact};
 ghost use Rattle.office_books.specs.Rows.{TakesAll};
-ghost use Rattle.office_books.specs.Sound.{IsSound};
+ghost use Rattle.office_rules.specs.Ranges.{IsSound};
 ghost use Rattle.office_rules.specs.Intervals.{rows_of_meter};
 ghost use Rattle.office_rules.specs.Lawful.{AreLawful};
 ghost use Rattle.office_rules.specs.Meters.{meter_of, entry_at};

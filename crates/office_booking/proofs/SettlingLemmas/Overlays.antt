@@ -26,7 +26,7 @@ use Rattle.office_rules.specs.Lawful.{LineFits, AreLawful}
 use Rattle.office_rules.specs.Laws.{IsRecorded, MetersAreKept}
 use Rattle.office_rules.proofs.Lookups.{same_text}
 use Rattle.office_rules.specs.Lawfulness.{NamesAreDistinct}
-use Rattle.office_books.specs.Sound.{IsSound}
+use Rattle.office_rules.specs.Ranges.{IsSound}
 use Rattle.office_booking.specs.Settling.Drafts.{IsTold, AreTold}
 use Rattle.office_booking.specs.Settling.Behind.{with_result, with_entry, installation_with, IsIn, StandsBehind}
 use Rattle.office_booking.proofs.SettlingLemmas.Told.{told_openings, told_first, told_at, lawful_first}

@@ -1,7 +1,8 @@
 //! Installations as they stand after a draft.
 ghost use Rattle.std.specs.Prelude.{◌≡◌};
 ghost use Rattle.office_rules.specs.Meters.{open_at};
-ghost use Rattle.office_books.specs.Sound.{IsSound, ReadsInstallation};
+ghost use Rattle.office_rules.specs.Ranges.{IsSound};
+ghost use Rattle.office_books.specs.Sound.{ReadsInstallation};
 ghost use Rattle.office_booking.specs.Settling.Drafts.{FindsAfter};
 ghost use Rattle.office_booking.specs.Settling.Behind.{installation_with, StandsBehind};
 

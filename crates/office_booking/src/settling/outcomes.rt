@@ -7,7 +7,7 @@ ghost use Rattle.office_rules.specs.History as history;
 ghost use Rattle.office_rules.specs.Notes as notes;
 ghost use Rattle.office_books.specs.declared.faults.BooksFault.TheVariants.{Memory};
 ghost use Rattle.office_books.specs.Ledgers.{OnlyReads};
-ghost use Rattle.office_books.specs.Sound.{IsSound};
+ghost use Rattle.office_rules.specs.Ranges.{IsSound};
 ghost use Rattle.office_booking.specs.Settling.Drafts.{HasMore, Adds};
 ghost use Rattle.office_booking.specs.Settling.Replies.{words_of};
 

@@ -1,6 +1,6 @@
 //! Why an entry that is handed in is not made.
 ghost use Rattle.std.specs.Prelude.{◌≡◌};
-ghost use Rattle.office_books.specs.Sound.{IsSound};
+ghost use Rattle.office_rules.specs.Ranges.{IsSound};
 ghost use Rattle.office_core.specs.Refusing.Given.{entry_of};
 ghost use Rattle.office_core.specs.Refusing.Entries.{entry_refusal, BefitsEntry};
 

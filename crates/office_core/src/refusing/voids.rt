@@ -3,7 +3,7 @@ ghost use Rattle.std.specs.Prelude.{◌≡◌, IfOk, IfSome, Some};
 ghost use Rattle.office_events.specs.declared.commands.Command.TheVariants as command;
 ghost use Rattle.office_rules.specs.Refusals.{verdict_between, verdict_at};
 ghost use Rattle.office_books.specs.Ledgers.{Finds, OnlyReads};
-ghost use Rattle.office_books.specs.Sound.{IsSound};
+ghost use Rattle.office_rules.specs.Ranges.{IsSound};
 ghost use Rattle.office_core.specs.Refusing.Reasons.{IsWhy, Befits};
 ghost use Rattle.office_core.specs.Refusing.Asking.{IsOfEvent};
 ghost use Rattle.office_core.specs.Refusing.Spots as spots;

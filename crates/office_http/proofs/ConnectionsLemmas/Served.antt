@@ -1,101 +1,130 @@
 -- What a connection leaves, and several of them.
-use Rattle.std.proofs.Common.{◌≡◌, ◌⊎◌, inl, inr, ℕ, ◌≤◌, ◌+◌, List, [], ◌∷◌, ◌++◌, length, Option, None, Some, Result, Ok, Err, refl, sym, ap, ◌∙◌, subst, arith, length-append}
+use Rattle.std.proofs.Common.{◌≡◌, ◌⊎◌, inl, inr, ℕ, Bool, ◌≤◌, ◌+◌, List, [], ◌∷◌, ◌++◌, length, Option, None, Some, Result, Ok, Err, refl, sym, ap, ◌∙◌, subst, arith, length-append}
 use Rattle.interval_core.specs.declared.zone.Zone.{Zone}
 use Rattle.office_events.specs.declared.refusals.Refusal.{Refusal}
 use Rattle.office_rules.specs.History.{History}
 use Rattle.office_books.specs.Ledgers.{Ledger}
 use Rattle.office_core.specs.Standing.{After, Stands, books_in}
 use Rattle.office_core.specs.declared.office.Office.{Office}
+use Rattle.std.specs.Io.KnownBytes.{Consumes}
+use Rattle.socket_link.specs.Clocks.{TellsMoment}
+use Rattle.office_events.specs.declared.events.Asked.{Asked}
 use Rattle.office_http.specs.Exchange.{Does, Handles, Passage, Replies}
-use Rattle.office_http.specs.Serving.{IsAnswered, IsServed, Lasts, with_asked}
+use Rattle.office_http.specs.Serving.{Asks, IsAnswered, IsServed, Lasts}
 use Rattle.office_http.specs.declared.fault.HandleFault.{HandleFault}
 use Rattle.office_http.specs.declared.fault.HandleFault.TheVariants.{Read, Write, Short, TurnsUsed, Cut}
-use Rattle.office_http.specs.Connections.Connections.{Request, ServesUpTo, history_behind}
+use Rattle.office_http.specs.Connections.Connections.{AskedBy, ServesOne, ServesUpTo, history_behind}
+use Rattle.office_http.specs.Connections.Named.{HandlesNamed, HasNoRoom, LetsAsk, MayAsk, TurnsAway}
 
-pub unasked : {B : Type 0} (n : ℕ) (ledger : B → Ledger) (past : History) (office : Office B) → Stands ledger past office
-    → ServesUpTo n ledger past office
-unasked n ledger past office stands = record { requests = []; few = omega arith; stands = stands }
+-- nothing was asked at a moment
+pub unasked : {B : Type 0} (names : List (List ℕ)) (at : ℕ) (ledger : B → Ledger) (past : History) (office : Office B) → Stands ledger past office
+    → ServesOne names at ledger past office
+unasked names at ledger past office stands = record {
+  connection = record { at = at; read = []; asked = None; asks = tt };
+  moment = refl;
+  stands = stands;
+}
 
-asked_one : {B : Type 0} (ledger : B → Ledger) (zone : Zone) (past : History) (at : ℕ) (read reply : List ℕ) (later : History)
-    (office : Office B) → IsAnswered zone past at read reply later → Stands ledger later office → ServesUpTo 1 ledger past office
-asked_one ledger zone past at read reply later office answered stands = record {
-  requests = record { at = at; read = read; asked = answered.asked; asks = answered.asks } ∷ [];
-  few = omega arith;
+asked_by : (names : List (List ℕ)) (read : List ℕ) (asked : Option Asked) → MayAsk names read → Asks read asked → AskedBy names read asked
+asked_by names read None may asks = tt
+asked_by names read (Some asked) may asks = (may, asks)
+
+asked_one : {B : Type 0} (names : List (List ℕ)) (ledger : B → Ledger) (zone : Zone) (past : History) (at : ℕ) (read reply : List ℕ) (later : History)
+    (office : Office B) → MayAsk names read → IsAnswered zone past at read reply later → Stands ledger later office → ServesOne names at ledger past office
+asked_one names ledger zone past at read reply later office may answered stands = record {
+  connection = record { at = at; read = read; asked = answered.asked; asks = asked_by names read answered.asked may answered.asks };
+  moment = refl;
   stands = let P : History → Type 0 = λ h. Stands ledger h office in subst P answered.accepts stands;
 }
 
-served_one : {B : Type 0} (ledger : B → Ledger) (zone : Zone) (past : History) (at : ℕ) (read : List ℕ) (before after : ℕ)
-    (cut : Option Refusal) (reply : List ℕ) (later : History) (office : Office B)
-    → IsServed zone past at read before after cut reply later → Stands ledger later office → ServesUpTo 1 ledger past office
-served_one ledger zone past at read before after None reply later office (inl answered) stands =
-    asked_one ledger zone past at read reply later office answered.0 stands
-served_one ledger zone past at read before after None reply later office (inr none) stands =
+served_one : {B : Type 0} (names : List (List ℕ)) (ledger : B → Ledger) (zone : Zone) (past : History) (at : ℕ) (read : List ℕ) (had_stopped : Bool) (before after : ℕ)
+    (cut : Option Refusal) (reply : List ℕ) (later : History) (office : Office B) → MayAsk names read
+    → IsServed zone past at read had_stopped before after cut reply later → Stands ledger later office → ServesOne names at ledger past office
+served_one names ledger zone past at read had_stopped before after None reply later office may (inl answered) stands =
+    asked_one names ledger zone past at read reply later office may answered.0 stands
+served_one names ledger zone past at read had_stopped before after None reply later office may (inr none) stands =
     let P : History → Type 0 = λ h. Stands ledger h office in
-    unasked 1 ledger past office (subst P none.unchanged stands)
-served_one ledger zone past at read before after (Some why) reply later office answered stands =
-    asked_one ledger zone past at read reply later office answered.0 stands
+    unasked names at ledger past office (subst P none.unchanged stands)
+served_one names ledger zone past at read had_stopped before after (Some why) reply later office may answered stands =
+    asked_one names ledger zone past at read reply later office may answered.0 stands
 
-replied : {B : Type 0} (ledger : B → Ledger) (past : History) (at : ℕ) (old new : Office B) (link : Passage) (read : List ℕ)
-    (result : Result (Unit {0}) HandleFault) → Replies ledger at old new link read result → Stands ledger past old
-    → (ledger (books_in new)).is_clean → ServesUpTo 1 ledger past new
-replied ledger past at old new link read result replies stands clean =
+replied : {B : Type 0} (names : List (List ℕ)) (ledger : B → Ledger) (past : History) (at : ℕ) (old new : Office B) (link : Passage) (read : List ℕ)
+    (result : Result (Unit {0}) HandleFault) → MayAsk names read → Replies ledger at old new link read result → Stands ledger past old
+    → (ledger (books_in new)).is_clean → ServesOne names at ledger past new
+replied names ledger past at old new link read result may replies stands clean =
     let gives = replies.replies past stands clean in
-    served_one ledger _ past at read _ _ gives.cut gives.serves.reply gives.serves.later new gives.serves.served gives.serves.stands
+    served_one names ledger _ past at read _ _ _ gives.cut gives.serves.reply gives.serves.later new may gives.serves.served gives.serves.stands
 
-same : {B : Type 0} (ledger : B → Ledger) (past : History) (old new : Office B) → new ≡ old → Stands ledger past old
-    → ServesUpTo 1 ledger past new
-same {B = B} ledger past old new is stands =
+same : {B : Type 0} (names : List (List ℕ)) (at : ℕ) (ledger : B → Ledger) (past : History) (old new : Office B) → new ≡ old → Stands ledger past old
+    → ServesOne names at ledger past new
+same {B = B} names at ledger past old new is stands =
     let P : Office B → Type 0 = λ o. Stands ledger past o in
-    unasked 1 ledger past new (subst P (sym is) stands)
+    unasked names at ledger past new (subst P (sym is) stands)
 
-does : {B : Type 0} (ledger : B → Ledger) (past : History) (at : ℕ) (old new : Office B) (link : Passage) (read : List ℕ)
-    (result : Result (Unit {0}) HandleFault) → Does ledger at old new link read result → Stands ledger past old
-    → (ledger (books_in new)).is_clean → ServesUpTo 1 ledger past new
-does ledger past at old new link read (Ok x) h stands clean = replied ledger past at old new link read (Ok x) h stands clean
-does ledger past at old new link read (Err Write) h stands clean = replied ledger past at old new link read (Err Write) h stands clean
-does ledger past at old new link read (Err Cut) h stands clean = replied ledger past at old new link read (Err Cut) h stands clean
-does ledger past at old new link read (Err Read) h stands clean = same ledger past old new h.unchanged stands
-does ledger past at old new link read (Err Short) h stands clean = same ledger past old new h.0.unchanged stands
-does ledger past at old new link read (Err TurnsUsed) h stands clean = same ledger past old new h.unchanged stands
+does : {B : Type 0} (names : List (List ℕ)) (ledger : B → Ledger) (past : History) (at : ℕ) (old new : Office B) (link : Passage) (read : List ℕ)
+    (result : Result (Unit {0}) HandleFault) → MayAsk names read → Does ledger at old new link read result → Stands ledger past old
+    → (ledger (books_in new)).is_clean → ServesOne names at ledger past new
+does names ledger past at old new link read (Ok x) may h stands clean = replied names ledger past at old new link read (Ok x) may h stands clean
+does names ledger past at old new link read (Err Write) may h stands clean = replied names ledger past at old new link read (Err Write) may h stands clean
+does names ledger past at old new link read (Err Cut) may h stands clean = replied names ledger past at old new link read (Err Cut) may h stands clean
+does names ledger past at old new link read (Err Read) may h stands clean = same names at ledger past old new h.unchanged stands
+does names ledger past at old new link read (Err Short) may h stands clean = same names at ledger past old new h.0.unchanged stands
+does names ledger past at old new link read (Err TurnsUsed) may h stands clean = same names at ledger past old new h.unchanged stands
 
--- A request that was handled is one, or none.
-pub handled : {B : Type 0} (ledger : B → Ledger) (at : ℕ) (old new : Office B) (link : Passage) (result : Result (Unit {0}) HandleFault)
-    → Handles ledger at old new link result → After ledger old new (λ past. ServesUpTo 1 ledger past new)
-handled ledger at old new link result h past stands clean = does ledger past at old new link h.read result h.does stands clean
+-- What was handled of who may ask is one request, or none.
+pub handled : {B : Type 0} (names : List (List ℕ)) (ledger : B → Ledger) (at : ℕ) (old new : Office B) (link : Passage) (result : Result (Unit {0}) HandleFault)
+    → ((read : List ℕ) → Consumes link.remaining link.later_remaining read → MayAsk names read)
+    → Handles ledger at old new link result → After ledger old new (λ past. ServesOne names at ledger past new)
+handled names ledger at old new link result may h past stands clean =
+    does names ledger past at old new link h.read result (may h.read h.takes) h.does stands clean
 
-after_both : (past : History) (later earlier : List Request)
-    → history_behind past (later ++ earlier) ≡ history_behind (history_behind past earlier) later
-after_both past [] earlier = refl
-after_both past (one ∷ later) earlier = ap (λ h. with_asked h one.at one.asked) (after_both past later earlier)
+named_does : {B : Type 0} (names : List (List ℕ)) (ledger : B → Ledger) (past : History) (at : ℕ) (old new : Office B) (link : Passage) (read : List ℕ)
+    (result : Result (Unit {0}) HandleFault)
+    → TurnsAway names old new link read result ⊎ LetsAsk names ledger at old new link read result ⊎ HasNoRoom old new link read result
+    → Stands ledger past old → (ledger (books_in new)).is_clean → ServesOne names at ledger past new
+named_does names ledger past at old new link read result (inl away) stands clean = same names at ledger past old new away.unchanged stands
+named_does names ledger past at old new link read result (inr (inl lets)) stands clean =
+    does names ledger past at old new link read result lets.may lets.does stands clean
+named_does names ledger past at old new link read result (inr (inr none)) stands clean = same names at ledger past old new none.unchanged stands
 
--- Requests come one after the other.
-pub one_more : {B : Type 0} (n : ℕ) (ledger : B → Ledger) (past : History) (old new : Office B) → ServesUpTo n ledger past old
-    → After ledger old new (λ h. ServesUpTo 1 ledger h new) → (ledger (books_in new)).is_clean → ServesUpTo (n + 1) ledger past new
-one_more n ledger past old new first next clean =
-    let then = next (history_behind past first.requests) first.stands clean in
+pub named_handled : {B : Type 0} (names : List (List ℕ)) (ledger : B → Ledger) (at : ℕ) (old new : Office B) (link : Passage) (result : Result (Unit {0}) HandleFault)
+    → HandlesNamed names ledger at old new link result → After ledger old new (λ past. ServesOne names at ledger past new)
+named_handled names ledger at old new link result h past stands clean = named_does names ledger past at old new link h.read result h.does stands clean
+
+-- One connection comes after the others, at the moment that the clock told for it.
+pub one_more : {B : Type 0} (names : List (List ℕ)) (n : ℕ) (begun mid now : Option (List ℕ)) (at : ℕ) (ledger : B → Ledger) (past : History) (old new : Office B)
+    → ServesUpTo names n begun mid ledger past old → TellsMoment mid now at
+    → After ledger old new (λ h. ServesOne names at ledger h new) → (ledger (books_in new)).is_clean → ServesUpTo names (n + 1) begun now ledger past new
+one_more names n begun mid now at ledger past old new first told next clean =
+    let then = next (history_behind past first.connections) first.stands clean in
     record {
-      requests = then.requests ++ first.requests;
-      few = omega (arith, first.few, then.few, length-append then.requests first.requests);
-      stands =
-          let P : History → Type 0 = λ h. Stands ledger h new in
-          subst P (sym (after_both past then.requests first.requests)) then.stands;
+      connections = then.connection ∷ first.connections;
+      few = omega (arith, first.few);
+      timed = (mid, first.timed, subst (TellsMoment mid now) (sym then.moment) told);
+      stands = then.stands;
     }
 
-pub more : {B : Type 0} (m n : ℕ) (ledger : B → Ledger) (past : History) (office : Office B) → m ≤ n → ServesUpTo m ledger past office
-    → ServesUpTo n ledger past office
-more m n ledger past office fits so =
-    record { requests = so.requests; few = omega (arith, so.few); stands = so.stands }
+more : {B : Type 0} (names : List (List ℕ)) (m n : ℕ) (begun now : Option (List ℕ)) (ledger : B → Ledger) (past : History) (office : Office B) → m ≤ n
+    → ServesUpTo names m begun now ledger past office → ServesUpTo names n begun now ledger past office
+more names m n begun now ledger past office fits so =
+    record { connections = so.connections; few = omega (arith, so.few); timed = so.timed; stands = so.stands }
 
-pub served_more : {B : Type 0} (n : ℕ) (ledger : B → Ledger) (begin old new : Office B)
-    → After ledger begin old (λ past. ServesUpTo n ledger past old) → Lasts ledger old new
-    → After ledger old new (λ past. ServesUpTo 1 ledger past new) → After ledger begin new (λ past. ServesUpTo (n + 1) ledger past new)
-served_more n ledger begin old new before lasts next past stands clean =
-    one_more n ledger past old new (before past stands (lasts.clean clean)) next clean
+-- there was none yet
+pub served_none : {B : Type 0} (names : List (List ℕ)) (n : ℕ) (begun : Option (List ℕ)) (ledger : B → Ledger) (office : Office B)
+    → After ledger office office (λ past. ServesUpTo names n begun begun ledger past office)
+served_none names n begun ledger office past stands clean = record { connections = []; few = omega arith; timed = refl; stands = stands }
 
-pub served_no_more : {B : Type 0} (n : ℕ) (ledger : B → Ledger) (begin office : Office B)
-    → After ledger begin office (λ past. ServesUpTo n ledger past office) → After ledger begin office (λ past. ServesUpTo (n + 1) ledger past office)
-served_no_more n ledger begin office before past stands clean =
-    more n (n + 1) ledger past office (omega arith) (before past stands clean)
+pub served_more : {B : Type 0} (names : List (List ℕ)) (n : ℕ) (begun mid now : Option (List ℕ)) (at : ℕ) (ledger : B → Ledger) (begin old new : Office B)
+    → After ledger begin old (λ past. ServesUpTo names n begun mid ledger past old) → TellsMoment mid now at → Lasts ledger old new
+    → After ledger old new (λ past. ServesOne names at ledger past new) → After ledger begin new (λ past. ServesUpTo names (n + 1) begun now ledger past new)
+served_more names n begun mid now at ledger begin old new before told lasts next past stands clean =
+    one_more names n begun mid now at ledger past old new (before past stands (lasts.clean clean)) told next clean
+
+pub served_no_more : {B : Type 0} (names : List (List ℕ)) (n : ℕ) (begun now : Option (List ℕ)) (ledger : B → Ledger) (begin office : Office B)
+    → After ledger begin office (λ past. ServesUpTo names n begun now ledger past office)
+    → After ledger begin office (λ past. ServesUpTo names (n + 1) begun now ledger past office)
+served_no_more names n begun now ledger begin office before past stands clean =
+    more names n (n + 1) begun now ledger past office (omega arith) (before past stands clean)
 
 pub lasts_both : {B : Type 0} (ledger : B → Ledger) (a b c : Office B) → Lasts ledger a b → Lasts ledger b c → Lasts ledger a c
 lasts_both ledger a b c first next = record {

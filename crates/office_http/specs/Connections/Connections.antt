@@ -1,29 +1,55 @@
 -- What connections leave of an office.
-use Rattle.std.specs.Prelude.{ℕ, ◌≤◌, List, [], ◌∷◌, length, Option}
+use Rattle.std.specs.Prelude.{◌≡◌, ℕ, ◌≤◌, List, [], ◌∷◌, length, Option, Some, None}
+use Rattle.socket_link.specs.Clocks.{TellsMoment}
 use Rattle.office_events.specs.declared.events.Asked.{Asked}
 use Rattle.office_rules.specs.History.{History}
 use Rattle.office_books.specs.Ledgers.{Ledger}
 use Rattle.office_core.specs.Standing.{Stands}
 use Rattle.office_core.specs.declared.office.Office.{Office}
-use Rattle.office_http.specs.Serving.{Asks, with_asked}
+use Rattle.http_request.specs.Routing.Routes.{routes}
+use Rattle.office_http.specs.Serving.{with_asked}
+use Rattle.office_http.specs.Wants.Wanting.{AsksOffice}
+use Rattle.office_http.specs.Connections.Named.{MayAsk}
 
--- A request: the bytes that were read on a connection ask this of the office, or nothing that would change it.
-pub record Request : Type 0 where
+-- The bytes that were read ask this of the office, and their head may ask here; or the office was asked nothing.
+abbrev pub AskedBy : (names : List (List ℕ)) → (read : List ℕ) → Option Asked → Type 0
+AskedBy names read None = Unit {0}
+AskedBy names read (Some asked) = MayAsk names read × AsksOffice routes read asked
+
+-- A connection, and what was asked on it of an office that may be asked by these names besides this machine's own.
+pub record Connection (names : List (List ℕ)) : Type 0 where
   pub at : ℕ
   pub read : List ℕ
   pub asked : Option Asked
-  pub asks : Asks read asked
+  pub asks : AskedBy names read asked
 
--- what the office has accepted after these requests, the latest first: each is accepted, refused or answered from what
--- was kept, as its definition says
-abbrev pub history_behind : (past : History) → List Request → History
+-- what the office has accepted after these connections, the latest first: each request is accepted, refused or answered
+-- from what was kept, as its definition says
+abbrev pub history_behind : {names : List (List ℕ)} → (past : History) → List (Connection names)
+    → History
 history_behind past [] = past
 history_behind past (one ∷ earlier) = with_asked (history_behind past earlier) one.at one.asked
 
--- The office stands after at most so many requests. One that could not be answered, since the store or memory failed or
--- the office had stopped, is none of them.
-pub record ServesUpTo {B : Type 0} (most : ℕ) (ledger : B → Ledger) (past : History)
+-- each came at the moment that the clock told for it, and for nothing else the clock was asked
+abbrev pub AreTimed : {names : List (List ℕ)} → (begun now : Option (List ℕ))
+    → List (Connection names) → Type 0
+AreTimed begun now [] = now ≡ begun
+AreTimed begun now (one ∷ earlier) =
+    (between : Option (List ℕ)) × AreTimed begun between earlier × TellsMoment between now one.at
+
+-- The office stands after one connection at this moment.
+pub record ServesOne {B : Type 0} (names : List (List ℕ)) (at : ℕ) (ledger : B → Ledger)
+    (past : History) (office : Office B) : Type 0 where
+  pub connection : Connection names
+  pub moment : connection.at ≡ at
+  pub stands : Stands ledger (with_asked past connection.at connection.asked) office
+
+-- The office stands after at most so many connections, each at the moment of the clock. One whose request could not be
+-- answered, since the store or memory failed or the office had stopped, has asked nothing.
+pub record ServesUpTo {B : Type 0} (names : List (List ℕ)) (most : ℕ)
+    (begun now : Option (List ℕ)) (ledger : B → Ledger) (past : History)
     (office : Office B) : Type 0 where
-  pub requests : List Request
-  pub few : length requests ≤ most
-  pub stands : Stands ledger (history_behind past requests) office
+  pub connections : List (Connection names)
+  pub few : length connections ≤ most
+  pub timed : AreTimed begun now connections
+  pub stands : Stands ledger (history_behind past connections) office

@@ -13,7 +13,9 @@ use http_answer::{
     questions_are_replied_to,
 };
 use http_commands::{CommandFault, command_in};
-use http_request::{Ask, Found, Head, HeadState, Posted, Route, ask_in, body_in};
+use http_request::{
+    Ask, Found, Head, HeadState, Posted, Route, a_command_tells_its_size, ask_in, body_in,
+};
 use matchit::Router;
 use std::alloc::Global;
 
@@ -24,7 +26,7 @@ fn wanted_command<'b>(
     bytes: &'b [u8],
     head: &Head,
     found: &Found<'b>,
-    posted: &Posted<'b>,
+    posted: &Posted,
 ) -> Want<'b>
     requires holds { IsWhole router.now bytes.now head.now }
     requires asks { TestsHead router.now (start_at bytes.now head.now)
@@ -33,7 +35,8 @@ fn wanted_command<'b>(
     ensures few { HasFewFaults result }
 {
     bodies_give_one_command();
-    let body = body_in(router, bytes, head);
+    a_command_tells_its_size(router, bytes, head, found, posted);
+    let body = body_in(bytes, head, posted);
     let given = command_in(alloc, found.route, name_asked(found.name), body);
     if matches!(given, Err(CommandFault::Memory)) {
         return Want::Refused(CommandFault::Memory);

@@ -1,5 +1,5 @@
 -- The steps of a turn.
-use Rattle.std.proofs.Common.{◌≡◌, ◌⊎◌, inl, inr, ℕ, ◌+◌, ◌≤◌, List, [], ◌∷◌, map, length, Option, Some, None, Result, refl, sym, ap, ◌∙◌, subst, arith}
+use Rattle.std.proofs.Common.{◌≡◌, inl, inr, ℕ, ◌+◌, ◌≤◌, List, [], ◌∷◌, map, length, Option, Some, None, Result, refl, sym, ap, ◌∙◌, subst, arith}
 use Rattle.office_events.specs.declared.answers.Answer.{Answer}
 use Rattle.office_events.specs.declared.answers.Note.{Note}
 use Rattle.office_events.specs.declared.events.Event.{Event}
@@ -11,13 +11,12 @@ use Rattle.office_books.specs.Ledgers.{Ledger}
 use Rattle.office_core.specs.EventRun.{Answered}
 use Rattle.office_core.specs.Standing.{Stands, books_in, notes_in, outgoing_in}
 use Rattle.office_core.specs.Taking.{IsAnswer, IsTold}
-use Rattle.office_core.specs.declared.office.Office.{Office}
 use Rattle.office_rounds.specs.FedEvents.{history_behind}
 use Rattle.office_rounds.specs.DeviceRounds.Rounds.{heard}
 use Rattle.office_rounds.specs.declared.device_rounds.round.Round.{Round}
 use Rattle.office_rounds.specs.Driver.Showing.{Shown, shown}
-use Rattle.office_rounds.specs.Driver.Turns.{AreNext, IsNext, Table, Wished, answered_for, first_wish, next_by, next_of, place_of, shown_of, table, table_after, table_behind, told, wished}
-use Rattle.office_rounds.specs.Driver.Going.{FeedsNext, Going, OfficeGoesOn, IsSettled, Scene, Start, TakesTurn, scene, start}
+use Rattle.office_rounds.specs.Driver.Turns.{IsNext, Table, Wished, answered_for, first_wish, next_by, next_of, place_of, table, table_after, table_behind, told, wished}
+use Rattle.office_rounds.specs.Driver.Going.{FeedsNext, Going, OfficeGoesOn, Scene, Start, TakesTurn, start}
 
 is_next : (first : Option Wished) (rounds : List Round) (at : Table) (one : Wished) → table first rounds ≡ at
     → next_by first rounds ≡ Some one → next_of at ≡ Some one

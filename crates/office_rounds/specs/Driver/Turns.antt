@@ -1,7 +1,6 @@
 -- What a turn feeds: what happened, and then what the rounds of the devices wish, the first of them first. Lists of what was
 -- fed stand latest first.
-use Rattle.std.specs.Prelude.{◌≡◌, ℕ, zero, suc, Bool, true, false, List, [], ◌∷◌, map, position, slice_get, Option, Some, None, Result}
-use Rattle.poll_core.specs.declared.outcome.Closing.{Closing}
+use Rattle.std.specs.Prelude.{◌≡◌, ℕ, zero, suc, List, [], ◌∷◌, map, position, slice_get, Option, Some, None, Result}
 use Rattle.office_events.specs.declared.answers.Answer.{Answer}
 use Rattle.office_events.specs.declared.answers.Note.{Note}
 use Rattle.office_events.specs.declared.events.Event.{Event}

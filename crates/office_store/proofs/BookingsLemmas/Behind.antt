@@ -40,7 +40,7 @@ module _ {X : Type 0} (passes : X → Bool) (key : X → ℕ) where
       (Some (key x), read_by (nat_le 1 (key x) && nat_le (key x) greatest_place) (key x) n one, last_some passes (λ x n. n ≡ key x) key xs (x ∷ found) x (key x) are refl refl)
 
   pub next_told : {S : Type 0} {Q : Type 0} (g : Ghosts S) (old new : Held S) (tree : ℕ) (columns : X → Row) (rows : Q) (items : List Row) (r : Result ℕ RowFault)
-      → AsksInside {X = Q} {E = Error} g old new (Ok rows) → TellsAnswer {E = Error} g old new tree columns (Ok rows) (λ xs a. ShowsFirst passes (LastFirst key) shown xs items) → r ≡ next_in items
+      → AsksInside {X = Q} {E = Error} g old new (Ok rows) → TellsAnswer g old new tree columns (Ok rows) (λ xs a. ShowsFirst passes (LastFirst key) shown xs items) → r ≡ next_in items
       → Goes {E = RowFault} (state g old) (state g new) r (Answered r (IsNext tree columns passes key))
   next_told g old new tree columns rows items (Ok n) asks tells next =
       told_less {D = Error} (state g old) (state g new) rows n (Told tree columns (λ xs a. ShowsFirst passes (LastFirst key) shown xs items) rows) (IsNext tree columns passes key n)

@@ -31,7 +31,7 @@ module _ {X : Type 0} (passes : X → Bool) (shown : X → Row) where
   -- what is told of a row that was read
   pub seen_told : {S A B Q : Type 0} (g : Ghosts S) (old new : Held S) (tree : ℕ) (columns : X → Row) (rows : Q) (items : List Row) (row : Row) (a : A) (b : B)
       (IsRead : X → A → Type 0) (IsSound : X → Type 0) (IsSeen : X → B → Type 0) → ((x : X) → IsRead x a → IsSeen x b)
-      → AsksInside {X = Q} {E = Error} g old new (Ok rows) → TellsAnswer {E = Error} g old new tree columns (Ok rows) (λ xs a. ShowsFirst passes AnyOrder shown xs items)
+      → AsksInside {X = Q} {E = Error} g old new (Ok rows) → TellsAnswer g old new tree columns (Ok rows) (λ xs a. ShowsFirst passes AnyOrder shown xs items)
       → slice_get items 0 ≡ Some row → ReadsRow row shown IsRead IsSound (Ok a)
       → Goes {X = B} {E = RowFault} (state g old) (state g new) (Ok b) (IsSeenIn tree columns passes IsSeen b)
   seen_told g old new tree columns rows items row a b IsRead IsSound IsSeen tells_more asks tells is reads =
@@ -48,7 +48,7 @@ module _ {X : Type 0} (passes : X → Bool) (shown : X → Row) where
   -- the reading itself is the answer
   pub read_told : {S A Q : Type 0} (g : Ghosts S) (old new : Held S) (tree : ℕ) (columns : X → Row) (rows : Q) (items : List Row) (row : Row) (r : Result A RowFault)
       (IsSeen : X → A → Type 0) (IsSound : X → Type 0)
-      → AsksInside {X = Q} {E = Error} g old new (Ok rows) → TellsAnswer {E = Error} g old new tree columns (Ok rows) (λ xs a. ShowsFirst passes AnyOrder shown xs items)
+      → AsksInside {X = Q} {E = Error} g old new (Ok rows) → TellsAnswer g old new tree columns (Ok rows) (λ xs a. ShowsFirst passes AnyOrder shown xs items)
       → slice_get items 0 ≡ Some row → ReadsRow row shown IsSeen IsSound r
       → Goes (state g old) (state g new) r (Answered r (IsSeenIn tree columns passes IsSeen))
   read_told {Q = Q} g old new tree columns rows items row (Ok a) IsSeen IsSound asks tells is reads =

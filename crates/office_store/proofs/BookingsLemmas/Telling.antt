@@ -40,7 +40,7 @@ pub record Says {A X : Type 0} (tree : ℕ) (columns : X → Row) (Answers : Lis
 
 -- one question
 pub said : {S A X : Type 0} (g : Ghosts S) (old new : Held S) (tree : ℕ) (columns : X → Row) (a : A) (Answers : List X → A → Type 0) (says : List Fact → A → Type 0)
-    → AsksInside {X = A} {E = Error} g old new (Ok a) → TellsAnswer {E = Error} g old new tree columns (Ok a) Answers
+    → AsksInside {X = A} {E = Error} g old new (Ok a) → TellsAnswer g old new tree columns (Ok a) Answers
     → ((zone : List ℕ) (facts : List Fact) (content : Content) → AreOf zone facts content → Says tree columns Answers (says facts) content)
     → Goes {X = A} {E = RowFault} (state g old) (state g new) (Ok a) (IsSaidIn (λ facts. says facts a))
 said g old new tree columns a Answers says asks tells speaks =
@@ -78,7 +78,7 @@ journal_from journals stand change meter entries voids first given marked made f
       let counts = r.seen (map ranged (openings_in facts)) (subst (AreOf zone facts) (sym (q.same ∙ p.same)) of).ranges in
       let found = range_found facts of.lawful meter o there HasRange made.range counts in
       let begin = opening_first o (rows_of facts o) in
-      let is_first : first ≡ map entry_shown (entered o.meter (opening_row o) ∷ begin.0) = first_is ∙ (shown o there ∙ ap (map entry_shown) begin.1) in
+      let is_first : first ≡ map entry_shown (entered o.meter (opening_row o) ∷ begin.0) = first_is ∙ (shown.shown ∙ ap (map entry_shown) (shown.all o there ∙ begin.1)) in
       let here : AreJournal entries voids made.rows.items =
       subst (λ (l : List Row). AreJournal l voids made.rows.items) given_is (subst (λ (l : List Row). AreJournal given l made.rows.items) marked_is are) in
       record {

@@ -14,11 +14,13 @@ use crate::bookings::journals::MeterJournal;
 use crate::bookings::meter_entries::is_sound;
 use energy_core::{Entry, Last, MAX_RANGE, MAX_TOTAL, MIN_RANGE};
 use interval_core::Share;
-use meter_journal::{EntryRow, Installed, find_row, interval_rows, last_behind, strike};
+use meter_journal::{
+    EntryRow, Installed, are_numbered, find_row, interval_rows, last_behind, strike,
+};
 use sqlite::Error;
 use std::alloc::Global;
 use store_facts::last_row;
-use store_queries::{are_numbered, tally};
+use store_queries::tally;
 use store_tables::{GREATEST_PLACE, LATEST_MOMENT, LastRow, RowFault};
 
 /// How many times the counter went past its range before the entry at a place.

@@ -2,7 +2,6 @@
 ghost use Rattle.std.specs.Prelude.{◌≡◌, ◌≤◌, ◌<◌, IsTrue, IfOk, OnOk};
 ghost use Rattle.sqlite.specs.Held.{state};
 ghost use Rattle.energy_core.specs.Account.{intervals_touched, moment_of};
-ghost use Rattle.meter_journal.specs.Journal as journal;
 ghost use Rattle.office_events.specs.declared.facts.Fact.TheVariants as fact;
 ghost use Rattle.store_tables.specs.Columns.{is_within};
 ghost use Rattle.store_tables.specs.Limits.{latest_moment};
@@ -15,7 +14,6 @@ ghost use Rattle.office_store.specs.Bookings.MeterState.{Advances, EntersEntry, 
 use crate::bookings::meter_state::{Standing, standing_of};
 use crate::bookings::registers::is_scale;
 use energy_core::{Entry, Last, MAX_INTERVALS, Ranged, Step, Terms};
-use meter_journal::EntryKind;
 use office_events::BookedEntry;
 use office_rules::{
     entries_move_on, installations_are_in_range, meters_are_kept, other_meters_stay,
@@ -32,16 +30,6 @@ use store_tables::{
 pub struct Advance {
     pub last: LastRow,
     pub step: Step,
-}
-
-/// Whether entries of a kind close their meter.
-fn is_closing(kind: EntryKind) -> bool
-    ensures { result ≡ journal.is_closing kind }
-{
-    match kind {
-        EntryKind::Closing => true,
-        EntryKind::Reading | EntryKind::Manual | EntryKind::Reset | EntryKind::Rescale => false,
-    }
 }
 
 /// Whether the tables can have a counter's moment and scale.
@@ -165,5 +153,5 @@ pub fn enter_entry<S: Alter>(
     let standing = standing_of(tx, meter)?;
     let advance = go_on(&standing, &booked.entry)?;
     let row = entry_row(booked.kind, booked.entry, standing.place, &advance.last.sf);
-    book_entry(tx, meter, row, &advance, is_closing(booked.kind))
+    book_entry(tx, meter, row, &advance, booked.kind.is_closing())
 }

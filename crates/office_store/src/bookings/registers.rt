@@ -3,7 +3,7 @@ ghost use Rattle.std.specs.Prelude.{◌≡◌, true};
 ghost use Rattle.sqlite.specs.Held.{state};
 ghost use Rattle.office_events.specs.declared.facts.Fact.TheVariants as fact;
 ghost use Rattle.store_tables.specs.Columns.{is_within};
-ghost use Rattle.store_devices.specs.Devices.Rows.{IsSoundScale};
+ghost use Rattle.store_devices.specs.Devices.Rows.{IsSoundScale, fits_a_read};
 ghost use Rattle.store_facts.specs.Going.{Goes};
 ghost use Rattle.store_facts.specs.Recording.{Records};
 ghost use Rattle.store_facts.specs.Rows.{scale_as};
@@ -23,13 +23,21 @@ pub fn is_scale(sf: i16) -> bool
 }
 
 /// Whether the table can have a register's scale.
-fn is_sound(source: ScaleSource) -> bool
+fn is_sound_scale(source: ScaleSource) -> bool
     ensures { result ≡ true → IsSoundScale (scale_as source) }
 {
     match source {
         ScaleSource::Fixed(sf) => is_scale(sf),
         ScaleSource::Register(_) => true,
     }
+}
+
+/// Whether one read reaches from a register's counter to its scale.
+fn is_narrow(register: &Register) -> bool
+    ensures { result ≡ fits_a_read register.now.address (scale_as register.now.scale) }
+{
+    let row = register_row(*register, 1);
+    store_devices::fits_a_read(row.address, row.scale)
 }
 
 /// Enters a register, at the place after the last.
@@ -41,7 +49,10 @@ pub fn enter_register<S: Alter>(
     ensures does { Goes (state S.Store tx.old.conn.now) (state S.Store tx.new.conn.now) result
         (Records (fact.Register register.now)) }
 {
-    if LAST_COUNTER < u64::from(register.address) || !is_sound(register.scale) {
+    if LAST_COUNTER < u64::from(register.address)
+        || !is_sound_scale(register.scale)
+        || !is_narrow(register)
+    {
         return Err(RowFault::Damaged);
     }
     let name = text(&register.name)?;

@@ -1,6 +1,6 @@
 //! A place for a connection: free, or taken until a moment.
 
-/// A place for a connection. Moments are seconds since 1970-01-01 UTC.
+/// A place for a connection. Moments are seconds of the run's time.
 #[derive(Clone, Copy, Debug, PartialEq, Eq)]
 pub enum Place {
     /// No connection has it.

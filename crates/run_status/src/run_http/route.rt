@@ -1,25 +1,30 @@
-//! The two routes that are answered by what was counted.
-ghost use Rattle.std.specs.Prelude.{◌≡◌, OnOk};
+//! What a run answers by itself: two routes by what was counted, and who may not ask.
+ghost use Rattle.std.specs.Prelude.{◌≡◌, IfOk, OnOk};
+ghost use Rattle.http_request.specs.Head.Heads.{Looks};
+ghost use Rattle.http_answer.specs.Sending.Bodies.{fault_text};
+ghost use Rattle.http_request.specs.Hosts as hosts;
 ghost use Rattle.run_status.specs.RunHttp.StatusRoute as texts;
 
 use crate::status::{Counts, DeviceState, put, put_metrics, put_number, put_status, put_word};
-use http_request::{HeadState, parse_head};
+use http_request::{HeadState, Status, may_ask, parse_head};
 use std::alloc::{AllocError, Global};
 
-/// Which of the two routes is asked for.
+/// What a request is answered without the office.
 #[derive(Clone, Copy, Debug, PartialEq, Eq)]
 pub enum StatusRoute {
+    /// What was counted, as JSON.
     Status,
+    /// The same, as Prometheus reads it.
     Metrics,
+    /// A fault: who may not ask, or another method than GET.
+    Rejected(Status),
 }
 
-// The route of a method and a target.
-fn route_named(method: &[u8], target: &[u8]) -> Option<StatusRoute>
-    ensures { result ≡ texts.route_named method.now target.now }
+// The route of a target.
+fn path_named(target: &[u8]) -> Option<StatusRoute>
+    ensures { result ≡ texts.path_named target.now }
 {
-    if method != b"GET".as_slice() {
-        None
-    } else if target == b"/status".as_slice() {
+    if target == b"/status".as_slice() {
         Some(StatusRoute::Status)
     } else if target == b"/metrics".as_slice() {
         Some(StatusRoute::Metrics)
@@ -28,24 +33,66 @@ fn route_named(method: &[u8], target: &[u8]) -> Option<StatusRoute>
     }
 }
 
-/// Which of the two routes a request asks for, once its head is whole and within its limits; none of them is the office's.
-pub fn status_route(request: &[u8]) -> Option<StatusRoute>
-    ensures { texts.IsFor request.now result }
+// The route of a method and a target.
+fn route_named(method: &[u8], target: &[u8]) -> Option<StatusRoute>
+    ensures { result ≡ texts.route_named method.now target.now }
 {
-    match parse_head(request) {
+    match path_named(target) {
+        None => None,
+        Some(route) => {
+            if method == b"GET".as_slice() {
+                Some(route)
+            } else {
+                Some(StatusRoute::Rejected(Status::MethodNotAllowed))
+            }
+        }
+    }
+}
+
+// The route of a head that is whole and within its limits.
+fn route_in(request: &[u8], head_state: &HeadState) -> Option<StatusRoute>
+    requires { Looks request.now head_state.now }
+    ensures { result ≡ texts.route_in request.now head_state.now }
+{
+    match head_state {
         HeadState::Whole(head) => route_named(head.method.of(request), head.target.of(request)),
         HeadState::Open | HeadState::TooLarge | HeadState::NoHead => None,
     }
 }
 
-// Puts a reply with a body of a kind.
-fn put_reply(text: &mut Vec<u8>, kind: &[u8], body: &[u8]) -> Result<(), AllocError>
-    ensures { OnOk result (text.new.items
-        ≡ texts.with_reply kind.now body.now text.old.items) }
+/// Which of the two routes a request asks for, once its head is whole and within its limits, or why it is rejected: who asks
+/// may not, by these names. None is the office's.
+pub fn status_route(names: &[&str], request: &[u8]) -> Option<StatusRoute>
+    ensures { texts.IsFor (hosts.texts names.now) request.now result }
 {
-    put_word(text, b"HTTP/1.1 200 OK\r\nContent-Type: ", kind)?;
+    let head_state = parse_head(request);
+    if may_ask(names, request, &head_state) {
+        route_in(request, &head_state)
+    } else {
+        Some(StatusRoute::Rejected(Status::Misdirected))
+    }
+}
+
+// Puts a reply with a body of a kind.
+fn put_reply(text: &mut Vec<u8>, status: Status, kind: &[u8], body: &[u8]) -> Result<(), AllocError>
+    ensures { OnOk result (text.new.items
+        ≡ texts.with_reply status kind.now body.now text.old.items) }
+{
+    put_number(text, b"HTTP/1.1 ", u64::from(status.number()))?;
+    put_word(text, b" ", status.reason())?;
+    put_word(text, b"\r\nContent-Type: ", kind)?;
     put_number(text, b"\r\nContent-Length: ", body.len() as u64)?;
     put_word(text, b"\r\nConnection: close\r\n\r\n", body)
+}
+
+// The body for a fault.
+fn fault_body(alloc: Global, status: Status) -> Result<Vec<u8>, AllocError>
+    ensures { IfOk result (λ body. body.items ≡ fault_text status) }
+{
+    let mut body = Vec::new(alloc);
+    put_number(&mut body, b"{\"fault\":", u64::from(status.number()))?;
+    put(&mut body, b"}")?;
+    Ok(body)
 }
 
 /// Puts the reply of a route.
@@ -59,15 +106,20 @@ pub fn reply_status(
     ensures { OnOk result (text.new.items
         ≡ texts.with_route_reply route counts.now devices.now text.old.items) }
 {
-    let mut body = Vec::new(alloc);
     match route {
         StatusRoute::Status => {
+            let mut body = Vec::new(alloc);
             put_status(&mut body, counts, devices)?;
-            put_reply(text, b"application/json", &body)
+            put_reply(text, Status::Fine, b"application/json", &body)
         }
         StatusRoute::Metrics => {
+            let mut body = Vec::new(alloc);
             put_metrics(&mut body, counts, devices)?;
-            put_reply(text, b"text/plain; version=0.0.4", &body)
+            put_reply(text, Status::Fine, b"text/plain; version=0.0.4", &body)
+        }
+        StatusRoute::Rejected(status) => {
+            let body = fault_body(alloc, status)?;
+            put_reply(text, status, b"application/json", &body)
         }
     }
 }

@@ -1,5 +1,5 @@
 -- What is read of a row that the queries show.
-use Rattle.std.proofs.Common.{◌≡◌, ◌==◌, inl, inr, ℕ, ℤ, Option, Some, None, Ok, refl, subst}
+use Rattle.std.proofs.Common.{◌≡◌, ◌==◌, inl, inr, ℕ, ℤ, Bool, true, false, if◌then◌else◌, Option, Some, None, Ok, refl, subst}
 use Rattle.std.proofs.lemmas.Bool.{cases_Bool}
 use Rattle.sqlite.specs.declared.types.Value.{Value}
 use Rattle.sqlite.specs.Order.{Row, column}
@@ -11,7 +11,7 @@ use Rattle.store_devices.specs.declared.devices.rows.PointRow.{PointRow}
 use Rattle.store_devices.specs.declared.devices.rows.RegisterRow.{RegisterRow}
 use Rattle.store_devices.specs.declared.devices.rows.RegisterScale.{RegisterScale}
 use Rattle.store_devices.specs.declared.devices.rows.RegisterScale.TheVariants.{Fixed, At}
-use Rattle.store_devices.specs.Devices.Rows.{IsSoundDevice, device_in, point_in, IsSoundPoint, IsSoundRegister, IsSoundScale, register_in, scale_of, fixed_by, at_by}
+use Rattle.store_devices.specs.Devices.Rows.{IsSoundDevice, device_in, point_in, IsSoundPoint, IsSoundRegister, IsSoundScale, register_in, scale_of, fixed_by, at_by, fits_a_read, reached_from}
 
 -- ---- what was read is sound
 
@@ -56,16 +56,31 @@ scale_sound kind v s is = elim (cases_Bool (kind == 0)) [
   | inr told ↦ at_sound (whole_in 0 65535 v) v s refl (rw told at is)
 ]
 
+-- a scale that is reached is one that the columns tell
+pub record IsReached (address : ℕ) (told : Option RegisterScale) (s : RegisterScale) : Type 0 where
+  pub scale : told ≡ Some s
+  pub span : fits_a_read address s ≡ true
+
+reached_if : (address : ℕ) (t s : RegisterScale) (b : Bool) → fits_a_read address t ≡ b → (if b then Some t else None) ≡ Some s → IsReached address (Some t) s
+reached_if address t s true fits e = let same : t ≡ s = cc in subst (IsReached address (Some t)) same (record { scale = refl; span = fits })
+reached_if address t s false fits e = absurd (let f = e in cc)
+
+reached : (address : ℕ) (told : Option RegisterScale) (s : RegisterScale) → reached_from address told ≡ Some s → IsReached address told s
+reached address None s e = absurd (let f = e in cc)
+reached address (Some t) s e = reached_if address t s (fits_a_read address t) refl e
+
 pub sound_register : (row : Row) (a : RegisterRow) → register_in row ≡ Ok a → IsSoundRegister a
 sound_register row a is =
     let place = has_read (whole_in 1 greatest_place (column row 0)) _ a is in
     let function = has_read (function_in (column row 3)) _ a place.rest in
     let address = has_read (whole_in 0 65534 (column row 4)) _ a function.rest in
     let kind = has_read (whole_in 0 1 (column row 5)) _ a address.rest in
-    let scale = has_read (scale_of kind.value (column row 6)) _ a kind.rest in
+    let scale = has_read (reached_from address.value (scale_of kind.value (column row 6))) _ a kind.rest in
+    let found = reached address.value (scale_of kind.value (column row 6)) scale.value scale.is in
     let same : record { place = place.value; function = function.value; address = address.value; scale = scale.value } ≡ a = ok_is scale.rest in
     subst IsSoundRegister same (record {
       place = whole_bounds 1 greatest_place (column row 0) place.value place.is;
       address = (whole_bounds 0 65534 (column row 4) address.value address.is).1;
-      scale = scale_sound kind.value (column row 6) scale.value scale.is;
+      scale = scale_sound kind.value (column row 6) scale.value found.scale;
+      span = found.span;
     })

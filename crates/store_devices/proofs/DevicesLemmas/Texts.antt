@@ -1,6 +1,6 @@
 -- What the texts mean.
-use Rattle.std.proofs.Common.{◌≡◌, List, [], ◌∷◌, codes, ℕ, false, refl}
-use Rattle.sqlite.specs.declared.types.Value.TheVariants.{Null}
+use Rattle.std.proofs.Common.{◌≡◌, List, [], ◌∷◌, codes, ℕ, false, refl, pos}
+use Rattle.sqlite.specs.declared.types.Value.TheVariants.{Null, Text}
 use Rattle.sqlite.specs.Term.{Term, lit, col}
 use Rattle.sqlite.specs.Source.TheVariants.{Values}
 use Rattle.sqlite.specs.Command.TheVariants.{Insert, Select, Delete}
@@ -8,6 +8,7 @@ use Rattle.sqlite_tied.specs.Compute.{everything}
 use Rattle.sqlite.specs.Listing.{understood, reads_listing}
 use Rattle.sqlite.proofs.Callers.{IsPlain, command_of}
 use Rattle.store_tables.specs.Schema.{books_schema}
+use Rattle.store_tables.proofs.Failures.{Suits, suits_scan}
 use Rattle.store_tables.proofs.Scans.{scan, no_limit, one, is_param, rising, falling}
 
 -- ---- insert_device
@@ -100,6 +101,10 @@ pub device_rows_plain : IsPlain (understood books_schema device_rows)
 unfolding understood everything
 device_rows_plain = (refl, refl)
 
+pub device_rows_suits : Suits books_schema device_rows ([])
+unfolding understood everything
+device_rows_suits = suits_scan 1 device_rows_tests device_rows_project ((col 1 0, rising) ∷ []) no_limit device_rows device_rows_names ([]) (refl, refl, refl) device_rows_plain device_rows_unlisted device_rows_is refl
+
 -- ---- last_device
 
 abbrev pub last_device : List ℕ
@@ -125,6 +130,10 @@ last_device_unlisted = refl
 pub last_device_plain : IsPlain (understood books_schema last_device)
 unfolding understood everything
 last_device_plain = (refl, refl)
+
+pub last_device_suits : Suits books_schema last_device ([])
+unfolding understood everything
+last_device_suits = suits_scan 1 last_device_tests last_device_project ((col 1 0, falling) ∷ []) one last_device last_device_names ([]) (refl, refl, refl) last_device_plain last_device_unlisted last_device_is refl
 
 -- ---- point_rows
 
@@ -152,6 +161,10 @@ pub point_rows_plain : IsPlain (understood books_schema point_rows)
 unfolding understood everything
 point_rows_plain = (refl, refl)
 
+pub point_rows_suits : (device : List ℕ) → Suits books_schema point_rows (Text device ∷ [])
+unfolding understood everything
+point_rows_suits device = suits_scan 3 point_rows_tests point_rows_project ((col 1 2, rising) ∷ []) no_limit point_rows point_rows_names (Text device ∷ []) (refl, refl, refl) point_rows_plain point_rows_unlisted point_rows_is refl
+
 -- ---- register_of
 
 abbrev pub register_of : List ℕ
@@ -177,6 +190,10 @@ register_of_unlisted = refl
 pub register_of_plain : IsPlain (understood books_schema register_of)
 unfolding understood everything
 register_of_plain = (refl, refl)
+
+pub register_of_suits : (name : List ℕ) → Suits books_schema register_of (Text name ∷ [])
+unfolding understood everything
+register_of_suits name = suits_scan 5 register_of_tests register_of_project [] one register_of register_of_names (Text name ∷ []) (refl, refl, refl) register_of_plain register_of_unlisted register_of_is refl
 
 -- ---- register_rows
 
@@ -204,6 +221,10 @@ pub register_rows_plain : IsPlain (understood books_schema register_rows)
 unfolding understood everything
 register_rows_plain = (refl, refl)
 
+pub register_rows_suits : (device : List ℕ) → Suits books_schema register_rows (Text device ∷ [])
+unfolding understood everything
+register_rows_suits device = suits_scan 5 register_rows_tests register_rows_project ((col 1 0, rising) ∷ []) no_limit register_rows register_rows_names (Text device ∷ []) (refl, refl, refl) register_rows_plain register_rows_unlisted register_rows_is refl
+
 -- ---- places_of
 
 abbrev pub places_of : List ℕ
@@ -230,6 +251,10 @@ pub places_of_plain : IsPlain (understood books_schema places_of)
 unfolding understood everything
 places_of_plain = (refl, refl)
 
+pub places_of_suits : (device : List ℕ) → Suits books_schema places_of (Text device ∷ [])
+unfolding understood everything
+places_of_suits device = suits_scan 5 places_of_tests places_of_project [] no_limit places_of places_of_names (Text device ∷ []) (refl, refl, refl) places_of_plain places_of_unlisted places_of_is refl
+
 -- ---- last_register
 
 abbrev pub last_register : List ℕ
@@ -255,3 +280,7 @@ last_register_unlisted = refl
 pub last_register_plain : IsPlain (understood books_schema last_register)
 unfolding understood everything
 last_register_plain = (refl, refl)
+
+pub last_register_suits : Suits books_schema last_register ([])
+unfolding understood everything
+last_register_suits = suits_scan 5 last_register_tests last_register_project ((col 1 0, falling) ∷ []) one last_register last_register_names ([]) (refl, refl, refl) last_register_plain last_register_unlisted last_register_is refl

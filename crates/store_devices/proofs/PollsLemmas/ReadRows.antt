@@ -101,7 +101,7 @@ outcome_fair o =
     (fair_whole S P _ 1 _ (outcome_number o.outcome) (λ is. number_bounds_of o.outcome)
     (fair_whole S P _ 0 _ (outcome_code o.outcome) (λ is. (zero-le, is.code))
     (fair_some S P _ _ o.outcome (outcome_back o.outcome)
-    (record { read = refl; fault = λ is. tt })))))
+    (record { read = refl; fault = tt })))))
 
 pub reads_outcome : (row : Row) (r : Result OutcomeRow RowFault) → r ≡ outcome_in row → ReadsRow row outcome_shown IsOutcome IsSoundOutcome r
 reads_outcome row r is = reads_row row outcome_shown IsOutcome IsSoundOutcome r (λ o shown. subst (IsFair (IsSoundOutcome o) (IsOutcome o)) (sym (is ∙ ap outcome_in shown)) (outcome_fair o))
@@ -193,4 +193,4 @@ reads_repeat request row r is = reads_row row reply_shown (IsRepeat request) IsS
     let P = IsRepeat request k in
     subst (IsFair S P) (sym (is ∙ ap (repeat_in request) shown))
     (fair_some S P (λ same. and_then (or_damaged (kind_in (column (reply_shown k) 1))) (λ kind. Ok (repeat_as kind same))) _ (bytes_eq k.request request) refl
-    (fair_some S P (λ kind. Ok (repeat_as kind (bytes_eq k.request request))) _ k.kind (kind_back k.kind) (record { read = refl; fault = λ is. tt }))))
+    (fair_some S P (λ kind. Ok (repeat_as kind (bytes_eq k.request request))) _ k.kind (kind_back k.kind) (record { read = refl; fault = tt }))))

@@ -1,11 +1,14 @@
 -- What the texts mean.
-use Rattle.std.proofs.Common.{◌≡◌, pos, List, [], ◌∷◌, codes, ℕ, false, None, refl}
-use Rattle.sqlite.specs.declared.types.Value.TheVariants.{Null, Int}
+use Rattle.std.proofs.Common.{◌≡◌, pos, List, [], ◌∷◌, codes, ℕ, false, None, inl, inr, refl}
+use Rattle.sqlite.specs.declared.types.Value.TheVariants.{Null, Int, Text}
 use Rattle.sqlite.specs.Term.{Term, lit, col}
 use Rattle.sqlite.specs.Query.{Query, inner, counted, end}
 use Rattle.sqlite.specs.Source.TheVariants.{Values}
 use Rattle.sqlite.specs.Command.TheVariants.{Insert, Select}
 use Rattle.sqlite.specs.Collation.TheVariants.{Binary}
+use Rattle.sqlite.specs.Program.{overlay}
+use Rattle.sqlite.specs.Tree.{Trees}
+use Rattle.sqlite_sql.specs.Program.{QueryOverflows}
 use Rattle.sqlite_sql.specs.Term.{op1, op2}
 use Rattle.sqlite_sql.specs.declared.ops.UnaryOp.TheVariants.{Not}
 use Rattle.sqlite_sql.specs.declared.ops.BinaryOp.TheVariants.{Compare}
@@ -14,6 +17,7 @@ use Rattle.sqlite_tied.specs.Compute.{everything}
 use Rattle.sqlite.specs.Listing.{understood, reads_listing}
 use Rattle.sqlite.proofs.Callers.{IsPlain, command_of}
 use Rattle.store_tables.specs.Schema.{books_schema}
+use Rattle.store_tables.proofs.Failures.{Suits, suits_scan}
 use Rattle.store_tables.proofs.Scans.{scan, no_limit, one, is_param, rising, falling}
 
 -- ---- insert_poll
@@ -106,6 +110,10 @@ pub poll_at_plain : IsPlain (understood books_schema poll_at)
 unfolding understood everything
 poll_at_plain = (refl, refl)
 
+pub poll_at_suits : (number : ℕ) → Suits books_schema poll_at (Int (pos number) ∷ [])
+unfolding understood everything
+poll_at_suits number = suits_scan 11 poll_at_tests poll_at_project [] one poll_at poll_at_names (Int (pos number) ∷ []) (refl, refl, refl) poll_at_plain poll_at_unlisted poll_at_is refl
+
 -- ---- last_poll
 
 abbrev pub last_poll : List ℕ
@@ -131,6 +139,10 @@ last_poll_unlisted = refl
 pub last_poll_plain : IsPlain (understood books_schema last_poll)
 unfolding understood everything
 last_poll_plain = (refl, refl)
+
+pub last_poll_suits : Suits books_schema last_poll ([])
+unfolding understood everything
+last_poll_suits = suits_scan 11 last_poll_tests last_poll_project ((col 1 0, falling) ∷ []) one last_poll last_poll_names ([]) (refl, refl, refl) last_poll_plain last_poll_unlisted last_poll_is refl
 
 -- ---- outcome_of
 
@@ -158,6 +170,10 @@ pub outcome_of_plain : IsPlain (understood books_schema outcome_of)
 unfolding understood everything
 outcome_of_plain = (refl, refl)
 
+pub outcome_of_suits : (poll : ℕ) → Suits books_schema outcome_of (Int (pos poll) ∷ [])
+unfolding understood everything
+outcome_of_suits poll = suits_scan 13 outcome_of_tests outcome_of_project [] one outcome_of outcome_of_names (Int (pos poll) ∷ []) (refl, refl, refl) outcome_of_plain outcome_of_unlisted outcome_of_is refl
+
 -- ---- last_hold
 
 abbrev pub last_hold : List ℕ
@@ -183,6 +199,10 @@ last_hold_unlisted = refl
 pub last_hold_plain : IsPlain (understood books_schema last_hold)
 unfolding understood everything
 last_hold_plain = (refl, refl)
+
+pub last_hold_suits : Suits books_schema last_hold ([])
+unfolding understood everything
+last_hold_suits = suits_scan 12 last_hold_tests last_hold_project ((col 1 0, falling) ∷ []) one last_hold last_hold_names ([]) (refl, refl, refl) last_hold_plain last_hold_unlisted last_hold_is refl
 
 -- ---- repeat_of
 
@@ -210,6 +230,10 @@ pub repeat_of_plain : IsPlain (understood books_schema repeat_of)
 unfolding understood everything
 repeat_of_plain = (refl, refl)
 
+pub repeat_of_suits : (caller : List ℕ) (number : ℕ) → Suits books_schema repeat_of (Text caller ∷ Int (pos number) ∷ [])
+unfolding understood everything
+repeat_of_suits caller number = suits_scan 16 repeat_of_tests repeat_of_project [] one repeat_of repeat_of_names (Text caller ∷ Int (pos number) ∷ []) (refl, refl, refl) repeat_of_plain repeat_of_unlisted repeat_of_is refl
+
 -- ---- latest_start
 
 abbrev pub latest_start : List ℕ
@@ -235,6 +259,10 @@ latest_start_unlisted = refl
 pub latest_start_plain : IsPlain (understood books_schema latest_start)
 unfolding understood everything
 latest_start_plain = (refl, refl)
+
+pub latest_start_suits : Suits books_schema latest_start ([])
+unfolding understood everything
+latest_start_suits = suits_scan 11 latest_start_tests latest_start_project ((col 1 4, falling) ∷ []) one latest_start latest_start_names ([]) (refl, refl, refl) latest_start_plain latest_start_unlisted latest_start_is refl
 
 -- ---- latest_outcome
 
@@ -262,6 +290,10 @@ pub latest_outcome_plain : IsPlain (understood books_schema latest_outcome)
 unfolding understood everything
 latest_outcome_plain = (refl, refl)
 
+pub latest_outcome_suits : Suits books_schema latest_outcome ([])
+unfolding understood everything
+latest_outcome_suits = suits_scan 13 latest_outcome_tests latest_outcome_project ((col 1 2, falling) ∷ []) one latest_outcome latest_outcome_names ([]) (refl, refl, refl) latest_outcome_plain latest_outcome_unlisted latest_outcome_is refl
+
 -- ---- latest_hold
 
 abbrev pub latest_hold : List ℕ
@@ -288,6 +320,10 @@ pub latest_hold_plain : IsPlain (understood books_schema latest_hold)
 unfolding understood everything
 latest_hold_plain = (refl, refl)
 
+pub latest_hold_suits : Suits books_schema latest_hold ([])
+unfolding understood everything
+latest_hold_suits = suits_scan 12 latest_hold_tests latest_hold_project ((col 1 4, falling) ∷ []) one latest_hold latest_hold_names ([]) (refl, refl, refl) latest_hold_plain latest_hold_unlisted latest_hold_is refl
+
 -- ---- latest_reply
 
 abbrev pub latest_reply : List ℕ
@@ -313,6 +349,10 @@ latest_reply_unlisted = refl
 pub latest_reply_plain : IsPlain (understood books_schema latest_reply)
 unfolding understood everything
 latest_reply_plain = (refl, refl)
+
+pub latest_reply_suits : Suits books_schema latest_reply ([])
+unfolding understood everything
+latest_reply_suits = suits_scan 16 latest_reply_tests latest_reply_project ((col 1 5, falling) ∷ []) one latest_reply latest_reply_names ([]) (refl, refl, refl) latest_reply_plain latest_reply_unlisted latest_reply_is refl
 
 -- ---- pending_rows
 
@@ -356,3 +396,20 @@ pending_unlisted = refl
 pub pending_plain : IsPlain (understood books_schema pending)
 unfolding understood everything
 pending_plain = (refl, refl)
+
+pending_flows : (db : Trees) → QueryOverflows pending_query (overlay db []) [] → ⊥
+pending_flows db (inl sum) = sum
+pending_flows db (inr row) = elim row.4 [ inl none ↦ none.4 | inr none ↦ none ]
+
+pub pending_suits : Suits books_schema pending []
+unfolding understood everything
+pending_suits = record {
+  query = pending_query;
+  names = pending_names;
+  whole = (refl, refl, refl);
+  plain = pending_plain;
+  unlisted = pending_unlisted;
+  is = pending_is;
+  typed = refl;
+  flows = pending_flows;
+}

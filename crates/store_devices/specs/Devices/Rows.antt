@@ -1,8 +1,9 @@
 -- Rows of the tables, their columns, and the ranges of their values.
-use Rattle.std.specs.Prelude.{◌≡◌, ℕ, ℤ, pos, ◌≤◌, List, [], ◌∷◌, ◌++◌, map, length, filter, IsTrue, Bool, bytes_eq, ◌==◌, Option, Some, None, if◌then◌else◌, Result, Ok, IsUtf8, string_bytes}
+use Rattle.std.specs.Prelude.{◌≡◌, ℕ, ℤ, pos, ◌≤◌, ◌+◌, ◌-◌, min, max, nat_le, true, List, [], ◌∷◌, ◌++◌, map, length, filter, IsTrue, Bool, bytes_eq, ◌==◌, Option, Some, None, if◌then◌else◌, Result, Ok, IsUtf8, string_bytes}
 use Rattle.sqlite.specs.declared.types.Value.{Value}
 use Rattle.sqlite.specs.declared.types.Value.TheVariants.{Null, Int, Text}
 use Rattle.sqlite.specs.Order.{Row, column}
+use Rattle.mb_wire.specs.declared.limits.TheConstants.{MAX_READ_REGISTERS}
 use Rattle.mb_wire.specs.Spans.{code_of}
 use Rattle.poll_core.specs.declared.limits.TheConstants.{MAX_TIMEOUT, MAX_WINDOW}
 use Rattle.office_events.specs.declared.limits.TheConstants.{LAST_ADDRESS, LAST_COUNTER, LAST_UNIT}
@@ -150,6 +151,15 @@ abbrev pub IsSoundScale : RegisterScale → Type 0
 IsSoundScale (scale.Fixed sf) = IsTrue (is_within 3 sf)
 IsSoundScale (scale.At address) = address ≤ LAST_ADDRESS
 
+-- How many registers lie from the first to the last of a counter, which is two from its address on, and its scale.
+abbrev pub registers_spanned : (address : ℕ) → RegisterScale → ℕ
+registers_spanned address (scale.Fixed sf) = 2
+registers_spanned address (scale.At at) = max (address + 2) (at + 1) - min address at
+
+-- one read, of at most 125 registers, reaches from the counter to its scale
+abbrev pub fits_a_read : (address : ℕ) → RegisterScale → Bool
+fits_a_read address scale = nat_le (registers_spanned address scale) MAX_READ_REGISTERS
+
 -- a register of a device under its name
 pub record Registered : Type 0 where
   pub name : List ℕ
@@ -187,6 +197,7 @@ pub record IsSoundRegister (r : RegisterRow) : Type 0 where
   pub place : IsPlace r.place
   pub address : r.address ≤ LAST_COUNTER
   pub scale : IsSoundScale r.scale
+  pub span : fits_a_read r.address r.scale ≡ true
 
 pub record IsSoundRegistered (r : Registered) : Type 0 where
   pub row : IsSoundRegister r.row
@@ -210,6 +221,11 @@ at_by (Some address) = Some (scale.At address)
 abbrev pub scale_of : (kind : ℕ) → Value → Option RegisterScale
 scale_of kind v = if kind == 0 then fixed_by (within 3 v) else at_by (whole_in 0 LAST_ADDRESS v)
 
+-- the same, if one read reaches it
+abbrev pub reached_from : (address : ℕ) → Option RegisterScale → Option RegisterScale
+reached_from address None = None
+reached_from address (Some scale) = if fits_a_read address scale then Some scale else None
+
 -- the register that the columns of a row are, or damage
 abbrev pub register_in : Row → Result RegisterRow RowFault
 register_in row =
@@ -217,7 +233,7 @@ register_in row =
     and_then (or_damaged (function_in (column row 3))) (λ function.
     and_then (or_damaged (whole_in 0 LAST_COUNTER (column row 4))) (λ address.
     and_then (or_damaged (whole_in 0 1 (column row 5))) (λ kind.
-    and_then (or_damaged (scale_of kind (column row 6))) (λ scale.
+    and_then (or_damaged (reached_from address (scale_of kind (column row 6)))) (λ scale.
     Ok (record { place = place; function = function; address = address; scale = scale }))))))
 
 -- how many registers a device has

@@ -1,12 +1,14 @@
 -- The polls that wait for their outcome.
-use Rattle.std.specs.Prelude.{Bool, not, List, Result, IfOk}
+use Rattle.std.specs.Prelude.{Bool, not, List, Result, MatchResult}
 use Rattle.std.specs.List.{list_any}
 use Rattle.sqlite.specs.Order.{Row}
+use Rattle.sqlite.specs.declared.error.Error.{Error}
 use Rattle.sqlite.specs.Store.{Ghosts}
 use Rattle.sqlite.specs.Held.{Held, state}
 use Rattle.sqlite.specs.State.{HasCleanDisk}
 use Rattle.store_tables.specs.Content.{Content, AreTables, HasRows}
 use Rattle.store_tables.specs.Answer.{FirstFirst}
+use Rattle.store_tables.specs.Failing.{IsStoreError}
 use Rattle.store_tables.specs.Asking.{Shows}
 use Rattle.store_devices.specs.declared.polls.rows.OutcomeRow.{OutcomeRow}
 use Rattle.store_devices.specs.Polls.Rows.{Started, poll_columns, poll_shown, poll_number, outcome_columns, is_outcome_of}
@@ -16,12 +18,14 @@ use Rattle.store_devices.specs.Polls.Trees.{polls, outcomes}
 abbrev pub is_pending : List OutcomeRow → Started → Bool
 is_pending ended p = not (list_any (is_outcome_of p.row.number) ended)
 
--- The rows that are answered show the polls without an outcome, in order of their numbers.
-abbrev pub ShowsPending : {S A E : Type 0} → Ghosts S → (old new : Held S) → (result : Result A E)
-    → (rows : A → List Row) → Type 0
+-- The rows that are answered show the polls without an outcome, in order of their numbers. An error is one of the store's
+-- own.
+abbrev pub ShowsPending : {S A : Type 0} → Ghosts S → (old new : Held S)
+    → (result : Result A Error) → (rows : A → List Row) → Type 0
 ShowsPending g old new result rows =
     HasCleanDisk (state g new) → (content : Content) → AreTables (state g old).now content
     → (started : List Started) → HasRows polls poll_columns started content
     → (ended : List OutcomeRow) → HasRows outcomes outcome_columns ended content
-    → IfOk result
+    → MatchResult result
     (λ answer. Shows (is_pending ended) (FirstFirst poll_number) poll_shown started (rows answer))
+    (IsStoreError (state g old) (state g new))

@@ -6,11 +6,13 @@ ghost use Rattle.store_tables.specs.Columns.{or_damaged};
 ghost use Rattle.store_devices.specs.Devices.Rows.{device_shown, device_in, IsDevice, IsSoundDevice};
 ghost use Rattle.store_devices.specs.Devices.Rows.{IsSoundAdded, point_shown, point_in, IsPoint};
 ghost use Rattle.store_devices.specs.Devices.Rows.{IsSoundPoint, IsSoundListed, register_shown, register_in};
-ghost use Rattle.store_devices.specs.Devices.Rows.{scale_of, IsRegister, IsSoundRegister, IsSoundRegistered};
+ghost use Rattle.store_devices.specs.Devices.Rows as rows;
+ghost use Rattle.store_devices.specs.Devices.Rows.{reached_from, scale_of, IsRegister, IsSoundRegister, IsSoundRegistered};
 
 use crate::devices::rows::{
     Device, DeviceRow, Point, PointRow, Register, RegisterRow, RegisterScale,
 };
+use mb_wire::MAX_READ_REGISTERS;
 use office_events::{LAST_ADDRESS, LAST_COUNTER, LAST_UNIT};
 use poll_core::{MAX_TIMEOUT, MAX_WINDOW};
 use sqlite::Row;
@@ -86,19 +88,45 @@ fn scale_at(row: &Row, kind: u64, at: usize) -> Result<RegisterScale, RowFault>
     }
 }
 
+/// Whether one read reaches from a counter to its scale.
+pub fn fits_a_read(address: u16, scale: RegisterScale) -> bool
+    ensures { result ≡ rows.fits_a_read address scale }
+{
+    match scale {
+        RegisterScale::Fixed(_) => true,
+        RegisterScale::At(at) => {
+            let counter = u64::from(address);
+            let scale = u64::from(at);
+            (counter + 2).max(scale + 1) - counter.min(scale) <= u64::from(MAX_READ_REGISTERS)
+        }
+    }
+}
+
+/// The scale of a kind, in a column, for a counter that one read reaches with it.
+fn reached_scale(row: &Row, address: u16, kind: u64) -> Result<RegisterScale, RowFault>
+    ensures { result ≡ or_damaged (reached_from address (scale_of kind (column row.now 6))) }
+{
+    let scale = scale_at(row, kind, 6)?;
+    if fits_a_read(address, scale) {
+        Ok(scale)
+    } else {
+        Err(RowFault::Damaged)
+    }
+}
+
 /// The numbers of a register.
 fn register(row: &Row) -> Result<RegisterRow, RowFault>
     ensures { result ≡ register_in row.now }
 {
     let place = whole(row, 0, 1, GREATEST_PLACE)?;
     let function = function(row, 3)?;
-    let address = whole(row, 4, 0, LAST_COUNTER)?;
+    let address = whole(row, 4, 0, LAST_COUNTER)? as u16;
     let kind = whole(row, 5, 0, 1)?;
-    let scale = scale_at(row, kind, 6)?;
+    let scale = reached_scale(row, address, kind)?;
     Ok(RegisterRow {
         place,
         function,
-        address: address as u16,
+        address,
         scale,
     })
 }

@@ -1,6 +1,10 @@
 -- What the texts mean.
-use Rattle.std.proofs.Common.{◌≡◌, List, [], ◌∷◌, codes, ℕ, pos, negsuc, false, Some, None, refl}
-use Rattle.sqlite.specs.declared.types.Value.TheVariants.{Null, Int}
+use Rattle.std.proofs.Common.{◌≡◌, List, [], ◌∷◌, codes, ℕ, pos, negsuc, false, Some, None, inl, inr, refl}
+use Rattle.sqlite.specs.declared.types.Value.TheVariants.{Null, Int, Text}
+use Rattle.sqlite.specs.Order.{Row}
+use Rattle.sqlite.specs.Tree.{Trees}
+use Rattle.sqlite.specs.Program.{overlay}
+use Rattle.sqlite_sql.specs.Program.{QueryOverflows}
 use Rattle.sqlite.specs.Term.{Term, lit, col}
 use Rattle.sqlite.specs.Query.{Query, inner, end}
 use Rattle.sqlite.specs.Source.TheVariants.{Values}
@@ -17,6 +21,7 @@ use Rattle.sqlite_value.specs.declared.keys.Key.{Key}
 use Rattle.sqlite.specs.Listing.{understood, reads_listing}
 use Rattle.sqlite.proofs.Callers.{IsPlain, command_of}
 use Rattle.store_tables.specs.Schema.{books_schema}
+use Rattle.store_tables.proofs.Failures.{Suits, suits_scan}
 use Rattle.store_tables.proofs.Scans.{scan, no_limit, is_param, rising}
 
 -- ---- add_share
@@ -109,6 +114,10 @@ pub meter_intervals_plain : IsPlain (understood books_schema meter_intervals)
 unfolding understood everything
 meter_intervals_plain = (refl, refl)
 
+pub meter_intervals_suits : (meter : List ℕ) → Suits books_schema meter_intervals (Text meter ∷ [])
+unfolding understood everything
+meter_intervals_suits meter = suits_scan 14 meter_intervals_tests shares_project meter_intervals_order no_limit meter_intervals names (Text meter ∷ []) (refl, refl, refl) meter_intervals_plain meter_intervals_unlisted meter_intervals_is refl
+
 -- ---- register_intervals
 
 abbrev pub register_intervals : List ℕ
@@ -147,3 +156,20 @@ register_intervals_unlisted = refl
 pub register_intervals_plain : IsPlain (understood books_schema register_intervals)
 unfolding understood everything
 register_intervals_plain = (refl, refl)
+
+join_flows : (params : Row) (db : Trees) → QueryOverflows register_intervals_query (overlay db []) params → ⊥
+join_flows params db (inl sum) = sum
+join_flows params db (inr row) = row.4.4
+
+pub register_intervals_suits : (register : List ℕ) → Suits books_schema register_intervals (Text register ∷ [])
+unfolding understood everything
+register_intervals_suits register = record {
+  query = register_intervals_query;
+  names = names;
+  whole = (refl, refl, refl);
+  plain = register_intervals_plain;
+  unlisted = register_intervals_unlisted;
+  is = register_intervals_is;
+  typed = refl;
+  flows = join_flows (Text register ∷ []);
+}

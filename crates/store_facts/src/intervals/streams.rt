@@ -28,7 +28,7 @@ fn hand_on<S: Alter, K: RowSink<Share>>(
         K.takes sink.old sink.new result }
 {
     let mut rows = conn.query(sql, params)?;
-    'rows: for _ in 0..u64::MAX {
+    'rows: for _taken in 0..u64::MAX {
         rows.advance()?;
         let Some(row) = rows.get() else {
             return Ok(());

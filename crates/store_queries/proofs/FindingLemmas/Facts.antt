@@ -45,6 +45,8 @@ use Rattle.store_queries.specs.Finding.Sound.{IsReadableRegister, HasReadableReg
 use Rattle.store_queries.proofs.FindingLemmas.Each.{each_filter, each_length, each_same, each_equal, each_map}
 use Rattle.store_queries.proofs.FindingLemmas.Rows.{Falls, in_turn, each_placed, placed_falls, each_reverse, all_reverse, IsOnly, only_found, found_sound}
 use Rattle.store_queries.proofs.FindingLemmas.ReadRows.{register_found, poll_found}
+use Rattle.store_tables.specs.Failing.{IsRowFault}
+use Rattle.store_tables.proofs.ReadLemmas.{less_sound}
 
 -- ---- no two
 
@@ -230,10 +232,10 @@ this_register facts name row r is h =
     ap Some same_one ∙ sym it.4
 
 pub register_fault : (facts : List Fact) (name : List ℕ) (row : list_register.Register) (e : RowFault) → register_with (string_bytes row.name) (string_bytes row.device) row.row ≡ Err e
-    → OfLawful (λ facts. IsFound (is_register name) IsRegister (placed registered (registers_in facts))) facts (Some row) → HasReadableRegisters facts → e ≢ Damaged
-register_fault facts name row e is h sound =
-    let it = found_sound IsRegister (is_register name) IsReadableRegister (placed registered (registers_in facts)) row h.1 sound in
-    (register_found row (Err e) (sym is) it.0 it.1).fault it.2
+    → OfLawful (λ facts. IsFound (is_register name) IsRegister (placed registered (registers_in facts))) facts (Some row) → IsRowFault (HasReadableRegisters facts) e
+register_fault facts name row e is h =
+    let it = found_sound IsRegister (is_register name) IsReadableRegister (placed registered (registers_in facts)) row h.1 in
+    less_sound (HasReadableRegisters facts) (IsReadableRegister it.0) it.2 e (register_found row (Err e) (sym is) it.0 it.1).fault
 
 -- ---- polls
 
@@ -253,14 +255,14 @@ pub this_poll : (facts : List Fact) (number : ℕ) (row : store_poll.Poll) (p : 
     → OfLawful (λ facts. IsFound (is_poll number) IsStarted (map started (polls_in facts))) facts (Some row) → Some p ≡ poll_of facts number
 this_poll facts number row p has h =
     let it = poll_only facts number (Some row) h.0 h.1 in
-    let same_one : p ≡ it.1 = (poll_found row (Ok p) has (λ is. tt) it.0 it.3).read it.1 it.2 in
+    let same_one : p ≡ it.1 = (poll_found row (Ok p) has tt it.0 it.3).read it.1 it.2 in
     ap Some same_one ∙ sym it.4
 
-pub poll_fault : (facts : List Fact) (number : ℕ) (row : store_poll.Poll) (e : RowFault) → (is_name (string_bytes row.device) ≡ true → ⊥)
-    → OfLawful (λ facts. IsFound (is_poll number) IsStarted (map started (polls_in facts))) facts (Some row) → HasReadablePolls facts → e ≢ Damaged
-poll_fault facts number row e none h sound =
-    let it = found_sound IsStarted (is_poll number) IsReadablePoll (map started (polls_in facts)) row h.1 sound in
-    (poll_found row (Err e) tt none it.0 it.1).fault it.2
+pub poll_fault : (facts : List Fact) (number : ℕ) (row : store_poll.Poll) (e : RowFault) → (e ≡ Damaged) × (¬ (is_name (string_bytes row.device) ≡ true))
+    → OfLawful (λ facts. IsFound (is_poll number) IsStarted (map started (polls_in facts))) facts (Some row) → IsRowFault (HasReadablePolls facts) e
+poll_fault facts number row e none h =
+    let it = found_sound IsStarted (is_poll number) IsReadablePoll (map started (polls_in facts)) row h.1 in
+    less_sound (HasReadablePolls facts) (IsReadablePoll it.0) it.2 e (poll_found row (Err e) tt none it.0 it.1).fault
 
 pub no_poll_past : (facts : List Fact) (number : ℕ) → AreLawful facts → greatest_place < number → None ≡ poll_row_of facts number
 no_poll_past facts number lawful past = sym (ap (option_map (poll_row facts)) (none facts lawful))

@@ -1,5 +1,5 @@
 -- From one answer to another.
-use Rattle.std.proofs.Common.{◌≡◌, ◌≢◌, ℕ, List, map, Ok, Err, Result, IfOk, IfErr, IsErrAnd, refl, sym, subst, ◌∙◌, arith}
+use Rattle.std.proofs.Common.{◌≡◌, ℕ, List, map, Ok, Err, Result, IfOk, IfErr, IsErrAnd, refl, sym, subst, ◌∙◌, arith}
 use Rattle.std.specs.List.{AllByRecursion}
 use Rattle.sqlite.specs.Order.{Row}
 use Rattle.sqlite.specs.Store.{Ghosts}
@@ -9,6 +9,8 @@ use Rattle.office_events.specs.declared.facts.Fact.{Fact}
 use Rattle.office_rules.specs.Lawful.{AreLawful}
 use Rattle.store_tables.specs.declared.faults.RowFault.{RowFault}
 use Rattle.store_tables.specs.declared.faults.RowFault.TheVariants.{Sql, Damaged}
+use Rattle.store_tables.specs.Failing.{IsFault, IsRowFault}
+use Rattle.store_tables.proofs.Failures.{row_fault, later_fault, less_fault, on_err}
 use Rattle.store_facts.specs.Holding.{HoldsFacts, OnlyLooks}
 use Rattle.store_queries.specs.Finding.Each.{AreEach}
 use Rattle.store_queries.specs.Finding.Finding.{Finds, ReadsAll}
@@ -20,7 +22,7 @@ module _ {S : Type 0} (g : Ghosts S) (old new : Held S) where
       → Finds g old new (Ok a) P s → ((facts : List Fact) → P facts a → Q facts b) → Finds g old new (Ok b) Q t
   answered a b P Q s t one tells = record {
     answer = λ zone facts holds clean. tells facts (one.answer zone facts holds clean);
-    fault = λ zone facts holds clean sound. tt;
+    fault = λ zone facts holds clean. tt;
     looks = one.looks;
   }
 
@@ -31,7 +33,7 @@ module _ {S : Type 0} (g : Ghosts S) (old new : Held S) where
   pub less_told : {A : Type 0} (r : Result A RowFault) (P : List Fact → A → Type 0) (s t : List Fact → Type 0) → ((facts : List Fact) → t facts → s facts) → Finds g old new r P s → Finds g old new r P t
   less_told r P s t weaker one = record {
     answer = one.answer;
-    fault = λ zone facts holds clean sound. one.fault zone facts holds clean (weaker facts sound);
+    fault = λ zone facts holds clean. on_err r (λ f why. less_fault (state g old) (state g new) (t facts) (s facts) f (weaker facts) why) (one.fault zone facts holds clean);
     looks = one.looks;
   }
 
@@ -41,17 +43,19 @@ module _ {S : Type 0} (g : Ghosts S) (old new : Held S) where
   passed_on e (Ok b) P Q s t one weaker fails = absurd fails
   passed_on e (Err d) P Q s t one weaker fails = record {
     answer = λ zone facts holds clean. tt;
-    fault = λ zone facts holds clean sound. subst (λ f. f ≢ Damaged) (sym fails) (one.fault zone facts holds clean (weaker facts sound));
+    fault = λ zone facts holds clean.
+        subst (IsFault (state g old) (state g new) (t facts)) (sym fails) (less_fault (state g old) (state g new) (t facts) (s facts) e (weaker facts) (one.fault zone facts holds clean));
     looks = one.looks;
   }
 
   -- what was found is not what the office can have
   pub unread : {A B : Type 0} (a : A) (e : RowFault) (r : Result B RowFault) (P : List Fact → A → Type 0) (Q : List Fact → B → Type 0) (s t : List Fact → Type 0)
-      → Finds g old new (Ok a) P s → ((facts : List Fact) → P facts a → t facts → e ≢ Damaged) → IsErrAnd r (λ d. d ≡ e) → Finds g old new r Q t
+      → Finds g old new (Ok a) P s → ((facts : List Fact) → P facts a → IsRowFault (t facts) e) → IsErrAnd r (λ d. d ≡ e) → Finds g old new r Q t
   unread a e (Ok b) P Q s t one fair fails = absurd fails
   unread a e (Err d) P Q s t one fair fails = record {
     answer = λ zone facts holds clean. tt;
-    fault = λ zone facts holds clean sound. subst (λ f. f ≢ Damaged) (sym fails) (fair facts (one.answer zone facts holds clean) sound);
+    fault = λ zone facts holds clean.
+        subst (IsFault (state g old) (state g new) (t facts)) (sym fails) (row_fault (state g old) (state g new) (t facts) (t facts) e (λ is. is) (fair facts (one.answer zone facts holds clean)));
     looks = one.looks;
   }
 
@@ -64,19 +68,20 @@ module _ {S : Type 0} (g : Ghosts S) (old new : Held S) where
       → Finds g old new r Q t
   rows_read found rows shown IsSeen IsSound items (Ok v) stored P Q s t one reads are sound same = record {
     answer = λ zone facts holds clean. let p = one.answer zone facts holds clean in same facts v p (reads.read (stored facts) (are facts p));
-    fault = λ zone facts holds clean is. tt;
+    fault = λ zone facts holds clean. tt;
     looks = one.looks;
   }
   rows_read found rows shown IsSeen IsSound items (Err e) stored P Q s t one reads are sound same = record {
     answer = λ zone facts holds clean. tt;
-    fault = λ zone facts holds clean is. reads.fault (stored facts) (are facts (one.answer zone facts holds clean)) (sound facts is);
+    fault = λ zone facts holds clean.
+        row_fault (state g old) (state g new) (t facts) (AllByRecursion IsSound (stored facts)) e (sound facts) (reads.fault (stored facts) (are facts (one.answer zone facts holds clean)));
     looks = one.looks;
   }
 
 -- nothing was asked
 pub not_asked : {S A : Type 0} (g : Ghosts S) (old : Held S) (r : Result A RowFault) (P : List Fact → A → Type 0) (s : List Fact → Type 0)
-    → ((zone : List ℕ) (facts : List Fact) → IfOk r (P facts)) → ((facts : List Fact) → s facts → IfErr r (λ e. e ≢ Damaged)) → Finds g old old r P s
-not_asked g old r P s tells fair = record { answer = λ zone facts holds clean. tells zone facts; fault = λ zone facts holds clean. fair facts; looks = λ zone. stays g zone old }
+    → ((zone : List ℕ) (facts : List Fact) → IfOk r (P facts)) → ((facts : List Fact) → IfErr r (IsRowFault (s facts))) → Finds g old old r P s
+not_asked g old r P s tells fair = record { answer = λ zone facts holds clean. tells zone facts; fault = λ zone facts holds clean. on_err r (λ f why. row_fault (state g old) (state g old) (s facts) (s facts) f (λ is. is) why) (fair facts); looks = λ zone. stays g zone old }
 
 -- one look-up after the other
 both_ok : {B : Type 0} {P Q : B → Type 0} (r : Result B RowFault) → ((b : B) → P b → Q b) → IfOk r P → IfOk r Q
@@ -89,6 +94,51 @@ finds_then g old mid new a r P Q s t one two = record {
   answer = λ zone facts holds clean.
       let first = one.answer zone facts holds ((two.looks zone).clean clean) in
       both_ok r (λ b h. (first, h)) (two.answer zone facts (holds_on g zone old mid facts (one.looks zone) holds) clean);
-  fault = λ zone facts holds clean sound. two.fault zone facts (holds_on g zone old mid facts (one.looks zone) holds) clean sound;
+  fault = λ zone facts holds clean.
+      let early = (two.looks zone).clean clean in
+      let held = holds_on g zone old mid facts (one.looks zone) holds in
+      on_err r (λ f why. later_fault (state g old) (state g mid) (state g new) (t facts) f ((one.looks zone).goes facts holds early) ((two.looks zone).goes facts held clean).faults why) (two.fault zone facts held clean);
   looks = λ zone. looks_then g zone old mid new (one.looks zone) (two.looks zone);
 }
+
+-- a text was none, and nothing was asked
+pub unnamed : {S A : Type 0} (g : Ghosts S) (old : Held S) (e : RowFault) (r : Result A RowFault) (P : List Fact → A → Type 0) (Named : Type 0) (s : List Fact → Type 0)
+    → ((facts : List Fact) → s facts → Named) → (e ≡ Damaged) × (¬ Named) → IsErrAnd r (λ d. d ≡ e) → Finds g old old r P s
+unnamed g old e (Ok a) P Named s named none fails = absurd fails
+unnamed g old e (Err d) P Named s named none fails = record {
+  answer = λ zone facts holds clean. tt;
+  fault = λ zone facts holds clean. subst (IsFault (state g old) (state g old) (s facts)) (sym (fails ∙ none.0)) (λ sound. none.1 (named facts sound));
+  looks = λ zone. stays g zone old;
+}
+
+-- the second look-up fails, and is sound where what the first found is
+pub fails_then : {S A B C : Type 0} (g : Ghosts S) (old mid new : Held S) (a : A) (e : RowFault) (r : Result C RowFault) (P : List Fact → A → Type 0) (Q : List Fact → B → Type 0) (R : List Fact → C → Type 0) (s t u : List Fact → Type 0)
+    → Finds g old mid (Ok a) P s → Finds g mid new (Err e) Q t → ((facts : List Fact) → P facts a → u facts → t facts) → IsErrAnd r (λ d. d ≡ e) → Finds g old new r R u
+fails_then g old mid new a e (Ok c) P Q R s t u one two sound fails = absurd fails
+fails_then g old mid new a e (Err d) P Q R s t u one two sound fails = record {
+  answer = λ zone facts holds clean. tt;
+  fault = λ zone facts holds clean.
+      let early = (two.looks zone).clean clean in
+      let held = holds_on g zone old mid facts (one.looks zone) holds in
+      let found = one.answer zone facts holds early in
+      let why = later_fault (state g old) (state g mid) (state g new) (t facts) e ((one.looks zone).goes facts holds early) ((two.looks zone).goes facts held clean).faults (two.fault zone facts held clean) in
+      subst (IsFault (state g old) (state g new) (u facts)) (sym fails) (less_fault (state g old) (state g new) (u facts) (t facts) e (sound facts found) why);
+  looks = λ zone. looks_then g zone old mid new (one.looks zone) (two.looks zone);
+}
+
+-- what was found is turned into something else, or can't be
+pub made : {S A C : Type 0} (g : Ghosts S) (old new : Held S) (a : A) (r : Result C RowFault) (P : List Fact → A → Type 0) (R : List Fact → C → Type 0) (s u : List Fact → Type 0)
+    → Finds g old new (Ok a) P s → ((facts : List Fact) → P facts a → IfOk r (R facts)) → ((facts : List Fact) → P facts a → IfErr r (IsRowFault (u facts))) → Finds g old new r R u
+made g old new a r P R s u one tells fails = record {
+  answer = λ zone facts holds clean. tells facts (one.answer zone facts holds clean);
+  fault = λ zone facts holds clean. on_err r (λ f why. row_fault (state g old) (state g new) (u facts) (u facts) f (λ is. is) why) (fails facts (one.answer zone facts holds clean));
+  looks = one.looks;
+}
+
+-- damage is told of facts that are not sound
+pub if_damaged : {C : Type 0} (Sound : Type 0) (r : Result C RowFault) → IfErr r (λ e. (e ≡ Damaged) × (¬ Sound)) → IfErr r (IsRowFault Sound)
+if_damaged Sound (Ok c) h = tt
+if_damaged Sound (Err e) h = subst (IsRowFault Sound) (sym h.0) h.1
+
+pub damaged_fault : (Sound : Type 0) (e : RowFault) → (e ≡ Damaged) × (¬ Sound) → IsRowFault Sound e
+damaged_fault Sound e h = subst (IsRowFault Sound) (sym h.0) h.1

@@ -95,7 +95,7 @@ all_spelled points l = recursion_from_All IsSpelled points (λ k d below.
 -- ---- one point
 
 never : {A : Type 0} (S : Type 0) (Is : A → Type 0) → (S → ⊥) → IsFair S Is (Err Damaged)
-never S Is none = record { read = tt; fault = λ s is. none s }
+never S Is none = record { read = tt; fault = none }
 
 one_of : {X : Type 0} (o : Option X) (x y : X) → o ≡ Some x → o ≡ Some y → x ≡ y
 one_of o x y e f = let g : Some x ≡ Some y = sym e ∙ f in cc

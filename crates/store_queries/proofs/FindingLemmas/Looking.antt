@@ -1,5 +1,5 @@
 -- A question after the books were touched, and one look-up after the other.
-use Rattle.std.proofs.Common.{◌≡◌, ◌≢◌, ◌⊎◌, inl, inr, ℕ, List, false, Ok, Err, Result, IfOk, IfErr, OnOk, IsErrAnd, IsTrue, refl, sym, subst, ◌∙◌, arith}
+use Rattle.std.proofs.Common.{◌≡◌, ◌⊎◌, inl, inr, ℕ, List, false, Ok, Err, Result, IfOk, IfErr, OnOk, IsErrAnd, IsTrue, refl, sym, subst, ◌∙◌, arith}
 use Rattle.std.specs.List.{AllByRecursion}
 use Rattle.sqlite.specs.Order.{Row}
 use Rattle.sqlite.specs.Tree.{Trees}
@@ -10,7 +10,9 @@ use Rattle.sqlite.specs.declared.error.Error.{Error}
 use Rattle.office_events.specs.declared.facts.Fact.{Fact}
 use Rattle.office_rules.specs.Lawful.{AreLawful}
 use Rattle.store_tables.specs.declared.faults.RowFault.{RowFault}
-use Rattle.store_tables.specs.declared.faults.RowFault.TheVariants.{Sql, Damaged}
+use Rattle.store_tables.specs.declared.faults.RowFault.TheVariants.{Sql}
+use Rattle.store_tables.specs.Failing.{IsStoreError, IsFault}
+use Rattle.store_tables.proofs.Failures.{goes_then, still_goes, went_on, later_fault, less_fault, on_err}
 use Rattle.store_tables.specs.Content.{Content, AreTables, HasRows}
 use Rattle.store_tables.specs.Asking.{Asks, LooksUp}
 use Rattle.store_tables.proofs.StepLemmas.{kept_then}
@@ -33,6 +35,7 @@ module _ {S : Type 0} (g : Ghosts S) (zone : List ℕ) where
     mode = λ idle. q.mode (p.mode idle);
     kept = λ facts holds clean. kept_then (state g a) (state g b) (state g c) (p.kept facts holds (q.clean clean)) (q.kept facts (holds_on a b facts p holds) clean);
     left = λ facts holds clean trees left. p.left facts holds (q.clean clean) trees (q.left facts (holds_on a b facts p holds) clean trees left);
+    goes = λ facts holds clean. goes_then (state g a) (state g b) (state g c) (p.goes facts holds (q.clean clean)) (q.goes facts (holds_on a b facts p holds) clean);
   }
 
   pub stays : (a : Held S) → OnlyLooks g zone a a
@@ -41,6 +44,7 @@ module _ {S : Type 0} (g : Ghosts S) (zone : List ℕ) where
     mode = λ idle. idle;
     kept = λ facts holds clean. record { was_open = λ still. still; committed = λ still. refl };
     left = λ facts holds clean trees left. left;
+    goes = λ facts holds clean. still_goes (state g a);
   }
 
 -- ---- a question after the books were touched
@@ -78,30 +82,31 @@ left_or_none (inl p) = p
 left_or_none (inr none) = absurd none
 
 module _ {S : Type 0} (g : Ghosts S) (old mid : Held S) where
-  only_touched : (zone : List ℕ) → mid.in_transaction ≡ false → (HasCleanDisk (state g mid) → KeepsCommit (state g old) (state g mid)) → Survives (state g old) (state g mid) (λ _. ⊥) → OnlyLooks g zone old mid
+  pub only_touched : (zone : List ℕ) → mid.in_transaction ≡ false → (HasCleanDisk (state g mid) → KeepsCommit (state g old) (state g mid)) → Survives (state g old) (state g mid) (λ _. ⊥) → OnlyLooks g zone old mid
   only_touched zone mode kept survives = record {
     clean = λ clean. omega (arith, survives.clean);
     mode = λ idle. mode;
     kept = λ facts holds clean. kept clean;
     left = λ facts holds clean trees left. left_or_none (survives.crash clean trees left);
+    goes = λ facts holds clean. went_on (state g old) (state g mid) (λ _. ⊥) clean survives;
   }
 
   -- the store didn't answer
   pub not_touched : {A : Type 0} (e : Error) (r : Result A RowFault) (Says : List Fact → A → Type 0) (AreSound : List Fact → Type 0)
       → mid.in_transaction ≡ false → (HasCleanDisk (state g mid) → KeepsCommit (state g old) (state g mid)) → Survives (state g old) (state g mid) (λ _. ⊥)
-      → IsErrAnd r (λ d. d ≡ Sql e) → Finds g old mid r Says AreSound
-  not_touched e (Ok a) Says AreSound mode kept survives fails = absurd fails
-  not_touched e (Err d) Says AreSound mode kept survives fails = record {
+      → (HasCleanDisk (state g mid) → IsStoreError (state g old) (state g mid) e) → IsErrAnd r (λ d. d ≡ Sql e) → Finds g old mid r Says AreSound
+  not_touched e (Ok a) Says AreSound mode kept survives why fails = absurd fails
+  not_touched e (Err d) Says AreSound mode kept survives why fails = record {
     answer = λ zone facts holds clean. tt;
-    fault = λ zone facts holds clean sound is. let f : Sql e ≡ Damaged = sym fails ∙ is in cc;
+    fault = λ zone facts holds clean. subst (IsFault (state g old) (state g mid) (AreSound facts)) (sym fails) (why clean);
     looks = λ zone. only_touched zone mode kept survives;
   }
 
   module _ (touched : Touched g old mid) where
-    looks_touched : (zone : List ℕ) → OnlyLooks g zone old mid
+    pub looks_touched : (zone : List ℕ) → OnlyLooks g zone old mid
     looks_touched zone = only_touched zone touched.mode touched.kept touched.survives
 
-    seen : (zone : List ℕ) (facts : List Fact) → HoldsFacts g zone old facts → HasCleanDisk (state g mid) → HasSeen g zone mid facts
+    pub seen : (zone : List ℕ) (facts : List Fact) → HoldsFacts g zone old facts → HasCleanDisk (state g mid) → HasSeen g zone mid facts
     unfolding HoldsFacts
     seen zone facts holds clean =
         let opened = touched.opened clean in
@@ -115,7 +120,7 @@ module _ {S : Type 0} (g : Ghosts S) (old mid : Held S) where
         }
 
     module _ (new : Held S) (asks : Asks g mid new) where
-      looks_asked : (zone : List ℕ) → OnlyLooks g zone old new
+      pub looks_asked : (zone : List ℕ) → OnlyLooks g zone old new
       looks_asked zone =
           let first = looks_touched zone in
           record {
@@ -127,7 +132,16 @@ module _ {S : Type 0} (g : Ghosts S) (old mid : Held S) where
             left = λ facts holds clean trees left.
                 let s = seen zone facts holds (asks.clean clean) in
                 first.left facts holds (asks.clean clean) trees (left_or_none ((asks.survives s.content s.tables).crash clean trees left));
+            goes = λ facts holds clean.
+                let s = seen zone facts holds (asks.clean clean) in
+                goes_then (state g old) (state g mid) (state g new) (first.goes facts holds (asks.clean clean)) (went_on (state g mid) (state g new) (λ _. ⊥) clean (asks.survives s.content s.tables));
           }
+
+      -- a fault of the question is one of both
+      pub since : (zone : List ℕ) (facts : List Fact) → HoldsFacts g zone old facts → HasCleanDisk (state g new) → (Sound : Type 0) (f : RowFault) → IsFault (state g mid) (state g new) Sound f → IsFault (state g old) (state g new) Sound f
+      since zone facts holds clean Sound f why =
+          let s = seen zone facts holds (asks.clean clean) in
+          later_fault (state g old) (state g mid) (state g new) Sound f ((looks_touched zone).goes facts holds (asks.clean clean)) (asks.survives s.content s.tables).counts why
 
       -- it was answered
       pub asked : {A : Type 0} (a : A) (Says : List Fact → A → Type 0) (AreSound : List Fact → Type 0)
@@ -135,17 +149,20 @@ module _ {S : Type 0} (g : Ghosts S) (old mid : Held S) where
           → Finds g old new (Ok a) Says AreSound
       asked a Says AreSound tells = record {
         answer = λ zone facts holds clean. let s = seen zone facts holds (asks.clean clean) in tells clean s.content s.tables zone facts s.are;
-        fault = λ zone facts holds clean sound. tt;
+        fault = λ zone facts holds clean. tt;
         looks = looks_asked;
       }
 
       -- it was not
       pub not_asked : {A : Type 0} (e : Error) (r : Result A RowFault) (Says : List Fact → A → Type 0) (AreSound : List Fact → Type 0)
+          → (HasCleanDisk (state g new) → (content : Content) → AreTables (state g mid).now content → (zone : List ℕ) (facts : List Fact) → AreOf zone facts content → IsStoreError (state g mid) (state g new) e)
           → IsErrAnd r (λ d. d ≡ Sql e) → Finds g old new r Says AreSound
-      not_asked e (Ok a) Says AreSound fails = absurd fails
-      not_asked e (Err d) Says AreSound fails = record {
+      not_asked e (Ok a) Says AreSound why fails = absurd fails
+      not_asked e (Err d) Says AreSound why fails = record {
         answer = λ zone facts holds clean. tt;
-        fault = λ zone facts holds clean sound is. let f : Sql e ≡ Damaged = sym fails ∙ is in cc;
+        fault = λ zone facts holds clean.
+            let s = seen zone facts holds (asks.clean clean) in
+            subst (IsFault (state g old) (state g new) (AreSound facts)) (sym fails) (since zone facts holds clean (AreSound facts) (Sql e) (why clean s.content s.tables zone facts s.are));
         looks = looks_asked;
       }
 
@@ -158,8 +175,9 @@ module _ {S : Type 0} (g : Ghosts S) (old mid : Held S) where
       answer = λ zone facts holds clean.
           let s = seen zone facts holds (it.asks.clean clean) in
           lawfully _ r s.are.lawful (it.answer clean s.content s.tables (stored facts) (rows zone facts s.content s.are));
-      fault = λ zone facts holds clean sound.
-          let s = seen zone facts holds (it.asks.clean clean) in it.fault clean s.content s.tables (stored facts) (rows zone facts s.content s.are) sound;
+      fault = λ zone facts holds clean.
+          let s = seen zone facts holds (it.asks.clean clean) in
+          on_err r (λ f why. since new it.asks zone facts holds clean (AllByRecursion IsSound (stored facts)) f why) (it.fault clean s.content s.tables (stored facts) (rows zone facts s.content s.are));
       looks = looks_asked new it.asks;
     }
 
@@ -173,10 +191,11 @@ module _ {S : Type 0} (g : Ghosts S) (old mid : Held S) where
           let s = seen zone facts holds (it.asks.clean clean) in
           let t = told zone facts s.content s.are in
           weaker_ok (Answers t.rows) (Says facts) r t.tells (it.answer clean s.content s.tables t.rows t.there);
-      fault = λ zone facts holds clean sound.
+      fault = λ zone facts holds clean.
           let s = seen zone facts holds (it.asks.clean clean) in
           let t = told zone facts s.content s.are in
-          it.fault clean s.content s.tables t.rows t.there (t.sound sound);
+          on_err r (λ f why. less_fault (state g old) (state g new) (AreSound facts) (AllByRecursion IsSound t.rows) f t.sound (since new it.asks zone facts holds clean (AllByRecursion IsSound t.rows) f why))
+          (it.fault clean s.content s.tables t.rows t.there);
       looks = looks_asked new it.asks;
     }
 
@@ -184,6 +203,6 @@ module _ {S : Type 0} (g : Ghosts S) (old mid : Held S) where
     pub seen_alone : {A : Type 0} (a : A) (Says : List Fact → A → Type 0) (AreSound : List Fact → Type 0) → ((facts : List Fact) → AreLawful facts → Says facts a) → Finds g old mid (Ok a) Says AreSound
     seen_alone a Says AreSound tells = record {
       answer = λ zone facts holds clean. tells facts (seen zone facts holds clean).are.lawful;
-      fault = λ zone facts holds clean sound. tt;
+      fault = λ zone facts holds clean. tt;
       looks = looks_touched;
     }

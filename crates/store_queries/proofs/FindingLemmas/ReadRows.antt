@@ -1,5 +1,5 @@
 -- Rows that are read as what they stand for.
-use Rattle.std.proofs.Common.{◌≡◌, ◌≢◌, ℕ, zero, suc, ◌+◌, ◌≤◌, ◌<◌, nat_le, Bool, true, false, ◌&&◌, if◌then◌else◌, List, [], ◌∷◌, ◌++◌, map, take, length, get_or, Option, Some, None, Ok, Err, Result, IfOk, IfErr, IsErrAnd, string_bytes, refl, sym, ap, ap₂, subst, ◌∙◌, arith, add-one}
+use Rattle.std.proofs.Common.{◌≡◌, ℕ, zero, suc, ◌+◌, ◌≤◌, ◌<◌, nat_le, Bool, true, false, ◌&&◌, if◌then◌else◌, List, [], ◌∷◌, ◌++◌, map, take, length, get_or, Option, Some, None, Ok, Err, Result, IfOk, IfErr, IsErrAnd, string_bytes, refl, sym, ap, ap₂, subst, ◌∙◌, arith, add-one}
 use Rattle.std.specs.List.{AllByRecursion}
 use Rattle.std.proofs.Math.Bridge.{le_prop}
 use Rattle.std.proofs.lemmas.Bool.{le-leb}
@@ -17,7 +17,8 @@ use Rattle.store_tables.specs.declared.faults.RowFault.{RowFault}
 use Rattle.store_tables.specs.declared.faults.RowFault.TheVariants.{Sql, Damaged}
 use Rattle.store_tables.specs.Columns.{or_damaged, and_then}
 use Rattle.store_tables.specs.Asking.{ReadsRow}
-use Rattle.store_tables.proofs.ReadLemmas.{IsFair, fair_then, both}
+use Rattle.store_tables.specs.Failing.{IsRowFault}
+use Rattle.store_tables.proofs.ReadLemmas.{IsFair, fair_then, both, less_sound}
 use Rattle.store_devices.specs.declared.devices.rows.Device as list_device
 use Rattle.store_devices.specs.declared.devices.rows.Register as list_register
 use Rattle.store_devices.specs.declared.devices.rows.DeviceRow.{DeviceRow}
@@ -45,15 +46,15 @@ module _ {A B X : Type 0} (row : Row) (shown : X → Row) (Seen : X → A → Ty
   not_read e (Ok b) one sound fails = absurd fails
   not_read e (Err d) one sound fails = record {
     read = λ x is. tt;
-    fault = λ x is can. subst (λ f. f ≢ Damaged) (sym fails) (one.fault x is (sound x can));
+    fault = λ x is. subst (IsRowFault (T x)) (sym fails) (less_sound (T x) (S x) (sound x) e (one.fault x is));
   }
 
 pub fair_if : {A : Type 0} (Sound : Type 0) (b : Bool) (x : A) → (Sound → b ≡ true) → IsFair Sound (λ y. y ≡ x) (or_damaged (if b then Some x else None))
-fair_if Sound true x sound = record { read = refl; fault = λ s. tt }
-fair_if Sound false x sound = record { read = tt; fault = λ s e. absurd (let f = sound s in cc) }
+fair_if Sound true x sound = record { read = refl; fault = tt }
+fair_if Sound false x sound = record { read = tt; fault = λ s. let f = sound s in cc }
 
 pub fair_ok : {A : Type 0} (Sound : Type 0) (Is : A → Type 0) (x : A) → Is x → IsFair Sound Is (Ok x)
-fair_ok Sound Is x is = record { read = is; fault = λ s. tt }
+fair_ok Sound Is x is = record { read = is; fault = tt }
 
 within : (low high n : ℕ) → (low ≤ n) × (n ≤ high) → nat_le low n && nat_le n high ≡ true
 within low high n h = both _ _ (le-leb low n h.0) (le-leb n high h.1)
@@ -138,13 +139,13 @@ poll_is x p has q is =
     let span : p.span ≡ q.span = one_span p.span q.span of.function of.address of.count in
     λ i. record { number = of.number i; device = of.device i; unit = of.unit i; at = of.at i; id = of.id i; span = span i }
 
-pub poll_found : (a : store_poll.Poll) (r : Result Poll RowFault) → IfOk r (HasNumbers (string_bytes a.device) a.row) → (is_name (string_bytes a.device) ≡ true → IfErr r (λ e. ⊥))
+pub poll_found : (a : store_poll.Poll) (r : Result Poll RowFault) → IfOk r (HasNumbers (string_bytes a.device) a.row) → IfErr r (λ e. (e ≡ Damaged) × (¬ (is_name (string_bytes a.device) ≡ true)))
     → (x : Started) → IsStarted x a → IsFair (IsReadablePoll x) (IsPollOf x) r
 poll_found a (Ok p) has fair x seen = record {
   read = poll_is x p (subst (λ (row : PollRow). HasNumbers x.device row p) seen.row (subst (λ (device : List ℕ). HasNumbers device a.row p) seen.device has));
-  fault = λ s. tt;
+  fault = tt;
 }
-poll_found a (Err e) has fair x seen = record { read = tt; fault = λ s. absurd (fair (ap is_name seen.device ∙ s.device)) }
+poll_found a (Err e) has fair x seen = record { read = tt; fault = subst (IsRowFault (IsReadablePoll x)) (sym fair.0) (λ s. fair.1 (ap is_name seen.device ∙ s.device)) }
 
 -- ---- several rows
 
@@ -156,7 +157,7 @@ at_index shown (x ∷ xs) (suc i) row lt is =
     let it = at_index shown xs i row (omega arith) is in
     (it.0, it.1, ap (λ l. x ∷ l) it.2)
 
-at_element : {X : Type 0} (shown : X → Row) (xs : List X) (i : ℕ) (row : Row) → i < length (map shown xs) → row ≡ get_or (map shown xs) i row
+pub at_element : {X : Type 0} (shown : X → Row) (xs : List X) (i : ℕ) (row : Row) → i < length (map shown xs) → row ≡ get_or (map shown xs) i row
     → (x : X) × (row ≡ shown x) × ((S : X → Type 0) → AllByRecursion S xs → S x)
 at_element shown [] i row lt is = absurd (omega arith)
 at_element shown (x ∷ xs) zero row lt is = (x, is, λ S all. all.0)
@@ -181,9 +182,9 @@ module _ {X A : Type 0} (rows : List Row) (shown : X → Row) (Seen : X → A �
     unreadable S items e (Ok v) reads fails = absurd fails
     unreadable S items e (Err d) reads fails = record {
       read = λ xs are. tt;
-      fault = λ xs are sound.
+      fault = λ xs are.
           let it = at_element shown xs i row (subst (λ l. i < length l) are lt) (subst (λ l. row ≡ get_or l i row) are is) in
-          subst (λ f. f ≢ Damaged) (sym fails) (reads.fault it.0 it.1 (it.2 S sound));
+          subst (IsRowFault (AllByRecursion S xs)) (sym fails) (less_sound (AllByRecursion S xs) (S it.0) (it.2 S) e (reads.fault it.0 it.1));
     }
 
   -- all rows were read
@@ -192,7 +193,7 @@ module _ {X A : Type 0} (rows : List Row) (shown : X → Row) (Seen : X → A �
     read = λ xs are.
         let long : length xs ≤ i = whole_length xs are end in
         subst (λ l. AreEach Seen l (items v)) (take_whole i xs long) (some xs are);
-    fault = λ xs are sound. tt;
+    fault = λ xs are. tt;
   }
     where
       whole_length : (xs : List X) → rows ≡ map shown xs → i ≡ length rows → length xs ≤ i

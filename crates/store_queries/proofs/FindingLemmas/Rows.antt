@@ -87,7 +87,11 @@ module _ {X A B : Type 0} (Is : X → A → Type 0) (Seen : X → B → Type 0) 
       (h.0, it.0, it.1, h.1, sym (slice_get-filter q vs) ∙ it.2)
 
 -- what was found is sound where all are
-pub found_sound : {X B : Type 0} (Seen : X → B → Type 0) (p : X → Bool) (S : X → Type 0) (xs : List X) (b : B) → IsFound p Seen xs (Some b) → AllByRecursion S xs → (x : X) × Seen x b × S x
-found_sound Seen p S xs b h all =
-    let those = recursion_from_All S (h.0 ∷ h.2) (All-permutation S (filter p xs) (h.0 ∷ h.2) h.3 (All-from_recursion S (filter p xs) (all-filter S p xs all))) in
-    (h.0, h.1, those.0)
+pub found_sound : {X B : Type 0} (Seen : X → B → Type 0) (p : X → Bool) (S : X → Type 0) (xs : List X) (b : B) → IsFound p Seen xs (Some b) → (x : X) × Seen x b × (AllByRecursion S xs → S x)
+found_sound Seen p S xs b h = (
+  h.0,
+  h.1,
+  λ all.
+      let those = recursion_from_All S (h.0 ∷ h.2) (All-permutation S (filter p xs) (h.0 ∷ h.2) h.3 (All-from_recursion S (filter p xs) (all-filter S p xs all))) in
+      those.0,
+)

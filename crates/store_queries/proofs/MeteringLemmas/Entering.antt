@@ -1,5 +1,5 @@
 -- The entry of a meter at a place.
-use Rattle.std.proofs.Common.{◌≡◌, ℕ, List, map, filter, reverse, take, Option, Some, None, option_map, Ok, Err, Result, IfOk, refl, sym, ap, subst, ◌∙◌, IsPermutation}
+use Rattle.std.proofs.Common.{◌≡◌, ℕ, List, map, filter, reverse, take, Option, Some, None, option_map, Ok, Err, Result, IfOk, IfErr, refl, sym, ap, subst, ◌∙◌, IsPermutation}
 use Rattle.std.specs.Option.{option_and_then}
 use Rattle.std.specs.List.{filter_map}
 use Rattle.std.proofs.lemmas.List.{reverse-reverse}
@@ -20,12 +20,16 @@ use Rattle.office_rules.specs.Meters.{rows_of, installation_of, meter_of, entry_
 use Rattle.office_rules.specs.Laws.{JournalsFit}
 use Rattle.office_rules.proofs.Lookups.{same_text, find_passes}
 use Rattle.store_tables.specs.declared.faults.RowFault.{RowFault}
-use Rattle.store_tables.specs.Answer.{FirstFirst}
+use Rattle.store_tables.specs.declared.faults.RowFault.TheVariants.{Damaged}
+use Rattle.std.specs.List.{AllByRecursion}
+use Rattle.store_tables.specs.Failing.{IsRowFault}
+use Rattle.store_tables.proofs.ReadLemmas.{less_sound}
+use Rattle.store_tables.specs.Answer.{AreFound, FirstFirst}
 use Rattle.store_tables.specs.Asking.{Shows}
-use Rattle.store_tables.specs.Entries.Rows.{Entered, Voided, is_of, is_void_of, entry_place, entry_shown, voided_shown, voided_place}
+use Rattle.store_tables.specs.Entries.Rows.{Entered, Voided, is_of, is_void_of, entry_place, entry_shown, voided_shown, voided_place, IsSoundEntered, IsSoundVoided}
 use Rattle.store_facts.specs.Rows.{entered_rows, entries_of, voided}
 use Rattle.store_facts.proofs.Energy.{found_recorded}
-use Rattle.store_queries.specs.Metering.Entries.{AreJournal, ShowsEntries, ShowsVoids, FindsJournal, row_among}
+use Rattle.store_queries.specs.Metering.Entries.{AreJournal, ShowsEntries, ShowsVoids, FindsJournal, row_among, IsFaultOfJournal}
 use Rattle.store_queries.proofs.MeteringLemmas.Journals.{numbered, journal_back, entries_in_order}
 
 -- the opening of a meter has its name
@@ -34,12 +38,16 @@ named facts meter o there = same_text o.meter meter (find_passes (λ (x : Openin
 
 pub shows_entries : JournalsFit → RowsStand → (facts : List Fact) (meter : List ℕ) (rows : List Entered) (answer : List Row) → AreLawful facts → ((m : List ℕ) → IsPermutation (filter (is_of m) rows) (entries_of facts m))
     → Shows (is_of meter) (FirstFirst entry_place) entry_shown rows answer → ShowsEntries meter facts answer
-shows_entries journals stand facts meter rows answer lawful each shows = λ o there.
-    let recorded = found_recorded (λ (x : Opening). same x.meter meter) (openings_in facts) o there in
-    let name = named facts meter o there in
-    let alone : opening_of facts o.meter ≡ Some o = ap (opening_of facts) name ∙ there in
-    let here = subst (λ (m : List ℕ). Shows (is_of m) (FirstFirst entry_place) entry_shown rows answer) (sym name) shows in
-    here.2 ∙ ap (map entry_shown) (entries_in_order facts o rows here.0 (numbered journals stand facts o lawful recorded) alone (each o.meter) here.1)
+shows_entries journals stand facts meter rows answer lawful each shows = record {
+  entries = shows.0;
+  shown = shows.2;
+  all = λ o there.
+      let recorded = found_recorded (λ (x : Opening). same x.meter meter) (openings_in facts) o there in
+      let name = named facts meter o there in
+      let alone : opening_of facts o.meter ≡ Some o = ap (opening_of facts) name ∙ there in
+      let here = subst (λ (m : List ℕ). AreFound (is_of m) (FirstFirst entry_place) rows shows.0) (sym name) shows.1 in
+      entries_in_order facts o rows shows.0 (numbered journals stand facts o lawful recorded) alone (each o.meter) here;
+}
 
 pub shows_voids : (facts : List Fact) (meter : List ℕ) (answer : List Row) → AreLawful facts → Shows (is_void_of meter) (FirstFirst voided_place) voided_shown (map voided (voids_in facts)) answer → ShowsVoids meter facts answer
 shows_voids facts meter answer lawful shows = record { lawful = lawful; voids = shows.0; shown = shows.2; all = shows.1.all }
@@ -50,7 +58,7 @@ journal_is journals stand change facts meter entries voids rows shown void are =
     let recorded = found_recorded (λ (x : Opening). same x.meter meter) (openings_in facts) o there in
     let name = named facts meter o there in
     let all = subst (λ (m : List ℕ). IsPermutation (filter (is_void_of m) (map voided (voids_in facts))) void.voids) (sym name) void.all in
-    ap reverse (are (reverse (entered_rows o (rows_of facts o))) void.voids (shown o there) void.shown ∙ journal_back journals stand change facts o void.lawful recorded void.voids all)
+    ap reverse (are shown.entries void.voids shown.shown void.shown ∙ ap (filter_map (row_among void.voids)) (shown.all o there) ∙ journal_back journals stand change facts o void.lawful recorded void.voids all)
     ∙ reverse-reverse (rows_of facts o)
 
 -- what was found at the place of a meter
@@ -97,3 +105,14 @@ placed_found facts o place whole before rows firsts index row next whole_is rows
     stood ∙ ap (λ (rs : List EntryRow). standing whole.opening (entries_in (latest_first rs)) whole.ended) first_is
     ∙ ap (λ (w : Installation). standing w.opening (entries_in around.before) w.ended) whole_is in
     ap (λ (b : Installation). Some (let p : EntryPlace = record { before = b; row = row; next = next } in p)) was ∙ sym (ap (option_map (place_in facts o)) at)
+
+-- of damage nothing is said
+pub placed_fault : {C : Type 0} (r : Result C RowFault) → IfErr r (λ e. e ≡ Damaged) → IfErr r (IsRowFault ⊥)
+placed_fault (Ok c) h = tt
+placed_fault (Err e) h = subst (IsRowFault ⊥) (sym h) (λ none. none)
+
+pub journal_fault : {C : Type 0} (entries voids shown told : List Row) (r : Result C RowFault) → shown ≡ entries → told ≡ voids → (es : List Entered) (vs : List Voided) → entries ≡ map entry_shown es → voids ≡ map voided_shown vs
+    → IfErr r (IsFaultOfJournal shown told) → IfErr r (IsRowFault ⊥)
+journal_fault entries voids shown told (Ok x) one two es vs first second h = tt
+journal_fault entries voids shown told (Err e) one two es vs first second h =
+    less_sound ⊥ (AllByRecursion IsSoundEntered es × AllByRecursion IsSoundVoided vs) (λ none. absurd none) e (h es vs (one ∙ first) (two ∙ second))

@@ -1,11 +1,11 @@
 -- What the rows of the tables of facts say of meters.
-use Rattle.std.proofs.Common.{◌≡◌, ℕ, ◌+◌, ◌==◌, ◌&&◌, Bool, true, List, [], ◌∷◌, map, filter, length, Option, Some, None, option_map, string_bytes, bytes_eq, refl, sym, ap, subst, ◌∙◌, arith, eqb-true, IsPermutation}
+use Rattle.std.proofs.Common.{◌≡◌, ℕ, ◌+◌, ◌==◌, ◌&&◌, Bool, true, false, List, [], ◌∷◌, map, filter, length, Option, Some, None, option_map, string_bytes, bytes_eq, refl, sym, ap, subst, ◌∙◌, arith, eqb-true, IsPermutation}
 use Rattle.std.specs.List.{AllByRecursion}
 use Rattle.std.proofs.lemmas.Bool.{and_parts}
 use Rattle.std.proofs.lemmas.Option.{same_Some}
 use Rattle.std.proofs.lemmas.List.Elements.{recursion_from_All, All-from_recursion}
 use Rattle.std.proofs.lemmas.List.Sorted.{All-permutation, IsPermutation-sym}
-use Rattle.sqlite_keyed.proofs.ListLemmas.{all_kept}
+use Rattle.sqlite_keyed.proofs.ListLemmas.{all_kept, all-filter}
 use Rattle.meter_journal.specs.declared.lines.EntryRow as journal
 use Rattle.meter_journal.specs.Lists.{AreNumbered}
 use Rattle.office_events.specs.declared.facts.Opening.{Opening}
@@ -14,19 +14,23 @@ use Rattle.office_events.specs.declared.questions.Installation.{Installation}
 use Rattle.office_rules.specs.Facts.{same, openings_in, opening_of, installed_at}
 use Rattle.office_rules.specs.Lawful.{AreLawful}
 use Rattle.office_rules.specs.Meters.{rows_of, installation_of}
-use Rattle.office_rules.specs.Laws.{VoidsLeaveNoTrace}
-use Rattle.office_rules.proofs.Lookups.{same_text, each_found}
+use Rattle.office_rules.specs.Laws.{VoidsLeaveNoTrace, IsRecorded}
+use Rattle.office_rules.specs.Ranges.{IsSound, InstallationsAreInRange}
+use Rattle.office_events.specs.Names.{is_name}
+use Rattle.store_queries.specs.Metering.Sound.{HasNames, IsNamed}
+use Rattle.store_queries.proofs.FindingLemmas.Lists.{all_found}
+use Rattle.office_rules.proofs.Lookups.{same_text, find_passes, each_found}
 use Rattle.office_rules.proofs.Openings.{openings_apart, found_installed}
 use Rattle.store_tables.specs.Answer.{IsFound, IsLast, every}
 use Rattle.store_tables.specs.declared.meters.rows.Installation as stored
 use Rattle.store_tables.specs.Meters.Rows.{Installed, IsInstalled, is_meter, is_at, installed_place, HasInstalledPlace, is_range_of, HasRange}
 use Rattle.store_tables.specs.declared.entries.rows.EntryRow.{EntryRow}
 use Rattle.store_tables.specs.Entries.Rows.{Entered, is_of, is_entry, IsRow}
-use Rattle.store_facts.specs.Rows.{placed, installed_row, ranged, opening_row, entered_rows, entries_at, entries_of}
+use Rattle.store_facts.specs.Rows.{entered, placed, installed_row, ranged, opening_row, entered_rows, entries_at, entries_of}
 use Rattle.store_facts.proofs.Energy.{found_recorded}
 use Rattle.store_facts.proofs.Placed.{last_counts}
 use Rattle.store_queries.specs.Metering.Meters.{IsRowOf, FindsRow, FindsRange, FindsFirst, CountsOpenings, opening_from, standing_from, IsStanding}
-use Rattle.store_queries.proofs.MeteringLemmas.Picked.{found_has, none_placed, last_placed, all_placed, all_mapped}
+use Rattle.store_queries.proofs.MeteringLemmas.Picked.{found_has, none_placed, none_mapped, none_passes, last_placed, all_placed, all_mapped}
 
 -- each opening is the only one of its meter
 pub alone : (facts : List Fact) → AreLawful facts → AllByRecursion (λ (o : Opening). opening_of facts o.meter ≡ Some o) (openings_in facts)
@@ -66,7 +70,7 @@ counted facts (Some place) h = let n = last_counts (installed_row facts) install
 -- ---- ranges
 
 pub range_found : (facts : List Fact) (meter : List ℕ) → AreLawful facts → (found : Option ℕ) → IsFound (is_range_of meter) HasRange (map ranged (openings_in facts)) found → FindsRange meter facts found
-range_found facts meter lawful None h = tt
+range_found facts meter lawful None h = none_mapped ranged (λ (o : Opening). same o.meter meter) (is_range_of meter) (λ o. refl) (openings_in facts) h
 range_found facts meter lawful (Some range) h = λ opening there.
     let P : Opening → Type 0 = λ o. opening_of facts o.meter ≡ Some o in
     let it = found_has (is_range_of meter) (λ y. (o : Opening) × (y ≡ ranged o) × P o) (map ranged (openings_in facts)) h.0 h.2
@@ -83,9 +87,26 @@ first_alone : (o : Opening) (rows : List journal.EntryRow) → AreNumbered rows 
 first_alone o [] numbered = (λ is. refl, tt)
 first_alone o (row ∷ rows) numbered = (λ is. absurd (let place = numbered.0 in omega (arith, place, is)), first_alone o rows numbered.1)
 
+-- the opening is among the rows
+at_opening : (o : Opening) (P : Entered → Type 0) (rows : List journal.EntryRow) → AllByRecursion P (entered_rows o rows) → P (entered o.meter (opening_row o))
+at_opening o P [] all = all.0
+at_opening o P (row ∷ rows) all = at_opening o P rows all.1
+
+none_first : (facts : List Fact) (meter : List ℕ) (rows : List Entered) → ((m : List ℕ) → IsPermutation (filter (is_of m) rows) (entries_of facts m)) → filter (is_entry meter 1) rows ≡ []
+    → (found : Option Opening) → opening_of facts meter ≡ found → opening_of facts meter ≡ None
+none_first facts meter rows each h None is = is
+none_first facts meter rows each h (Some o) is =
+    let P : Entered → Type 0 = λ e. is_entry meter 1 e ≡ false in
+    let mine : AllByRecursion P (filter (is_of meter) rows) = all-filter P (is_of meter) rows (none_passes (is_entry meter 1) rows h) in
+    let whole : entries_of facts meter ≡ entered_rows o (rows_of facts o) = ap (entries_at facts) is in
+    let all = recursion_from_All P _ (All-permutation P _ _ (each meter) (All-from_recursion P _ mine)) in
+    let off = at_opening o P (rows_of facts o) (subst (AllByRecursion P) whole all) in
+    let on : same o.meter meter ≡ true = find_passes (λ (x : Opening). same x.meter meter) (openings_in facts) o is in
+    absurd (let e : same o.meter meter && true ≡ false = off in let f : true && true ≡ false = subst (λ b. b && true ≡ false) on e in cc)
+
 pub first_found : VoidsLeaveNoTrace → (facts : List Fact) (meter : List ℕ) (rows : List Entered) → AreLawful facts → ((m : List ℕ) → IsPermutation (filter (is_of m) rows) (entries_of facts m)) → (found : Option EntryRow)
     → IsFound (is_entry meter 1) IsRow rows found → FindsFirst meter facts found
-first_found law facts meter rows lawful each None h = tt
+first_found law facts meter rows lawful each None h = none_first facts meter rows each h (opening_of facts meter) refl
 first_found law facts meter rows lawful each (Some entry) h = λ opening there.
     let P : Entered → Type 0 = λ e. e.entry.place ≡ 1 → e.entry ≡ opening_row opening in
     let recorded = found_recorded (λ (x : Opening). same x.meter meter) (openings_in facts) opening there in
@@ -139,3 +160,45 @@ pub found_is : (facts : List Fact) (o : Option Opening) (x : Option stored.Insta
     → Some found ≡ option_map (installation_of facts) o
 found_is facts None x row found is finds stands = absurd (let e = sym finds ∙ is in cc)
 found_is facts (Some o) x row found is finds stands = ap Some (stands o (subst (FindsRow facts (Some o)) is finds))
+
+-- ---- what lawful facts have
+
+pub in_range : (facts : List Fact) (o : Opening) → IsSound (installation_of facts o) → IsSound (installation_of facts o)
+in_range facts o h = record { range = h.range; ceiling = h.ceiling; raw = h.raw; scale = h.scale; total = h.total }
+
+-- the names of an opening whose row was found
+pub named_row : (facts : List Fact) (o : Opening) (row : stored.Installation) → IsRowOf facts o row → AllByRecursion HasNames (openings_in facts) → IsNamed row
+named_row facts o row is all =
+    let names = all_found HasNames (λ (x : Opening). same x.meter o.meter) (openings_in facts) o all is.alone in
+    record { meter = ap is_name is.row.meter ∙ names.meter; register = ap is_name is.row.register ∙ names.register }
+
+-- there is an opening, so that there are its range and its first entry
+pub no_opening : (facts : List Fact) (o : Opening) (row : stored.Installation) (meter : List ℕ) → meter ≡ string_bytes row.meter → IsRowOf facts o row → opening_of facts meter ≡ None → ⊥
+no_opening facts o row meter named is none =
+    let there : opening_of facts meter ≡ Some o = ap (opening_of facts) (named ∙ is.row.meter) ∙ is.alone in
+    let f : None ≡ Some o = sym none ∙ there in cc
+
+pub recorded_row : (facts : List Fact) (o : Opening) (row : stored.Installation) → IsRowOf facts o row → IsRecorded facts o
+recorded_row facts o row is = found_recorded (λ (x : Opening). same x.meter o.meter) (openings_in facts) o is.alone
+
+-- an installation of an opening whose row was found is not out of its ranges
+pub not_unsound : InstallationsAreInRange → (facts : List Fact) (o : Opening) (row : stored.Installation) (made : Opening) → AreLawful facts → IsRowOf facts o row → made ≡ o → ¬ IsSound (standing_from made row.row) → ⊥
+not_unsound law facts o row made lawful is opening unsound =
+    unsound (subst IsSound (sym (standing_is facts o made row is opening)) (in_range facts o ((law facts lawful).recorded o (recorded_row facts o row is))))
+
+-- the row of an opening was found, so there is one
+pub found_row : (facts : List Fact) (o : Option Opening) (row : stored.Installation) → FindsRow facts o (Some row) → (opening : Opening) × IsRowOf facts opening row
+found_row facts None row finds = absurd (let e = finds in cc)
+found_row facts (Some o) row finds = (o, finds)
+
+-- none was found, so there is none
+pub none_found : (facts : List Fact) (o : Option Opening) → FindsRow facts o None → None ≡ option_map (installation_of facts) o
+none_found facts None finds = refl
+none_found facts (Some o) finds = absurd finds
+
+pub opening_made : (facts : List Fact) (o : Opening) (row : stored.Installation) (m : List ℕ) (x : Option ℕ) (y : Option EntryRow) (range : ℕ) (first : EntryRow) (made : Opening) → m ≡ string_bytes row.meter → x ≡ Some range
+    → y ≡ Some first → made ≡ opening_from row range first → FindsRange m facts x → FindsFirst m facts y → IsRowOf facts o row → made ≡ o
+opening_made facts o row m x y range first made named ranged_is first_is made_is ranges begins of =
+    let one = subst (λ (t : List ℕ). FindsRange t facts (Some range)) named (subst (λ (z : Option ℕ). FindsRange m facts z) ranged_is ranges) in
+    let two = subst (λ (t : List ℕ). FindsFirst t facts (Some first)) named (subst (λ (z : Option EntryRow). FindsFirst m facts z) first_is begins) in
+    made_is ∙ opening_is facts o row range first of one two

@@ -1,5 +1,6 @@
 -- Rows of a table that are handed on.
-use Rattle.std.proofs.Common.{◌≡◌, ◌⊎◌, inl, inr, ℕ, List, [], ◌∷◌, Ok, Err, Result, OnOk, IsTrue, IsErrAnd, refl, sym, subst}
+use Rattle.std.proofs.Common.{◌≡◌, ◌⊎◌, inl, inr, ℕ, List, [], ◌∷◌, Ok, Err, Result, OnOk, IfErr, IsTrue, IsErrAnd, refl, sym, subst}
+use Rattle.std.specs.List.{AllByRecursion}
 use Rattle.sqlite.specs.Store.{Ghosts}
 use Rattle.sqlite.specs.Held.{Held, state}
 use Rattle.sqlite.specs.State.{HasCleanDisk}
@@ -8,52 +9,62 @@ use Rattle.office_books.specs.Rows.{TakesAll, TakesFirst}
 use Rattle.office_events.specs.declared.facts.Fact.{Fact}
 use Rattle.store_tables.specs.declared.faults.RowFault.{RowFault}
 use Rattle.store_tables.specs.Content.{Content}
+use Rattle.store_tables.specs.Failing.{IsFault}
 use Rattle.store_tables.proofs.StepLemmas.{on_ok}
+use Rattle.store_tables.proofs.Failures.{on_err, less_fault}
 use Rattle.store_facts.specs.Intervals.Handing as tables
-use Rattle.store_facts.specs.Holding.{OnlyLooks}
+use Rattle.store_facts.specs.Holding.{HoldsFacts, OnlyLooks}
 use Rattle.store_facts.specs.Tables.{AreOf}
 use Rattle.store_queries.specs.Metering.Looking.{HandsOn}
-use Rattle.store_queries.proofs.MeteringLemmas.Looked.{IsSettled, still_there, seen, asked, looks_then}
+use Rattle.store_queries.proofs.FindingLemmas.Looking.{Touched, looks_asked, seen, since}
 
-module _ {S K : Type 0} (g : Ghosts S) (takes : K → Share → K → Type 0) (says : List Fact → List Share) where
+module _ {S K : Type 0} (g : Ghosts S) (takes : K → Share → K → Type 0) (says : List Fact → List Share) (AreSound : List Fact → Type 0) where
   -- a call failed before it asked
-  pub not_asked : (a b : Held S) (sink : K) (r : Result (Unit {0}) RowFault) (T : RowFault → Type 0) → ((zone : List ℕ) → OnlyLooks g zone a b) → IsErrAnd r T → HandsOn g a b takes sink sink r says
-  not_asked a b sink (Ok x) T looks is = absurd is
-  not_asked a b sink (Err e) T looks is = record {
+  pub not_asked : (a b : Held S) (sink : K) (r : Result (Unit {0}) RowFault) (T : RowFault → Type 0) → ((zone : List ℕ) → OnlyLooks g zone a b)
+      → ((zone : List ℕ) (facts : List Fact) → HoldsFacts g zone a facts → HasCleanDisk (state g b) → IfErr r (IsFault (state g a) (state g b) (AreSound facts))) → IsErrAnd r T → HandsOn g a b takes sink sink r says AreSound
+  not_asked a b sink (Ok x) T looks fault is = absurd is
+  not_asked a b sink (Err e) T looks fault is = record {
     begun = λ zone facts holds clean. (0, refl);
     whole = λ zone facts holds clean. tt;
-    some = ([], refl);
+    some = ([], tt, refl);
+    fault = λ zone facts holds clean. inl (fault zone facts holds clean);
     looks = looks;
     mode = (looks []).mode;
   }
 
   -- the tables are those of the facts, and say these shares
-  pub record Tells {Tables : Type 0} (Have : Tables → Content → Type 0) (AreSharesOf : Tables → List Share → Type 0) (shares : List Share) (content : Content) : Type 0 where
+  pub record Tells {Tables : Type 0} (Have : Tables → Content → Type 0) (AreSharesOf : Tables → List Share → Type 0) (IsSound : Tables → Type 0) (facts : List Fact) (content : Content) : Type 0 where
     pub rows : Tables
     pub there : Have rows content
-    pub says_so : (all : List Share) → AreSharesOf rows all → all ≡ shares
+    pub says_so : (all : List Share) → AreSharesOf rows all → all ≡ says facts
+    pub sound : AreSound facts → IsSound rows
 
   begun_so : (before after : K) (shares : List Share) (AreShares : List Share → Type 0) → ((all : List Share) → AreShares all → all ≡ shares)
       → (after ≡ before) ⊎ ((all : List Share) × AreShares all × TakesFirst takes before all after) → TakesFirst takes before shares after
   begun_so before after shares AreShares says_so (inl none) = (0, none)
   begun_so before after shares AreShares says_so (inr some) = subst (λ (l : List Share). TakesFirst takes before l after) (says_so some.0 some.1) some.2
 
-  pub handed : {Tables : Type 0} (old mid new : Held S) (before after : K) (r : Result (Unit {0}) RowFault) (Have : Tables → Content → Type 0) (AreSharesOf : Tables → List Share → Type 0) (AreSound : Tables → Type 0)
-      → ((zone : List ℕ) → OnlyLooks g zone old mid) → (HasCleanDisk (state g mid) → IsSettled g mid) → tables.HandsOn g mid new takes before after r Have AreSharesOf AreSound
-      → ((zone : List ℕ) (facts : List Fact) (content : Content) → AreOf zone facts content → Tells Have AreSharesOf (says facts) content) → HandsOn g old new takes before after r says
-  handed old mid new before after r Have AreSharesOf AreSound first settled hands tells = record {
+  pub handed : {Tables : Type 0} (old mid new : Held S) (before after : K) (r : Result (Unit {0}) RowFault) (Have : Tables → Content → Type 0) (AreSharesOf : Tables → List Share → Type 0) (IsSound : Tables → Type 0)
+      → Touched g old mid → tables.HandsOn g mid new takes before after r Have AreSharesOf IsSound
+      → ((zone : List ℕ) (facts : List Fact) (content : Content) → AreOf zone facts content → Tells Have AreSharesOf IsSound facts content) → HandsOn g old new takes before after r says AreSound
+  handed old mid new before after r Have AreSharesOf IsSound touched hands tells = record {
     begun = λ zone facts holds clean.
-        let early = hands.asks.clean clean in
-        let has = seen g zone mid facts settled (still_there g zone old mid facts (first zone) holds early) early in
+        let has = seen g old mid touched zone facts holds (hands.asks.clean clean) in
         let told = tells zone facts has.content has.are in
         begun_so before after (says facts) (AreSharesOf told.rows) told.says_so (hands.begun clean has.content has.tables told.rows told.there);
     whole = λ zone facts holds clean.
-        let early = hands.asks.clean clean in
-        let has = seen g zone mid facts settled (still_there g zone old mid facts (first zone) holds early) early in
+        let has = seen g old mid touched zone facts holds (hands.asks.clean clean) in
         let told = tells zone facts has.content has.are in
         on_ok r (λ (h : (all : List Share) × AreSharesOf told.rows all × TakesAll takes before all after). subst (λ (l : List Share). TakesAll takes before l after) (told.says_so h.0 h.1) h.2)
         (hands.whole clean has.content has.tables told.rows told.there);
-    some = (hands.some.0, hands.some.2);
-    looks = λ zone. looks_then g zone old mid new (first zone) (asked g zone mid new settled hands.asks);
-    mode = λ is. hands.asks.mode ((first []).mode is);
+    some = hands.some;
+    fault = λ zone facts holds clean.
+        let has = seen g old mid touched zone facts holds (hands.asks.clean clean) in
+        let told = tells zone facts has.content has.are in
+        on_err r (λ f why. elim why [
+          | inl own ↦ inl (less_fault (state g old) (state g new) (AreSound facts) (IsSound told.rows) f told.sound (since g old mid touched new hands.asks zone facts holds clean (IsSound told.rows) f own))
+          | inr most ↦ inr most
+        ]) (hands.fault clean has.content has.tables told.rows told.there);
+    looks = looks_asked g old mid touched new hands.asks;
+    mode = λ is. hands.asks.mode touched.mode;
   }

@@ -27,6 +27,21 @@ found_has p P rows y others all are =
     let passes = recursion_from_All (λ z. p z ≡ true) (y ∷ others) (All-permutation (λ z. p z ≡ true) _ _ are (All-from_recursion (λ z. p z ≡ true) _ (all_passing p rows))) in
     (here.0, passes.0)
 
+-- where none passes, each fails
+pub none_passes : {Y : Type 0} (p : Y → Bool) (ys : List Y) → filter p ys ≡ [] → AllByRecursion (λ y. p y ≡ false) ys
+none_passes p [] h = tt
+none_passes p (y ∷ ys) h = elim (cases_Bool (p y)) [
+  | inl is ↦ absurd (let e : y ∷ filter p ys ≡ [] = sym (cond-true _ _ _ is) ∙ h in cc)
+  | inr off ↦ (off, none_passes p ys (sym (cond-false _ _ _ off) ∙ h))
+]
+
+pub none_mapped : {X Y : Type 0} (row : X → Y) (p : X → Bool) (q : Y → Bool) → ((x : X) → q (row x) ≡ p x) → (xs : List X) → filter q (map row xs) ≡ [] → find p xs ≡ None
+none_mapped row p q agree [] h = refl
+none_mapped row p q agree (x ∷ xs) h = elim (cases_Bool (p x)) [
+  | inl is ↦ absurd (let e : row x ∷ filter q (map row xs) ≡ [] = sym (cond-true _ _ _ (agree x ∙ is)) ∙ h in cc)
+  | inr off ↦ cond-false _ _ _ off ∙ none_mapped row p q agree xs (sym (cond-false _ _ _ (agree x ∙ off)) ∙ h)
+]
+
 -- ---- rows that have their places
 
 module _ {X Y : Type 0} (row : ℕ → X → Y) (p : X → Bool) (q : Y → Bool) (agree : (n : ℕ) (x : X) → q (row n x) ≡ p x) where

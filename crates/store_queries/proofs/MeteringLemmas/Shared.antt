@@ -6,7 +6,7 @@ use Rattle.std.proofs.lemmas.Bool.{cond-true, cond-false}
 use Rattle.std.proofs.lemmas.Grind.{flat_map-append}
 use Rattle.std.proofs.lemmas.List.{map-append}
 use Rattle.std.proofs.lemmas.List.Elements.{filter-append}
-use Rattle.std.proofs.lemmas.List.Sorted.{IsPermutation-refl, IsPermutation-sym, IsPermutation-trans, IsPermutation-map, IsPermutation-append, IsPermutation-append_comm}
+use Rattle.std.proofs.lemmas.List.Sorted.{All-permutation, IsPermutation-refl, IsPermutation-sym, IsPermutation-trans, IsPermutation-map, IsPermutation-append, IsPermutation-append_comm}
 use Rattle.sqlite.specs.Tree.{IsAscending}
 use Rattle.sqlite_keyed.specs.Lists.{pairs}
 use Rattle.sqlite_keyed.proofs.ListLemmas.{all_of, all_weaker, all_map, map-map, filter-map, filter_none, filter_same, ascending-map, ascending-append, all-append, IsPermutation-same}
@@ -21,7 +21,10 @@ use Rattle.office_rules.specs.Laws.{IsRecorded, MetersAreKept}
 use Rattle.office_rules.proofs.Lists.{reverse_cons}
 use Rattle.store_tables.specs.Answer.{AreFound, FirstFirst}
 use Rattle.store_tables.specs.Meters.Rows.{Installed, installed_place, is_at}
-use Rattle.store_facts.specs.Intervals.Rows.{Interval, is_of, start_of}
+use Rattle.store_facts.specs.Intervals.Rows.{Interval, is_of, start_of, IsSoundShare, IsSoundInterval}
+use Rattle.store_queries.specs.Metering.Sound.{HasReadableIntervals}
+use Rattle.std.proofs.lemmas.List.Elements.{recursion_from_All, All-from_recursion}
+use Rattle.office_rules.proofs.Lookups.{same_itself}
 use Rattle.store_facts.specs.Intervals.Handing.{AreSharesOfMeter, Lying, lies_at, ComesAfter, AreSharesAt}
 use Rattle.store_facts.specs.Rows.{placed, installed_row, interval_of}
 use Rattle.store_facts.proofs.Energy.{found_recorded}
@@ -30,6 +33,29 @@ use Rattle.store_queries.proofs.MeteringLemmas.Found.{alone}
 
 abbrev AreEach : (facts : List Fact) → (rows : List Interval) → Type 0
 AreEach facts rows = (meter : List ℕ) → IsPermutation (filter (is_of meter) rows) (map (interval_of meter) (rows_of_meter facts meter))
+
+-- ---- rows in their ranges
+
+sound_rows : (meter : List ℕ) (shares : List Share) → AllByRecursion IsSoundShare shares → AllByRecursion IsSoundInterval (map (interval_of meter) shares)
+sound_rows meter [] h = tt
+sound_rows meter (x ∷ xs) h = (h.0, sound_rows meter xs h.1)
+
+sound_if : (b : Bool) (i : Interval) (is : List Interval) → b ≡ true → AllByRecursion IsSoundInterval (cond b (i ∷ is) is) → IsSoundInterval i
+sound_if true i is on all = all.0
+sound_if false i is on all = absurd (let e = on in cc)
+
+less_rows : (b : Bool) (i : Interval) (is : List Interval) → AllByRecursion IsSoundInterval (cond b (i ∷ is) is) → AllByRecursion IsSoundInterval is
+less_rows true i is all = all.1
+less_rows false i is all = all
+
+each_sound : (rows : List Interval) → ((meter : List ℕ) → AllByRecursion IsSoundInterval (filter (is_of meter) rows)) → AllByRecursion IsSoundInterval rows
+each_sound [] h = tt
+each_sound (i ∷ is) h = (sound_if (is_of i.meter i) i (filter (is_of i.meter) is) (same_itself i.meter) (h i.meter), each_sound is (λ meter. less_rows (is_of meter i) i (filter (is_of meter) is) (h meter)))
+
+-- what each meter has can be read, so all rows can
+pub all_sound : (facts : List Fact) (rows : List Interval) → AreEach facts rows → HasReadableIntervals facts → AllByRecursion IsSoundInterval rows
+all_sound facts rows each sound =
+    each_sound rows (λ meter. recursion_from_All IsSoundInterval _ (All-permutation IsSoundInterval _ _ (IsPermutation-sym _ _ (each meter)) (All-from_recursion IsSoundInterval _ (sound_rows meter (rows_of_meter facts meter) (sound meter)))))
 
 -- ---- the rows of a meter
 

@@ -1,5 +1,5 @@
 -- What is found of the facts that a connection holds.
-use Rattle.std.specs.Prelude.{◌≡◌, ◌≢◌, ℕ, List, map, Result, IfOk, IfErr}
+use Rattle.std.specs.Prelude.{◌≡◌, ℕ, List, map, Result, IfOk, IfErr}
 use Rattle.std.specs.List.{AllByRecursion}
 use Rattle.sqlite.specs.Order.{Row}
 use Rattle.sqlite.specs.Store.{Ghosts}
@@ -8,28 +8,29 @@ use Rattle.sqlite.specs.State.{HasCleanDisk}
 use Rattle.office_events.specs.declared.facts.Fact.{Fact}
 use Rattle.office_rules.specs.Lawful.{AreLawful}
 use Rattle.store_tables.specs.declared.faults.RowFault.{RowFault}
-use Rattle.store_tables.specs.declared.faults.RowFault.TheVariants.{Damaged}
+use Rattle.store_tables.specs.Failing.{IsFault, IsRowFault}
 use Rattle.store_facts.specs.Holding.{HoldsFacts, OnlyLooks}
 use Rattle.store_queries.specs.Finding.Each.{AreEach}
 
--- What is answered is what the facts say. Damage is told only where the facts have what the tables can't, and nothing is
--- changed.
+-- What is answered is what the facts say, where the store gave back what was written. Damage is told only where the facts
+-- have what the tables, or the office, can't, and any other fault is one of the store's own. Nothing is changed.
 pub record Finds {S A : Type 0} (g : Ghosts S) (old new : Held S) (result : Result A RowFault)
     (Says : List Fact → A → Type 0) (AreSound : List Fact → Type 0) : Type 0 where
   pub answer : (zone : List ℕ) (facts : List Fact) → HoldsFacts g zone old facts
       → HasCleanDisk (state g new) → IfOk result (Says facts)
   pub fault : (zone : List ℕ) (facts : List Fact) → HoldsFacts g zone old facts
-      → HasCleanDisk (state g new) → AreSound facts
-      → IfErr result (λ e. e ≢ Damaged)
+      → HasCleanDisk (state g new)
+      → IfErr result (IsFault (state g old) (state g new) (AreSound facts))
   pub looks : (zone : List ℕ) → OnlyLooks g zone old new
 
 -- what is said of lawful facts
 abbrev pub OfLawful : {A : Type 0} → (List Fact → A → Type 0) → List Fact → A → Type 0
 OfLawful Says facts a = AreLawful facts × Says facts a
 
--- Rows that stand for values are read as those values, in order. Damage is told only where a value is out of its ranges.
+-- Rows that stand for values are read as those values, in order. Damage is told only where a value is out of its ranges,
+-- and where none is, only want of memory keeps them from being read.
 pub record ReadsAll {A T X : Type 0} (rows : List Row) (shown : X → Row) (IsSeen : X → A → Type 0)
     (IsSound : X → Type 0) (items : T → List A) (result : Result T RowFault) : Type 0 where
   pub read : (xs : List X) → rows ≡ map shown xs → IfOk result (λ v. AreEach IsSeen xs (items v))
-  pub fault : (xs : List X) → rows ≡ map shown xs → AllByRecursion IsSound xs
-      → IfErr result (λ e. e ≢ Damaged)
+  pub fault : (xs : List X) → rows ≡ map shown xs
+      → IfErr result (IsRowFault (AllByRecursion IsSound xs))

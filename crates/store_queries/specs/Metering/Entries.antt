@@ -1,6 +1,6 @@
 -- The rows of a meter's journal, as the rows of two tables tell them.
 use Rattle.std.specs.Prelude.{◌≡◌, ℕ, ◌==◌, Bool, not, List, map, reverse, Option, Some, None}
-use Rattle.std.specs.List.{list_any, filter_map}
+use Rattle.std.specs.List.{list_any, filter_map, AllByRecursion}
 use Rattle.std.specs.List.Sorted.{IsPermutation}
 use Rattle.std.specs.Prelude.{filter}
 use Rattle.energy_core.specs.declared.entries.Entry.TheVariants as entry
@@ -17,7 +17,9 @@ use Rattle.office_rules.specs.Meters.{rows_of}
 use Rattle.store_tables.specs.declared.entries.rows.EntryRow.{EntryRow}
 use Rattle.store_tables.specs.declared.entries.rows.EntryKind.{EntryKind}
 use Rattle.store_tables.specs.declared.entries.rows.EntryKind.TheVariants as kind
-use Rattle.store_tables.specs.Entries.Rows.{Entered, Voided, entry_shown, voided_shown, is_void_of}
+use Rattle.store_tables.specs.declared.faults.RowFault.{RowFault}
+use Rattle.store_tables.specs.Failing.{IsRowFault}
+use Rattle.store_tables.specs.Entries.Rows.{Entered, Voided, entry_shown, voided_shown, is_void_of, IsSoundEntered, IsSoundVoided}
 use Rattle.store_facts.specs.Rows.{entered_rows, voided}
 
 abbrev pub step_row : journal_kind.EntryKind → EntryRow → (stands : Bool) → journal.EntryRow
@@ -59,9 +61,11 @@ abbrev pub row_among : List Voided → Entered → Option journal.EntryRow
 row_among vs e = row_from e.entry (not (list_any (names e.entry.place) vs))
 
 -- the entries of a meter in their order, as the query shows them, and the voids of its entries
-abbrev pub ShowsEntries : (meter : List ℕ) → List Fact → List Row → Type 0
-ShowsEntries meter facts rows = (opening : Opening) → opening_of facts meter ≡ Some opening
-    → rows ≡ map entry_shown (reverse (entered_rows opening (rows_of facts opening)))
+pub record ShowsEntries (meter : List ℕ) (facts : List Fact) (rows : List Row) : Type 0 where
+  pub entries : List Entered
+  pub shown : rows ≡ map entry_shown entries
+  pub all : (opening : Opening) → opening_of facts meter ≡ Some opening
+      → entries ≡ reverse (entered_rows opening (rows_of facts opening))
 
 pub record ShowsVoids (meter : List ℕ) (facts : List Fact) (rows : List Row) : Type 0 where
   pub lawful : AreLawful facts
@@ -74,6 +78,17 @@ abbrev pub AreJournal : (entries voids : List Row) → List journal.EntryRow →
 AreJournal entries voids rows = (es : List Entered) (vs : List Voided)
     → entries ≡ map entry_shown es
     → voids ≡ map voided_shown vs → rows ≡ filter_map (row_among vs) es
+
+-- why rows of voids, or of entries and voids, are not read
+abbrev pub IsFaultOfVoids : (voids : List Row) → RowFault → Type 0
+IsFaultOfVoids voids e = (vs : List Voided) → voids ≡ map voided_shown vs
+    → IsRowFault (AllByRecursion IsSoundVoided vs) e
+
+abbrev pub IsFaultOfJournal : (entries voids : List Row) → RowFault → Type 0
+IsFaultOfJournal entries voids e = (es : List Entered) (vs : List Voided)
+    → entries ≡ map entry_shown es
+    → voids ≡ map voided_shown vs
+    → IsRowFault (AllByRecursion IsSoundEntered es × AllByRecursion IsSoundVoided vs) e
 
 -- the rows of a meter, the oldest first
 abbrev pub FindsJournal : (meter : List ℕ) → List Fact → List journal.EntryRow → Type 0

@@ -1,5 +1,5 @@
--- What a look-up promises.
-use Rattle.std.specs.Prelude.{◌≡◌, ℕ, false, List, Result, IfOk, OnOk}
+-- What a look-up promises that hands rows on.
+use Rattle.std.specs.Prelude.{◌≡◌, ℕ, false, List, Result, IfErr, OnOk}
 use Rattle.sqlite.specs.Store.{Ghosts}
 use Rattle.sqlite.specs.Held.{Held, state}
 use Rattle.sqlite.specs.State.{HasCleanDisk}
@@ -8,28 +8,25 @@ use Rattle.office_books.specs.Rows.{TakesAll, TakesFirst}
 use Rattle.office_events.specs.declared.facts.Fact.{Fact}
 use Rattle.store_tables.specs.declared.faults.RowFault.{RowFault}
 use Rattle.store_facts.specs.Holding.{HoldsFacts, OnlyLooks}
+use Rattle.store_facts.specs.Intervals.Handing.{TookSome, IsStreamFault}
 
--- What is answered is what the facts say that the connection holds, where its store gave back what was written. Nothing is
--- changed, a stop leaves what it left, and no transaction is begun.
-pub record Finds {S A : Type 0} (g : Ghosts S) (old new : Held S) (result : Result A RowFault)
-    (says : List Fact → A → Type 0) : Type 0 where
-  pub found : (zone : List ℕ) (facts : List Fact) → HoldsFacts g zone old facts
-      → HasCleanDisk (state g new)
-      → IfOk result (says facts)
-  pub looks : (zone : List ℕ) → OnlyLooks g zone old new
-  pub mode : old.in_transaction ≡ false → new.in_transaction ≡ false
-
--- What the sink took begins the rows that the facts say, and at Ok is all of them. It took nothing but rows, whatever the
--- connection holds.
+-- What the sink took begins the rows that the facts say, and at Ok is all of them. It took nothing but rows in their ranges,
+-- whatever the connection holds. Damage is told only where the facts have what the tables, or the office, can't, and any other
+-- fault is one of the store's own.
 pub record HandsOn {S K : Type 0} (g : Ghosts S) (old new : Held S) (takes : K → Share → K → Type 0)
     (before after : K)
-    (result : Result (Unit {0}) RowFault) (rows : List Fact → List Share) : Type 0 where
+    (result : Result (Unit {0}) RowFault) (rows : List Fact → List Share)
+    (AreSound : List Fact → Type 0) : Type 0 where
   pub begun : (zone : List ℕ) (facts : List Fact) → HoldsFacts g zone old facts
       → HasCleanDisk (state g new)
       → TakesFirst takes before (rows facts) after
   pub whole : (zone : List ℕ) (facts : List Fact) → HoldsFacts g zone old facts
       → HasCleanDisk (state g new)
       → OnOk result (TakesAll takes before (rows facts) after)
-  pub some : (rows : List Share) × TakesAll takes before rows after
+  pub some : TookSome takes before after
+  pub fault : (zone : List ℕ) (facts : List Fact) → HoldsFacts g zone old facts
+      → HasCleanDisk (state g new)
+      → IfErr result
+      (IsStreamFault (state g old) (state g new) takes before after (AreSound facts))
   pub looks : (zone : List ℕ) → OnlyLooks g zone old new
   pub mode : old.in_transaction ≡ false → new.in_transaction ≡ false

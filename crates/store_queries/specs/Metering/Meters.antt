@@ -1,5 +1,5 @@
 -- What the rows of single tables say of a meter.
-use Rattle.std.specs.Prelude.{◌≡◌, ℕ, List, length, Option, Some, None, IfSome, string_bytes, unwrap_or}
+use Rattle.std.specs.Prelude.{◌≡◌, ℕ, List, length, Option, Some, None, string_bytes, unwrap_or}
 use Rattle.office_events.specs.declared.facts.Opening.{Opening}
 use Rattle.office_events.specs.declared.facts.Fact.{Fact}
 use Rattle.office_events.specs.declared.questions.Installation.{Installation}
@@ -24,16 +24,16 @@ FindsRow facts None found = found ≡ None
 FindsRow facts (Some opening) None = ⊥
 FindsRow facts (Some opening) (Some row) = IsRowOf facts opening row
 
--- how many counts the counter of the meter has, and the entry of its opening
+-- how many counts the counter of the meter has, and the entry of its opening; none where there is no opening
 abbrev pub FindsRange : (meter : List ℕ) → List Fact → Option ℕ → Type 0
-FindsRange meter facts found =
-    IfSome found (λ range. (opening : Opening) → opening_of facts meter ≡ Some opening
-    → range ≡ opening.range)
+FindsRange meter facts None = opening_of facts meter ≡ None
+FindsRange meter facts (Some range) =
+    (opening : Opening) → opening_of facts meter ≡ Some opening → range ≡ opening.range
 
 abbrev pub FindsFirst : (meter : List ℕ) → List Fact → Option EntryRow → Type 0
-FindsFirst meter facts found =
-    IfSome found (λ entry. (opening : Opening) → opening_of facts meter ≡ Some opening
-    → entry ≡ opening_row opening)
+FindsFirst meter facts None = opening_of facts meter ≡ None
+FindsFirst meter facts (Some entry) =
+    (opening : Opening) → opening_of facts meter ≡ Some opening → entry ≡ opening_row opening
 
 -- the opening that the rows of three tables are, and the installation
 abbrev pub opening_from : stored.Installation → (range : ℕ) → EntryRow → Opening

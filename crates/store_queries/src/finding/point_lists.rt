@@ -1,9 +1,9 @@
 //! Point lists.
-ghost use Rattle.std.specs.Prelude.{◌≡◌, ◌≢◌, [], false, IfOk, IfErr, IsUtf8};
+ghost use Rattle.std.specs.Prelude.{◌≡◌, [], false, IfOk, IfErr, IsUtf8};
 ghost use Rattle.office_rules.specs.Facts.{list_of};
 ghost use Rattle.read_plan.specs.PlannedLists.{IsPlanned};
 ghost use Rattle.point_list.specs.Points.{IsPointList};
-ghost use Rattle.store_tables.specs.declared.faults.RowFault.TheVariants.{Damaged};
+ghost use Rattle.store_tables.specs.Failing.{IsRowFault};
 ghost use Rattle.store_facts.specs.Rows.{points_of};
 ghost use Rattle.store_queries.specs.Finding.Finding.{Finds, OfLawful};
 ghost use Rattle.store_queries.specs.Finding.Points.{HasReadablePoints};
@@ -22,7 +22,7 @@ use store_tables::RowFault;
 fn with_plan(alloc: Global, points: Vec<ListedPoint>) -> Result<PlannedList, RowFault>
     ensures points { IfOk result (λ list. list.points ≡ points.items) }
     ensures planned { IfOk result IsPlanned }
-    ensures fault { IsPointList points.items → IfErr result (λ e. e ≢ Damaged) }
+    ensures fault { IfErr result (IsRowFault (IsPointList points.items)) }
 {
     let Ok(list) = PointList::new(points) else {
         return Err(RowFault::Damaged);

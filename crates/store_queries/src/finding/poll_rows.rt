@@ -4,6 +4,7 @@ ghost use Rattle.std.specs.Prelude.{IfOk, IfErr, IfSome};
 ghost use Rattle.office_events.specs.Names.{is_name};
 ghost use Rattle.office_rules.specs.Facts as facts_of;
 ghost use Rattle.office_rules.specs.Readings.{poll_row_of};
+ghost use Rattle.store_tables.specs.declared.faults.RowFault.TheVariants.{Damaged};
 ghost use Rattle.store_tables.specs.Asking.{ReadsRow};
 ghost use Rattle.store_tables.specs.Limits.{greatest_place};
 ghost use Rattle.store_devices.specs.Polls.Rows.{poll_shown, IsSoundPoll};
@@ -38,7 +39,8 @@ fn span_from(row: store_devices::PollRow) -> ReadSpan
 fn poll_from(row: &store_devices::Poll) -> Result<Poll, RowFault>
     requires { IsSoundPoll row.now.row }
     ensures numbers { IfOk result (HasNumbers (string_bytes row.now.device) row.now.row) }
-    ensures fault { is_name (string_bytes row.now.device) ≡ true → IfErr result (λ _. ⊥) }
+    ensures fault { IfErr result
+        (λ e. (e ≡ Damaged) × (¬ (is_name (string_bytes row.now.device) ≡ true))) }
 {
     let device = name(row.device.as_str())?;
     Ok(Poll {

@@ -1,9 +1,9 @@
 //! Entries of meters, by their places.
 ghost use Rattle.std.specs.Prelude.{◌≡◌, false, IfOk, IfSome};
-ghost use Rattle.office_books.specs.Sound.{IsSound};
+ghost use Rattle.office_rules.specs.Ranges.{IsSound};
 ghost use Rattle.office_rules.specs.Meters.{entry_at};
 ghost use Rattle.store_queries.specs.Metering.Entries.{ShowsEntries, ShowsVoids, FindsJournal};
-ghost use Rattle.store_queries.specs.Metering.Looking.{Finds};
+ghost use Rattle.store_queries.specs.Finding.Finding.{Finds};
 
 use crate::metering::journal::journal_rows;
 use crate::metering::meters::meter;
@@ -20,7 +20,7 @@ use store_tables::{RowFault, check_open, entry_rows, void_rows};
 fn entries<S: Alter>(conn: &mut Connection<S>, meter: &str) -> Result<Vec<Row>, RowFault>
     requires { conn.old.in_transaction ≡ false }
     ensures { Finds S.Store conn.old conn.new result
-        (λ facts rows. ShowsEntries meter.now facts rows.items) }
+        (λ facts rows. ShowsEntries meter.now facts rows.items) (λ facts. ⊥) }
 {
     journals_fit();
     rows_stand();
@@ -33,7 +33,7 @@ fn entries<S: Alter>(conn: &mut Connection<S>, meter: &str) -> Result<Vec<Row>, 
 fn voids<S: Alter>(conn: &mut Connection<S>, meter: &str) -> Result<Vec<Row>, RowFault>
     requires { conn.old.in_transaction ≡ false }
     ensures { Finds S.Store conn.old conn.new result
-        (λ facts rows. ShowsVoids meter.now facts rows.items) }
+        (λ facts rows. ShowsVoids meter.now facts rows.items) (λ facts. ⊥) }
 {
     check_open(conn)?;
     let rows = void_rows(conn, meter)?;
@@ -48,7 +48,7 @@ fn rows<S: Alter>(
 ) -> Result<Vec<EntryRow>, RowFault>
     requires { conn.old.in_transaction ≡ false }
     ensures { Finds S.Store conn.old conn.new result
-        (λ facts rows. FindsJournal meter.now facts rows.items) }
+        (λ facts rows. FindsJournal meter.now facts rows.items) (λ facts. ⊥) }
 {
     journals_fit();
     rows_stand();
@@ -68,7 +68,7 @@ pub fn entry<S: Alter>(
 ) -> Result<Option<EntryPlace>, RowFault>
     requires { conn.old.in_transaction ≡ false }
     ensures finds { Finds S.Store conn.old conn.new result
-        (λ facts found. found ≡ entry_at facts name.now place) }
+        (λ facts found. found ≡ entry_at facts name.now place) (λ facts. ⊥) }
     ensures sound { IfOk result (λ found. IfSome found (λ p. IsSound p.before)) }
 {
     let text = text(name)?;

@@ -1,24 +1,20 @@
 //! An installation from its rows.
-ghost use Rattle.std.specs.Prelude.{◌≡◌, false, IfOk, IsTrue};
-ghost use Rattle.office_books.specs.Sound.{IsSound};
-ghost use Rattle.store_queries.specs.Metering.Looking.{Finds};
-ghost use Rattle.store_queries.specs.Metering.Meters.{opening_from, standing_from, IsStanding};
+ghost use Rattle.std.specs.Prelude.{◌≡◌, false, IfOk, IfErr};
+ghost use Rattle.office_rules.specs.Ranges.{IsSound};
+ghost use Rattle.store_queries.specs.Finding.Finding.{Finds};
+ghost use Rattle.store_queries.specs.Metering.Meters.{IsRowOf, opening_from, standing_from, IsStanding};
+ghost use Rattle.store_queries.specs.Metering.Sound.{IsNamed, HasReadableMeters};
+ghost use Rattle.office_events.specs.declared.facts.Opening.{Opening as RecordedOpening};
+ghost use Rattle.store_tables.specs.declared.faults.RowFault.TheVariants.{Damaged};
 
 use crate::metering::rows::{first_entry, range};
-use energy_core::{Last, MAX_CEILING, MAX_RANGE, MAX_TOTAL, MIN_RANGE};
-use office_events::{Installation, Name, Opening};
+use energy_core::Last;
+use office_books::is_sound;
+use office_events::{Installation, Opening};
+use office_rules::installations_are_in_range;
 use sqlite::{Alter, Connection};
+use store_facts::name;
 use store_tables::{EntryRow, InstallationRow, RowFault};
-
-/// The name that a text is.
-fn name(text: &str) -> Result<Name, RowFault>
-    ensures { IfOk result (λ name. name ≡ text.now) }
-{
-    match Name::new(text.as_bytes()) {
-        Some(name) => Ok(name),
-        None => Err(RowFault::Damaged),
-    }
-}
 
 /// The opening of a meter.
 fn opening(
@@ -26,7 +22,8 @@ fn opening(
     range: u64,
     first: EntryRow,
 ) -> Result<Opening, RowFault>
-    ensures { IfOk result (λ opening. opening ≡ opening_from row.now range first) }
+    ensures opening { IfOk result (λ opening. opening ≡ opening_from row.now range first) }
+    ensures fault { IfErr result (λ e. (e ≡ Damaged) × (¬ IsNamed row.now)) }
 {
     let meter = name(row.meter.as_str())?;
     let register = name(row.register.as_str())?;
@@ -41,21 +38,12 @@ fn opening(
     })
 }
 
-/// Whether the numbers of an installation are in their ranges.
-fn is_sound(row: &Installation) -> bool
-    ensures { IsTrue result → IsSound row.now }
-{
-    let ranged = MIN_RANGE <= row.opening.range && row.opening.range <= MAX_RANGE;
-    let limited = 1 <= row.opening.ceiling && row.opening.ceiling <= MAX_CEILING;
-    let scaled = -3 <= row.last.sf && row.last.sf <= 3;
-    let shown = u64::from(row.last.raw) < row.opening.range;
-    ranged && limited && scaled && shown && row.total <= MAX_TOTAL
-}
-
 /// An installation, if its numbers are in their ranges.
 fn installed(opening: Opening, row: InstallationRow) -> Result<Installation, RowFault>
     ensures stands { IfOk result (λ found. found ≡ standing_from opening row) }
     ensures sound { IfOk result IsSound }
+    ensures fault { IfErr result
+        (λ e. (e ≡ Damaged) × (¬ IsSound (standing_from opening row))) }
 {
     let found = Installation {
         opening,
@@ -80,9 +68,12 @@ pub(crate) fn standing<S: Alter>(
     row: &store_tables::Installation,
 ) -> Result<Installation, RowFault>
     requires { conn.old.in_transaction ≡ false }
-    ensures finds { Finds S.Store conn.old conn.new result (IsStanding row.now) }
+    ensures finds { Finds S.Store conn.old conn.new result (IsStanding row.now)
+        (λ facts. HasReadableMeters facts × (opening : RecordedOpening)
+        × IsRowOf facts opening row.now) }
     ensures sound { IfOk result IsSound }
 {
+    installations_are_in_range();
     let meter = row.meter.as_str();
     let Some(counts) = range(conn, meter)? else {
         return Err(RowFault::Damaged);

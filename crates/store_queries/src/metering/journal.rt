@@ -1,7 +1,10 @@
 //! The journal of a meter from the rows of its entries and voids.
-ghost use Rattle.std.specs.Prelude.{◌≡◌, ◌++◌, ◌∷◌, [], IfOk, OnOk};
+ghost use Rattle.std.specs.Prelude.{◌≡◌, ◌++◌, ◌∷◌, [], IfOk, IfErr, OnOk};
 ghost use Rattle.std.specs.Option.{option_to_list};
 ghost use Rattle.store_queries.specs.Metering.Entries.{step_row, change_row, row_from};
+ghost use Rattle.store_tables.specs.declared.faults.RowFault.TheVariants.{Sql};
+ghost use Rattle.store_tables.specs.Failing.{want_of_memory};
+ghost use Rattle.store_queries.specs.Metering.Entries.{IsFaultOfVoids, IsFaultOfJournal};
 ghost use Rattle.store_queries.specs.Metering.Entries.{TellsVoided, AreJournal};
 
 use energy_core::Entry;
@@ -59,7 +62,8 @@ fn entry_row(row: store_tables::EntryRow, stands: bool) -> Option<EntryRow>
 
 /// Whether one of these voids names a place.
 fn is_voided(voids: &[Row], place: u64) -> Result<bool, RowFault>
-    ensures { IfOk result (TellsVoided voids.now place) }
+    ensures told { IfOk result (TellsVoided voids.now place) }
+    ensures fault { IfErr result (IsFaultOfVoids voids.now) }
 {
     for row in voids {
         if place == read_void(row)? {
@@ -71,7 +75,8 @@ fn is_voided(voids: &[Row], place: u64) -> Result<bool, RowFault>
 
 /// One more row after these.
 fn push(rows: &mut Vec<EntryRow>, row: EntryRow) -> Result<(), RowFault>
-    ensures { OnOk result (rows.new.items ≡ rows.old.items ++ row ∷ []) }
+    ensures put { OnOk result (rows.new.items ≡ rows.old.items ++ row ∷ []) }
+    ensures fault { IfErr result (λ e. e ≡ Sql want_of_memory) }
 {
     match rows.push(row) {
         Ok(()) => Ok(()),
@@ -81,7 +86,8 @@ fn push(rows: &mut Vec<EntryRow>, row: EntryRow) -> Result<(), RowFault>
 
 /// A row after these, if there is one.
 fn add(rows: &mut Vec<EntryRow>, row: Option<EntryRow>) -> Result<(), RowFault>
-    ensures { OnOk result (rows.new.items ≡ rows.old.items ++ option_to_list row) }
+    ensures put { OnOk result (rows.new.items ≡ rows.old.items ++ option_to_list row) }
+    ensures fault { IfErr result (λ e. e ≡ Sql want_of_memory) }
 {
     match row {
         Some(row) => push(rows, row),
@@ -95,7 +101,8 @@ pub fn journal_rows(
     entries: &[Row],
     voids: &[Row],
 ) -> Result<Vec<EntryRow>, RowFault>
-    ensures { IfOk result (λ rows. AreJournal entries.now voids.now rows.items) }
+    ensures journal { IfOk result (λ rows. AreJournal entries.now voids.now rows.items) }
+    ensures fault { IfErr result (IsFaultOfJournal entries.now voids.now) }
 {
     let mut rows = Vec::new(alloc);
     for row in entries {

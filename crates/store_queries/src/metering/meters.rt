@@ -1,9 +1,10 @@
 //! Installations, by meter and by register.
-ghost use Rattle.std.specs.Prelude.{◌≡◌, false, length, IfOk, IfSome};
-ghost use Rattle.office_books.specs.Sound.{IsSound};
+ghost use Rattle.std.specs.Prelude.{◌≡◌, false, length, IfOk, IfSome, IsUtf8};
+ghost use Rattle.office_rules.specs.Ranges.{IsSound};
 ghost use Rattle.office_rules.specs.Facts.{openings_in};
 ghost use Rattle.office_rules.specs.Meters.{meter_of, installation_at};
-ghost use Rattle.store_queries.specs.Metering.Looking.{Finds};
+ghost use Rattle.store_queries.specs.Finding.Finding.{Finds};
+ghost use Rattle.store_queries.specs.Metering.Sound.{HasReadableMeters};
 ghost use Rattle.store_queries.specs.Metering.Meters.{CountsOpenings};
 
 use crate::metering::installations::standing;
@@ -20,7 +21,8 @@ pub fn meter<S: Alter>(
 ) -> Result<Option<Installation>, RowFault>
     requires { conn.old.in_transaction ≡ false }
     ensures finds { Finds S.Store conn.old conn.new result
-        (λ facts found. found ≡ meter_of facts name.now) }
+        (λ facts found. found ≡ meter_of facts name.now)
+        (λ facts. IsUtf8 name.now × HasReadableMeters facts) }
     ensures sound { IfOk result (λ found. IfSome found IsSound) }
 {
     let meter = text(name)?;
@@ -37,7 +39,8 @@ pub fn installation<S: Alter>(
 ) -> Result<Option<Installation>, RowFault>
     requires { conn.old.in_transaction ≡ false }
     ensures finds { Finds S.Store conn.old conn.new result
-        (λ facts found. found ≡ installation_at facts register.now) }
+        (λ facts found. found ≡ installation_at facts register.now)
+        (λ facts. IsUtf8 register.now × HasReadableMeters facts) }
     ensures sound { IfOk result (λ found. IfSome found IsSound) }
 {
     let register = text(register)?;
@@ -50,7 +53,7 @@ pub fn installation<S: Alter>(
 /// The greatest place of an installation, which counts them.
 fn last_place<S: Alter>(conn: &mut Connection<S>) -> Result<Option<u64>, RowFault>
     requires { conn.old.in_transaction ≡ false }
-    ensures { Finds S.Store conn.old conn.new result CountsOpenings }
+    ensures { Finds S.Store conn.old conn.new result CountsOpenings HasReadableMeters }
 {
     check_open(conn)?;
     last_installation(conn)
@@ -60,7 +63,7 @@ fn last_place<S: Alter>(conn: &mut Connection<S>) -> Result<Option<u64>, RowFaul
 pub fn installation_count<S: Alter>(conn: &mut Connection<S>) -> Result<usize, RowFault>
     requires { conn.old.in_transaction ≡ false }
     ensures { Finds S.Store conn.old conn.new result
-        (λ facts count. count ≡ length (openings_in facts)) }
+        (λ facts count. count ≡ length (openings_in facts)) HasReadableMeters }
 {
     match last_place(conn)? {
         None => Ok(0),

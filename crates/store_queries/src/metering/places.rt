@@ -1,35 +1,22 @@
 //! Where a meter stood before one of its entries.
-ghost use Rattle.std.specs.Prelude.{◌≡◌, ◌≤◌, List, take, IsTrue, IfOk, IfSome};
+ghost use Rattle.std.specs.Prelude.{◌≡◌, ◌≤◌, List, take, IfOk, IfErr, IfSome};
 ghost use Rattle.std.specs.Option.{option_map};
 ghost use Rattle.energy_core.specs.Account.{IsAccount};
 ghost use Rattle.meter_journal.specs.Books as books;
 ghost use Rattle.meter_journal.specs.Journal.{entries_in, row_at};
 ghost use Rattle.meter_journal.specs.Lists as lists;
-ghost use Rattle.office_books.specs.Sound.{IsSound};
+ghost use Rattle.office_rules.specs.Ranges.{IsSound};
 ghost use Rattle.office_events.specs.declared.facts.Fact.{Fact};
 ghost use Rattle.office_events.specs.declared.facts.Opening.{Opening};
 ghost use Rattle.office_rules.specs.Meters as meters;
 ghost use Rattle.office_rules.specs.Meters.{installation_of, rows_of, place_in};
-ghost use Rattle.store_queries.specs.Metering.Places.{HasNumbers};
+ghost use Rattle.store_tables.specs.declared.faults.RowFault.TheVariants.{Damaged};
 
-use energy_core::{
-    Last, MAX_CEILING, MAX_RANGE, MIN_RANGE, Ranged, Terms, accounts_are_sound, enter,
-};
-use meter_journal::{EntryRow, Installed, Tally, find_row};
-use office_events::{EntryPlace, Installation, Opening};
+use energy_core::{MAX_RANGE, MIN_RANGE, accounts_are_sound};
+use meter_journal::{EntryRow, Installed, Tally, are_numbered, checked_tally, find_row};
+use office_books::{has_numbers, installed};
+use office_events::{EntryPlace, Installation};
 use store_tables::RowFault;
-
-/// Whether each row has its place.
-pub fn are_numbered(rows: &[EntryRow]) -> bool
-    ensures { IsTrue result → lists.AreNumbered (lists.latest_first rows.now) }
-{
-    for (index, row) in rows.iter().enumerate() {
-        if row.place != index as u64 + 2 {
-            return false;
-        }
-    }
-    true
-}
 
 /// The first so many of these rows, or all.
 fn first(rows: &[EntryRow], count: usize) -> &[EntryRow]
@@ -42,63 +29,19 @@ fn first(rows: &[EntryRow], count: usize) -> &[EntryRow]
     }
 }
 
-/// A meter as it was installed.
-fn installed(opening: &Opening) -> Installed
-    ensures { result ≡ meters.installed opening.now }
-{
-    Installed {
-        range: opening.range,
-        ceiling: opening.ceiling,
-        opening: Last {
-            at: opening.at,
-            raw: opening.raw,
-            sf: opening.sf,
-        },
-    }
-}
-
 /// Where the counter stands after these rows, and the energy; damaged where one does not follow.
 pub fn tally(meter: &Installed, rows: &[EntryRow]) -> Result<Tally, RowFault>
     requires range_low { MIN_RANGE ≤ meter.now.range }
     requires range_high { meter.now.range ≤ MAX_RANGE }
     requires installed { books.IsWellInstalled meter.now }
-    ensures { let es = entries_in (lists.latest_first rows.now) in
+    ensures account { let es = entries_in (lists.latest_first rows.now) in
         IfOk result (λ t. IsAccount meter.now.range meter.now.opening es t.last t.total) }
+    ensures fault { IfErr result (λ e. e ≡ Damaged) }
 {
-    accounts_are_sound();
-    let Some(counter) = Ranged::new(meter.range) else {
-        unreachable!()
-    };
-    let mut tally = Tally {
-        last: meter.opening,
-        total: 0,
-    };
-    for row in rows {
-        if row.stands {
-            let terms = Terms {
-                ceiling: meter.ceiling,
-                total: tally.total,
-            };
-            match enter(&counter, &terms, &tally.last, &row.entry) {
-                Ok((last, step)) => {
-                    let total = tally.total + step.mwh;
-                    tally = Tally { last, total };
-                }
-                Err(_) => return Err(RowFault::Damaged),
-            }
-        }
+    match checked_tally(meter, rows) {
+        Some(tally) => Ok(tally),
+        None => Err(RowFault::Damaged),
     }
-    Ok(tally)
-}
-
-/// Whether the numbers of an opening are in their ranges.
-fn has_numbers(opening: &Opening) -> bool
-    ensures { IsTrue result → HasNumbers opening.now }
-{
-    let ranged = MIN_RANGE <= opening.range && opening.range <= MAX_RANGE;
-    let limited = 1 <= opening.ceiling && opening.ceiling <= MAX_CEILING;
-    let scaled = -3 <= opening.sf && opening.sf <= 3;
-    ranged && limited && scaled && u64::from(opening.raw) < opening.range
 }
 
 /// An installation where it stood after these rows.
@@ -106,6 +49,7 @@ fn behind(whole: &Installation, rows: &[EntryRow]) -> Result<Installation, RowFa
     ensures stands { let es = entries_in (lists.latest_first rows.now) in
         IfOk result (λ row. row ≡ meters.standing whole.now.opening es whole.now.ended) }
     ensures sound { IfOk result IsSound }
+    ensures fault { IfErr result (λ e. e ≡ Damaged) }
 {
     accounts_are_sound();
     let opening = whole.opening;
@@ -133,6 +77,7 @@ pub(crate) fn placed(
         → lists.latest_first rows.now ≡ rows_of facts o → IfOk result
         (λ found. found ≡ option_map (place_in facts o) (row_at place (rows_of facts o))) }
     ensures sound { IfOk result (λ found. IfSome found (λ p. IsSound p.before)) }
+    ensures fault { IfErr result (λ e. e ≡ Damaged) }
 {
     if !are_numbered(rows) {
         return Err(RowFault::Damaged);

@@ -1,7 +1,8 @@
 //! Rows of single tables, as the facts have them.
 ghost use Rattle.std.specs.Prelude.{◌≡◌, false};
 ghost use Rattle.office_rules.specs.Facts.{opening_of, installed_at};
-ghost use Rattle.store_queries.specs.Metering.Looking.{Finds};
+ghost use Rattle.store_queries.specs.Finding.Finding.{Finds};
+ghost use Rattle.store_queries.specs.Metering.Sound.{HasReadableMeters};
 ghost use Rattle.store_queries.specs.Metering.Meters.{FindsRow, FindsRange, FindsFirst};
 
 use office_rules::voids_leave_no_trace;
@@ -18,7 +19,7 @@ pub(crate) fn row_of<S: Alter>(
 ) -> Result<Option<Installation>, RowFault>
     requires { conn.old.in_transaction ≡ false }
     ensures { Finds S.Store conn.old conn.new result
-        (λ facts found. FindsRow facts (opening_of facts meter.now) found) }
+        (λ facts found. FindsRow facts (opening_of facts meter.now) found) HasReadableMeters }
 {
     check_open(conn)?;
     installation_of(conn, meter)
@@ -31,7 +32,7 @@ pub(crate) fn row_at<S: Alter>(
 ) -> Result<Option<Installation>, RowFault>
     requires { conn.old.in_transaction ≡ false }
     ensures { Finds S.Store conn.old conn.new result
-        (λ facts found. FindsRow facts (installed_at facts register.now) found) }
+        (λ facts found. FindsRow facts (installed_at facts register.now) found) HasReadableMeters }
 {
     check_open(conn)?;
     installation_at(conn, register)
@@ -43,7 +44,8 @@ pub(crate) fn range<S: Alter>(
     meter: &str,
 ) -> Result<Option<u64>, RowFault>
     requires { conn.old.in_transaction ≡ false }
-    ensures { Finds S.Store conn.old conn.new result (FindsRange meter.now) }
+    ensures { Finds S.Store conn.old conn.new result (FindsRange meter.now)
+        HasReadableMeters }
 {
     check_open(conn)?;
     range_of(conn, meter)
@@ -55,7 +57,8 @@ pub(crate) fn first_entry<S: Alter>(
     meter: &str,
 ) -> Result<Option<EntryRow>, RowFault>
     requires { conn.old.in_transaction ≡ false }
-    ensures { Finds S.Store conn.old conn.new result (FindsFirst meter.now) }
+    ensures { Finds S.Store conn.old conn.new result (FindsFirst meter.now)
+        HasReadableMeters }
 {
     voids_leave_no_trace();
     check_open(conn)?;

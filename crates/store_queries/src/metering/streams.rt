@@ -1,7 +1,8 @@
 //! Interval rows, handed on as they come.
-ghost use Rattle.std.specs.Prelude.{◌≡◌, false};
+ghost use Rattle.std.specs.Prelude.{◌≡◌, false, IsUtf8};
 ghost use Rattle.office_rules.specs.Intervals.{rows_of_meter, rows_of_register};
 ghost use Rattle.store_queries.specs.Metering.Looking.{HandsOn};
+ghost use Rattle.store_queries.specs.Metering.Sound.{HasReadableIntervals};
 
 use interval_core::Share;
 use office_books::RowSink;
@@ -19,7 +20,8 @@ pub fn intervals<S: Alter, K: RowSink<Share>>(
 ) -> Result<(), RowFault>
     requires { conn.old.in_transaction ≡ false }
     ensures { HandsOn S.Store conn.old conn.new K.takes sink.old sink.new result
-        (λ facts. rows_of_meter facts meter.now) }
+        (λ facts. rows_of_meter facts meter.now)
+        (λ facts. IsUtf8 meter.now × HasReadableIntervals facts) }
 {
     meters_are_kept();
     let meter = text(meter)?;
@@ -35,7 +37,8 @@ pub fn register_intervals<S: Alter, K: RowSink<Share>>(
 ) -> Result<(), RowFault>
     requires { conn.old.in_transaction ≡ false }
     ensures { HandsOn S.Store conn.old conn.new K.takes sink.old sink.new result
-        (λ facts. rows_of_register facts register.now) }
+        (λ facts. rows_of_register facts register.now)
+        (λ facts. IsUtf8 register.now × HasReadableIntervals facts) }
 {
     meters_are_kept();
     let register = text(register)?;

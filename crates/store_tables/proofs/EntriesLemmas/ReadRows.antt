@@ -32,7 +32,7 @@ entry_fair e =
     (fair_whole S P _ 0 _ e.entry.rolls (λ is. (zero-le, is.rolls))
     (fair_whole S P _ 0 _ e.entry.after (λ is. (zero-le, is.after))
     (fair_within S P _ 3 e.entry.sf (λ is. is.sf)
-    (record { read = refl; fault = λ is. tt })))))))
+    (record { read = refl; fault = tt })))))))
 
 pub reads_entry : (row : Row) (r : Result EntryRow RowFault) → r ≡ entry_in row → ReadsRow row entry_shown IsRow IsSoundEntered r
 reads_entry row r is = reads_row row entry_shown IsRow IsSoundEntered r (λ e shown. subst (IsFair (IsSoundEntered e) (IsRow e)) (sym (is ∙ ap entry_in shown)) (entry_fair e))

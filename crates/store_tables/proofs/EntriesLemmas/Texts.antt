@@ -1,6 +1,6 @@
 -- What the texts mean.
-use Rattle.std.proofs.Common.{◌≡◌, List, [], ◌∷◌, codes, ℕ, false, refl}
-use Rattle.sqlite.specs.declared.types.Value.TheVariants.{Null}
+use Rattle.std.proofs.Common.{◌≡◌, List, [], ◌∷◌, codes, ℕ, false, refl, pos}
+use Rattle.sqlite.specs.declared.types.Value.TheVariants.{Null, Int, Text}
 use Rattle.sqlite.specs.Term.{Term, lit, col}
 use Rattle.sqlite.specs.Source.TheVariants.{Values}
 use Rattle.sqlite.specs.Command.TheVariants.{Insert, Select, Update}
@@ -8,6 +8,7 @@ use Rattle.sqlite_tied.specs.Compute.{everything}
 use Rattle.sqlite.specs.Listing.{understood, reads_listing}
 use Rattle.sqlite.proofs.Callers.{IsPlain, command_of}
 use Rattle.store_tables.specs.Schema.{books_schema}
+use Rattle.store_tables.proofs.Failures.{Suits, suits_scan}
 use Rattle.store_tables.proofs.Scans.{scan, no_limit, one, is_param, falling, rising}
 
 -- ---- insert_entry
@@ -71,6 +72,10 @@ pub entry_at_plain : IsPlain (understood books_schema entry_at)
 unfolding understood everything
 entry_at_plain = (refl, refl)
 
+pub entry_at_suits : (meter : List ℕ) (place : ℕ) → Suits books_schema entry_at (Text meter ∷ Int (pos place) ∷ [])
+unfolding understood everything
+entry_at_suits meter place = suits_scan 9 entry_at_tests entry_at_project [] one entry_at entry_at_names (Text meter ∷ Int (pos place) ∷ []) (refl, refl, refl) entry_at_plain entry_at_unlisted entry_at_is refl
+
 -- ---- last_place
 
 abbrev pub last_place : List ℕ
@@ -97,6 +102,10 @@ pub last_place_plain : IsPlain (understood books_schema last_place)
 unfolding understood everything
 last_place_plain = (refl, refl)
 
+pub last_place_suits : (meter : List ℕ) → Suits books_schema last_place (Text meter ∷ [])
+unfolding understood everything
+last_place_suits meter = suits_scan 9 last_place_tests last_place_project ((col 1 2, falling) ∷ []) one last_place last_place_names (Text meter ∷ []) (refl, refl, refl) last_place_plain last_place_unlisted last_place_is refl
+
 -- ---- entry_rows
 
 abbrev pub entry_rows : List ℕ
@@ -122,6 +131,10 @@ entry_rows_unlisted = refl
 pub entry_rows_plain : IsPlain (understood books_schema entry_rows)
 unfolding understood everything
 entry_rows_plain = (refl, refl)
+
+pub entry_rows_suits : (meter : List ℕ) → Suits books_schema entry_rows (Text meter ∷ [])
+unfolding understood everything
+entry_rows_suits meter = suits_scan 9 entry_rows_tests entry_rows_project ((col 1 2, rising) ∷ []) no_limit entry_rows entry_rows_names (Text meter ∷ []) (refl, refl, refl) entry_rows_plain entry_rows_unlisted entry_rows_is refl
 
 -- ---- insert_void
 
@@ -165,6 +178,10 @@ pub void_rows_plain : IsPlain (understood books_schema void_rows)
 unfolding understood everything
 void_rows_plain = (refl, refl)
 
+pub void_rows_suits : (meter : List ℕ) → Suits books_schema void_rows (Text meter ∷ [])
+unfolding understood everything
+void_rows_suits meter = suits_scan 20 void_rows_tests void_rows_project ((col 1 2, rising) ∷ []) no_limit void_rows void_rows_names (Text meter ∷ []) (refl, refl, refl) void_rows_plain void_rows_unlisted void_rows_is refl
+
 -- ---- latest_entry
 
 abbrev pub latest_entry : List ℕ
@@ -191,6 +208,10 @@ pub latest_entry_plain : IsPlain (understood books_schema latest_entry)
 unfolding understood everything
 latest_entry_plain = (refl, refl)
 
+pub latest_entry_suits : Suits books_schema latest_entry ([])
+unfolding understood everything
+latest_entry_suits = suits_scan 9 latest_entry_tests latest_entry_project ((col 1 4, falling) ∷ []) one latest_entry latest_entry_names ([]) (refl, refl, refl) latest_entry_plain latest_entry_unlisted latest_entry_is refl
+
 -- ---- latest_void
 
 abbrev pub latest_void : List ℕ
@@ -216,3 +237,7 @@ latest_void_unlisted = refl
 pub latest_void_plain : IsPlain (understood books_schema latest_void)
 unfolding understood everything
 latest_void_plain = (refl, refl)
+
+pub latest_void_suits : Suits books_schema latest_void ([])
+unfolding understood everything
+latest_void_suits = suits_scan 20 latest_void_tests latest_void_project ((col 1 3, falling) ∷ []) one latest_void latest_void_names ([]) (refl, refl, refl) latest_void_plain latest_void_unlisted latest_void_is refl

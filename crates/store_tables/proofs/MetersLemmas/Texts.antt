@@ -1,6 +1,6 @@
 -- What the texts mean.
 use Rattle.std.proofs.Common.{◌≡◌, pos, List, [], ◌∷◌, codes, ℕ, false, refl}
-use Rattle.sqlite.specs.declared.types.Value.TheVariants.{Null, Int}
+use Rattle.sqlite.specs.declared.types.Value.TheVariants.{Null, Int, Text}
 use Rattle.sqlite.specs.Term.{Term, lit, col}
 use Rattle.sqlite.specs.Source.TheVariants.{Values}
 use Rattle.sqlite.specs.Command.TheVariants.{Insert, Select, Update}
@@ -8,6 +8,7 @@ use Rattle.sqlite_tied.specs.Compute.{everything}
 use Rattle.sqlite.specs.Listing.{understood, reads_listing}
 use Rattle.sqlite.proofs.Callers.{IsPlain, command_of}
 use Rattle.store_tables.specs.Schema.{books_schema}
+use Rattle.store_tables.proofs.Failures.{Suits, suits_scan}
 use Rattle.store_tables.proofs.Scans.{scan, no_limit, one, is_param, falling}
 
 -- ---- insert_installation
@@ -90,6 +91,10 @@ pub installation_of_plain : IsPlain (understood books_schema installation_of)
 unfolding understood everything
 installation_of_plain = (refl, refl)
 
+pub installation_of_suits : (meter : List ℕ) → Suits books_schema installation_of (Text meter ∷ [])
+unfolding understood everything
+installation_of_suits meter = suits_scan 7 installation_of_tests installation_of_project [] one installation_of installation_of_names (Text meter ∷ []) (refl, refl, refl) installation_of_plain installation_of_unlisted installation_of_is refl
+
 -- ---- installation_at
 
 abbrev pub installation_at : List ℕ
@@ -116,6 +121,10 @@ pub installation_at_plain : IsPlain (understood books_schema installation_at)
 unfolding understood everything
 installation_at_plain = (refl, refl)
 
+pub installation_at_suits : (register : List ℕ) → Suits books_schema installation_at (Text register ∷ [])
+unfolding understood everything
+installation_at_suits register = suits_scan 7 installation_at_tests installation_at_project ((col 1 0, falling) ∷ []) one installation_at installation_at_names (Text register ∷ []) (refl, refl, refl) installation_at_plain installation_at_unlisted installation_at_is refl
+
 -- ---- last_installation
 
 abbrev pub last_installation : List ℕ
@@ -141,6 +150,10 @@ last_installation_unlisted = refl
 pub last_installation_plain : IsPlain (understood books_schema last_installation)
 unfolding understood everything
 last_installation_plain = (refl, refl)
+
+pub last_installation_suits : Suits books_schema last_installation ([])
+unfolding understood everything
+last_installation_suits = suits_scan 7 last_installation_tests last_installation_project ((col 1 0, falling) ∷ []) one last_installation last_installation_names ([]) (refl, refl, refl) last_installation_plain last_installation_unlisted last_installation_is refl
 
 -- ---- insert_range
 
@@ -183,3 +196,7 @@ range_of_unlisted = refl
 pub range_of_plain : IsPlain (understood books_schema range_of)
 unfolding understood everything
 range_of_plain = (refl, refl)
+
+pub range_of_suits : (meter : List ℕ) → Suits books_schema range_of (Text meter ∷ [])
+unfolding understood everything
+range_of_suits meter = suits_scan 18 range_of_tests range_of_project [] one range_of range_of_names (Text meter ∷ []) (refl, refl, refl) range_of_plain range_of_unlisted range_of_is refl

@@ -1,5 +1,6 @@
 //! Why a command failed.
 use crate::files::FileFault;
+use device_scan::ScanFault;
 use office_store::OpenFault;
 use std::error::Error;
 use std::fmt;
@@ -12,25 +13,54 @@ pub enum Failure<'a> {
     /// Standard input, standard output, or memory while a command ran.
     Streams,
     /// A port can't be listened on.
-    Port { host: &'a str, port: u16 },
+    Port {
+        host: &'a str,
+        port: u16,
+    },
     /// The loopback network can't be listened on.
     Loopback,
     /// No connection was accepted.
     Listening,
     /// There is no connection to the database in a file.
-    File { path: &'a str, fault: FileFault },
+    File {
+        path: &'a str,
+        fault: FileFault,
+    },
     /// The tables of a new office were not made.
-    Unmade { path: &'a str, fault: OpenFault },
+    Unmade {
+        path: &'a str,
+        fault: OpenFault,
+    },
     /// A file holds no office that could be opened.
-    Unopened { path: &'a str, fault: OpenFault },
+    Unopened {
+        path: &'a str,
+        fault: OpenFault,
+    },
     /// A device was not connected.
-    Unconnected { host: &'a str, port: u16 },
+    Unconnected {
+        host: &'a str,
+        port: u16,
+    },
+    /// A device was not scanned to the end.
+    Unscanned {
+        host: &'a str,
+        port: u16,
+        fault: ScanFault,
+    },
     /// The connection to a device failed in a round.
-    Broken { host: &'a str, port: u16 },
+    Broken {
+        host: &'a str,
+        port: u16,
+    },
     /// A round had all the takes that it may have.
-    Endless { host: &'a str, port: u16 },
+    Endless {
+        host: &'a str,
+        port: u16,
+    },
     /// A device's host has no address.
-    Host { host: &'a str },
+    Host {
+        host: &'a str,
+    },
     /// The system can't tell which sockets are ready.
     Sockets,
     /// The office has stopped while devices were polled.
@@ -63,6 +93,10 @@ impl<'a> Display for Failure<'a> {
             Failure::Unconnected { host, port } => write!(
                 f,
                 "port {port} of {host} isn't answered: does the device run, and is this its address?"
+            ),
+            Failure::Unscanned { host, port, fault } => write!(
+                f,
+                "port {port} of {host} can't be scanned: {fault}"
             ),
             Failure::Broken { host, port } => write!(
                 f,

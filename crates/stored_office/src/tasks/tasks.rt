@@ -25,10 +25,11 @@ pub enum Task<'a> {
     Report {
         register: &'a str,
     },
-    /// HTTP is answered on so many connections at a port of a host, as `serve_stored` does.
+    /// HTTP is answered on so many connections at a port of a host, by these names too, as `serve_stored` does.
     Serve {
         host: &'a str,
         port: u16,
+        names: &'a [&'a str],
         connections: u32,
     },
     /// A device at a port of a host is polled, as `poll_stored` does.
@@ -39,7 +40,7 @@ pub enum Task<'a> {
     },
     /// Devices are polled on a schedule and HTTP is answered, as `run_stored` does.
     Run {
-        settings: &'a Settings,
+        settings: &'a Settings<'a>,
         sites: &'a [Site],
     },
 }
@@ -54,13 +55,14 @@ pub enum Done {
 }
 
 /// Finds the books of a database, and carries a task out over them. Where there are no books, nothing is printed.
-pub fn carry_out_stored<R: Net + std::rt::Clock, S: Alter + Drop, C: Clock, W: Write>(
+pub fn carry_out_stored<R: Net + std::rt::Clock, S: Alter + Drop, C: Clock, W: Write, E: Write>(
     rt: &R,
     alloc: Global,
     connection: Connection<S>,
     task: Task<'_>,
     clock: &mut C,
     output: &mut W,
+    errors: &mut E,
 ) -> Result<Done, OpenFault>
     ensures foreign { ((layout : TheLayout) → ¬ IsNamedAs connection.schema layout)
         → result ≡ Err OpenFault.NotOurs }
@@ -80,10 +82,20 @@ pub fn carry_out_stored<R: Net + std::rt::Clock, S: Alter + Drop, C: Clock, W: W
         Task::Serve {
             host,
             port,
+            names,
             connections,
         } => {
             let place = (host, port);
-            match serve_stored(rt, alloc, connection, place, connections, clock, output) {
+            match serve_stored(
+                rt,
+                alloc,
+                connection,
+                place,
+                names,
+                connections,
+                clock,
+                output,
+            ) {
                 Ok(end) => Ok(Done::Served(end)),
                 Err(fault) => Err(fault),
             }
@@ -96,7 +108,9 @@ pub fn carry_out_stored<R: Net + std::rt::Clock, S: Alter + Drop, C: Clock, W: W
             }
         }
         Task::Run { settings, sites } => {
-            match run_stored(rt, alloc, connection, settings, sites, clock, output) {
+            match run_stored(
+                rt, alloc, connection, settings, sites, clock, output, errors,
+            ) {
                 Ok(end) => Ok(Done::Ran(end)),
                 Err(fault) => Err(fault),
             }

@@ -1,5 +1,5 @@
 -- What is printed of a device's chain of models, and the exit status.
-use Rattle.std.specs.Prelude.{◌≡◌, ◌<◌, ◌≤◌, ℕ, List, [], ◌++◌, length, flat_map, codes, Ok, Err}
+use Rattle.std.specs.Prelude.{◌≡◌, ◌≢◌, ◌<◌, ◌≤◌, ℕ, List, [], ◌++◌, length, flat_map, codes, Ok, Err}
 use Rattle.std.specs.Fmt.{decimal}
 use Rattle.std.specs.declared.result.Result.{Result}
 use Rattle.sun_chain.specs.declared.chain.Chain.{Chain}
@@ -61,6 +61,12 @@ IsWrong word NoMark = Fails word NoMark
 IsWrong word (Unreadable address) = Fails word (Unreadable address)
 IsWrong word PastEnd = Fails word PastEnd
 IsWrong word TooMany = Fails word TooMany
+
+-- a fault that is not want of memory prints its line
+abbrev pub FaultPrints : ChainFault → (printed : List ℕ) → ExitStatus → Type 0
+FaultPrints fault printed Fine = ⊥
+FaultPrints fault printed Refused = (fault ≢ Memory) × (printed ≡ fault_line fault)
+FaultPrints fault printed Failed = ⊥
 
 -- a device's words print their chain, or else their fault
 abbrev pub WordsPrint : Words → (printed : List ℕ) → ExitStatus → Type 0

@@ -4,7 +4,7 @@ ghost use Rattle.std.specs.Io.KnownBytes.{Appends};
 ghost use Rattle.sun_chain.specs.Chain.{words_of};
 ghost use Rattle.sun_chain.specs.Image.{word_in};
 ghost use Rattle.sun_chain.specs.Points.{seen};
-ghost use Rattle.sunspec_text.specs.Chains.ChainText.{ChainPrints, LinesPrint, WordsPrint, fault_line};
+ghost use Rattle.sunspec_text.specs.Chains.ChainText.{ChainPrints, FaultPrints, LinesPrint, WordsPrint, fault_line};
 ghost use Rattle.sunspec_text.specs.Chains.ChainText.{lines_of, model_line, model_lines, point_line};
 ghost use Rattle.sunspec_text.specs.Chains.ImageLines.{nothing_read, words_told};
 ghost use Rattle.command_io.specs.Lines.{speaking_lines};
@@ -46,8 +46,8 @@ fn print_lines<W: Write>(alloc: Global, text: &[u8], output: &mut W) -> ExitStat
     }
 }
 
-// Prints the chain in an image, or its fault.
-fn print_image<W: Write>(alloc: Global, image: &Image, output: &mut W) -> ExitStatus
+/// Prints the chain in an image, or its fault.
+pub(crate) fn print_image<W: Write>(alloc: Global, image: &Image, output: &mut W) -> ExitStatus
     ensures { PrintsAs (WordsPrint (word_in image.now)) result
         (W.contents output.old) (W.contents output.new) }
 {
@@ -56,11 +56,21 @@ fn print_image<W: Write>(alloc: Global, image: &Image, output: &mut W) -> ExitSt
             Ok(()) => ExitStatus::Fine,
             Err(_) => ExitStatus::Failed,
         },
-        Err(ChainFault::Memory) => ExitStatus::Failed,
-        Err(fault) => match print_fault(fault, output) {
-            Ok(()) => ExitStatus::Refused,
-            Err(_) => ExitStatus::Failed,
-        },
+        Err(fault) => print_lack(fault, output),
+    }
+}
+
+/// Prints why there is no chain.
+pub(crate) fn print_lack<W: Write>(fault: ChainFault, output: &mut W) -> ExitStatus
+    ensures { PrintsAs (FaultPrints fault) result
+        (W.contents output.old) (W.contents output.new) }
+{
+    if fault == ChainFault::Memory {
+        return ExitStatus::Failed;
+    }
+    match print_fault(fault, output) {
+        Ok(()) => ExitStatus::Refused,
+        Err(_) => ExitStatus::Failed,
     }
 }
 

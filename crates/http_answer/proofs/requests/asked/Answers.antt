@@ -1,11 +1,9 @@
-use Rattle.std.proofs.Common.{◌≡◌, ◌∙◌, sym, ap}
-use Rattle.http_request.specs.Tests.{caller_in, value_in}
+use Rattle.std.proofs.Common.{sym, ap}
 use Rattle.http_answer.specs.Replies.{number_or_zero}
-use Rattle.http_answer.proofs.Callers.{named_is}
 use Rattle.http_answer.proofs.requests.asked.Goals as goal
 
 pub returns : goal.returns
 returns c = λ headers says.
-    let caller : c.new.result ≡ caller_in headers = c.new.ensures ∙ named_is (value_in headers.caller) c.args.posted.now.caller.now says.caller ∙ sym says.caller in
+    let caller = sym says.caller in
     let number = ap number_or_zero (sym says.number) in
     λ i. record { caller = caller i; number = number i; request = c.args.request; command = c.args.command }

@@ -1,6 +1,6 @@
 use Rattle.std.proofs.Common.{rules, ◌≡◌, ◌++◌, Err, subst, sym}
-use Rattle.mb_device.proofs.Giving.{Gives-both, GivesPart-before}
-use Rattle.mb_device.specs.Server.{Gives}
+use Rattle.mb_wire.proofs.Giving.{Gives-both, GivesPart-before}
+use Rattle.mb_wire.specs.Links.{Gives}
 use Rattle.mb_device.proofs.sender.give_both.Goals as goal
 
 pub returns-in_err-give_all-clause-given : goal.returns-in_err-give_all-clause-given

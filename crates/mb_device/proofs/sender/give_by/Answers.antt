@@ -1,6 +1,6 @@
 use Rattle.std.proofs.Common.{rules, ◌≡◌, ◌++◌, Some, subst, sym}
-use Rattle.mb_device.proofs.Giving.{Gives-both}
-use Rattle.mb_device.specs.Server.{Gives}
+use Rattle.mb_wire.proofs.Giving.{Gives-both}
+use Rattle.mb_wire.specs.Links.{Gives}
 use Rattle.mb_device.specs.Tricks.{sent_of}
 use Rattle.mb_device.specs.declared.trick.Trick.TheVariants as play
 use Rattle.mb_device.proofs.sender.give_by.Goals as goal

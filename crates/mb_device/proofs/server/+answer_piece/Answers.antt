@@ -1,6 +1,6 @@
 use Rattle.std.proofs.Common.{rules, ◌≡◌, ℕ, ◌++◌, length, subst, sym, ap, ◌∙◌, Err}
 use Rattle.mb_device.proofs.Framing.{garbled_piece, need_piece, piece_frames}
-use Rattle.mb_device.proofs.Giving.{from}
+use Rattle.mb_wire.proofs.Giving.{from}
 use Rattle.mb_device.proofs.Streams.{AllAnswered-cut, AllAnswered-same, Answered-then, all_then_all, course_cut, course_then, cut_tells, dealt_with, buffered_carried, buffered_fault, piece_fault, piece_then}
 use Rattle.mb_device.specs.Tricks.{carried_out, is_cut}
 use Rattle.mb_device.specs.Server.{Answered, PieceTells, around, course_behind, own_frames, buffered_frames, stretch}

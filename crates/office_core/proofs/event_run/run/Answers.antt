@@ -23,6 +23,7 @@ loop-moment-preserved g c =
           (record {
             answers = c.feed-result.ensures.answers;
             stands = c.feed-result.ensures.stands;
+            leaves = c.feed-result.ensures.leaves;
             told = c.feed-result.ensures.told;
             quiet = c.feed-result.ensures.quiet;
             ends = c.feed-result.ensures.ends;
@@ -41,6 +42,14 @@ returns-clause-headline g c past stood clean =
     let stands = so_far.stands past stood clean in
     let laws = c.books_are_true.ensures history stands.books.is_past.accepted stands.books.is_past.planned in
     record { accepted = stands.books.is_past; holds = stands.books.holds; headline = headline history laws; laws = laws }
+
+pub returns-clause-leaves : goal.returns-clause-leaves
+returns-clause-leaves g c past stood clean =
+    let events = c.args.events.now in
+    let results = c.loop-moment.results.items in
+    let over : length events ≤ c.loop-moment.moment-index = omega (arith, c.loop-moment-test.false) in
+    let so_far = all_fed g.B.Books.ledger c.args.books c.args.opened events c.loop-moment.moment-index results c.loop-moment.office over c.loop-moment.invariant.so_far in
+    so_far.leaves past stood clean
 
 pub returns-clause-stands : goal.returns-clause-stands
 returns-clause-stands g c past stood clean =

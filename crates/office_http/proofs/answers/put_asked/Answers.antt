@@ -16,7 +16,7 @@ returns g c =
         put = reply_bytes (row_reply done_text c.told.result);
         serves =
             subst (λ a. Serves ledger past c.args.moment read old new None (reply_bytes (row_reply done_text a))) (sym c.told.ensures)
-            (command_told ledger past c.args.moment read old new c.args.asked c.feed-answer.result c.requires (c.feed-answer.ensures.answers past stands clean) (c.feed-answer.ensures.stands past stands clean));
+            (command_told ledger past c.args.moment read old new c.args.asked c.feed-answer.result c.requires (c.feed-answer.ensures.answers past stands clean) (c.feed-answer.ensures.stands past stands clean) (c.feed-answer.ensures.leaves past stands clean) c.feed-answer.ensures.ends.stopped.0);
         puts = c.put_done.ensures;
       };
       gives = c.put_done.ensures.link;

@@ -4,7 +4,7 @@ use Rattle.office_http.specs.Rows.Reports.{Report}
 use Rattle.interval_core.specs.Report.{day_line}
 use Rattle.office_http.specs.Serving.{Puts}
 use Rattle.office_http.proofs.Reported.{days_told, lines_give}
-use Rattle.office_http.proofs.Served.{lasts_asked}
+use Rattle.office_http.proofs.Served.{lasts_asked, still}
 use Rattle.office_http.proofs.answers.put_days.Goals as goal
 
 pub returns : goal.returns
@@ -25,7 +25,7 @@ returns g c =
           subst (λ (o : Outgoing). Puts ledger past c.args.moment read old new o out cut) from
           (days_told ledger past c.args.moment read old new c.args.register.now start lines answer out cut
           (c.days-answer.ensures.days past stands clean) none c.end.ensures c.requires.nothing c.requires.replies
-          (c.days-answer.ensures.asks.stands past stands));
+          (still ledger past old new c.days-answer.result c.days-answer.ensures.asks stands) c.days-answer.ensures.asks.stopped.0);
       gives =
           subst (λ (o : Outgoing). OnlyGives o out) from
           (lines_give day_line c.days-answer.ensures.puts.0 start lines answer out cut c.days-answer.ensures.puts.1 none c.end.ensures);

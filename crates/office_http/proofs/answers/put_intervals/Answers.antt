@@ -10,7 +10,7 @@ use Rattle.office_core.specs.Asking.{intervals_of}
 use Rattle.office_http.specs.Serving.{Puts}
 use Rattle.office_http.proofs.Few.{FromJournals, few_named}
 use Rattle.office_http.proofs.Reported.{lines_give, rows_told}
-use Rattle.office_http.proofs.Served.{lasts_asked}
+use Rattle.office_http.proofs.Served.{lasts_asked, still}
 use Rattle.office_http.proofs.answers.put_intervals.Goals as goal
 
 pub returns : goal.returns
@@ -35,7 +35,7 @@ returns g c =
           (few_named law (facts_of past) c.args.meter.now (c.facts_are_lawful.ensures past stands.books.is_past.accepted stands.books.is_past.planned))
           c.requires.nothing
           (λ office answers. subst (λ a. IsReply office routes read (reply_bytes (lines_reply intervals_text a))) (answers.intervals c.args.meter.now) (c.requires.replies office))
-          (c.intervals-answer.ensures.asks.stands past stands));
+          (still ledger past old new c.intervals-answer.result c.intervals-answer.ensures.asks stands) c.intervals-answer.ensures.asks.stopped.0);
       gives =
           subst (λ (o : Outgoing). OnlyGives o out) from
           (lines_give share_line c.intervals-answer.ensures.puts.0 start lines answer out cut c.intervals-answer.ensures.puts.1 none c.end.ensures);

@@ -6,7 +6,7 @@ use Rattle.http_answer.specs.Whole.{IsReply}
 use Rattle.office_events.specs.declared.refusals.Refusal.TheVariants as refusal
 use Rattle.office_rules.specs.History.{facts_of}
 use Rattle.office_rules.specs.Readings.{poll_row_of}
-use Rattle.office_http.proofs.Served.{lasts_asked, lasts_same, row_told, told_off}
+use Rattle.office_http.proofs.Served.{lasts_asked, lasts_same, row_told, still, told_off}
 use Rattle.office_http.proofs.answers.put_poll_asked.Goals as goal
 
 pub returns-in-None : goal.returns-in-None
@@ -41,7 +41,7 @@ returns-in-Some g c =
             (c.poll-answer.ensures.found past stands clean) c.requires.nothing
             (λ office answers. subst (λ a. IsReply office routes read (reply_bytes (row_reply poll_text a))) (answers.poll number)
             (subst (λ n. IsReply office routes read (reply_bytes (poll_reply office n))) c.in-Some.is (c.requires.replies office)))
-            (c.poll-answer.ensures.asks.stands past stands);
+            (still ledger past old new c.poll-answer.result c.poll-answer.ensures.asks stands) c.poll-answer.ensures.asks.stopped.0;
         puts = c.put_poll.ensures;
       };
       gives = c.put_poll.ensures.link;

@@ -9,7 +9,7 @@ use Rattle.http_answer.specs.Whole.{IsReply}
 use Rattle.interval_core.specs.Lines.{days_text, intervals_text}
 use Rattle.office_rules.specs.History.{facts_of}
 use Rattle.office_rules.specs.Meters.{meter_of}
-use Rattle.office_http.proofs.Served.{lasts_asked, row_told}
+use Rattle.office_http.proofs.Served.{lasts_asked, row_told, still}
 use Rattle.office_http.proofs.answers.put_question.Goals as goal
 
 pub returns-in-Meter : goal.returns-in-Meter
@@ -29,7 +29,7 @@ returns-in-Meter g c =
             (λ office answers. subst (λ a. IsReply office routes read (reply_bytes (row_reply meter_text a))) (answers.meter name)
             (subst (λ n. IsReply office routes read (reply_bytes (row_reply meter_text (office.meter n)))) (sym c.name_asked.ensures)
             (subst (λ (r : Route). IsReply office routes read (reply_bytes (question_reply office r taken))) c.in-Meter.is (c.requires.reply office))))
-            (c.meter-answer.ensures.asks.stands past stands);
+            (still ledger past old new c.meter-answer.result c.meter-answer.ensures.asks stands) c.meter-answer.ensures.asks.stopped.0;
         puts = c.put_meter.ensures;
       };
       gives = c.put_meter.ensures.link;

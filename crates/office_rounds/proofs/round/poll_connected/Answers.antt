@@ -1,13 +1,17 @@
-use Rattle.std.proofs.Common.{subst, ℕ}
+use Rattle.std.proofs.Common.{refl, subst, ℕ}
 use Rattle.office_rounds.specs.Course.{StartFrom, Take}
 use Rattle.office_rounds.specs.Passing.{AreAtMost}
+use Rattle.office_rounds.specs.Polling.{settled}
 use Rattle.office_rounds.proofs.Stages.{compose}
 use Rattle.office_rounds.proofs.round.poll_connected.Goals as goal
 
 pub returns-in-Ok-clause-steps : goal.returns-in-Ok-clause-steps
 returns-in-Ok-clause-steps g c =
-    compose g.B.Books.ledger _ _ _ (λ round fed past. StartFrom round.started) c.in-Ok.field-0 (λ done. Take) (λ round fed past. Take) _ _ c.in-Ok.ensures.steps (λ round fed past e. e) c.take_turns.ensures.steps
+    compose g.B.Books.ledger _ _ _ (StartFrom 0) c.in-Ok.field-0 (λ done. settled (StartFrom 0)) Take _ _ (c.in-Ok.ensures.steps (StartFrom 0)) refl c.take_turns.ensures.steps
     c.take_turns.ensures.lasts.clean
+
+pub returns-in-Err-clause-steps : goal.returns-in-Err-clause-steps
+returns-in-Err-clause-steps g c = c.in-Err.ensures.steps (StartFrom 0)
 
 pub returns-in-Ok-clause-takes : goal.returns-in-Ok-clause-takes
 returns-in-Ok-clause-takes g c =

@@ -6,12 +6,12 @@ use Rattle.office_rounds.proofs.round.poll_to_end.Goals as goal
 pub returns-in-Ok-clause-polls : goal.returns-in-Ok-clause-polls
 returns-in-Ok-clause-polls g c = λ device past begun from fed going wired is clean.
     let so = c.in-Ok.ensures.steps device past begun from fed going wired is clean in
-    is_round g.B.Books.ledger device past begun _ from _ c.poll_connected.new.office so.0 c.poll_connected.new.round so.1.0 so.1.1 so.1.2
+    is_round g.B.Books.ledger device past begun _ from _ c.poll_connected.new.office so.0 c.poll_connected.new.progress so.1.0 so.1.1 so.1.2
 
 pub returns-in-Err-clause-polls : goal.returns-in-Err-clause-polls
 returns-in-Err-clause-polls g c = λ device past begun from fed going wired is clean.
     let so = c.in-Err.ensures.steps device past begun from fed going wired is (c.close.ensures.lasts.clean clean) in
-    inr (is_broken_off g.B.Books.ledger device past begun _ _ from _ c.poll_connected.new.office c.close.new.office so.0 c.poll_connected.new.round c.in-Err.fault c.close.result
+    inr (is_broken_off g.B.Books.ledger device past begun _ _ from _ c.poll_connected.new.office c.close.new.office so.0 c.poll_connected.new.progress c.in-Err.fault c.close.result
     so.1.0 so.1.1 (c.close.ensures.closes device past begun so.0 so.1.0 clean))
 
 pub returns-in-Err-clause-used : goal.returns-in-Err-clause-used

@@ -1,10 +1,13 @@
-use Rattle.std.proofs.Common.{[], ◌∷◌, ap, sym}
+use Rattle.std.proofs.Common.{[], ◌∷◌, ap, sym, refl, subst}
 use Rattle.std.specs.Prelude.{Err, Ok}
-use Rattle.office_rounds.specs.Course.{StartFrom}
 use Rattle.office_rounds.specs.Between.{desk_of, wire_of}
-use Rattle.office_rounds.specs.Stepping.{connection}
+use Rattle.office_rounds.specs.Stepping.{IsNew, connection}
+use Rattle.office_rounds.specs.declared.progress.Progress.{Progress}
 use Rattle.office_rounds.proofs.Wholes.{connects_same, kept_failures, not_used, wired_connected}
 use Rattle.office_rounds.proofs.round.round_over.Goals as goal
+
+pub connect-requires : goal.connect-requires
+connect-requires g c = let P : Progress → Type 0 = IsNew in subst P (sym c.new-progress.ensures) refl
 
 pub returns-in-Ok-clause-rounds : goal.returns-in-Ok-clause-rounds
 returns-in-Ok-clause-rounds g c = λ past stands clean.
@@ -13,10 +16,10 @@ returns-in-Ok-clause-rounds g c = λ past stands clean.
     let now = desk_of g.B.Books g.C.Clock g.W.Write c.connect.new.office c.connect.new.clock c.connect.new.output in
     let w = wire_of g.L.Link c.args.link.now in
     let h =
-    connects_same g.B.Books.ledger device c.new-round.result.device past begun now c.connect.new.office c.connect.new.round (Ok c.in-Ok.field-0)
-    (ap (λ round. round.device) c.new-round.ensures) (c.in-Ok.ensures.connects past stands (c.poll_to_end.ensures.lasts.clean clean)) in
+    connects_same g.B.Books.ledger device c.new-progress.result.round.device past begun now c.connect.new.office c.connect.new.progress (Ok c.in-Ok.field-0)
+    (ap (λ (p : Progress). p.round.device) c.new-progress.ensures) (c.in-Ok.ensures.connects past stands (c.poll_to_end.ensures.lasts.clean clean)) in
     c.poll_to_end.ensures.polls device past begun w (connection device h.0 (Ok h.1.0) ∷ []) h.1.1 (wired_connected past h.0 device h.1.0 w)
-    (sym (ap StartFrom h.1.2)) clean
+    refl clean
 
 pub returns-in-Err-clause-rounds : goal.returns-in-Err-clause-rounds
 returns-in-Err-clause-rounds g c = λ past stands clean.
@@ -25,8 +28,8 @@ returns-in-Err-clause-rounds g c = λ past stands clean.
     let now = desk_of g.B.Books g.C.Clock g.W.Write c.connect.new.office c.connect.new.clock c.connect.new.output in
     let w = wire_of g.L.Link c.args.link.now in
     let h =
-    connects_same g.B.Books.ledger device c.new-round.result.device past begun now c.connect.new.office c.connect.new.round (Err c.in-Err.fault)
-    (ap (λ round. round.device) c.new-round.ensures) (c.in-Err.ensures.connects past stands (c.end_unconnected.ensures.lasts.clean clean)) in
+    connects_same g.B.Books.ledger device c.new-progress.result.round.device past begun now c.connect.new.office c.connect.new.progress (Err c.in-Err.fault)
+    (ap (λ (p : Progress). p.round.device) c.new-progress.ensures) (c.in-Err.ensures.connects past stands (c.end_unconnected.ensures.lasts.clean clean)) in
     c.end_unconnected.ensures.ends device past begun w h clean
 
 pub returns-in-Err-clause-used : goal.returns-in-Err-clause-used

@@ -1,12 +1,20 @@
-use Rattle.office_rounds.specs.Course.{next_left, polls_ended, reads_planned, reads_started}
-use Rattle.office_rounds.specs.Taking.{next_by, over_or_take}
-use Rattle.office_rounds.proofs.Stages.{by_left, steps_as}
+use Rattle.std.proofs.Common.{◌∷◌, sym, ◌∙◌, ap}
+use Rattle.office_rounds.specs.Between.{wire_of}
+use Rattle.office_rounds.specs.Polling.{settled}
+use Rattle.office_rounds.proofs.Stages.{next_as, nothing_left, rests, wanted}
 use Rattle.office_rounds.proofs.steps.go_on.Goals as goal
 
-pub returns-clause-steps : goal.returns-clause-steps
-returns-clause-steps g c =
-    steps_as g.B.Books.ledger _ _
-    (λ round fed past. next_by c.args.is_end c.args.endings (next_left (reads_started fed) (polls_ended past fed) (reads_planned fed)))
-    (λ round fed past. next_left (reads_started fed) (polls_ended past fed) (reads_planned fed)) c.follow.result over_or_take c.follow.ensures.steps
-    (λ device past begun fed going.
-    by_left c.args.is_end c.args.endings (next_left (reads_started fed) (polls_ended past fed) (reads_planned fed)) c.if-is_end.false (λ none. c.if-endings-eq0.false none))
+pub returns-in-Some-clause-steps : goal.returns-in-Some-clause-steps
+returns-in-Some-clause-steps g c = λ now device past begun from fed going wired is clean.
+    let w = wire_of g.L.Link c.args.link.now in
+    let e = c.in-Some.event in
+    let wants = wanted device past fed c.args.progress.now.round e going.holds (sym c.in-Some.ensures) in
+    let so = c.put.ensures.steps device past begun from fed going (nothing_left fed e from w wants.piece wired.taken) wired.given wants.does clean in (
+      so.0 ∷ fed,
+      next_as g.B.Books.ledger device past begun _ from (wire_of g.L.Link c.put.new.link) c.put.new.office (so.0 ∷ fed) c.put.new.progress c.put.result _ (λ done. settled now)
+          (λ done. wants.after so.0 so.1 ∙ ap settled is) so.2,
+    )
+
+pub returns-in-None-clause-steps : goal.returns-in-None-clause-steps
+returns-in-None-clause-steps g c = λ now device past begun from fed going wired is clean.
+    (fed, (going, wired, rests device past fed c.args.progress.now.round now going.holds (sym c.in-None.ensures) is))

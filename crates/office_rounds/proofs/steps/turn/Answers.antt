@@ -14,4 +14,4 @@ returns-in-Err-clause-steps g c = λ device past begun from fed going wired is c
     let old = wire_of g.L.Link c.args.link.now in
     let new = wire_of g.L.Link c.take_event.new.link in
     let w = kept_wire past from old new fed wired c.in-Err.ensures.taken c.in-Err.ensures.given in
-    (fed, not_taken g.B.Books.ledger device past begun _ from new _ fed c.args.round.now c.args.round.now.device c.in-Err.fault _ _ _ c.in-Err.ensures.brings going w.0 w.1)
+    (fed, not_taken g.B.Books.ledger device past begun _ from new _ fed c.args.progress.now c.args.progress.now.round.device c.in-Err.fault _ _ _ c.in-Err.ensures.brings going w.0 w.1)

@@ -1,17 +1,18 @@
 use Rattle.std.proofs.Common.{inl}
+use Rattle.http_request.specs.Hosts.{texts}
 use Rattle.office_running.proofs.Going.{lasts_both, lasts_run, ran_opened}
 use Rattle.office_running.proofs.office.run_office.Goals as goal
 
 pub returns-in-Ok-clause-books : goal.returns-in-Ok-clause-books
 returns-in-Ok-clause-books g c = λ past stands clean.
-    ran_opened g.B.Books.ledger past _ _ c.in-Ok.office c.run_open-end.new.office _ c.into_books.ensures
+    ran_opened (texts c.args.settings.now.host_names.now) g.B.Books.ledger past _ _ _ c.in-Ok.office c.run_open-end.new.office _ c.into_books.ensures
     (c.in-Ok.ensures.opened past (c.left_in-left.ensures.stands past stands)) c.run_open-end.ensures clean
 
 pub returns-in-Ok-clause-lasts : goal.returns-in-Ok-clause-lasts
 returns-in-Ok-clause-lasts g c =
     lasts_both _ _ _ c.left_in-left.ensures.lasts
     (lasts_both _ _ _ c.in-Ok.ensures.lasts
-    (lasts_run g.B.Books.ledger c.in-Ok.office c.run_open-end.new.office _ c.into_books.ensures c.run_open-end.ensures))
+    (lasts_run (texts c.args.settings.now.host_names.now) g.B.Books.ledger _ _ c.in-Ok.office c.run_open-end.new.office _ c.into_books.ensures c.run_open-end.ensures))
 
 pub returns-in-Err-clause-books : goal.returns-in-Err-clause-books
 returns-in-Err-clause-books g c = λ past stands clean.

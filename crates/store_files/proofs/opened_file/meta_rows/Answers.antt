@@ -2,6 +2,7 @@ use Rattle.std.proofs.Common.{[]}
 use Rattle.std.proofs.lemmas.Result.{IfOk-weaker}
 use Rattle.sqlite.specs.Held.{state}
 use Rattle.store_tables.proofs.StepLemmas.{asked_kept, plain_in, shown_same, shown_survives}
+use Rattle.store_tables.proofs.Failures.{on_err, query_fails}
 use Rattle.store_files.specs.Layouts.{schema_of}
 use Rattle.store_files.proofs.Texts as text
 use Rattle.store_files.proofs.Questions.{meta_answer}
@@ -25,3 +26,7 @@ pub returns-clause-survives : goal.returns-clause-survives
 returns-clause-survives g c layout content has =
     let old = state g.S.Store c.args.conn.now in
     shown_survives text.meta_rows [] old (state g.S.Store c.query_all.new.self) (plain_in (schema_of layout) text.meta_rows old.now has.schema (text.meta_rows_plain layout)) c.query_all.ensures.survives
+
+pub returns-clause-fails : goal.returns-clause-fails
+returns-clause-fails g c clean layout content has =
+    on_err c.query_all.result (λ e h. query_fails (schema_of layout) text.meta_rows [] (text.meta_rows_suits layout) (state g.S.Store c.args.conn.now) (state g.S.Store c.query_all.new.self) has.schema e h) (c.query_all.ensures.err clean)

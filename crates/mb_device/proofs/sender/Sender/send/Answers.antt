@@ -1,6 +1,6 @@
 use Rattle.std.proofs.Common.{take, subst, sym, ap, ◌∙◌}
 use Rattle.mb_device.proofs.Putting.{goes_on, sends}
-use Rattle.mb_device.specs.Server.{Gives}
+use Rattle.mb_wire.specs.Links.{Gives}
 use Rattle.mb_device.specs.Tricks.{answer_of, behind, sent_of, spelled_by}
 use Rattle.mb_device.proofs.sender.Sender.send.Goals as goal
 

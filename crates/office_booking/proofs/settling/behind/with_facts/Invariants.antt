@@ -1,4 +1,4 @@
-use Rattle.office_books.specs.Sound.{IsSound}
+use Rattle.office_rules.specs.Ranges.{IsSound}
 use Rattle.office_booking.proofs.SettlingLemmas.Overlays.{StandsAfterFirst}
 use Rattle.office_booking.proofs.settling.behind.with_facts.Given as goal
 

@@ -1,9 +1,9 @@
-use Rattle.std.proofs.Common.{◌≡◌, ◌∷◌, List, length, rules, refl, sym, subst, ◌∙◌}
+use Rattle.std.proofs.Common.{◌≡◌, ◌∷◌, true, false, List, length, rules, refl, sym, subst, ◌∙◌}
 use Rattle.office_rules.specs.History.{Fed, facts_of, slots_of, next_poll}
 use Rattle.office_booking.specs.declared.sessions.slots.Slot.{Slot}
 use Rattle.office_booking.specs.Sessions.Keeping.{KeepsSlots}
 use Rattle.std.proofs.lemmas.List.{with_items_is}
-use Rattle.office_core.proofs.Taken.{taken, not_taken, noted, unsent, stops_failed}
+use Rattle.office_core.proofs.Taken.{taken, not_taken, noted, unsent, goes_on_unsettling, unsettling}
 use Rattle.office_core.proofs.office.Office.settle.Goals as goal
 
 pub returns-in-Ok-clause-takes : goal.returns-in-Ok-clause-takes
@@ -23,4 +23,9 @@ returns-in-Err-clause-takes g c = λ past may accepted clean.
     let keeps = subst (λ (ls : List Slot). KeepsSlots ls (slots_of past)) (sym c.deref_mut.ensures.value) may.goes.slots in
     let settled = c.in-Err.ensures.settles past (record { is_past = may.books.is_past; keeps = keeps; accepted = accepted.right }) in
     not_taken g.B.Books.ledger past c.args.moment c.args.event.now _ _ c.in-Err.fault _ may accepted clean settled.books c.from.ensures
-    (λ on. let halts = stops_failed c.args.event.now c.in-Err.fault c.requires.settling in absurd (cc)) refl refl
+    (λ on.
+    let unsettling = unsettling c.args.event.now (next_poll (facts_of past)) c.args.moment (slots_of past) c.requires.settling
+    (goes_on_unsettling c.args.event.now c.in-Err.fault on) in
+    let quiet = c.in-Err.ensures.quiet past (record { is_past = may.books.is_past; keeps = keeps; accepted = accepted.right }) unsettling in
+    let wrong : false ≡ true = quiet.ok in
+    absurd (cc)) refl refl

@@ -2,8 +2,8 @@ use Rattle.office_running.proofs.Going.{goes_both, goes_none}
 use Rattle.office_running.proofs.event_loop.Running.attend_devices.Goals as goal
 
 pub loop-place-init : goal.loop-place-init
-loop-place-init g c = goes_none g.B.Books.ledger c.args.office.now
+loop-place-init g c = λ names. goes_none names c.args.now.moment g.B.Books.ledger c.args.office.now
 
 pub loop-place-preserved : goal.loop-place-preserved
-loop-place-preserved g c =
-    goes_both g.B.Books.ledger c.args.office.now c.loop-place.office c.attend.new.office c.loop-place.invariant c.attend.ensures
+loop-place-preserved g c = λ names.
+    goes_both names c.args.now.moment g.B.Books.ledger c.args.office.now c.loop-place.office c.attend.new.office (c.loop-place.invariant names) (c.attend.ensures names)

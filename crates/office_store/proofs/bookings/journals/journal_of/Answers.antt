@@ -72,4 +72,4 @@ returns-clause-does g c =
     (goes_then a b d c.in_ok-entries.entries (Ok c.in_ok-voids.voids) P Q (Then P Q) c.in_ok-entries.ensures.does c.in_ok-voids.ensures.does (λ before mid after p q. (mid, p, q)))
     c.in_ok-range.ensures.does (λ before mid after p r.
     journal_from c.journals_fit.ensures c.rows_stand.ensures c.voids_change_two_rows.ensures meter c.in_ok-entries.entries.items c.in_ok-voids.voids.items c.deref.result.now c.deref-2.result.now c.deref-3.result.now
-    it c.deref.ensures.value c.deref-2.ensures.value c.deref-3.ensures.value c.in_ok-opening.ensures c.in_ok-rows.ensures before p.0 mid after p.1 p.2 r))
+    it c.deref.ensures.value c.deref-2.ensures.value c.deref-3.ensures.value c.in_ok-opening.ensures c.in_ok-rows.ensures.journal before p.0 mid after p.1 p.2 r))

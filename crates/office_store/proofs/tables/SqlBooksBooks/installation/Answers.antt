@@ -1,12 +1,13 @@
+use Rattle.std.proofs.Common.{[]}
 use Rattle.std.specs.Prelude.{Option, IfSome}
 use Rattle.office_events.specs.declared.questions.Installation.{Installation}
-use Rattle.office_books.specs.Sound.{IsSound}
-use Rattle.office_store.proofs.Looking.{finds_meter, reads, sound}
+use Rattle.office_rules.specs.Ranges.{IsSound}
+use Rattle.office_store.proofs.Looking.{finds, reads, sound}
 use Rattle.office_store.proofs.tables.SqlBooksBooks.installation.Goals as goal
 
 pub returns-clause-found : goal.returns-clause-found
 returns-clause-found g c =
-    finds_meter g.S.Store c.args.self.now.connection c.installation-found.new.conn c.args.self.now.faults c.answered.new.faults c.args.self.now.zone c.installation-found.result c.answered.result c.answered.ensures.answer c.installation-found.ensures.finds
+    finds g.S.Store c.args.self.now.connection c.installation-found.new.conn c.args.self.now.faults c.answered.new.faults c.args.self.now.zone c.installation-found.result c.answered.result c.answered.ensures.answer c.installation-found.ensures.finds
 
 pub returns-clause-reads : goal.returns-clause-reads
 returns-clause-reads g c = record {
@@ -15,4 +16,4 @@ returns-clause-reads g c = record {
 }
 
 pub invariant_of-self : goal.invariant_of-self
-invariant_of-self g c = record { idle = c.installation-found.ensures.finds.mode c.args.self.now.idle }
+invariant_of-self g c = record { idle = (c.installation-found.ensures.finds.looks []).mode c.args.self.now.idle }

@@ -1,3 +1,4 @@
+use Rattle.std.proofs.Common.{[]}
 use Rattle.office_store.proofs.Looking.{hands_on, reads}
 use Rattle.office_store.proofs.tables.SqlBooksBooks.register_intervals.Goals as goal
 
@@ -11,4 +12,4 @@ returns-clause-reads g c =
     reads g.S.Store c.args.self.now.connection c.register_intervals-found.new.conn c.args.self.now.faults c.answered.new.faults c.args.self.now.zone c.answered.result c.answered.ensures.count c.register_intervals-found.ensures.looks
 
 pub invariant_of-self : goal.invariant_of-self
-invariant_of-self g c = record { idle = c.register_intervals-found.ensures.mode c.args.self.now.idle }
+invariant_of-self g c = record { idle = (c.register_intervals-found.ensures.looks []).mode c.args.self.now.idle }

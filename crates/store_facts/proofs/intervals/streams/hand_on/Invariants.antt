@@ -6,5 +6,5 @@ use Rattle.store_facts.proofs.intervals.streams.hand_on.Given as goal
 abbrev pub invariant-rows : goal.invariant-rows
 invariant-rows g l = record {
   reference : l.rows.conn.ghost_name ≡ l.initial.rows.conn.ghost_name;
-  stands : Stands g.S.Store l.sql (bound l.params) l.fn.conn g.K.RowSink.takes l.fn.sink l.rows.conn.now l.sink;
+  stands : Stands g.S.Store l.sql (bound l.params) l.fn.conn g.K.RowSink.takes l.fn.sink l.rows.conn.now l.sink l._taken;
 }

@@ -10,5 +10,5 @@ use Rattle.store_facts.proofs.intervals.streams.meter_intervals.Goals as goal
 pub returns : goal.returns
 returns g c =
     hands_on g.S.Store text.meter_intervals (Text c.args.meter.now ∷ []) (scan 14 text.meter_intervals_tests text.shares_project text.meter_intervals_order no_limit) text.names c.args.conn.now c.hand_on.new.conn g.K.RowSink.takes c.args.sink.now c.hand_on.new.sink c.hand_on.result
-    HaveIntervals (AreSharesOfMeter c.args.meter.now) AreSoundIntervals (λ i. i) text.meter_intervals_is text.meter_intervals_unlisted text.meter_intervals_plain (of_meter c.args.meter.now)
+    HaveIntervals (AreSharesOfMeter c.args.meter.now) AreSoundIntervals (λ i. i) text.meter_intervals_is text.meter_intervals_unlisted text.meter_intervals_plain (text.meter_intervals_suits c.args.meter.now) (of_meter c.args.meter.now)
     c.hand_on.ensures.asks c.hand_on.ensures.some (rw (c.params-to_sql.ensures) at c.hand_on.ensures.reads)

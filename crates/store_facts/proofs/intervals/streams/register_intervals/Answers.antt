@@ -9,5 +9,5 @@ use Rattle.store_facts.proofs.intervals.streams.register_intervals.Goals as goal
 pub returns : goal.returns
 returns g c =
     hands_on g.S.Store text.register_intervals (Text c.args.register.now ∷ []) text.register_intervals_query text.names c.args.conn.now c.hand_on.new.conn g.K.RowSink.takes c.args.sink.now c.hand_on.new.sink c.hand_on.result
-    HaveLying (AreSharesAt c.args.register.now) AreSoundLying (λ p. p.1) text.register_intervals_is text.register_intervals_unlisted text.register_intervals_plain (at_register c.args.register.now)
+    HaveLying (AreSharesAt c.args.register.now) AreSoundLying (λ p. p.1) text.register_intervals_is text.register_intervals_unlisted text.register_intervals_plain (text.register_intervals_suits c.args.register.now) (at_register c.args.register.now)
     c.hand_on.ensures.asks c.hand_on.ensures.some (rw (c.params-to_sql.ensures) at c.hand_on.ensures.reads)

@@ -1,5 +1,7 @@
 use Rattle.std.proofs.Common.{Some, None, sym, ap, ◌∙◌}
 use Rattle.office_rules.specs.Facts.{list_of}
+use Rattle.point_list.specs.Points.{IsPointList}
+use Rattle.store_tables.proofs.ReadLemmas.{less_sound}
 use Rattle.store_queries.proofs.FindingLemmas.Found.{answered, unread}
 use Rattle.store_queries.proofs.FindingLemmas.Lists.{no_items, some_items, no_list, this_list, list_fault}
 use Rattle.store_queries.proofs.finding.point_lists.list.Goals as goal
@@ -14,9 +16,8 @@ returns-then-is_empty g c =
 pub returns-in_err-with_plan : goal.returns-in_err-with_plan
 returns-in_err-with_plan g c =
     unread g.S.Store c.args.conn.now c.points.new.conn c.in_ok-points.points c.in_err-with_plan.field-0.0 c.from_residual-in_err-with_plan.result _ _ _ _ c.in_ok-points.ensures
-    (λ facts h sound.
-    c.in_err-with_plan.ensures.fault
-    (list_fault facts c.in_ok-device.device.now c.in_ok-points.points.items h.0 h.1 (some_items c.in_ok-points.points.len c.in_ok-points.points.items c.is_empty.result c.in_ok-points.points.ok.0 c.is_empty.ensures c.if-is_empty.false)))
+    (λ facts h.
+    less_sound _ (IsPointList c.in_ok-points.points.items) (λ sound. list_fault facts c.in_ok-device.device.now c.in_ok-points.points.items h.0 h.1 (some_items c.in_ok-points.points.len c.in_ok-points.points.items c.is_empty.result c.in_ok-points.points.ok.0 c.is_empty.ensures c.if-is_empty.false)) c.in_err-with_plan.field-0.0 c.in_err-with_plan.ensures.fault)
     c.from_residual-in_err-with_plan.ensures.1
 
 pub returns : goal.returns

@@ -12,7 +12,7 @@ pub returns-in_err-poll_from-in-Some : goal.returns-in_err-poll_from-in-Some
 returns-in_err-poll_from-in-Some g c =
     unread g.S.Store c.args.conn.now c.row_at.new.conn (Some c.in-Some.row) c.in_err-poll_from-in-Some.field-0.0 c.from_residual-in_err-poll_from-in-Some.result _ _ _ _
     (become g.S.Store c.args.conn.now c.row_at.new.conn _ (Some c.in-Some.row) _ _ c.in-Some.is c.in_ok-row_at.ensures.finds)
-    (λ facts h sound. poll_fault facts c.args.number c.in-Some.row c.in_err-poll_from-in-Some.field-0.0 c.in_err-poll_from-in-Some.ensures.fault h sound)
+    (λ facts h. poll_fault facts c.args.number c.in-Some.row c.in_err-poll_from-in-Some.field-0.0 c.in_err-poll_from-in-Some.ensures.fault h)
     c.from_residual-in_err-poll_from-in-Some.ensures.1
 
 pub returns-in_ok-poll_from-in-Some : goal.returns-in_ok-poll_from-in-Some

@@ -8,7 +8,8 @@ use Rattle.store_queries.proofs.finding.poll_rows.waiting.Goals as goal
 pub returns-in_err-pending_rows : goal.returns-in_err-pending_rows
 returns-in_err-pending_rows g c =
     not_asked g.S.Store c.args.conn.now c.check_open.new.conn (record { mode = c.in_ok-check_open.ensures.autocommit; opened = c.in_ok-check_open.ensures.opened; kept = c.in_ok-check_open.ensures.kept; survives = c.in_ok-check_open.ensures.survives })
-    c.pending_rows.new.conn c.in_err-pending_rows.ensures.asks c.in_err-pending_rows.field-0.0 c.from_residual-in_err-pending_rows.result _ _ c.from_residual-in_err-pending_rows.ensures.1
+    c.pending_rows.new.conn c.in_err-pending_rows.ensures.asks c.in_err-pending_rows.field-0.0 c.from_residual-in_err-pending_rows.result _ _
+    (λ clean content has zone facts are. c.in_err-pending_rows.ensures.shows clean content has (map started (polls_in facts)) are.polls (map outcome_row (ended_in facts)) are.outcomes) c.from_residual-in_err-pending_rows.ensures.1
 
 pub returns : goal.returns
 returns g c =

@@ -1,5 +1,7 @@
 use Rattle.std.proofs.Common.{Some, None, sym, ap, ◌∙◌}
 use Rattle.office_rules.specs.Facts.{register_of}
+use Rattle.store_tables.proofs.ReadLemmas.{less_sound}
+use Rattle.store_queries.specs.Finding.Sound.{HasReadableRegisters}
 use Rattle.store_queries.proofs.FindingLemmas.Found.{answered, become, unread}
 use Rattle.store_queries.proofs.FindingLemmas.Facts.{no_register, this_register, register_fault}
 use Rattle.store_queries.proofs.finding.register_rows.register.Goals as goal
@@ -13,7 +15,7 @@ pub returns-in_err-register_from-in-Some : goal.returns-in_err-register_from-in-
 returns-in_err-register_from-in-Some g c =
     unread g.S.Store c.args.conn.now c.row_of.new.conn (Some c.in-Some.row) c.in_err-register_from-in-Some.field-0.0 c.from_residual-in_err-register_from-in-Some.result _ _ _ _
     (become g.S.Store c.args.conn.now c.row_of.new.conn _ (Some c.in-Some.row) _ _ c.in-Some.is c.in_ok-row_of.ensures)
-    (λ facts h sound. register_fault facts c.in_ok-name.name.now c.in-Some.row c.in_err-register_from-in-Some.field-0.0 (sym c.in_err-register_from-in-Some.ensures) h sound.1)
+    (λ facts h. less_sound _ (HasReadableRegisters facts) (λ sound. sound.1) c.in_err-register_from-in-Some.field-0.0 (register_fault facts c.in_ok-name.name.now c.in-Some.row c.in_err-register_from-in-Some.field-0.0 (sym c.in_err-register_from-in-Some.ensures) h))
     c.from_residual-in_err-register_from-in-Some.ensures.1
 
 pub returns-in_ok-register_from-in-Some : goal.returns-in_ok-register_from-in-Some

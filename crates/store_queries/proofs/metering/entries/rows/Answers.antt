@@ -1,22 +1,28 @@
-use Rattle.std.proofs.Common.{[]}
+use Rattle.std.proofs.Common.{[], Ok, Err}
 use Rattle.std.proofs.lemmas.Result.{IfOk-weaker}
-use Rattle.store_queries.specs.Metering.Entries.{FindsJournal, AreJournal}
-use Rattle.store_queries.proofs.MeteringLemmas.Looked.{looks_then, not_asked, then_made}
-use Rattle.store_queries.proofs.MeteringLemmas.Entering.{journal_is, from_derefs}
+use Rattle.store_queries.specs.Metering.Entries.{FindsJournal, AreJournal, ShowsEntries, ShowsVoids}
+use Rattle.store_queries.proofs.FindingLemmas.Found.{passed_on, finds_then, made}
+use Rattle.store_queries.proofs.MeteringLemmas.Entering.{journal_is, from_derefs, journal_fault}
 use Rattle.store_queries.proofs.metering.entries.rows.Goals as goal
 
 pub voids-requires : goal.voids-requires
-voids-requires g c = c.in_ok-entries.ensures.mode c.requires
+voids-requires g c = (c.in_ok-entries.ensures.looks []).mode c.requires
+
+pub returns-in_err-entries : goal.returns-in_err-entries
+returns-in_err-entries g c =
+    passed_on g.S.Store c.args.conn.now c.entries.new.conn c.in_err-entries.field-0.0 c.from_residual.result _ (λ facts rows. FindsJournal c.args.meter.now facts rows.items) (λ facts. ⊥) (λ facts. ⊥) c.in_err-entries.ensures (λ facts s. s) c.from_residual.ensures.1
 
 pub returns-in_err-voids : goal.returns-in_err-voids
 returns-in_err-voids g c =
-    not_asked g.S.Store c.args.conn.now c.voids.new.conn c.from_residual-in_err-voids.result _ (λ facts rows. FindsJournal c.args.meter.now facts rows.items)
-    (λ zone. looks_then g.S.Store zone c.args.conn.now c.entries.new.conn c.voids.new.conn (c.in_ok-entries.ensures.looks zone) (c.in_err-voids.ensures.looks zone)) c.from_residual-in_err-voids.ensures.1
+    passed_on g.S.Store c.args.conn.now c.voids.new.conn c.in_err-voids.field-0.0 c.from_residual-in_err-voids.result _ (λ facts rows. FindsJournal c.args.meter.now facts rows.items) (λ facts. ⊥) (λ facts. ⊥)
+    (finds_then g.S.Store c.args.conn.now c.entries.new.conn c.voids.new.conn c.in_ok-entries.entries (Err c.in_err-voids.field-0.0) _ _ (λ facts. ⊥) (λ facts. ⊥) c.in_ok-entries.ensures c.in_err-voids.ensures) (λ facts s. s) c.from_residual-in_err-voids.ensures.1
 
 pub returns : goal.returns
 returns g c =
-    then_made g.S.Store c.args.conn.now c.entries.new.conn c.voids.new.conn c.in_ok-entries.entries c.in_ok-voids.voids c.journal_rows.result _ _ (λ facts rows. FindsJournal c.args.meter.now facts rows.items)
-    c.in_ok-entries.ensures c.in_ok-voids.ensures (λ facts shown void.
+    made g.S.Store c.args.conn.now c.voids.new.conn c.in_ok-voids.voids c.journal_rows.result _ (λ facts rows. FindsJournal c.args.meter.now facts rows.items) (λ facts. ⊥) (λ facts. ⊥)
+    (finds_then g.S.Store c.args.conn.now c.entries.new.conn c.voids.new.conn c.in_ok-entries.entries (Ok c.in_ok-voids.voids) (λ facts rows. ShowsEntries c.args.meter.now facts rows.items) (λ facts rows. ShowsVoids c.args.meter.now facts rows.items) (λ facts. ⊥) (λ facts. ⊥) c.in_ok-entries.ensures c.in_ok-voids.ensures)
+    (λ facts h.
     IfOk-weaker c.journal_rows.result (λ rows. AreJournal c.deref.result.now c.deref-2.result.now rows.items) (λ rows. FindsJournal c.args.meter.now facts rows.items) (λ rows are.
-    journal_is c.journals_fit.ensures c.rows_stand.ensures c.voids_change_two_rows.ensures facts c.args.meter.now c.in_ok-entries.entries.items c.in_ok-voids.voids.items rows.items shown void
-    (from_derefs c.deref.result.now c.deref-2.result.now c.in_ok-entries.entries.items c.in_ok-voids.voids.items rows.items c.deref.ensures.value c.deref-2.ensures.value are)) c.journal_rows.ensures)
+    journal_is c.journals_fit.ensures c.rows_stand.ensures c.voids_change_two_rows.ensures facts c.args.meter.now c.in_ok-entries.entries.items c.in_ok-voids.voids.items rows.items h.0 h.1
+    (from_derefs c.deref.result.now c.deref-2.result.now c.in_ok-entries.entries.items c.in_ok-voids.voids.items rows.items c.deref.ensures.value c.deref-2.ensures.value are)) c.journal_rows.ensures.journal)
+    (λ facts h. journal_fault c.in_ok-entries.entries.items c.in_ok-voids.voids.items c.deref.result.now c.deref-2.result.now c.journal_rows.result c.deref.ensures.value c.deref-2.ensures.value h.0.entries h.1.voids h.0.shown h.1.shown c.journal_rows.ensures.fault)

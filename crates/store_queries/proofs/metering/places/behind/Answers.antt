@@ -6,7 +6,7 @@ use Rattle.meter_journal.specs.Journal.{entries_in}
 use Rattle.meter_journal.specs.Lists.{latest_first}
 use Rattle.office_events.specs.declared.facts.Opening.{Opening}
 use Rattle.office_rules.specs.Meters.{opened, installed}
-use Rattle.store_queries.specs.Metering.Places.{HasNumbers}
+use Rattle.office_books.specs.Sound.{HasNumbers}
 use Rattle.store_queries.proofs.metering.places.behind.Goals as goal
 
 true-holds : IsTrue true
@@ -16,9 +16,9 @@ pub returns-clause-sound : goal.returns-clause-sound
 returns-clause-sound c =
     let o : Opening = c.args.whole.now.opening in
     let es : List Entry = entries_in (latest_first c.args.rows.now) in
-    let numbers : HasNumbers o = c.if-not-has_numbers.ensures true-holds in
+    let numbers : HasNumbers o = c.if-not-has_numbers.ensures.so true-holds in
     let account : IsAccount o.range (opened o) es c.in_ok-tally.tally.last c.in_ok-tally.tally.total =
-    subst (λ (m : Installed). IsAccount m.range m.opening es c.in_ok-tally.tally.last c.in_ok-tally.tally.total) c.installed-meter.ensures c.in_ok-tally.ensures in
+    subst (λ (m : Installed). IsAccount m.range m.opening es c.in_ok-tally.tally.last c.in_ok-tally.tally.total) c.installed-meter.ensures c.in_ok-tally.ensures.account in
     let sound = c.accounts_are_sound.ensures o.range (opened o) es c.in_ok-tally.tally.last c.in_ok-tally.tally.total numbers.raw numbers.scale account in
     record {
       range = numbers.range;

@@ -2,7 +2,7 @@ use Rattle.std.proofs.Common.{sym, ◌∙◌, ap, slice_get, Ok}
 use Rattle.std.specs.Option.{option_copied}
 use Rattle.store_tables.specs.Answer.{AnyOrder}
 use Rattle.store_tables.proofs.Selects.{found_none, found_some}
-use Rattle.store_tables.proofs.LookUps.{looked_none, looked_some, looked_fault}
+use Rattle.store_tables.proofs.LookUps.{looked_none, looked_some, looked_fault, refused}
 use Rattle.store_tables.specs.Entries.Rows.{IsRow, IsSoundEntered, entry_columns, entry_shown, is_entry}
 use Rattle.store_tables.specs.Entries.Trees.{entries}
 use Rattle.store_tables.proofs.EntriesLemmas.ReadRows as reading
@@ -27,3 +27,7 @@ returns-clause-finds g c =
 
 pub returns-clause-sound : goal.returns-clause-sound
 returns-clause-sound g c = reading.sound_entry c.in-Some.row.now (Ok c.in_ok-entry-in-Some.field-0) c.in_ok-entry-in-Some.ensures
+
+pub returns-in_err-rows-clause-finds : goal.returns-in_err-rows-clause-finds
+returns-in_err-rows-clause-finds g c =
+    refused g.S.Store c.args.conn.now c.rows_at.new.conn entries entry_columns IsSoundEntered _ c.in_err-rows.ensures.asks c.in_err-rows.field-0.0 c.from_residual.result c.in_err-rows.ensures.shows c.from_residual.ensures.1

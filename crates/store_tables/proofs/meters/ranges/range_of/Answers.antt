@@ -3,7 +3,7 @@ use Rattle.energy_core.specs.declared.limits.TheConstants.{MAX_RANGE, MIN_RANGE}
 use Rattle.store_tables.specs.Answer.{AnyOrder}
 use Rattle.store_tables.specs.Columns.{first_in}
 use Rattle.store_tables.proofs.Selects.{found_none, found_some}
-use Rattle.store_tables.proofs.LookUps.{looked_number}
+use Rattle.store_tables.proofs.LookUps.{looked_number, refused}
 use Rattle.store_tables.specs.Meters.Rows.{HasRange, IsSoundRanged, is_range_of, range_shown, ranged_columns}
 use Rattle.store_tables.specs.Meters.Trees.{ranges}
 use Rattle.store_tables.proofs.MetersLemmas.ReadRows as reading
@@ -17,3 +17,7 @@ returns-clause-finds g c =
 
 pub returns-clause-sound : goal.returns-clause-sound
 returns-clause-sound g c = c.first_whole.ensures.bounds
+
+pub returns-in_err-rows-clause-finds : goal.returns-in_err-rows-clause-finds
+returns-in_err-rows-clause-finds g c =
+    refused g.S.Store c.args.conn.now c.rows_of.new.conn ranges ranged_columns IsSoundRanged _ c.in_err-rows.ensures.asks c.in_err-rows.field-0.0 c.from_residual.result c.in_err-rows.ensures.shows c.from_residual.ensures.1

@@ -10,7 +10,7 @@ use Rattle.office_books.specs.Rows.{TakesAll}
 use Rattle.office_events.specs.declared.facts.Opening.{Opening}
 use Rattle.office_events.specs.declared.questions.Installation.{Installation}
 use Rattle.office_rules.specs.Meters.{installed, rows_of}
-use Rattle.memory_books.specs.Tables.Accounts.{HasNumbers}
+use Rattle.office_books.specs.Sound.{HasNumbers}
 use Rattle.memory_books.proofs.TablesLemmas.Known.{known}
 use Rattle.memory_books.proofs.tables.meter.Meter.hand_on.Goals as goal
 

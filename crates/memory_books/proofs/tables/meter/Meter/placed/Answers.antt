@@ -8,7 +8,7 @@ use Rattle.meter_journal.specs.Lists as lists
 use Rattle.office_events.specs.declared.facts.Opening.{Opening}
 use Rattle.office_events.specs.declared.questions.Installation.{Installation}
 use Rattle.office_rules.specs.Meters.{opened, installed, journal_of, rows_of, standing, is_ended, place_in}
-use Rattle.memory_books.specs.Tables.Accounts.{HasNumbers}
+use Rattle.office_books.specs.Sound.{HasNumbers}
 use Rattle.memory_books.proofs.TablesLemmas.Known.{known}
 use Rattle.memory_books.proofs.TablesLemmas.Passing.{rows_numbered}
 use Rattle.memory_books.proofs.tables.meter.Meter.placed.Goals as goal

@@ -1,0 +1,124 @@
+-- The definitions at both ends of each limit, as numbers.
+use Rattle.std.proofs.Common.{◌≡◌, ℕ, ◌+◌, ◌==◌, ◌||◌, ◌&&◌, nat_le, nat_lt, Bool, true, false, if◌then◌else◌, List, [], ◌∷◌, length, Some, None, refl}
+use Rattle.sun_chain.specs.Image.{Words}
+use Rattle.sun_chain.specs.Tables.{common_table, inverter_table, meter_table, table_of}
+use Rattle.device_scan.specs.Answers.{Ask, settled}
+use Rattle.device_scan.specs.Scans.{nothing}
+use Rattle.device_scan.specs.Stages.{begun, holding, is_known, model_at, stage_after, wanted}
+use Rattle.device_scan.specs.declared.stage.Stage.TheVariants.{Mark, Head, Ending, Registers, Over}
+
+-- two words that a device showed, at an address and the next
+abbrev two : (address first second : ℕ) → Words
+two address first second at = if at == address then Some first else if at == address + 1 then Some second else None
+
+-- ---- the mark
+
+first_read : wanted begun ≡ Some (holding 40000 2)
+first_read = refl
+
+second_mark : stage_after nothing (Mark 40000) ≡ Mark 50000
+second_mark = refl
+
+third_mark : stage_after nothing (Mark 50000) ≡ Mark 0
+third_mark = refl
+
+no_mark : stage_after nothing (Mark 0) ≡ Over
+no_mark = refl
+
+marked : stage_after (two 50000 0x5375 0x6E53) (Mark 50000) ≡ Head 50002 0
+marked = refl
+
+-- ---- heads
+
+unknown_between : stage_after (two 10 9 4) (Head 10 3) ≡ Head 16 4
+unknown_between = refl
+
+end_found : stage_after (two 10 0xFFFF 0) (Head 10 5) ≡ Over
+end_found = refl
+
+sixty_fourth : stage_after (two 10 9 0) (Head 10 63) ≡ Head 12 64
+sixty_fourth = refl
+
+sixty_fifth : stage_after (two 10 9 0) (Head 10 64) ≡ Over
+sixty_fifth = refl
+
+up_to_the_last : stage_after (two 65530 9 3) (Head 65530 0) ≡ Head 65535 1
+up_to_the_last = refl
+
+behind_the_last : stage_after (two 65530 9 4) (Head 65530 0) ≡ Over
+behind_the_last = refl
+
+past_the_last : stage_after (two 65530 1 5) (Head 65530 0) ≡ Over
+past_the_last = refl
+
+two_registers : wanted (Head 65534 1) ≡ Some (holding 65534 2)
+two_registers = refl
+
+one_register : wanted (Head 65535 1) ≡ Some (holding 65535 1)
+one_register = refl
+
+ending : stage_after nothing (Head 65534 1) ≡ Ending 65534
+ending = refl
+
+no_ending : stage_after nothing (Head 65535 1) ≡ Over
+no_ending = refl
+
+-- ---- registers
+
+in_a_model : stage_after (two 10 1 126) (Head 10 0) ≡ Registers (model_at 10 1 126) 0 1
+in_a_model = refl
+
+first_125 : wanted (Registers (model_at 10 1 126) 0 1) ≡ Some (holding 12 125)
+first_125 = refl
+
+one_more : stage_after nothing (Registers (model_at 10 1 126) 0 1) ≡ Registers (model_at 10 1 126) 125 1
+one_more = refl
+
+last_one : wanted (Registers (model_at 10 1 126) 125 1) ≡ Some (holding 137 1)
+last_one = refl
+
+behind_126 : stage_after nothing (Registers (model_at 10 1 126) 125 1) ≡ Head 138 1
+behind_126 = refl
+
+behind_125 : stage_after nothing (Registers (model_at 10 1 125) 0 1) ≡ Head 137 1
+behind_125 = refl
+
+empty_model : stage_after (two 10 1 0) (Head 10 0) ≡ Head 12 1
+empty_model = refl
+
+-- the models that are known are those whose tables have points
+known_has_points : (id : ℕ) → is_known id ≡ nat_lt 0 (length (table_of id))
+known_has_points id = tests (id == 1) (nat_le 101 id && nat_le id 103) (nat_le 201 id && nat_le id 204)
+  where
+    tests : (common inverter meter : Bool) → (common || inverter || meter) ≡ nat_lt 0 (length (if common then common_table else if inverter then inverter_table else if meter then meter_table else []))
+    tests true true true = refl
+    tests true true false = refl
+    tests true false true = refl
+    tests true false false = refl
+    tests false true true = refl
+    tests false true false = refl
+    tests false false true = refl
+    tests false false false = refl
+
+-- ---- answers: a read of register 0 by unit 1, identifier 7
+
+abbrev one_read : Ask
+one_read = record { id = 7; unit = 1; span = holding 0 1 }
+
+abbrev reply : (id unit : ℕ) → List ℕ
+reply id unit = 0 ∷ id ∷ 0 ∷ 0 ∷ 0 ∷ 5 ∷ unit ∷ 3 ∷ 2 ∷ 1 ∷ 9 ∷ []
+
+answered : settled one_read (reply 7 1 ∷ []) ≡ Some (Some (265 ∷ []))
+answered = refl
+
+another_id : settled one_read (reply 6 1 ∷ []) ≡ None
+another_id = refl
+
+behind_another : settled one_read (reply 6 1 ∷ reply 7 1 ∷ []) ≡ Some (Some (265 ∷ []))
+behind_another = refl
+
+another_unit : settled one_read (reply 7 2 ∷ reply 7 1 ∷ []) ≡ Some None
+another_unit = refl
+
+excepted : settled one_read ((0 ∷ 7 ∷ 0 ∷ 0 ∷ 0 ∷ 3 ∷ 1 ∷ 131 ∷ 1 ∷ []) ∷ []) ≡ Some None
+excepted = refl

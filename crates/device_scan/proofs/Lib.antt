@@ -1,0 +1,6 @@
+pub mod Gives
+pub mod Framing
+pub mod Settles
+pub mod Potentials
+pub mod Talking
+mod Examples

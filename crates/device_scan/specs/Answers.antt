@@ -1,0 +1,68 @@
+-- What a device answers to a read that is asked for once: a try.
+use Rattle.std.specs.Prelude.{ℕ, ◌==◌, ◌&&◌, Bool, if◌then◌else◌, List, [], ◌∷◌, Vec, find, Ok, Err, Some, None, option_map}
+use Rattle.std.specs.declared.option.Option.{Option}
+use Rattle.std.specs.declared.result.Result.{Result}
+use Rattle.mb_wire.specs.Frames.{protocol_of, tid_of}
+use Rattle.mb_wire.specs.Reader.{Fields, fields_of, spelling}
+use Rattle.mb_wire.specs.Replies.{Answer, Bits, Words, Echo, Exception, answer_in}
+use Rattle.mb_wire.specs.Requests.{query_of, request_bytes}
+use Rattle.mb_wire.specs.Spans.{Span, request_of, span_view}
+use Rattle.mb_wire.specs.declared.replies.ReplyFault.{ReplyFault}
+use Rattle.device_scan.specs.declared.tries.Try.{Try}
+
+-- a transaction identifier, the unit that is asked, and the registers that are asked for
+pub record Ask : Type 0 where
+  pub id : ℕ
+  pub unit : ℕ
+  pub span : Span
+
+abbrev pub ask_of : Try → Ask
+ask_of attempt = record { id = attempt.id; unit = attempt.unit; span = span_view attempt.span }
+
+-- the frame of its request
+abbrev pub request_frame : Ask → List ℕ
+request_frame ask = spelling ask.id ask.unit (request_bytes (request_of ask.span))
+
+-- a frame of Modbus that has the identifier
+abbrev pub is_reply : Ask → List ℕ → Bool
+is_reply ask frame = protocol_of frame == 0 && tid_of frame == ask.id
+
+-- registers: an exception brings none, nor does what is no reply to the request
+abbrev pub brought : Result Answer ReplyFault → Option (List ℕ)
+brought (Ok (Bits bits)) = None
+brought (Ok (Words words)) = Some words
+brought (Ok Echo) = None
+brought (Ok (Exception code)) = None
+brought (Err fault) = None
+
+-- what a reply brings, from the unit that was asked
+abbrev pub words_in : Ask → Fields → Option (List ℕ)
+words_in ask fields =
+    if fields.unit == ask.unit
+    then brought (answer_in (query_of (request_of ask.span)) fields.pdu)
+    else None
+
+-- the first reply among frames settles the try: it brings words, or none
+abbrev pub settled : Ask → List (List ℕ) → Option (Option (List ℕ))
+settled ask frames =
+    option_map (λ frame. words_in ask (fields_of frame)) (find (is_reply ask) frames)
+
+-- what was heard first
+abbrev pub first_of : {X : Type 0} → Option X → Option X → Option X
+first_of None next = next
+first_of (Some x) next = Some x
+
+-- what the types of the program stand for
+abbrev pub items_of : {Z : Type 0} → Vec ℕ Z → List ℕ
+items_of words = words.items
+
+abbrev pub words_seen : {Z : Type 0} → Option (Vec ℕ Z) → Option (List ℕ)
+words_seen words = option_map items_of words
+
+abbrev pub seen : {Z : Type 0} → Option (Option (Vec ℕ Z)) → Option (Option (List ℕ))
+seen heard = option_map words_seen heard
+
+-- the frame that a reader holds, if it holds one
+abbrev pub frames_held : Option (List ℕ) → List (List ℕ)
+frames_held None = []
+frames_held (Some frame) = frame ∷ []

@@ -1,0 +1,4 @@
+pub mod Stages
+pub mod Answers
+pub mod Lines
+pub mod Scans

@@ -1,0 +1,106 @@
+-- What a scan asks of a device next: the mark, the head of each model, and the registers of the models whose points are known.
+use Rattle.std.specs.Prelude.{ℕ, ◌+◌, ◌-◌, ◌==◌, ◌&&◌, ◌||◌, not, nat_le, nat_lt, min, Bool, true, if◌then◌else◌, Some, None, option_and_then}
+use Rattle.std.specs.Option.{option_map_or}
+use Rattle.std.specs.declared.option.Option.{Option}
+use Rattle.mb_wire.specs.Spans.{Span}
+use Rattle.mb_wire.specs.declared.limits.TheConstants.{MAX_READ_REGISTERS}
+use Rattle.mb_wire.specs.declared.span.ReadFunction.TheVariants.{HoldingRegisters}
+use Rattle.sun_chain.specs.Image.{Words}
+use Rattle.sun_chain.specs.Chain.{is_marked, next_after}
+use Rattle.sun_chain.specs.declared.model.Model.{Model}
+use Rattle.device_scan.specs.declared.stage.Stage.{Stage}
+use Rattle.device_scan.specs.declared.stage.Stage.TheVariants.{Mark, Head, Ending, Registers, Over}
+
+-- holding registers, which function 3 reads
+abbrev pub holding : (address count : ℕ) → Span
+holding address count =
+    record { function = HoldingRegisters; address = address; count = count }
+
+-- the two registers of a mark; an ID and a length, of which the last address has no second; the end's ID alone; and of a model's
+-- registers at most as many as one read may ask for
+abbrev pub wanted : Stage → Option Span
+wanted (Mark address) = Some (holding address 2)
+wanted (Head address models) = Some (holding address (min 2 (65536 - address)))
+wanted (Ending address) = Some (holding address 1)
+wanted (Registers model asked models) =
+    Some (holding (model.address + 2 + asked) (min MAX_READ_REGISTERS (model.length - asked)))
+wanted Over = None
+
+-- the model whose registers are asked for next
+abbrev pub model_of : Stage → Option Model
+model_of (Mark address) = None
+model_of (Head address models) = None
+model_of (Ending address) = None
+model_of (Registers model asked models) = Some model
+model_of Over = None
+
+-- models 1, 101 to 103, and 201 to 204 have a table
+abbrev pub is_known : ℕ → Bool
+is_known id = id == 1 || (nat_le 101 id && nat_le id 103) || (nat_le 201 id && nat_le id 204)
+
+-- first the mark is looked for at 40000
+abbrev pub begun : Stage
+begun = Mark 40000
+
+-- then at 50000, and at last at 0
+abbrev pub other_mark : ℕ → Stage
+other_mark address =
+    if address == 40000 then Mark 50000 else if address == 50000 then Mark 0 else Over
+
+-- behind so many models another one may stand, or the end, up to the last address
+abbrev pub head_at : (models address : ℕ) → Stage
+head_at models address = if nat_le address 65535 then Head address models else Over
+
+-- the registers of a model that is known; of any other none is asked for
+abbrev pub in_model : (models : ℕ) → Model → Stage
+in_model models model =
+    if is_known model.id && nat_lt 0 model.length then Registers model 0 models
+    else head_at models (next_after model)
+
+-- no model has the end's ID, is the 65th, or reaches past the last address
+abbrev pub may_stand : (models : ℕ) → Model → Bool
+may_stand models model =
+    not (model.id == 0xFFFF) && nat_lt models 64 && nat_le (next_after model) 65536
+
+abbrev pub checked : (models : ℕ) → Model → Option Model
+checked models model = if may_stand models model then Some model else None
+
+abbrev pub model_at : (address id length : ℕ) → Model
+model_at address id length = record { address = address; id = id; length = length }
+
+-- the model behind so many others whose ID and length stand at an address
+abbrev pub model_in : Words → (models address : ℕ) → Option Model
+model_in word models address =
+    option_and_then (λ id. option_and_then (λ length. checked models (model_at address id length))
+    (word (address + 1)))
+    (word address)
+
+-- behind an ID that was not answered with its length: the ID alone, since the end may be the last register of a device
+abbrev pub ending_at : (address : ℕ) → Stage
+ending_at address = if nat_lt address 65535 then Ending address else Over
+
+abbrev pub after_head : Words → (models address : ℕ) → Option ℕ → Stage
+after_head word models address None = ending_at address
+after_head word models address (Some id) =
+    option_map_or (in_model (models + 1)) (model_in word models address) Over
+
+-- what comes after what was asked, the device having shown these words so far
+abbrev pub stage_after : Words → Stage → Stage
+stage_after word (Mark address) =
+    if is_marked word address then Head (address + 2) 0 else other_mark address
+stage_after word (Head address models) = after_head word models address (word address)
+stage_after word (Ending address) = Over
+stage_after word (Registers model asked models) =
+    if nat_lt (asked + MAX_READ_REGISTERS) model.length
+    then Registers model (asked + MAX_READ_REGISTERS) models
+    else head_at models (next_after model)
+stage_after word Over = Over
+
+-- registers that are asked for are inside the 65536 of a device
+abbrev pub fits : Stage → Bool
+fits (Mark address) = nat_le address 50000
+fits (Head address models) = nat_le models 64
+fits (Ending address) = true
+fits (Registers model asked models) =
+    nat_lt asked model.length && nat_le (next_after model) 65536 && nat_le models 64
+fits Over = true

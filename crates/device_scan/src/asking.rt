@@ -1,0 +1,37 @@
+//! Requests that are given to a device.
+ghost use Rattle.std.specs.Prelude.{◌≡◌, is_err};
+ghost use Rattle.std.specs.Io.KnownBytes.{Keeps};
+ghost use Rattle.mb_wire.specs.Links.{risen};
+ghost use Rattle.sun_points.specs.Writing.{GotText};
+ghost use Rattle.device_scan.specs.Answers.{ask_of, request_frame};
+
+use crate::tries::Try;
+use mb_wire::{Link, LinkFailed, MAX_ADU, MAX_PDU, encode_request, write_frame};
+
+// Gives all of the bytes, in as many gives as it takes.
+fn give_all<L: Link>(link: &mut L, bytes: &[u8]) -> Result<(), LinkFailed>
+    ensures given { GotText result bytes.now (L.given link.old) (L.given link.new) }
+    ensures remaining { Keeps (L.remaining link.old) (L.remaining link.new) }
+    ensures failures { L.failed link.new ≡ risen (is_err result) (L.failed link.old) }
+    ensures takes { L.taken link.new ≡ L.taken link.old }
+    ensures ends { L.ended link.new ≡ L.ended link.old }
+{
+    mb_wire::give_all(link, bytes)
+}
+
+/// Gives the request of a try.
+pub(crate) fn give_request<L: Link>(link: &mut L, attempt: Try) -> Result<(), LinkFailed>
+    ensures given { GotText result (request_frame (ask_of attempt))
+        (L.given link.old) (L.given link.new) }
+    ensures remaining { Keeps (L.remaining link.old) (L.remaining link.new) }
+    ensures failures { L.failed link.new ≡ risen (is_err result) (L.failed link.old) }
+    ensures takes { L.taken link.new ≡ L.taken link.old }
+    ensures ends { L.ended link.new ≡ L.ended link.old }
+{
+    let request = attempt.span.request();
+    let mut pdu = [0; MAX_PDU];
+    let size = encode_request(&request, &mut pdu);
+    let mut frame = [0; MAX_ADU];
+    let count = write_frame(attempt.id, attempt.unit, &pdu[..size], &mut frame);
+    give_all(link, &frame[..count])
+}

@@ -1,0 +1,101 @@
+//! One who reads a device's registers, each read being asked for twice at most.
+ghost use Rattle.std.specs.Prelude.{◌≡◌, ◌≤◌, ◌+◌, ◌*◌, [], Err, IfOk};
+ghost use Rattle.mb_wire.specs.Frames.{IsOpen};
+ghost use Rattle.mb_wire.specs.Links.{risen};
+ghost use Rattle.mb_wire.specs.Spans.{span_view};
+ghost use Rattle.device_scan.specs.Answers.{words_seen};
+ghost use Rattle.device_scan.specs.declared.hearing.TheConstants.{MOST_TAKES};
+
+use crate::asking::give_request;
+use crate::fault::ScanFault;
+use crate::hearing::{Answer, hear};
+use crate::tries::Try;
+use mb_wire::{FrameReader, Link, LinkFailed, ReadFunction, ReadSpan};
+use std::alloc::Global;
+
+/// The bytes since the last frame's end, the unit that is asked, and the next transaction identifier.
+#[derive(Drop)]
+pub(crate) struct Client {
+    reader: FrameReader,
+    unit: u8,
+    next: u16,
+}
+
+impl Client {
+    ghost use Rattle.device_scan.specs.Lines.{Garbles, OnlyInquires, Reads, Tries, has_failed, is_gone, line};
+
+    pub(crate) fn new(unit: u8) -> Self
+        ensures open { IsOpen result.reader.rest }
+        ensures nothing { result.reader.rest ≡ [] }
+        ensures unit { result.unit ≡ unit }
+        ensures first { result.next ≡ 1 }
+    {
+        Client {
+            reader: FrameReader::new(),
+            unit,
+            next: 1,
+        }
+    }
+
+    // Asks for registers once.
+    fn try_once<L: Link>(
+        &mut self,
+        alloc: Global,
+        link: &mut L,
+        span: ReadSpan,
+    ) -> Result<Answer, ScanFault>
+        requires open { IsOpen self.old.reader.rest }
+        requires holding { span.function ≡ ReadFunction.HoldingRegisters }
+        ensures tried { IfOk result (λ answer. Tries self.old.unit
+            (line (L.remaining link.old) (L.given link.old) self.old)
+            (line (L.remaining link.new) (L.given link.new) self.new)
+            (span_view span) (words_seen answer)) }
+        ensures garbled { result ≡ Err ScanFault.Garbled
+            → Garbles (L.remaining link.old) (L.remaining link.new) self.old.reader.rest }
+        ensures asks { OnlyInquires self.old.unit result (L.given link.old) (L.given link.new) }
+        ensures failures { L.failed link.new ≡ risen (has_failed result) (L.failed link.old) }
+        ensures ends { L.ended link.new ≡ risen (is_gone result) (L.ended link.old) }
+        ensures takes { L.taken link.new ≤ L.taken link.old + MOST_TAKES }
+        ensures unit { self.new.unit ≡ self.old.unit }
+    {
+        let attempt = Try {
+            id: self.next,
+            unit: self.unit,
+            span,
+        };
+        self.next = self.next.wrapping_add(1);
+        match give_request(link, attempt) {
+            Ok(()) => hear(alloc, link, &mut self.reader, &attempt),
+            Err(LinkFailed) => Err(ScanFault::Failed),
+        }
+    }
+
+    /// Asks for registers, and once more where no words came.
+    pub(crate) fn read<L: Link>(
+        &mut self,
+        alloc: Global,
+        link: &mut L,
+        span: ReadSpan,
+    ) -> Result<Answer, ScanFault>
+        requires open { IsOpen self.old.reader.rest }
+        requires holding { span.function ≡ ReadFunction.HoldingRegisters }
+        ensures read { IfOk result (λ answer. Reads self.old.unit
+            (line (L.remaining link.old) (L.given link.old) self.old)
+            (line (L.remaining link.new) (L.given link.new) self.new)
+            (span_view span) (words_seen answer)) }
+        ensures open { IfOk result (λ answer. IsOpen self.new.reader.rest) }
+        ensures garbled { result ≡ Err ScanFault.Garbled
+            → Garbles (L.remaining link.old) (L.remaining link.new) self.old.reader.rest }
+        ensures asks { OnlyInquires self.old.unit result (L.given link.old) (L.given link.new) }
+        ensures failures { L.failed link.new ≡ risen (has_failed result) (L.failed link.old) }
+        ensures ends { L.ended link.new ≡ risen (is_gone result) (L.ended link.old) }
+        ensures takes { L.taken link.new ≤ L.taken link.old + 2 * MOST_TAKES }
+        ensures unit { self.new.unit ≡ self.old.unit }
+    {
+        match self.try_once(alloc, link, span) {
+            Ok(Some(words)) => Ok(Some(words)),
+            Ok(None) => self.try_once(alloc, link, span),
+            Err(fault) => Err(fault),
+        }
+    }
+}

@@ -1,0 +1,200 @@
+//! What a device answers to a try.
+ghost use Rattle.std.specs.Prelude.{◌≡◌, ◌≤◌, ◌+◌, ◌++◌, length, true, false, Err, IfOk, IfSome};
+ghost use Rattle.std.specs.Option.{option_map};
+ghost use Rattle.mb_wire.specs.Bytes.{words_of};
+ghost use Rattle.mb_wire.specs.Frames.{IsBad, IsOpen, IsOwn, frames, rest};
+ghost use Rattle.mb_wire.specs.Links.{risen};
+ghost use Rattle.mb_wire.specs.Reader.{spelled};
+ghost use Rattle.mb_wire.specs.Replies.{read_as};
+ghost use Rattle.std.specs.Io.KnownBytes.{Keeps};
+ghost use Rattle.device_scan.specs.Answers.{ask_of, brought, first_of, frames_held, seen, settled};
+ghost use Rattle.device_scan.specs.Answers.{words_in, words_seen};
+ghost use Rattle.device_scan.specs.Lines.{Garbles, HearsAnswer, HearsTurn, has_failed, is_gone};
+
+use crate::fault::ScanFault;
+use crate::tries::Try;
+use mb_wire::{
+    Frame, FrameReader, Framing, Link, LinkFailed, MAX_ADU, Reply, ReplyFault, Took, decode_reply,
+};
+use std::alloc::{AllocError, Global};
+
+/// How often bytes are taken for one try at most.
+pub const MOST_TAKES: u64 = 1000;
+
+/// What a device answered: words, or none.
+pub(crate) type Answer = Option<Vec<u16>>;
+
+/// What one take brought for a try.
+#[derive(Drop)]
+pub(crate) enum Turn {
+    /// Nothing came for as long as the link waits.
+    Idle,
+    /// No reply to the try.
+    More,
+    /// The reply.
+    Settled(Answer),
+}
+
+// The words in bytes, the high byte first.
+fn words(alloc: Global, bytes: &[u8]) -> Result<Vec<u16>, AllocError>
+    ensures { IfOk result (λ words. words.items ≡ words_of bytes.now) }
+{
+    let mut words = Vec::new(alloc);
+    let mut left = bytes;
+    while let [high, low, rest @ ..] = left {
+        words.push(u16::from(*high) * 256 + u16::from(*low))?;
+        left = rest;
+    }
+    Ok(words)
+}
+
+// The bytes of the registers that a reply brings.
+fn registers<'a>(read: Result<Reply<'a>, ReplyFault>) -> Option<&'a [u8]>
+    ensures { option_map (λ bytes. words_of bytes.now) result ≡ brought (read_as read.entry) }
+{
+    match read {
+        Ok(Reply::Words(bytes)) => Some(bytes),
+        Ok(Reply::Bits { .. }) => None,
+        Ok(Reply::Echo) => None,
+        Ok(Reply::Exception(_)) => None,
+        Err(_) => None,
+    }
+}
+
+// What a reply to a try brings.
+fn answer(alloc: Global, frame: &Frame<'_>, attempt: &Try) -> Result<Answer, AllocError>
+    ensures { IfOk result
+        (λ answer. words_seen answer ≡ words_in (ask_of attempt.now) (spelled frame.now)) }
+{
+    if frame.unit != attempt.unit {
+        return Ok(None);
+    }
+    match registers(decode_reply(&attempt.span.request(), frame.pdu)) {
+        Some(bytes) => Ok(Some(words(alloc, bytes)?)),
+        None => Ok(None),
+    }
+}
+
+// What was heard, or else what the frame that the reader holds settles.
+fn hear_frame(
+    alloc: Global,
+    reader: &FrameReader,
+    attempt: &Try,
+    heard: Option<Answer>,
+) -> Result<Option<Answer>, AllocError>
+    requires { IfSome reader.now.frame IsOwn }
+    ensures { IfOk result (λ later. seen later ≡ first_of (seen heard)
+        (settled (ask_of attempt.now) (frames_held reader.now.frame))) }
+{
+    match heard {
+        Some(answer) => Ok(Some(answer)),
+        None => hear_held(alloc, reader, attempt),
+    }
+}
+
+// What the frame that the reader holds settles.
+fn hear_held(
+    alloc: Global,
+    reader: &FrameReader,
+    attempt: &Try,
+) -> Result<Option<Answer>, AllocError>
+    requires { IfSome reader.now.frame IsOwn }
+    ensures { IfOk result (λ heard.
+        seen heard ≡ settled (ask_of attempt.now) (frames_held reader.now.frame)) }
+{
+    let Some(frame) = reader.frame() else {
+        return Ok(None);
+    };
+    if frame.tid != attempt.id {
+        return Ok(None);
+    }
+    Ok(Some(answer(alloc, &frame, attempt)?))
+}
+
+// What was heard, or else what the frames that end in a piece settle.
+fn hear_piece(
+    alloc: Global,
+    reader: &mut FrameReader,
+    attempt: &Try,
+    heard: Option<Answer>,
+    piece: &[u8],
+) -> Result<Option<Answer>, ScanFault>
+    ensures heard { IfOk result (λ later. seen later ≡ first_of (seen heard)
+        (settled (ask_of attempt.now) (frames (reader.old.rest ++ piece.now)))) }
+    ensures rest { IfOk result (λ later. reader.new.rest ≡ rest (reader.old.rest ++ piece.now)) }
+    ensures open { IfOk result (λ later. IsOpen reader.new.rest) }
+    ensures garbled { result ≡ Err ScanFault.Garbled → IsBad (rest (reader.old.rest ++ piece.now)) }
+    ensures failed { has_failed result ≡ false }
+    ensures gone { is_gone result ≡ false }
+{
+    let fed = reader.feed(piece);
+    let Ok(later) = hear_frame(alloc, reader, attempt, heard) else {
+        return Err(ScanFault::Memory);
+    };
+    match fed.what {
+        Framing::Need => Ok(later),
+        Framing::Garbled => Err(ScanFault::Garbled),
+        Framing::Whole | Framing::Foreign => {
+            hear_piece(alloc, reader, attempt, later, &piece[fed.taken..])
+        }
+    }
+}
+
+// One take, and what it brought.
+fn hear_turn<L: Link>(
+    alloc: Global,
+    link: &mut L,
+    reader: &mut FrameReader,
+    attempt: &Try,
+) -> Result<Turn, ScanFault>
+    requires { IsOpen reader.old.rest }
+    ensures heard { IfOk result (HearsTurn (ask_of attempt.now)
+        (L.remaining link.old) (L.remaining link.new) reader.old.rest reader.new.rest) }
+    ensures garbled { result ≡ Err ScanFault.Garbled
+        → Garbles (L.remaining link.old) (L.remaining link.new) reader.old.rest }
+    ensures given { Keeps (L.given link.old) (L.given link.new) }
+    ensures failures { L.failed link.new ≡ risen (has_failed result) (L.failed link.old) }
+    ensures ends { L.ended link.new ≡ risen (is_gone result) (L.ended link.old) }
+    ensures takes { L.taken link.new ≤ L.taken link.old + 1 }
+{
+    let mut piece = [0; MAX_ADU];
+    match link.take(&mut piece) {
+        Ok(Took::Bytes(count)) => match hear_piece(alloc, reader, attempt, None, &piece[..count]) {
+            Ok(Some(answer)) => Ok(Turn::Settled(answer)),
+            Ok(None) => Ok(Turn::More),
+            Err(fault) => Err(fault),
+        },
+        Ok(Took::Idle) => Ok(Turn::Idle),
+        Ok(Took::End) => Err(ScanFault::Gone),
+        Err(LinkFailed) => Err(ScanFault::Failed),
+    }
+}
+
+/// Takes what comes, until a reply to the try is among it, nothing comes, or bytes were taken `MOST_TAKES` times.
+pub(crate) fn hear<L: Link>(
+    alloc: Global,
+    link: &mut L,
+    reader: &mut FrameReader,
+    attempt: &Try,
+) -> Result<Answer, ScanFault>
+    requires { IsOpen reader.old.rest }
+    ensures heard { IfOk result (λ answer. HearsAnswer (ask_of attempt.now)
+        (L.remaining link.old) (L.remaining link.new) reader.old.rest reader.new.rest
+        (words_seen answer)) }
+    ensures garbled { result ≡ Err ScanFault.Garbled
+        → Garbles (L.remaining link.old) (L.remaining link.new) reader.old.rest }
+    ensures given { Keeps (L.given link.old) (L.given link.new) }
+    ensures failures { L.failed link.new ≡ risen (has_failed result) (L.failed link.old) }
+    ensures ends { L.ended link.new ≡ risen (is_gone result) (L.ended link.old) }
+    ensures takes { L.taken link.new ≤ L.taken link.old + MOST_TAKES }
+{
+    for _turn in 0..MOST_TAKES {
+        match hear_turn(alloc, link, reader, attempt) {
+            Ok(Turn::Settled(answer)) => return Ok(answer),
+            Ok(Turn::Idle) => return Ok(None),
+            Ok(Turn::More) => {}
+            Err(fault) => return Err(fault),
+        }
+    }
+    Ok(None)
+}

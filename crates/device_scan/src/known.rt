@@ -1,0 +1,10 @@
+//! The models that have a table.
+ghost use Rattle.std.specs.Prelude.{◌≡◌};
+ghost use Rattle.device_scan.specs.Stages.{is_known};
+
+/// Whether points of a model with this ID are known.
+pub(crate) fn is_known(id: u16) -> bool
+    ensures { result ≡ is_known id }
+{
+    id == 1 || (101 <= id && id <= 103) || (201 <= id && id <= 204)
+}

@@ -1,0 +1,17 @@
+//! A scan: the words of a device in which its chain of SunSpec models stands, read over a live link.
+#![tactic(auto)]
+
+mod asking;
+mod client;
+mod fault;
+mod hearing;
+mod known;
+mod scan;
+mod scanning;
+mod stage;
+mod tries;
+
+pub use fault::ScanFault;
+pub use hearing::MOST_TAKES;
+pub use scan::Scan;
+pub use scanning::{MOST_READS, Witness, scan_over};

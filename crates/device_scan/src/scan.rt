@@ -1,0 +1,254 @@
+//! What a scan asks for next, and the image that the answers give.
+ghost use Rattle.std.specs.Prelude.{◌≡◌, ◌<◌, ◌≤◌, ◌+◌, ◌-◌, ℕ, length, min, Some, None, IfSome, IsSome, IsTrue, OnOk, OnErr};
+ghost use Rattle.std.specs.Option.{option_map};
+ghost use Rattle.mb_wire.specs.Spans.{span_view};
+ghost use Rattle.sun_chain.specs.Image.{put_words, word_in};
+ghost use Rattle.sun_chain.specs.Chain.{next_after};
+ghost use Rattle.device_scan.specs.Stages.{begun, ending_at, fits, head_at, holding, in_model, model_in, model_of};
+ghost use Rattle.device_scan.specs.Stages.{other_mark, stage_after, wanted};
+
+use crate::known::is_known;
+use crate::stage::Stage;
+use mb_wire::{ADDRESSES, MAX_READ_REGISTERS, ReadFunction, ReadSpan};
+use std::alloc::{AllocError, Global};
+use sun_chain::{Image, Model};
+
+/// The ID that ends a chain.
+const END_ID: u16 = 0xFFFF;
+
+/// Where the mark is looked for first.
+const FIRST_MARK: u16 = 40000;
+
+/// The most models of a chain.
+const MOST_MODELS: u8 = 64;
+
+/// A scan of a device. The caller asks for what `next` answers, and tells what came of it, until nothing is next.
+#[derive(Drop)]
+pub struct Scan {
+    image: Image,
+    stage: Stage,
+    ghost inside: { IsTrue (fits stage) },
+}
+
+impl Scan {
+    ghost use Rattle.device_scan.specs.Scans.{stage_of, words_of};
+
+    /// No read was asked for.
+    pub fn new(alloc: Global) -> Self
+        ensures words { (address : ℕ) → words_of result address ≡ None }
+        ensures stage { stage_of result ≡ begun }
+    {
+        Scan {
+            image: Image::new(alloc),
+            stage: Stage::Mark(FIRST_MARK),
+        }
+    }
+
+    /// The registers that are asked for next.
+    pub fn next(&self) -> Option<ReadSpan>
+        ensures { option_map span_view result ≡ wanted (stage_of self.now) }
+    {
+        match self.stage {
+            Stage::Mark(address) => Some(holding(address, 2)),
+            Stage::Head(address, _) => Some(holding(address, head_count(address))),
+            Stage::Ending(address) => Some(holding(address, 1)),
+            Stage::Registers(model, asked, _) => Some(holding(
+                model.address + 2 + asked,
+                MAX_READ_REGISTERS.min(model.length - asked),
+            )),
+            Stage::Over => None,
+        }
+    }
+
+    /// The model whose registers are asked for next.
+    pub fn model(&self) -> Option<Model>
+        ensures { result ≡ model_of (stage_of self.now) }
+    {
+        match self.stage {
+            Stage::Registers(model, _, _) => Some(model),
+            _ => None,
+        }
+    }
+
+    /// The device answered what was next with these words.
+    pub fn answered(&mut self, span: ReadSpan, words: &[u16]) -> Result<(), AllocError>
+        requires next { wanted (stage_of self.old) ≡ Some (span_view span) }
+        requires all { length words.now ≡ span.count }
+        ensures words { OnOk result ((address : ℕ)
+            → words_of self.new address ≡ put_words (words_of self.old) span.address words.now address) }
+        ensures stage { OnOk result
+            (stage_of self.new ≡ stage_after (words_of self.new) (stage_of self.old)) }
+        ensures err { OnErr result ((address : ℕ)
+            → words_of self.new address ≡ words_of self.old address) }
+        ensures stays { OnErr result (stage_of self.new ≡ stage_of self.old) }
+    {
+        match self.image.put(span.address, words) {
+            Ok(()) => {
+                self.go_on();
+                Ok(())
+            }
+            Err(_) => Err(AllocError),
+        }
+    }
+
+    /// What was next was not answered.
+    pub fn unread(&mut self)
+        ensures words { (address : ℕ) → words_of self.new address ≡ words_of self.old address }
+        ensures stage { stage_of self.new ≡ stage_after (words_of self.new) (stage_of self.old) }
+    {
+        self.go_on();
+    }
+
+    /// The words that were answered.
+    pub fn into_image(self) -> Image
+        ensures { word_in result ≡ words_of self }
+    {
+        self.image
+    }
+
+    fn go_on(&mut self)
+        ensures words { words_of self.new ≡ words_of self.old }
+        ensures stage { stage_of self.new ≡ stage_after (words_of self.old) (stage_of self.old) }
+    {
+        self.stage = match self.stage {
+            Stage::Mark(address) => after_mark(&self.image, address),
+            Stage::Head(address, models) => after_head(&self.image, address, models),
+            Stage::Registers(model, asked, models) => after_registers(model, asked, models),
+            Stage::Ending(_) | Stage::Over => Stage::Over,
+        };
+    }
+}
+
+// Holding registers.
+fn holding(address: u16, count: u16) -> ReadSpan
+    requires some { 1 ≤ count }
+    requires few { count ≤ MAX_READ_REGISTERS }
+    requires inside { address + count ≤ ADDRESSES }
+    ensures { span_view result ≡ holding address count }
+{
+    ReadSpan {
+        function: ReadFunction::HoldingRegisters,
+        address,
+        count,
+    }
+}
+
+// An ID and a length; the last address has no second register.
+fn head_count(address: u16) -> u16
+    ensures { result ≡ min 2 (65536 - address) }
+{
+    if address == u16::MAX { 1 } else { 2 }
+}
+
+fn after_mark(image: &Image, address: u16) -> Stage
+    requires { address ≤ 50000 }
+    ensures stage { result ≡ stage_after (word_in image.now) (Stage.Mark address) }
+    ensures inside { IsTrue (fits result) }
+{
+    if image.word(address) == Some(0x5375) && image.word(address + 1) == Some(0x6E53) {
+        Stage::Head(address + 2, 0)
+    } else {
+        other_mark(address)
+    }
+}
+
+// Where the mark is looked for after an address.
+fn other_mark(address: u16) -> Stage
+    ensures stage { result ≡ other_mark address }
+    ensures inside { IsTrue (fits result) }
+{
+    if address == 40000 {
+        Stage::Mark(50000)
+    } else if address == 50000 {
+        Stage::Mark(0)
+    } else {
+        Stage::Over
+    }
+}
+
+fn after_head(image: &Image, address: u16, models: u8) -> Stage
+    requires { models ≤ 64 }
+    ensures stage { result ≡ stage_after (word_in image.now) (Stage.Head address models) }
+    ensures inside { IsTrue (fits result) }
+{
+    if image.word(address).is_none() {
+        return ending_at(address);
+    }
+    match model_in(image, address, models) {
+        Some(model) => in_model(model, models + 1),
+        None => Stage::Over,
+    }
+}
+
+// Where the end's ID is asked for alone: at the last address that was done already.
+fn ending_at(address: u16) -> Stage
+    ensures stage { result ≡ ending_at address }
+    ensures inside { IsTrue (fits result) }
+{
+    if address < u16::MAX {
+        Stage::Ending(address)
+    } else {
+        Stage::Over
+    }
+}
+
+// The model behind so many others that stands at an address.
+fn model_in(image: &Image, address: u16, models: u8) -> Option<Model>
+    ensures model { result ≡ model_in (word_in image.now) models address }
+    ensures inside { IfSome result (λ model. next_after model ≤ 65536) }
+    ensures few { IsSome result → models < 64 }
+{
+    let id = image.word(address)?;
+    let length = image.word(address.checked_add(1)?)?;
+    let model = Model {
+        address,
+        id,
+        length,
+    };
+    if id != END_ID && models < MOST_MODELS && model.next() <= ADDRESSES {
+        Some(model)
+    } else {
+        None
+    }
+}
+
+// What is asked for behind the head of the last of so many models.
+fn in_model(model: Model, models: u8) -> Stage
+    requires inside { next_after model ≤ 65536 }
+    requires few { models ≤ 64 }
+    ensures stage { result ≡ in_model models model }
+    ensures inside { IsTrue (fits result) }
+{
+    if is_known(model.id) && model.length > 0 {
+        Stage::Registers(model, 0, models)
+    } else {
+        head_at(model.next(), models)
+    }
+}
+
+fn after_registers(model: Model, asked: u16, models: u8) -> Stage
+    requires asked { asked < model.length }
+    requires inside { next_after model ≤ 65536 }
+    requires few { models ≤ 64 }
+    ensures stage { result ≡
+        stage_after (λ address. None) (Stage.Registers model asked models) }
+    ensures inside { IsTrue (fits result) }
+{
+    if model.length - asked > MAX_READ_REGISTERS {
+        Stage::Registers(model, asked + MAX_READ_REGISTERS, models)
+    } else {
+        head_at(model.next(), models)
+    }
+}
+
+// The head of the next of so many models.
+fn head_at(address: u32, models: u8) -> Stage
+    requires { models ≤ 64 }
+    ensures stage { result ≡ head_at models address }
+    ensures inside { IsTrue (fits result) }
+{
+    match u16::try_from(address) {
+        Ok(address) => Stage::Head(address, models),
+        Err(_) => Stage::Over,
+    }
+}

@@ -1,0 +1,85 @@
+//! A device scanned over a link.
+ghost use Rattle.std.specs.Prelude.{◌≡◌, ℕ, ◌≤◌, ◌+◌, ◌*◌, [], Err, Some, IfOk, IfSome, OnOk, length};
+ghost use Rattle.mb_wire.specs.Spans.{span_view};
+ghost use Rattle.mb_wire.specs.Links.{risen};
+ghost use Rattle.sun_chain.specs.Image.{word_in};
+ghost use Rattle.device_scan.specs.Lines.{Garbles, OnlyInquires, has_failed, is_gone};
+ghost use Rattle.device_scan.specs.Answers.{words_seen};
+ghost use Rattle.device_scan.specs.Stages.{stage_after, wanted};
+ghost use Rattle.device_scan.specs.Scans.{Scans, put_answer, stage_of, words_of};
+ghost use Rattle.device_scan.specs.declared.hearing.TheConstants.{MOST_TAKES};
+
+use crate::client::Client;
+use crate::fault::ScanFault;
+use crate::hearing::Answer;
+use crate::scan::Scan;
+use mb_wire::{Link, ReadSpan};
+use std::alloc::{AllocError, Global};
+use sun_chain::{Image, Model};
+
+/// How many reads a scan has at most: three of the mark, 65 of heads, one of the end's ID, and those of the registers
+/// of 64 models.
+pub const MOST_READS: u64 = 657;
+
+/// Who is shown which model is read.
+pub trait Witness {
+    fn reads(&mut self, model: Model);
+}
+
+// Shows which model is read.
+fn show<W: Witness>(scan: &Scan, witness: &mut W) {
+    if let Some(model) = scan.model() {
+        witness.reads(model);
+    }
+}
+
+// Takes into a scan what came of the read that was next.
+fn take_in(scan: &mut Scan, span: ReadSpan, answer: Answer) -> Result<(), AllocError>
+    requires next { wanted (stage_of scan.old) ≡ Some (span_view span) }
+    requires all { IfSome answer (λ words. length words.items ≡ span.count) }
+    ensures words { OnOk result ((address : ℕ) → words_of scan.new address
+        ≡ put_answer (words_of scan.old) span.address (words_seen answer) address) }
+    ensures stage { OnOk result
+        (stage_of scan.new ≡ stage_after (words_of scan.new) (stage_of scan.old)) }
+{
+    match answer {
+        Some(words) => scan.answered(span, &words),
+        None => {
+            scan.unread();
+            Ok(())
+        }
+    }
+}
+
+/// Scans a unit over a link to it that was just made: asks for the mark, for the head of each model, and for the registers of the
+/// models that have a table, one read at a time. A read that brings no words is asked for once more. What was answered is
+/// the image; nothing else is in it.
+pub fn scan_over<L: Link, W: Witness>(
+    alloc: Global,
+    link: &mut L,
+    unit: u8,
+    witness: &mut W,
+) -> Result<Image, ScanFault>
+    ensures scanned { IfOk result (λ image. Scans unit (L.remaining link.old) (L.given link.old)
+        (L.remaining link.new) (L.given link.new) (word_in image)) }
+    ensures asks { OnlyInquires unit result (L.given link.old) (L.given link.new) }
+    ensures garbled { result ≡ Err ScanFault.Garbled
+        → Garbles (L.remaining link.old) (L.remaining link.new) [] }
+    ensures failures { L.failed link.new ≡ risen (has_failed result) (L.failed link.old) }
+    ensures ends { L.ended link.new ≡ risen (is_gone result) (L.ended link.old) }
+    ensures takes { L.taken link.new ≤ L.taken link.old + 2 * MOST_TAKES * MOST_READS }
+{
+    let mut scan = Scan::new(alloc);
+    let mut client = Client::new(unit);
+    while let Some(span) = scan.next() {
+        show(&scan, witness);
+        match client.read(alloc, link, span) {
+            Ok(answer) => match take_in(&mut scan, span, answer) {
+                Ok(()) => {}
+                Err(_) => return Err(ScanFault::Memory),
+            },
+            Err(fault) => return Err(fault),
+        }
+    }
+    Ok(scan.into_image())
+}

@@ -1,0 +1,10 @@
+//! A try of a read.
+use mb_wire::ReadSpan;
+
+/// A read that is asked for once: its transaction identifier, the unit that is asked, and the registers.
+#[derive(Clone, Copy, Debug, PartialEq, Eq)]
+pub(crate) struct Try {
+    pub(crate) id: u16,
+    pub(crate) unit: u8,
+    pub(crate) span: ReadSpan,
+}

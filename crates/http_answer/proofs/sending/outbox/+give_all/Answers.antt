@@ -1,5 +1,0 @@
-use Rattle.http_answer.proofs.SendingLemmas.Giving.{Gives-then}
-use Rattle.http_answer.proofs.sending.outbox.+give_all.Goals as goal
-
-pub returns-clause-given : goal.returns-clause-given
-returns-clause-given g t c = Gives-then c.give_all.result _ _ _ c.args.bytes.now c.in_ok-count.count c.in_ok-count.ensures.bytes c.give_all.ensures.given

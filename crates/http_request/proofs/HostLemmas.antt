@@ -1,0 +1,9 @@
+-- Hosts that are known.
+use Rattle.std.proofs.Common.{◌≡◌, ℕ, Bool, ◌||◌, List, [], ◌∷◌, map, refl, ap}
+use Rattle.std.specs.Borrow.{Bor}
+use Rattle.std.specs.List.{list_any}
+
+-- a test of what stands behind each
+pub any_behind : (test : List ℕ → Bool) (names : List (Bor (List ℕ))) → list_any (λ name. test name.now) names ≡ list_any test (map (λ name. name.now) names)
+any_behind test [] = refl
+any_behind test (name ∷ names) = ap (λ rest. test name.now || rest) (any_behind test names)

@@ -1,0 +1,24 @@
+//! The time of a run.
+use run_schedule::RunTime;
+
+// What an even clock tells, and the seconds of a run that began at 1,000.999 s while it told 50 s, and what is left of them.
+static READ: [(u64, u64, u64); 6] = [
+    (50_000, 1000, 1),
+    (50_001, 1001, 1000),
+    (51_500, 1002, 501),
+    (0, 1002, 501),
+    (3_651_000, 4601, 1),
+    (3_651_000, 4601, 1),
+];
+
+// It goes on as the even clock does, and where that is read as less it stays.
+#[test]
+fn a_run_goes_on_evenly(rt: HostRuntime) {
+    let mut time = RunTime::new(1_000_999, 50_000);
+    assert_eq!(rt; time.seconds(), 1000);
+    for (even, seconds, left) in &READ {
+        time.read(*even);
+        assert_eq!(rt; time.seconds(), *seconds, "{even}");
+        assert_eq!(rt; time.to_next_second(), *left, "{even}");
+    }
+}

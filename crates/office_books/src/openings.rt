@@ -1,0 +1,51 @@
+//! Meters as they were installed.
+ghost use Rattle.std.specs.Prelude.{◌≡◌, IsTrue};
+ghost use Rattle.office_rules.specs.Meters as meters;
+ghost use Rattle.office_books.specs.Sound.{HasNumbers, as_begun};
+
+use crate::soundness::is_sound;
+use energy_core::Last;
+use meter_journal::Installed;
+use office_events::{Installation, Opening};
+
+/// Where the counter of a meter stood when it was installed.
+pub fn opened(opening: &Opening) -> Last
+    ensures { result ≡ meters.opened opening.now }
+{
+    Last {
+        at: opening.at,
+        raw: opening.raw,
+        sf: opening.sf,
+    }
+}
+
+/// A meter as it was installed.
+pub fn installed(opening: &Opening) -> Installed
+    ensures { result ≡ meters.installed opening.now }
+{
+    Installed {
+        range: opening.range,
+        ceiling: opening.ceiling,
+        opening: opened(opening),
+    }
+}
+
+/// An installation that was just opened.
+pub fn begun(opening: &Opening) -> Installation
+    ensures { result ≡ as_begun opening.now }
+{
+    Installation {
+        opening: *opening,
+        last: opened(opening),
+        total: 0,
+        ended: false,
+    }
+}
+
+/// Whether the numbers of an opening are in their ranges.
+pub fn has_numbers(opening: &Opening) -> bool
+    ensures so { IsTrue result → HasNumbers opening.now }
+    ensures if_so { HasNumbers opening.now → IsTrue result }
+{
+    is_sound(&begun(opening))
+}

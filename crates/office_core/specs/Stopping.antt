@@ -1,0 +1,52 @@
+-- What a stop leaves after a run, in one sentence: all that was acknowledged, with or without one event, whole, that
+-- failed after the last that recorded a fact.
+use Rattle.std.specs.Prelude.{◌≡◌, ◌⊎◌, ℕ, true, List, [], ◌∷◌, All, Contains}
+use Rattle.office_events.specs.declared.facts.Fact.{Fact}
+use Rattle.office_rules.specs.History.{History, Opened, Fed, facts_of}
+use Rattle.office_rules.specs.Refusals.{with_answer}
+use Rattle.office_rules.specs.Lawfulness.{IsPast}
+use Rattle.office_core.specs.Failing.{is_failure}
+use Rattle.office_core.specs.EventRun.{Answered, LeftByRun, LeftInTurn, history_after}
+
+-- The event was answered 13 or 14, though nothing spoke against it; none of those after it recorded a fact; and these are
+-- the facts with all of it.
+pub record IsWithFailed (past : History) (fed : Answered) (later : List Answered)
+    (facts : List Fact) : Type 0 where
+  pub failed : is_failure fed.result ≡ true
+  pub is_past : IsPast (Fed fed.at fed.event ∷ past)
+  pub none_later : facts_of (history_after past (fed ∷ later)) ≡ facts_of past
+  pub are : facts ≡ facts_of (Fed fed.at fed.event ∷ past)
+
+-- So it is of one of these events.
+abbrev pub AreWithFailed : History → List Answered → List Fact → Type 0
+AreWithFailed past [] facts = ⊥
+AreWithFailed past (fed ∷ later) facts =
+    IsWithFailed past fed later facts
+    ⊎ AreWithFailed (with_answer past fed.at fed.event fed.result) later facts
+
+-- the facts of all that was acknowledged, with or without those of one event that failed
+abbrev pub AreOfEvents : History → List Answered → List Fact → Type 0
+AreOfEvents past fed facts =
+    (facts ≡ facts_of (history_after past fed)) ⊎ AreWithFailed past fed facts
+
+-- no fact was recorded since, and a stop might have left these before
+abbrev pub AreOfBefore : (past later : History) → (before : List (List Fact)) → List Fact → Type 0
+AreOfBefore past later before facts = (facts_of later ≡ facts_of past) × Contains before facts
+
+-- Each list that a stop leaves after events is of these events; where none of them recorded a fact, it may be of those
+-- before them.
+abbrev pub EventsAreLeftWhole : Type 0
+EventsAreLeftWhole =
+    (past : History) (fed : List Answered) (before after : List (List Fact))
+    → LeftInTurn past fed before after
+    → All (λ facts. AreOfEvents past fed facts
+    ⊎ AreOfBefore past (history_after past fed) before facts) after
+
+-- The same of a run, which is opened first.
+abbrev pub RunsAreLeftWhole : Type 0
+RunsAreLeftWhole =
+    (past : History) (opened : ℕ) (fed : List Answered) (before after : List (List Fact))
+    → LeftByRun past opened fed before after
+    → let begun = Opened opened ∷ past in
+    All (λ facts. AreOfEvents begun fed facts
+    ⊎ AreOfBefore past (history_after begun fed) before facts) after

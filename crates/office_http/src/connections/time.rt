@@ -1,0 +1,39 @@
+//! Time that goes on evenly, whatever is made of the clock.
+use socket_link::Clock;
+use std::io::{self, ErrorKind};
+use std::time::Duration;
+
+/// The seconds of a clock that nobody sets, from some moment on. One that can't be read is late for everything.
+#[derive(Drop)]
+pub(crate) struct Even<'r, R: std::rt::Clock> {
+    rt: &'r R,
+}
+
+impl<'r, R: std::rt::Clock> Even<'r, R> {
+    pub(crate) fn new(rt: &'r R) -> Even<'r, R> {
+        Even { rt }
+    }
+}
+
+impl<R: std::rt::Clock> Clock for Even<'_, R> {
+    fn now(&mut self) -> u64 {
+        match self.rt.monotonic() {
+            Ok(since) => since.as_secs(),
+            Err(_) => u64::MAX,
+        }
+    }
+}
+
+/// A clock by which no time passes.
+#[derive(Clone, Copy)]
+pub(crate) struct Untimed;
+
+impl std::rt::Clock for Untimed {
+    fn monotonic(&self) -> io::Result<Duration> {
+        Ok(Duration::from_secs(0))
+    }
+
+    fn since_1970(&self) -> io::Result<Duration> {
+        Err(io::Error::from(ErrorKind::Unsupported))
+    }
+}

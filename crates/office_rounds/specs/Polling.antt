@@ -1,0 +1,132 @@
+-- How a round stands after what it fed: which polls wait, and what it does next.
+use Rattle.std.specs.Prelude.{◌≡◌, ℕ, zero, suc, ◌+◌, ◌≤◌, ◌==◌, Bool, true, false, List, [], ◌∷◌, ◌++◌, map, length, Option, Some, None, Ok}
+use Rattle.std.specs.List.{filter}
+use Rattle.poll_core.specs.declared.outcome.Closing.TheVariants as closing
+use Rattle.office_events.specs.declared.answers.Answer.{Answer}
+use Rattle.office_events.specs.declared.answers.Note.{Note}
+use Rattle.office_events.specs.declared.events.Event.{Event}
+use Rattle.office_events.specs.declared.events.Event.TheVariants as event
+use Rattle.office_events.specs.declared.facts.Fact.{Fact}
+use Rattle.office_rules.specs.Facts.{ends_of}
+use Rattle.office_rules.specs.History.{History, Fed, facts_of, next_poll, slots_of}
+use Rattle.office_rules.specs.Lawfulness.{IsPast}
+use Rattle.office_rules.specs.Notes.{notes_after}
+use Rattle.office_rules.specs.PollEndings.{polls_on_present}
+use Rattle.office_rules.specs.Sessions.{Slot, slot_of}
+use Rattle.office_core.specs.EventRun.{Answered}
+use Rattle.office_core.specs.Taking.{IsAnswer}
+use Rattle.office_rounds.specs.Course.{Connect, Does, Leave, Next, Over, StartFrom, Take, first_poll, next_in, polls_ended, reads_planned, reads_started}
+use Rattle.office_rounds.specs.FedEvents.{history_behind}
+use Rattle.office_rounds.specs.DeviceRounds.Rounds.{answered, heard, leaving}
+use Rattle.office_rounds.specs.declared.device_rounds.round.Round.{Round}
+use Rattle.office_rounds.specs.declared.device_rounds.stage.Stage.{Stage}
+use Rattle.office_rounds.specs.declared.device_rounds.stage.Stage.TheVariants.{Off, Joining, Starting, Waiting, Leaving}
+
+-- what a round does next
+abbrev pub next_at : Stage → (started : ℕ) → Next
+next_at Off started = Over
+next_at Joining started = Connect
+next_at Starting started = StartFrom started
+next_at Waiting started = Take
+next_at (Leaving closing) started = Leave
+
+abbrev pub next_of : Round → Next
+next_of round = next_at round.stage round.started
+
+-- so many numbers from one on
+abbrev pub from_on : (first count : ℕ) → List ℕ
+from_on first zero = []
+from_on first (suc n) = from_on first n ++ (first + n) ∷ []
+
+-- a poll of this number has no outcome
+abbrev pub is_open : List Fact → ℕ → Bool
+is_open facts number = length (ends_of facts number) == 0
+
+-- The polls that were started on the present session of the device have these numbers.
+pub record IsOnSession (slots : List Slot) (device : Option (List ℕ)) (numbers : List ℕ) : Type 0
+  where
+    pub slot : Slot
+    pub found : slot_of slots device ≡ Some slot
+    pub are : map (λ poll. poll.0) (polls_on_present slot.device slot.present) ≡ numbers
+
+-- the first poll of a round, once it has started one, has this number
+abbrev pub IsFirst : (first : Option ℕ) → (number started : ℕ) → Type 0
+IsFirst None number started = started ≡ 0
+IsFirst (Some first) number started = first ≡ number
+
+-- The polls of the round have the numbers from one on, and are all that were started on the device's session; those that it
+-- waits for have no outcome.
+pub record IsUnderWay (device : Option (List ℕ)) (past : History) (fed : List Answered)
+    (round : Round) : Type 0 where
+  pub number : ℕ
+  pub first : IsFirst (first_poll fed) number (reads_started fed)
+  pub last : number + reads_started fed ≡ next_poll (facts_of (history_behind past fed))
+  pub started : round.started ≡ reads_started fed
+  pub planned : round.planned ≡ reads_planned fed
+  pub within : reads_started fed ≤ reads_planned fed
+  pub polls : round.polls.items
+      ≡ filter (is_open (facts_of (history_behind past fed)))
+      (from_on number (reads_started fed))
+  pub ended : polls_ended past fed + length round.polls.items ≡ reads_started fed
+  pub session : IsOnSession (slots_of (history_behind past fed)) device
+      (from_on number (reads_started fed))
+
+-- nothing was fed, and nothing waits
+pub record IsUnfed (fed : List Answered) (round : Round) : Type 0 where
+  pub none : fed ≡ []
+  pub polls : round.polls.items ≡ []
+  pub started : round.started ≡ 0
+  pub planned : round.planned ≡ 0
+
+abbrev pub StandsAt : Stage → (device : Option (List ℕ)) → History → List Answered → Round → Type 0
+StandsAt Off device past fed round = Unit {0}
+StandsAt Joining device past fed round = IsUnfed fed round
+StandsAt Starting device past fed round = IsUnderWay device past fed round
+StandsAt Waiting device past fed round = IsUnderWay device past fed round
+StandsAt (Leaving cause) device past fed round = cause ≡ closing.Gone
+
+-- What is next after what was fed is what the round does next.
+pub record Holds (device : Option (List ℕ)) (past : History) (fed : List Answered)
+    (round : Round) : Type 0 where
+  pub device_is : round.device ≡ device
+  pub next : next_in past fed ≡ next_of round
+  pub stands : StandsAt round.stage device past fed round
+
+-- the connection ends with an event
+abbrev pub ended_by : Event → Round → Round
+ended_by (event.Connected given) round = round
+ended_by (event.Bytes given piece) round = round
+ended_by event.Tick round = round
+ended_by (event.Gone given cause) round = leaving cause round
+ended_by (event.Command c) round = round
+ended_by (event.Asked asked) round = round
+
+-- the round after an event that was accepted, and what the office told of it
+abbrev pub round_after : Event → Answer → List Note → Round → Round
+round_after e given notes round = heard notes (answered (Ok given) (ended_by e round))
+
+-- what is next once a round has fed what it wants
+abbrev pub settled : Next → Next
+settled Connect = StartFrom 0
+settled (StartFrom read) = Take
+settled Leave = Over
+settled Take = Take
+settled Over = Over
+
+-- it is over
+abbrev pub is_over : Stage → Bool
+is_over Off = true
+is_over Joining = false
+is_over Starting = false
+is_over Waiting = false
+is_over (Leaving cause) = false
+
+-- A round that stands so, and feeds what is next, stands so after it was accepted.
+abbrev pub RoundsHold : Type 0
+RoundsHold = (device : Option (List ℕ)) (past : History) (fed : List Answered) (round : Round)
+    (at : ℕ) (e : Event) (before after : ℕ) (given : Answer)
+    → Holds device past fed round → Does device (next_in past fed) e
+    → IsAnswer (history_behind past fed) at e before after (Ok given)
+    → IsPast (Fed at e ∷ history_behind past fed)
+    → Holds device past (record { at = at; event = e; result = Ok given } ∷ fed)
+    (round_after e given (notes_after (history_behind past fed) at e (Ok given)) round)

@@ -1,0 +1,96 @@
+//! The two clocks of a run: by one it waits, and the other tells at which moments things come.
+ghost use Rattle.std.specs.Prelude.{◌≡◌, IfOk};
+ghost use Rattle.office_running.specs.Runs.{ReadsClock};
+
+use crate::fault::RunFault;
+use run_schedule::{RunTime, SteadyClock};
+use socket_link::Clock;
+use std::io::Write;
+use std::time::{SystemTime, UNIX_EPOCH};
+
+/// When something comes.
+#[derive(Clone, Copy)]
+pub(crate) struct Now {
+    /// The seconds of the run's time, by which it waits.
+    pub(crate) time: u64,
+    /// The moment at which it comes to the office, in seconds since 1970-01-01 UTC.
+    pub(crate) moment: u64,
+}
+
+// What the clock tells that nobody sets, in milliseconds. Where it can't be read no time passes.
+fn even_milliseconds<R: std::rt::Clock>(rt: &R) -> u64 {
+    match rt.monotonic() {
+        Ok(since) => since
+            .as_secs()
+            .saturating_mul(1000)
+            .saturating_add(u64::from(since.subsec_millis())),
+        Err(_) => 0,
+    }
+}
+
+// How many milliseconds of the second have passed, by the clock of the moments.
+fn part_of_second<R: std::rt::Clock>(rt: &R) -> u64 {
+    let Ok(now) = SystemTime::now(rt) else {
+        return 0;
+    };
+    match now.duration_since(UNIX_EPOCH) {
+        Ok(since) => u64::from(since.subsec_millis()),
+        Err(_) => 0,
+    }
+}
+
+/// The time of a run that begins at a moment.
+pub(crate) fn time_from<R: std::rt::Clock>(rt: &R, moment: u64) -> RunTime {
+    let base = moment
+        .saturating_mul(1000)
+        .saturating_add(part_of_second(rt));
+    RunTime::new(base, even_milliseconds(rt))
+}
+
+/// How many milliseconds are left of the second that goes on.
+pub(crate) fn to_next_second<R: std::rt::Clock>(rt: &R, time: &mut RunTime) -> u64 {
+    time.read(even_milliseconds(rt));
+    time.to_next_second()
+}
+
+// Tells that the clock stands so many seconds before the latest moment.
+fn tell_set_back<W: Write, E: Write>(
+    moment: u64,
+    seconds: u64,
+    output: &mut W,
+    errors: &mut E,
+) -> Result<(), RunFault> {
+    let _said = writeln!(
+        errors,
+        "sunreg: the clock stands {seconds} seconds before {moment}, up to which the books go; until it has caught up, all that comes is booked at {moment}"
+    );
+    match writeln!(output, "{moment} clock set back {seconds}") {
+        Ok(()) => Ok(()),
+        Err(_) => Err(RunFault::Output),
+    }
+}
+
+/// The moment of what comes now: the clock's, or the latest where the clock stands before it, which is told once.
+pub(crate) fn read_clock<C: Clock, W: Write, E: Write>(
+    steady: &mut SteadyClock,
+    clock: &mut C,
+    output: &mut W,
+    errors: &mut E,
+) -> Result<u64, RunFault>
+    ensures reads { ReadsClock steady.old.latest steady.new.latest
+        (C.moments clock.old) (C.moments clock.new) }
+    ensures moment { IfOk result (λ moment. moment ≡ steady.new.latest) }
+{
+    let told = clock.now();
+    let reading = steady.read(told);
+    if let Some(seconds) = reading.set_back {
+        tell_set_back(reading.moment, seconds, output, errors)?;
+    }
+    Ok(reading.moment)
+}
+
+/// The time of the run now.
+pub(crate) fn read_time<R: std::rt::Clock>(rt: &R, time: &mut RunTime) -> u64 {
+    time.read(even_milliseconds(rt));
+    time.seconds()
+}

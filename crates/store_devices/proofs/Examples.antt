@@ -1,0 +1,43 @@
+-- Registers whose counter and scale one read reaches, and the first that it doesn't.
+use Rattle.std.proofs.Common.{◌≡◌, ℕ, true, false, pos, negsuc, List, [], ◌∷◌, Ok, Err, codes, refl}
+use Rattle.mb_wire.specs.declared.span.ReadFunction.TheVariants.{HoldingRegisters}
+use Rattle.sqlite.specs.declared.types.Value.TheVariants.{Int, Text}
+use Rattle.sqlite.specs.Order.{Row}
+use Rattle.store_tables.specs.declared.faults.RowFault.TheVariants.{Damaged}
+use Rattle.store_devices.specs.declared.devices.rows.RegisterScale.TheVariants.{Fixed, At}
+use Rattle.store_devices.specs.Devices.Rows.{registers_spanned, fits_a_read, register_in}
+
+-- a scale behind the counter, before it, and within it
+behind : registers_spanned 40094 (At 40096) ≡ 3
+behind = refl
+
+before : registers_spanned 40094 (At 40093) ≡ 3
+before = refl
+
+fixed : registers_spanned 65534 (Fixed (negsuc 2)) ≡ 2
+fixed = refl
+
+-- 125 registers and 126, on both sides
+last_behind : fits_a_read 0 (At 124) ≡ true
+last_behind = refl
+
+too_far_behind : fits_a_read 0 (At 125) ≡ false
+too_far_behind = refl
+
+last_before : fits_a_read 123 (At 0) ≡ true
+last_before = refl
+
+too_far_before : fits_a_read 124 (At 0) ≡ false
+too_far_before = refl
+
+row : (address : ℕ) → (scale : ℕ) → Row
+row address scale = Int (pos 1) ∷ Text (codes "r1") ∷ Text (codes "d1") ∷ Int (pos 3) ∷ Int (pos address) ∷ Int (pos 1) ∷ Int (pos scale) ∷ []
+
+-- so is a row read, or damage
+reached : register_in (row 0 124) ≡ Ok (record { place = 1; function = HoldingRegisters; address = 0; scale = At 124 })
+unfolding row
+reached = refl
+
+not_reached : register_in (row 0 125) ≡ Err Damaged
+unfolding row
+not_reached = refl

@@ -1,0 +1,38 @@
+-- Meters whose rows the tables and the office can have.
+use Rattle.std.specs.Prelude.{◌≡◌, ℕ, true, List, map, string_bytes}
+use Rattle.std.specs.List.{AllByRecursion}
+use Rattle.office_events.specs.declared.facts.Opening.{Opening}
+use Rattle.office_events.specs.declared.facts.Fact.{Fact}
+use Rattle.office_events.specs.Names.{is_name}
+use Rattle.office_rules.specs.Facts.{openings_in}
+use Rattle.office_rules.specs.Intervals.{rows_of_meter}
+use Rattle.office_rules.specs.Lawful.{AreLawful}
+use Rattle.store_tables.specs.Meters.Rows.{IsSoundInstalled, IsSoundRanged}
+use Rattle.store_tables.specs.declared.meters.rows.Installation as stored
+use Rattle.store_tables.specs.Entries.Rows.{IsSoundEntered}
+use Rattle.store_facts.specs.Intervals.Rows.{IsSoundShare}
+use Rattle.store_facts.specs.Rows.{placed, installed_row, ranged, entries_of}
+
+-- the texts of an opening are names
+pub record HasNames (opening : Opening) : Type 0 where
+  pub meter : is_name opening.meter ≡ true
+  pub register : is_name opening.register ≡ true
+
+-- so are those of a row
+pub record IsNamed (row : stored.Installation) : Type 0 where
+  pub meter : is_name (string_bytes row.meter) ≡ true
+  pub register : is_name (string_bytes row.register) ≡ true
+
+-- The rows that the tables have for the meters of these lawful facts can be read.
+pub record HasReadableMeters (facts : List Fact) : Type 0 where
+  pub lawful : AreLawful facts
+  pub names : AllByRecursion HasNames (openings_in facts)
+  pub installations :
+      AllByRecursion IsSoundInstalled (placed (installed_row facts) (openings_in facts))
+  pub ranges : AllByRecursion IsSoundRanged (map ranged (openings_in facts))
+  pub entries : (meter : List ℕ) → AllByRecursion IsSoundEntered (entries_of facts meter)
+
+-- The interval rows of each meter can be read.
+abbrev pub HasReadableIntervals : List Fact → Type 0
+HasReadableIntervals facts =
+    (meter : List ℕ) → AllByRecursion IsSoundShare (rows_of_meter facts meter)

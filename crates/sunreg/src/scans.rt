@@ -1,0 +1,144 @@
+//! The models of a live device, over a socket.
+use command_io::Buffered;
+use device_scan::{ScanFault, Witness};
+use mb_wire::Link;
+use office_events::Name;
+use socket_link::{Clock, DeadlineLink, SocketLink, SystemClock};
+use std::io::{self, IsTerminal, Write};
+use std::net::{Net, TcpStream, ToSocketAddrs};
+use std::time::Duration;
+use stored_office::{Ending, Failure, ending_of};
+use sun_chain::Model;
+use sunspec_text::{ScanForm, Site, scan_text};
+
+/// How many seconds a device may take, at each address of its host, until it is connected.
+const PATIENCE: u64 = 5;
+
+/// How many seconds a scan may take.
+const LONGEST: u64 = 600;
+
+/// The most bytes of the name of a device that is set up: the names of its registers have more behind it.
+const MOST_NAME: usize = 9;
+
+/// Where a device is, and how long it may take for a reply.
+#[derive(Clone, Copy)]
+pub(crate) struct Target<'a> {
+    pub(crate) host: &'a str,
+    pub(crate) port: u16,
+    pub(crate) unit: u8,
+    pub(crate) timeout: u32,
+}
+
+// Shows on a terminal which model is read.
+#[derive(Clone, Copy)]
+struct Terminal<'a> {
+    rt: &'a HostRuntime,
+    is_shown: bool,
+}
+
+impl Witness for Terminal<'_> {
+    fn reads(&mut self, model: Model) {
+        if self.is_shown {
+            let Model { address, id, .. } = model;
+            let mut errors = self.rt.stderr();
+            let _shown = write!(errors, "reading model {id} at {address}\n");
+        }
+    }
+}
+
+// A link to a device whose takes wait so long, by the first of its host's addresses that answers.
+fn connect<'a, R: Net>(net: &R, target: Target<'a>) -> Result<SocketLink<R::Stream>, Failure<'a>> {
+    let Target { host, port, .. } = target;
+    let Ok(addresses) = (host, port).to_socket_addrs(net) else {
+        return Err(Failure::Host { host });
+    };
+    let wait = Duration::from_secs(u64::from(target.timeout));
+    for address in addresses {
+        if let Ok(stream) = TcpStream::connect_timeout(
+            net,
+            &address,
+            Duration::from_secs(PATIENCE),
+        ) {
+            return match SocketLink::waiting(stream, wait) {
+                Ok(link) => Ok(link),
+                Err(_) => Err(Failure::Unconnected { host, port }),
+            };
+        }
+    }
+    Err(Failure::Unconnected { host, port })
+}
+
+// The form of the lines that set a device up, where its name leaves room for those of its registers.
+fn setup_form<'d>(device: &'d str, target: Target<'_>) -> Option<ScanForm<'d>> {
+    if device.len() > MOST_NAME || Name::new(device.as_bytes()).is_none() {
+        return None;
+    }
+    Some(ScanForm::Setup(Site {
+        device,
+        unit: target.unit,
+        timeout: target.timeout,
+    }))
+}
+
+/// Prints the models of a device, or their point list, or the lines that set it up under a name.
+pub(crate) fn scan<'a>(
+    rt: &HostRuntime,
+    target: Target<'a>,
+    list: bool,
+    setup: Option<&str>,
+) -> Ending<'a> {
+    let form = match setup {
+        Some(device) => match setup_form(device, target) {
+            Some(form) => form,
+            None => return wrong_name(rt, device),
+        },
+        None if list => ScanForm::List,
+        None => ScanForm::Chain,
+    };
+    match connect(rt, target) {
+        Ok(mut socket) => scan_within(rt, target, form, &mut socket),
+        Err(failure) => Ending::Failed(failure),
+    }
+}
+
+fn wrong_name<'a>(rt: &HostRuntime, device: &str) -> Ending<'a> {
+    match format!(in rt.alloc();
+        "error: invalid value '{device}' for '--setup <DEVICE>': not 1 to 9 letters, digits, _ and -, a letter first\n\nFor more information, try '--help'.\n"
+    ) {
+        Ok(text) => Ending::Wrong(text),
+        Err(_) => Ending::Failed(Failure::Memory),
+    }
+}
+
+// Scans over a link that was just made, and has only so much time.
+fn scan_within<'a, L: Link>(
+    rt: &HostRuntime,
+    target: Target<'a>,
+    form: ScanForm<'_>,
+    socket: &mut L,
+) -> Ending<'a> {
+    let mut clock = SystemClock::new(rt);
+    let until = clock.now().saturating_add(LONGEST);
+    let mut link = DeadlineLink::new(socket, &mut clock, until);
+    let mut terminal = Terminal {
+        rt,
+        is_shown: rt.stderr().is_terminal(),
+    };
+    let mut output = Buffered::new(io::writer(rt));
+    let scanned = scan_text(
+        rt.alloc(),
+        &mut link,
+        target.unit,
+        form,
+        &mut terminal,
+        &mut output,
+    );
+    let flushed = output.flush();
+    let Target { host, port, .. } = target;
+    match (scanned, flushed) {
+        (Ok(_), Err(_)) => Ending::Failed(Failure::Streams),
+        (Ok(status), Ok(())) => ending_of(status),
+        (Err(ScanFault::Memory), _) => Ending::Failed(Failure::Memory),
+        (Err(fault), _) => Ending::Failed(Failure::Unscanned { host, port, fault }),
+    }
+}

@@ -1,0 +1,73 @@
+-- What is printed of a scan of a device, and the exit status.
+use Rattle.std.specs.Prelude.{◌≡◌, ◌≢◌, ◌⊎◌, ℕ, List, [], flat_map}
+use Rattle.std.specs.declared.option.Option.{Option}
+use Rattle.command_io.specs.Printing.{PrintsAs}
+use Rattle.command_io.specs.declared.status.ExitStatus.{ExitStatus}
+use Rattle.command_io.specs.declared.status.ExitStatus.TheVariants.{Fine, Refused, Failed}
+use Rattle.device_scan.specs.Scans.{Scans}
+use Rattle.point_list.specs.ChainPoints.{chain_faults, points_from}
+use Rattle.point_list.specs.declared.fault.FaultyRow.{FaultyRow}
+use Rattle.point_list.specs.RowTexts.{list_text}
+use Rattle.script_text.specs.AnswerText.{fault_line}
+use Rattle.sun_chain.specs.Chain.{IsChain}
+use Rattle.sun_chain.specs.Image.{Words}
+use Rattle.sun_chain.specs.declared.model.Model.{Model}
+use Rattle.sunspec_text.specs.Chains.ChainText.{WordsPrint}
+use Rattle.sunspec_text.specs.declared.scans.scan_printout.ScanForm.{ScanForm}
+use Rattle.sunspec_text.specs.declared.scans.scan_printout.ScanForm.TheVariants as form
+
+-- words in which a chain stands
+abbrev pub WithChain : Words → (List Model → Type 0) → Type 0
+WithChain word P =
+    (base : ℕ) × (models : List Model) × (end : ℕ) × IsChain word base models end × P models
+
+-- the models of a chain have more points than a list may have
+abbrev pub PrintsTooMany : Words → (printed : List ℕ) → List Model → Type 0
+PrintsTooMany word printed models =
+    (chain_faults (points_from word 1 models) ≢ [])
+    × (printed ≡ flat_map fault_line (chain_faults (points_from word 1 models)))
+
+-- no list: the words have no chain, or one with too many points
+abbrev pub PrintsNoList : Words → (printed : List ℕ) → Type 0
+PrintsNoList word printed =
+    WordsPrint word printed Refused ⊎ WithChain word (PrintsTooMany word printed)
+
+-- the list of a chain's points
+abbrev pub ListPrints : Words → (printed : List ℕ) → ExitStatus → Type 0
+ListPrints word printed Fine =
+    WithChain word (λ models. printed ≡ list_text (points_from word 1 models))
+ListPrints word printed Refused = PrintsNoList word printed
+ListPrints word printed Failed = ⊥
+
+-- The lines that set a device up: there are some exactly where there is a list. Their text is tried.
+abbrev pub SetupPrints : Words → (printed : List ℕ) → ExitStatus → Type 0
+SetupPrints word printed Fine = WithChain word (λ models. Unit {0})
+SetupPrints word printed Refused = PrintsNoList word printed
+SetupPrints word printed Failed = ⊥
+
+-- the faulty rows of a list print their lines
+abbrev pub RowsPrint : List FaultyRow → (printed : List ℕ) → ExitStatus → Type 0
+RowsPrint rows printed Fine = ⊥
+RowsPrint rows printed Refused = printed ≡ flat_map fault_line rows
+RowsPrint rows printed Failed = ⊥
+
+-- lines are printed
+abbrev pub LinesPrint : (printed : List ℕ) → ExitStatus → Type 0
+LinesPrint printed Fine = Unit {0}
+LinesPrint printed Refused = ⊥
+LinesPrint printed Failed = ⊥
+
+-- a device's words print so in a form
+abbrev pub FormPrints : ScanForm → Words → (printed : List ℕ) → ExitStatus → Type 0
+FormPrints form.Chain word printed status = WordsPrint word printed status
+FormPrints form.List word printed status = ListPrints word printed status
+FormPrints (form.Setup site) word printed status = SetupPrints word printed status
+
+-- a device was scanned over a link, and what its words print was written
+pub record ScanPrints (unit : ℕ) (form : ScanForm)
+    (old_bytes old_given new_bytes new_given old_output new_output : Option (List ℕ))
+    (status : ExitStatus)
+    : Type 0 where
+  pub word : Words
+  pub scans : Scans unit old_bytes old_given new_bytes new_given word
+  pub prints : PrintsAs (FormPrints form word) status old_output new_output

@@ -1,0 +1,143 @@
+//! What is printed of a live device.
+ghost use Rattle.std.specs.Prelude.{◌≡◌, ◌≤◌, ◌+◌, ◌*◌, [], Err, IfOk, OnErr};
+ghost use Rattle.command_io.specs.Printing.{PrintsAs};
+ghost use Rattle.device_scan.specs.Lines.{Garbles, OnlyInquires, has_failed, is_gone};
+ghost use Rattle.mb_wire.specs.Links.{risen};
+ghost use Rattle.sun_chain.specs.Chain.{models_of, words_of};
+ghost use Rattle.sun_chain.specs.Image.{word_in};
+ghost use Rattle.sunspec_text.specs.Scans.ScanText.{FormPrints, LinesPrint, ListPrints, RowsPrint, ScanPrints};
+ghost use Rattle.sunspec_text.specs.Scans.ScanText.{SetupPrints};
+
+use crate::chains::{print_image, print_lack};
+use crate::scans::setup_lines::{Site, setup_text};
+use command_io::ExitStatus;
+use device_scan::{MOST_READS, MOST_TAKES, ScanFault, Witness, scan_over};
+use mb_wire::Link;
+use point_list::{FaultyRows, ListFault, PointList, from_chain, write_list};
+use script_text::write_faults;
+use std::alloc::Global;
+use std::io::Write;
+use sun_chain::{Chain, Image, walk};
+
+/// What is printed of a scan.
+#[derive(Clone, Copy, Debug, PartialEq, Eq)]
+pub enum ScanForm<'a> {
+    /// The chain, as `chain_text` prints it.
+    Chain,
+    /// The point list of the chain, as comma-separated values.
+    List,
+    /// The lines that set the device up.
+    Setup(Site<'a>),
+}
+
+/// Scans a unit over a link to it that was just made, and prints the chain of models in the words that it answered, or another form
+/// of it; or only `fault N`, or `row R fault N` where a list would have too many points. A link that fails, ends or
+/// brings what is no Modbus is told as the fault, and nothing is printed then.
+pub fn scan_text<L: Link, V: Witness, W: Write>(
+    alloc: Global,
+    link: &mut L,
+    unit: u8,
+    form: ScanForm<'_>,
+    witness: &mut V,
+    output: &mut W,
+) -> Result<ExitStatus, ScanFault>
+    ensures printed { IfOk result (ScanPrints unit form.entry
+        (L.remaining link.old) (L.given link.old) (L.remaining link.new) (L.given link.new)
+        (W.contents output.old) (W.contents output.new)) }
+    ensures unprinted { OnErr result (output.new ≡ output.old) }
+    ensures asks { OnlyInquires unit result (L.given link.old) (L.given link.new) }
+    ensures garbled { result ≡ Err ScanFault.Garbled
+        → Garbles (L.remaining link.old) (L.remaining link.new) [] }
+    ensures failures { L.failed link.new ≡ risen (has_failed result) (L.failed link.old) }
+    ensures ends { L.ended link.new ≡ risen (is_gone result) (L.ended link.old) }
+    ensures takes { L.taken link.new ≤ L.taken link.old + 2 * MOST_TAKES * MOST_READS }
+{
+    match scan_over(alloc, link, unit, witness) {
+        Ok(image) => Ok(print_form(alloc, &image, form, output)),
+        Err(fault) => Err(fault),
+    }
+}
+
+// Prints a form of the words in an image.
+fn print_form<W: Write>(
+    alloc: Global,
+    image: &Image,
+    form: ScanForm<'_>,
+    output: &mut W,
+) -> ExitStatus
+    ensures { PrintsAs (FormPrints form.entry (word_in image.now)) result
+        (W.contents output.old) (W.contents output.new) }
+{
+    match form {
+        ScanForm::Chain => print_image(alloc, image, output),
+        ScanForm::List => print_listed(alloc, image, output),
+        ScanForm::Setup(site) => print_setup(alloc, image, site, output),
+    }
+}
+
+// Prints the point list of the chain in an image.
+fn print_listed<W: Write>(alloc: Global, image: &Image, output: &mut W) -> ExitStatus
+    ensures { PrintsAs (ListPrints (word_in image.now)) result
+        (W.contents output.old) (W.contents output.new) }
+{
+    match walk(alloc, image) {
+        Ok(chain) => match from_chain(alloc, &chain) {
+            Ok(list) => match write_list(alloc, &list, output) {
+                Ok(()) => ExitStatus::Fine,
+                Err(_) => ExitStatus::Failed,
+            },
+            Err(ListFault::Faults(faults)) => print_faults(&faults, output),
+            Err(ListFault::Memory) => ExitStatus::Failed,
+        },
+        Err(fault) => print_lack(fault, output),
+    }
+}
+
+// Prints the lines that set up the device with the chain in an image.
+fn print_setup<W: Write>(alloc: Global, image: &Image, site: Site<'_>, output: &mut W) -> ExitStatus
+    ensures { PrintsAs (SetupPrints (word_in image.now)) result
+        (W.contents output.old) (W.contents output.new) }
+{
+    match walk(alloc, image) {
+        Ok(chain) => match from_chain(alloc, &chain) {
+            Ok(list) => print_lines(alloc, &chain, &list, site, output),
+            Err(ListFault::Faults(faults)) => print_faults(&faults, output),
+            Err(ListFault::Memory) => ExitStatus::Failed,
+        },
+        Err(fault) => print_lack(fault, output),
+    }
+}
+
+// Prints the faulty rows of a list.
+fn print_faults<W: Write>(faults: &FaultyRows, output: &mut W) -> ExitStatus
+    ensures { PrintsAs (RowsPrint faults.now) result
+        (W.contents output.old) (W.contents output.new) }
+{
+    match write_faults(faults.rows(), output) {
+        Ok(()) => ExitStatus::Refused,
+        Err(_) => ExitStatus::Failed,
+    }
+}
+
+// Prints the lines that set a device up.
+fn print_lines<W: Write>(
+    alloc: Global,
+    chain: &Chain<'_>,
+    list: &PointList,
+    site: Site<'_>,
+    output: &mut W,
+) -> ExitStatus
+    ensures { PrintsAs LinesPrint result (W.contents output.old) (W.contents output.new) }
+{
+    let mut text = Vec::new(alloc);
+    if write_list(alloc, list, &mut text).is_err() {
+        return ExitStatus::Failed;
+    }
+    let Ok(lines) = setup_text(alloc, chain, &text, site) else {
+        return ExitStatus::Failed;
+    };
+    match output.write_all(&lines) {
+        Ok(()) => ExitStatus::Fine,
+        Err(_) => ExitStatus::Failed,
+    }
+}

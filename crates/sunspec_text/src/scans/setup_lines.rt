@@ -1,0 +1,175 @@
+//! The lines that set up a device: itself, its point list, and a register for each energy counter.
+
+use std::alloc::Global;
+use std::io::{self, Write};
+use sun_chain::{Chain, Model, NamedPoint, PointScale, scale_name};
+use sun_points::Point;
+
+/// How an office is to have a device: its name, its unit, and how many seconds a poll of it waits.
+#[derive(Clone, Copy, Debug, PartialEq, Eq)]
+pub struct Site<'a> {
+    pub device: &'a str,
+    pub unit: u8,
+    pub timeout: u32,
+}
+
+/// An energy counter in Wh: its point, and what stands behind the device's name in the name of its register.
+#[derive(Clone, Copy)]
+struct Counter {
+    point: &'static str,
+    code: &'static str,
+    // A counter of one phase is set up as a comment.
+    front: &'static str,
+}
+
+// Rows of a point, what stands in the register's name, and what stands in front of the register's line.
+macro_rules! counters {
+    ($(($point:expr, $code:expr, $front:expr),)*) => {
+        [$(Counter { point: $point, code: $code, front: $front }),*]
+    };
+}
+
+static COUNTERS: [Counter; 9] = counters![
+    ("WH", "wh", ""),
+    ("TotWhExp", "exp", ""),
+    ("TotWhExpPhA", "expA", "# "),
+    ("TotWhExpPhB", "expB", "# "),
+    ("TotWhExpPhC", "expC", "# "),
+    ("TotWhImp", "imp", ""),
+    ("TotWhImpPhA", "impA", "# "),
+    ("TotWhImpPhB", "impB", "# "),
+    ("TotWhImpPhC", "impC", "# "),
+];
+
+const HINT: &str =
+    "# An install line needs the greatest power that can flow, in W, in place of CEILING, and no # in front.\n";
+
+/// The lines `N device ..`, `N list ..`, and for each present energy counter `N register ..` and, as a comment, `N install ..`
+/// with what it shows. N is counted from 1. A counter of one phase stands in comments alone. The list's text is in hex.
+pub(crate) fn setup_text(
+    alloc: Global,
+    chain: &Chain<'_>,
+    list: &[u8],
+    site: Site<'_>,
+) -> io::Result<Vec<u8>> {
+    let mut text = Vec::new(alloc);
+    add_device(&mut text, list, site)?;
+    text.write_all(HINT.as_bytes())?;
+    let mut number = 3;
+    for (index, model) in chain.models().iter().enumerate() {
+        number = add_model(&mut text, chain, model, index + 1, site, number)?;
+    }
+    Ok(text)
+}
+
+// The lines of the device and of its list.
+fn add_device(text: &mut Vec<u8>, list: &[u8], site: Site<'_>) -> io::Result<()> {
+    let Site {
+        device,
+        unit,
+        timeout,
+    } = site;
+    write!(
+        text,
+        "1 device {device} {unit} {timeout} 1\n2 list {device} "
+    )?;
+    for byte in list {
+        let value = *byte;
+        write!(text, "{value:02x}")?;
+    }
+    text.write_all(b"\n")
+}
+
+// The lines of the counters of the model at a place, from a number on; the number behind them.
+fn add_model(
+    text: &mut Vec<u8>,
+    chain: &Chain<'_>,
+    model: &Model,
+    place: usize,
+    site: Site<'_>,
+    number: u64,
+) -> io::Result<u64> {
+    let points = chain.points(model)?;
+    let mut next = number;
+    for point in &points {
+        if let (Some(counter), Point::Unsigned(raw)) = (counter_of(point), point.value()) {
+            add_register(
+                text,
+                counter,
+                point,
+                scale_address(&points, model, point),
+                place,
+                site,
+                next,
+            )?;
+            add_install(
+                text,
+                counter,
+                point,
+                raw,
+                place,
+                site,
+                next.saturating_add(1),
+            )?;
+            next = next.saturating_add(2);
+        }
+    }
+    Ok(next)
+}
+
+// The counter that a point is.
+fn counter_of(point: &NamedPoint<'_>) -> Option<Counter> {
+    COUNTERS.iter().copied().find(|counter| counter.point.as_bytes() == point.name().as_bytes())
+}
+
+// The address of the point that scales a point, if it is there.
+fn scale_address(points: &[NamedPoint<'_>], model: &Model, point: &NamedPoint<'_>) -> Option<u16> {
+    let name = scale_name(model.id, point.name())?;
+    let found = points
+        .iter()
+        .find(|other| other.name().as_bytes() == name.as_bytes())?;
+    Some(found.address())
+}
+
+fn add_register(
+    text: &mut Vec<u8>,
+    counter: Counter,
+    point: &NamedPoint<'_>,
+    scale: Option<u16>,
+    place: usize,
+    site: Site<'_>,
+    number: u64,
+) -> io::Result<()> {
+    let Counter { code, front, .. } = counter;
+    let device = site.device;
+    let address = point.address();
+    write!(
+        text,
+        "{front}{number} register {device}-{code}{place} {device} 3 {address} "
+    )?;
+    match scale {
+        Some(scale) => write!(text, "@{scale}\n"),
+        None => text.write_all(b"0\n"),
+    }
+}
+
+fn add_install(
+    text: &mut Vec<u8>,
+    counter: Counter,
+    point: &NamedPoint<'_>,
+    raw: u64,
+    place: usize,
+    site: Site<'_>,
+    number: u64,
+) -> io::Result<()> {
+    let code = counter.code;
+    let device = site.device;
+    let exponent = match point.scale() {
+        PointScale::Scaled(scale) => scale.exponent(),
+        PointScale::Unscaled | PointScale::Faulty => 0,
+    };
+    write!(
+        text,
+        "# {number} install {device}-{code}{place} {device}-{code}{place} {raw} {exponent} CEILING\n"
+    )
+}

@@ -1,0 +1,15 @@
+#!/bin/sh
+# Tries the built program on a bad day: pages of other names that ask it, requests in many pieces, a device by an IPv6 address, a clock that is
+# set back while peers keep silent: `tests/bad_day.sh [PROGRAM]`, out/sunreg by default, which `./sunreg-build` makes. `faketime` sets the
+# clock; where this is run as root it is installed by apt (not with PEERS_INSTALL=no), and where it can't be had that is said. It takes a
+# minute and ends on 'N passed, M failed'.
+set -u
+here=$(dirname "$(readlink -f "$0")")
+program=$(readlink -f "${1:-$here/../out/sunreg}")
+[ -x "$program" ] || { echo "bad_day.sh: $program is not built: run ./sunreg-build" >&2; exit 2; }
+room=$(mktemp -d) || exit 2
+trap 'rm -rf "$room"' EXIT
+. "$here/peers/install.sh"
+
+install python3 faketime
+PYTHONDONTWRITEBYTECODE=1 python3 "$here/bad_day.py" "$program" "$room"
