@@ -1,4 +1,5 @@
 //! What each failure says.
+use device_scan::ScanFault;
 use office_store::OpenFault;
 use std::alloc::Global;
 use std::process::Abort;
@@ -58,7 +59,7 @@ const STREAMS: [(Failure<'static>, &str); 5] = [
     ),
 ];
 
-const SOCKETS: [(Failure<'static>, &str); 7] = [
+const SOCKETS: [(Failure<'static>, &str); 8] = [
     (
         Failure::Port {
             host: "h",
@@ -73,6 +74,14 @@ const SOCKETS: [(Failure<'static>, &str); 7] = [
             port: 80,
         },
         "port 80 of h isn't answered: does the device run, and is this its address?",
+    ),
+    (
+        Failure::Unscanned {
+            host: "h",
+            port: 80,
+            fault: ScanFault::Gone,
+        },
+        "port 80 of h can't be scanned: the device closed the connection",
     ),
     (
         Failure::Broken {

@@ -37,6 +37,8 @@ mod right_words;
 #[cfg(test)]
 mod rows;
 #[cfg(test)]
+mod scans;
+#[cfg(test)]
 mod set_ups;
 #[cfg(test)]
 mod streams;
