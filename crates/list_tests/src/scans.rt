@@ -1,7 +1,7 @@
 //! Scans of a stand-in, truly and with each trick.
 use crate::full_models::full_image;
 use crate::stand_in_link::StandInLink;
-use device_scan::{ScanFault, Witness, scan_over};
+use device_scan::{ScanFault, ScanObserver, scan_over};
 use mb_device::{Area, Bank, Kind, Trick};
 use std::alloc::Global;
 use std::process::Abort;
@@ -12,7 +12,7 @@ use sun_chain::{ChainFault, Image, Model, walk};
 #[derive(Drop)]
 struct Shown(u64);
 
-impl Witness for Shown {
+impl ScanObserver for Shown {
     fn reads(&mut self, _model: Model) {
         self.0 = self.0.saturating_add(1);
     }

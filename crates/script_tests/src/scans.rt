@@ -1,6 +1,6 @@
 //! What is printed of a live device.
 use command_io::ExitStatus;
-use device_scan::{ScanFault, Witness};
+use device_scan::{ScanFault, ScanObserver};
 use mb_wire::MemoryLink;
 use std::alloc::Global;
 use std::io::Write;
@@ -12,7 +12,7 @@ use sunspec_text::{ScanForm, Site, chain_text, scan_text};
 #[derive(Drop)]
 struct Nobody;
 
-impl Witness for Nobody {
+impl ScanObserver for Nobody {
     fn reads(&mut self, _model: Model) {}
 }
 
