@@ -18,36 +18,35 @@ use stored_office::{
 };
 
 /// The host on which HTTP is answered.
-const OWN_HOST: &str = "127.0.0.1";
+pub(crate) const OWN_HOST: &str = "127.0.0.1";
 
 // Where a database comes from. What holds a connection is proved over any of these, since over a connection to a file it
 // would cost minutes.
-trait Databases {
+pub(crate) trait Databases {
     type Store: Alter + Drop;
 
-    // A connection to the database, which is made where there is none.
-    fn make(&self) -> Result<Connection<Self::Store>, FileFault>;
+    // A connection to the database at a path, which is made where there is none.
+    fn make(&self, path: &str) -> Result<Connection<Self::Store>, FileFault>;
 
     // A connection to a database that is there.
-    fn open(&self) -> Result<Connection<Self::Store>, FileFault>;
+    fn open(&self, path: &str) -> Result<Connection<Self::Store>, FileFault>;
 }
 
-// The file of an office.
+/// The files of the system.
 #[derive(Clone, Copy)]
-struct OfficeFile<'a> {
-    rt: &'a HostRuntime,
-    path: &'a str,
+pub(crate) struct Files<'r> {
+    pub(crate) rt: &'r HostRuntime,
 }
 
-impl<'a> Databases for OfficeFile<'a> {
+impl Databases for Files<'_> {
     type Store = FileStore<FileFrom<Unknown>>;
 
-    fn make(&self) -> Result<Connection<FileStore<FileFrom<Unknown>>>, FileFault> {
-        make_file(self.rt, self.path, Unknown)
+    fn make(&self, path: &str) -> Result<Connection<FileStore<FileFrom<Unknown>>>, FileFault> {
+        make_file(self.rt, path, Unknown)
     }
 
-    fn open(&self) -> Result<Connection<FileStore<FileFrom<Unknown>>>, FileFault> {
-        open_file(self.rt, self.path, Unknown)
+    fn open(&self, path: &str) -> Result<Connection<FileStore<FileFrom<Unknown>>>, FileFault> {
+        open_file(self.rt, path, Unknown)
     }
 }
 
@@ -72,7 +71,7 @@ fn create_in<'a, D: Databases>(
     zone: &str,
 ) -> Result<(), Failure<'a>> {
     let is_new = matches!(fs::exists(rt, path), Ok(false));
-    let connection = match databases.make() {
+    let connection = match databases.make(path) {
         Ok(connection) => connection,
         Err(fault) => return Err(Failure::File { path, fault }),
     };
@@ -86,49 +85,51 @@ fn create_in<'a, D: Databases>(
     }
 }
 
-// Carries a task out over the office in the database at a path.
-fn carry_out_in<'a, D: Databases, W: Write>(
+/// Carries a task out over the office in the database at a path, and gives out all that it printed.
+pub(crate) fn over_office<'a, D: Databases>(
     rt: &HostRuntime,
     databases: &D,
     path: &'a str,
     task: Task<'_>,
-    output: &mut W,
 ) -> Result<Done, Failure<'a>>
     ensures same { IfOk result (IsOf task.entry) }
 {
-    let connection = match databases.open() {
+    let Ok(mut output) = output_of(rt, task) else {
+        return Err(Failure::Memory);
+    };
+    let connection = match databases.open(path) {
         Ok(connection) => connection,
         Err(fault) => return Err(Failure::File { path, fault }),
     };
     let mut clock = SystemClock::new(rt);
     let mut errors = rt.stderr();
-    match carry_out_stored(
+    let done = carry_out_stored(
         rt,
         rt.alloc(),
         connection,
         task,
         &mut clock,
-        output,
+        &mut output,
         &mut errors,
-    ) {
-        Ok(done) => Ok(done),
-        Err(fault) => Err(Failure::Unopened { path, fault }),
+    );
+    match (output.flush(), done) {
+        (Err(_), _) => Err(Failure::Streams),
+        (Ok(()), Ok(done)) => Ok(done),
+        (Ok(()), Err(fault)) => Err(Failure::Unopened { path, fault }),
     }
 }
 
-// Carries a task out over the office in a file, and gives out all that it printed.
-fn carry_out_at<'a>(
-    rt: &HostRuntime,
-    path: &'a str,
+// Where a task prints: a round and a run each line at its end, the others in pieces.
+fn output_of<'r>(
+    rt: &'r HostRuntime,
     task: Task<'_>,
-    output: &mut CommandOutput<Printer<'_, HostRuntime>>,
-) -> Result<Done, Failure<'a>>
-    ensures same { IfOk result (IsOf task.entry) }
-{
-    let done = carry_out_in(rt, &OfficeFile { rt, path }, path, task, output);
-    match output.flush() {
-        Ok(()) => done,
-        Err(_) => Err(Failure::Streams),
+) -> io::Result<CommandOutput<Printer<'r, HostRuntime>>> {
+    match task {
+        Task::Report { .. } | Task::Serve { .. } => Ok(CommandOutput::in_pieces(io::writer(rt))),
+        Task::Round { .. } | Task::Run { .. } => CommandOutput::by_lines(
+            rt.alloc(),
+            io::writer(rt),
+        ),
     }
 }
 
@@ -137,60 +138,10 @@ pub(crate) fn create<'a>(rt: &HostRuntime, path: &'a str, zone: &'a str) -> Endi
     if Zone::read(zone).is_err() {
         return Ending::NoZone(zone);
     }
-    match create_in(rt, &OfficeFile { rt, path }, path, zone) {
+    match create_in(rt, &Files { rt }, path, zone) {
         Ok(()) => Ending::Fine,
         Err(failure) => Ending::Failed(failure),
     }
-}
-
-/// Prints the energy of a register by days.
-pub(crate) fn report<'a>(rt: &HostRuntime, path: &'a str, register: &str) -> Ending<'a> {
-    let mut output = CommandOutput::in_pieces(io::writer(rt));
-    let done = carry_out_at(rt, path, Task::Report { register }, &mut output);
-    ending_of_done(done, OWN_HOST, 0)
-}
-
-/// Answers HTTP on so many connections.
-pub(crate) fn serve<'a>(
-    rt: &HostRuntime,
-    path: &'a str,
-    port: u16,
-    names: &[&str],
-    connections: u32,
-) -> Ending<'a> {
-    let task = Task::Serve {
-        host: OWN_HOST,
-        port,
-        names,
-        connections,
-    };
-    let mut output = CommandOutput::in_pieces(io::writer(rt));
-    ending_of_done(carry_out_at(rt, path, task, &mut output), OWN_HOST, port)
-}
-
-// Carries a task out over the office in a file, and gives out each line that it prints at once.
-fn carry_out_by_lines<'a>(
-    rt: &HostRuntime,
-    path: &'a str,
-    task: Task<'_>,
-    host: &'a str,
-    port: u16,
-) -> Ending<'a> {
-    let Ok(mut output) = CommandOutput::by_lines(rt.alloc(), io::writer(rt)) else {
-        return Ending::Failed(Failure::Memory);
-    };
-    ending_of_done(carry_out_at(rt, path, task, &mut output), host, port)
-}
-
-/// Polls the whole plan of a device once.
-pub(crate) fn round<'a>(
-    rt: &HostRuntime,
-    path: &'a str,
-    device: &str,
-    host: &'a str,
-    port: u16,
-) -> Ending<'a> {
-    carry_out_by_lines(rt, path, Task::Round { device, host, port }, host, port)
 }
 
 /// Polls devices on a schedule and answers HTTP, as the settings say.
@@ -208,5 +159,6 @@ pub(crate) fn run<'a>(
         settings,
         sites: sites.as_slice(),
     };
-    carry_out_by_lines(rt, path, task, OWN_HOST, settings.listen.port())
+    let done = over_office(rt, &Files { rt }, path, task);
+    ending_of_done(done, OWN_HOST, settings.listen.port())
 }
