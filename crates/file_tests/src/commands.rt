@@ -11,10 +11,10 @@ use stored_office::{Done, Task, carry_out_stored, create_stored};
 type Report = (Result<ExitStatus, OpenFault>, Vec<u8>);
 
 /// A register, a moment, how the report of it ends, and what it prints.
-type Row = (&'static str, u64, ExitStatus, &'static [u8]);
+pub(crate) type Row = (&'static str, u64, ExitStatus, &'static [u8]);
 
 /// Reports of the day, where the clock was set back to before its last event, and after it.
-static KNOWN: [Row; 2] = [
+pub(crate) static KNOWN: [Row; 2] = [
     ("main", 3699, ExitStatus::Refused, b"refused 3\n"),
     ("main", 5000, ExitStatus::Fine, REPORTED),
 ];
@@ -33,7 +33,7 @@ static MADE: [(&str, Option<OpenFault>, bool); 3] = [
 ];
 
 /// Makes an office, and tells why it was not made.
-fn create<C: Connects>(
+pub(crate) fn create<C: Connects>(
     rt: &HostRuntime,
     connects: &C,
     path: &str,
@@ -43,7 +43,7 @@ fn create<C: Connects>(
 }
 
 /// Makes an office, and books the day in it.
-fn fill<C: Connects>(rt: &HostRuntime, connects: &C, path: &str) -> Result<(), Fail> {
+pub(crate) fn fill<C: Connects>(rt: &HostRuntime, connects: &C, path: &str) -> Result<(), Fail> {
     if create(rt, connects, path, "UTC0")?.is_some() {
         return Err(Fail::from("not made"));
     }
@@ -90,7 +90,7 @@ fn report<C: Connects>(
 }
 
 /// Whether each report comes as its row says.
-fn are_reported<C: Connects>(
+pub(crate) fn are_reported<C: Connects>(
     rt: &HostRuntime,
     connects: &C,
     path: &str,
@@ -106,7 +106,11 @@ fn are_reported<C: Connects>(
 }
 
 /// Whether a database has no office, and nothing is printed of it.
-fn is_none<C: Connects>(rt: &HostRuntime, connects: &C, path: &str) -> Result<bool, Fail> {
+pub(crate) fn is_none<C: Connects>(
+    rt: &HostRuntime,
+    connects: &C,
+    path: &str,
+) -> Result<bool, Fail> {
     let (end, printed) = report(rt, connects, path, "main", 5000)?;
     Ok(end == Err(OpenFault::NotOurs) && printed.is_empty())
 }

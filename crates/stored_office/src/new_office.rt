@@ -3,12 +3,14 @@ ghost use Rattle.std.specs.Prelude.{◌≡◌, ◌≢◌, ◌⊎◌, false, Err,
 ghost use Rattle.store_files.specs.Layouts.{no_schema};
 ghost use Rattle.store_files.specs.Zones.{IsZone};
 
+use crate::files::Closes;
 use office_store::{OpenFault, SqlBooks};
-use sqlite::{Alter, Connection};
+use sqlite::Connection;
 use std::alloc::Global;
 
 /// Makes the tables of a new office in a database that has no tables, for the days of a zone, as `SqlBooks::create` does.
-pub fn create_stored<S: Alter + Drop>(
+/// What was made is moved from the log into the file, as far as that can be done.
+pub fn create_stored<S: Closes>(
     alloc: Global,
     connection: Connection<S>,
     zone: &str,
@@ -21,7 +23,10 @@ pub fn create_stored<S: Alter + Drop>(
         → IfErr result (λ fault. (fault ≡ OpenFault.Store) ⊎ (fault ≡ OpenFault.Memory)) }
 {
     match SqlBooks::create(alloc, connection, zone) {
-        Ok(_) => Ok(()),
+        Ok(books) => {
+            S::close(books.into_connection());
+            Ok(())
+        }
         Err(unopened) => Err(unopened.fault),
     }
 }

@@ -3,18 +3,19 @@ ghost use Rattle.std.specs.Prelude.{IfOk};
 ghost use Rattle.stored_office.specs.Tasks.Tasks.{IsOf};
 
 use crate::command_output::CommandOutput;
+use crate::escaped::Escaped;
 use crate::run_words::sites_of;
 use command_words::Device;
 use interval_core::Zone;
 use office_running::Settings;
 use socket_link::SystemClock;
-use sqlite::{Alter, Connection, FileFrom, FileStore, Unknown};
+use sqlite::{Connection, FileFrom, FileStore, Unknown};
 use std::fs::{self, Permissions};
-use std::io::{self, Printer, Write};
+use std::io::{self, ErrorKind, Printer, Write};
 use std::os::unix::fs::PermissionsExt;
 use stored_office::{
-    Done, Ending, Failure, FileFault, Task, carry_out_stored, create_stored, ending_of_done,
-    make_file, open_file,
+    Closes, Done, Ending, Failure, FileFault, Task, carry_out_stored, create_stored,
+    ending_of_done, is_bare, make_file, open_file,
 };
 
 /// The host on which HTTP is answered.
@@ -23,7 +24,7 @@ pub(crate) const OWN_HOST: &str = "127.0.0.1";
 // Where a database comes from. What holds a connection is proved over any of these, since over a connection to a file it
 // would cost minutes.
 pub(crate) trait Databases {
-    type Store: Alter + Drop;
+    type Store: Closes;
 
     // A connection to the database at a path, which is made where there is none.
     fn make(&self, path: &str) -> Result<Connection<Self::Store>, FileFault>;
@@ -55,33 +56,128 @@ fn keep_private(rt: &HostRuntime, path: &str) {
     let _set = fs::set_permissions(rt, path, Permissions::from_mode(0o600));
 }
 
-// So it does with a database and its log.
-fn keep_files_private(rt: &HostRuntime, path: &str) {
-    keep_private(rt, path);
-    if let Ok(log) = format!(in rt.alloc(); "{path}-wal") {
-        keep_private(rt, log.as_str());
+/// Where a file lies to which links may lead; the path as it is where there is none.
+pub(crate) fn real_path<'a>(rt: &HostRuntime, path: &str) -> Result<String, Failure<'a>> {
+    let text = match fs::canonicalize(rt, path) {
+        Ok(real) => String::from_str(rt.alloc(), real.as_str()),
+        Err(_) => String::from_str(rt.alloc(), path),
+    };
+    match text {
+        Ok(text) => Ok(text),
+        Err(_) => Err(Failure::Memory),
     }
 }
 
+/// The name of the log of a file, which lies beside it.
+pub(crate) fn log_of<'a>(rt: &HostRuntime, path: &str) -> Result<String, Failure<'a>> {
+    let real = real_path(rt, path)?;
+    match format!(in rt.alloc(); "{}-wal", real.as_str()) {
+        Ok(log) => Ok(log),
+        Err(_) => Err(Failure::Memory),
+    }
+}
+
+/// How many bytes a file has. None: there is none.
+pub(crate) fn length_of(rt: &HostRuntime, path: &str) -> Option<u64> {
+    match fs::metadata(rt, path) {
+        Ok(found) => Some(found.len()),
+        Err(error) if error.kind() == ErrorKind::NotFound => None,
+        Err(_) => Some(0),
+    }
+}
+
+/// Whether a file is missing or empty.
+pub(crate) fn is_blank(length: Option<u64>) -> bool {
+    length.unwrap_or(0) == 0
+}
+
 // Makes the tables of a new office in the database at a path.
+fn make_office<'a, D: Databases>(
+    rt: &HostRuntime,
+    databases: &D,
+    path: &'a str,
+    zone: &str,
+    was_blank: bool,
+) -> Result<(), Failure<'a>> {
+    let connection = match databases.make(path) {
+        Ok(connection) => connection,
+        Err(fault) => return Err(Failure::File { path, fault }),
+    };
+    if !was_blank && is_bare(&connection) {
+        return Err(Failure::Occupied { path });
+    }
+    match create_stored(rt.alloc(), connection, zone) {
+        Ok(()) => Ok(()),
+        Err(fault) => Err(Failure::Unmade { path, fault }),
+    }
+}
+
+// The same, where no log stands alone. A file that was made is its owner's alone, and goes again where no office is made in it.
 fn create_in<'a, D: Databases>(
     rt: &HostRuntime,
     databases: &D,
     path: &'a str,
     zone: &str,
 ) -> Result<(), Failure<'a>> {
-    let is_new = matches!(fs::exists(rt, path), Ok(false));
-    let connection = match databases.make(path) {
-        Ok(connection) => connection,
-        Err(fault) => return Err(Failure::File { path, fault }),
-    };
-    let made = create_stored(rt.alloc(), connection, zone);
-    if is_new {
-        keep_files_private(rt, path);
+    let log = log_of(rt, path)?;
+    let length = length_of(rt, path);
+    if is_blank(length) && !is_blank(length_of(rt, log.as_str())) {
+        return Err(Failure::LogAlone { path });
     }
-    match made {
-        Ok(()) => Ok(()),
-        Err(fault) => Err(Failure::Unmade { path, fault }),
+    let made = make_office(rt, databases, path, zone, is_blank(length));
+    if length.is_none() {
+        match &made {
+            Ok(()) => {
+                keep_private(rt, path);
+                keep_private(rt, log.as_str());
+            }
+            Err(
+                Failure::File {
+                    fault: FileFault::Busy,
+                    ..
+                },
+            ) => {}
+            Err(_) => {
+                let _gone = fs::remove_file(rt, path);
+                let _gone = fs::remove_file(rt, log.as_str());
+            }
+        }
+    }
+    made
+}
+
+// Says that a file had no log beside it.
+fn say_no_log(rt: &HostRuntime, path: &str) {
+    let mut errors = Escaped::new(rt.stderr());
+    let _said = write!(
+        errors,
+        "sunreg: {path}: it had no log beside it, {path}-wal: a backup needs none, and a file copied alone lacks what stood there\n"
+    );
+}
+
+// A connection to the office in the database at a path. That a log is missing, or stands alone, is told.
+fn open_in<'a, D: Databases>(
+    rt: &HostRuntime,
+    databases: &D,
+    path: &'a str,
+) -> Result<Connection<D::Store>, Failure<'a>> {
+    let log = log_of(rt, path)?;
+    let (length, log_length) = (length_of(rt, path), length_of(rt, log.as_str()));
+    if is_blank(length) && !is_blank(log_length) {
+        return Err(Failure::LogAlone { path });
+    }
+    if length == Some(0) {
+        return Err(Failure::Bare { path });
+    }
+    match databases.open(path) {
+        Ok(connection) if is_bare(&connection) => Err(Failure::Bare { path }),
+        Ok(connection) => {
+            if log_length.is_none() {
+                say_no_log(rt, path);
+            }
+            Ok(connection)
+        }
+        Err(fault) => Err(Failure::File { path, fault }),
     }
 }
 
@@ -97,10 +193,7 @@ pub(crate) fn over_office<'a, D: Databases>(
     let Ok(mut output) = output_of(rt, task) else {
         return Err(Failure::Memory);
     };
-    let connection = match databases.open(path) {
-        Ok(connection) => connection,
-        Err(fault) => return Err(Failure::File { path, fault }),
-    };
+    let connection = open_in(rt, databases, path)?;
     let mut clock = SystemClock::new(rt);
     let mut errors = rt.stderr();
     let done = carry_out_stored(
