@@ -202,8 +202,13 @@ same 'it serves' "$(ask /devices)" 405
 (
     for turn in $(seq 4 100000); do
         [ ! -e stop ] || break
-        list_of "$turn" > "list"
-        [ "$(put /devices/inv/list "$turn" @list)" = 200 ] && echo "$turn" > booked.new && mv booked.new booked
+        list_of "$turn" > list
+        echo "$turn" > asked.new && mv asked.new asked
+        until [ "$(put /devices/inv/list "$turn" @list)" = 200 ]; do
+            [ ! -e stop ] || exit 1
+            sleep 0.1
+        done
+        echo "$turn" > booked.new && mv booked.new booked
     done
 ) &
 writer=$!
@@ -217,7 +222,7 @@ busy=0
 for turn in $(seq "$many"); do
     before=$(cat booked)
     run backup --db office.db --to "beside$turn.db"
-    after=$(cat booked)
+    after=$(cat asked)
     if grep -q 'its log was moved into it' err; then
         busy=$((busy + 1))
         continue
@@ -228,7 +233,7 @@ for turn in $(seq "$many"); do
     if [ "$found" = "ok
 $last|$last
 n$last
-301" ] && [ "$last" -ge "$before" ] && [ "$last" -le $((after + 1)) ]; then
+301" ] && [ "$last" -ge "$before" ] && [ "$last" -le "$after" ]; then
         right=$((right + 1))
     else
         echo "backup $turn, between $before and $after: $found"

@@ -104,9 +104,9 @@ class Torn:
         it = soak.Soak(self.program, room)
         it.office.set_up()
         polls = 0
-        for _ in range(ROUNDS):  # (a round that ends moves the log into the file)
+        for turn in range(ROUNDS):  # (a round that ends moves the log into the file)
             at = int(time.time())
-            it.next_stop = time.monotonic() + self.chance.uniform(0.1, 0.3)
+            it.next_stop = time.monotonic() + self.chance.uniform(0.1, 0.3) * (1 + turn / 10)
             it.usual = 0.01
             was_stopped = it.round(polls + 1)
             polls = it.office.polls()

@@ -4,7 +4,7 @@ use crate::files::{Connects, Files, path, remove};
 use sqlite::{Alter, Connection, Error, Unknown};
 use std::fs;
 use std::test::Fail;
-use stored_office::{CopyFault, is_bare, whole_file, whole_files};
+use stored_office::{CopyFault, is_bare, is_office, whole_file, whole_files};
 
 /// Copies a file and its log.
 fn copy_both(rt: &HostRuntime, from: &str, to: &str) -> Result<(), Fail> {
@@ -39,7 +39,7 @@ fn is_bare_before<C: Connects>(connects: &C, path: &str) -> Result<bool, Fail> {
     let mut connection = connects.make(path)?;
     let was_bare = is_bare(&connection);
     make_other(&mut connection)?;
-    Ok(was_bare && !is_bare(&connection))
+    Ok(was_bare && !is_bare(&connection) && !is_office(&connection))
 }
 
 #[test]
@@ -61,6 +61,7 @@ fn what_was_made_is_in_the_file_alone(rt: HostRuntime) -> Result<(), Fail> {
     let files = Files { rt: &rt };
     assert_eq!(rt; create(&rt, &files, &path, "UTC0")?, None);
     remove_log(&rt, &path)?;
+    assert!(rt; is_office(&files.open(&path)?));
     assert!(rt; !is_none(&rt, &files, &path)?);
     remove(&rt, &path)
 }

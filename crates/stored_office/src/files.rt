@@ -4,6 +4,6 @@ mod closing;
 mod faults;
 mod files;
 
-pub use closing::{Closes, is_bare};
+pub use closing::{Closes, is_bare, is_office};
 pub use faults::FileFault;
 pub use files::{FileConnection, make_file, open_file};

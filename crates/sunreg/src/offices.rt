@@ -15,7 +15,7 @@ use std::io::{self, ErrorKind, Printer, Write};
 use std::os::unix::fs::PermissionsExt;
 use stored_office::{
     Closes, Done, Ending, Failure, FileFault, Task, carry_out_stored, create_stored,
-    ending_of_done, is_bare, make_file, open_file,
+    ending_of_done, is_bare, is_office, make_file, open_file,
 };
 
 /// The host on which HTTP is answered.
@@ -172,7 +172,7 @@ fn open_in<'a, D: Databases>(
     match databases.open(path) {
         Ok(connection) if is_bare(&connection) => Err(Failure::Bare { path }),
         Ok(connection) => {
-            if log_length.is_none() {
+            if log_length.is_none() && is_office(&connection) {
                 say_no_log(rt, path);
             }
             Ok(connection)

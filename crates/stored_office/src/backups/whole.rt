@@ -10,10 +10,9 @@ ghost use Rattle.stored_office.specs.BooksFound.{HasPast};
 ghost use Rattle.stored_office.specs.Backups.Whole.{HasPastIn, HasPastAlone};
 
 use crate::backups::faults::{CopyFault, close_fault_of, copy_fault_of};
-use crate::files::make_file;
+use crate::files::{is_office, make_file};
 use sqlite::{Connection, FileFrom, FileStore, Files, Start};
 use sqlite_disk::Disk;
-use store_files::layout_of;
 
 /// Moves the log of an office's database into its file, and gives both back: the file then holds the office alone, of
 /// whichever version. Faults: `NotOurs` where the tables aren't those of an office, by their names and order.
@@ -26,7 +25,7 @@ pub fn whole_files<D: Disk + Drop>(
         → IfOk result (λ files. AreClean D.Disk files.log files.db
         → HasPastAlone D.Disk files past) }
 {
-    if layout_of(connection.schema()).is_none() {
+    if !is_office(&connection) {
         return Err(CopyFault::NotOurs);
     }
     match connection.close_files() {
