@@ -62,10 +62,17 @@ fn check(
     (end, printed)
 }
 
-static SITE: &[u8] = b"1 device inv 1 5 1\n\n# main\n2 list inv @inv.csv\n3 register main inv 3 40094 0\n4 install main m1 5000 0 100000\n";
+static SITE: &[u8] =
+    b"1 device inv 1 5 1\n\n# main\n2 list inv @inv.csv\n3 register main inv 3 40094 0\n4 install main m1 5000 0 100000\n";
 
 /// A text, a file, a moment, how entering ends, and what it prints.
-type Row = (&'static [u8], &'static OneFile, u64, ExitStatus, &'static [u8]);
+type Row = (
+    &'static [u8],
+    &'static OneFile,
+    u64,
+    ExitStatus,
+    &'static [u8],
+);
 
 // Over the same books, one after the other: a site, the same again, a changed line and a new one, a changed file, a bad line, one
 // that can't be entered, a file that isn't there, and a clock that was set back.

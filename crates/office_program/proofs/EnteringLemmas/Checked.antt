@@ -7,17 +7,19 @@ use Rattle.std.proofs.KnownBytes.{Appends-nil, Appends-trans}
 use Rattle.std.specs.declared.io.Error.{Error}
 use Rattle.sun_points.specs.Writing.{GotPart, GotText}
 use Rattle.script_text.proofs.Got.{got_both}
-use Rattle.command_io.specs.Lines.{Line}
+use Rattle.command_io.specs.Lines.{Line, speaking_lines}
 use Rattle.command_io.specs.declared.status.ExitStatus.{ExitStatus}
 use Rattle.command_io.specs.declared.status.ExitStatus.TheVariants.{Fine, Refused, Failed}
+use Rattle.office_events.specs.Names.{named}
 use Rattle.office_events.specs.declared.events.Asked.{Asked}
 use Rattle.office_events.specs.declared.facts.Fact.{Fact}
 use Rattle.office_rules.specs.History.{History, facts_of}
-use Rattle.office_books.specs.Ledgers.{KeepsFacts, Ledger}
+use Rattle.office_books.specs.Ledgers.{Ledger, OnlyReads}
+use Rattle.office_books.specs.declared.faults.BooksFault.{BooksFault}
 use Rattle.office_core.specs.Leaving.{BooksStand}
 use Rattle.office_program.specs.declared.entering.checking.Known.{Known}
 use Rattle.office_program.specs.declared.entering.checking.Look.{Look}
-use Rattle.office_program.specs.Entering.Checked.{AreLooks, Checks, IsChecked, IsCut, IsKnown, IsKnownOf, IsLook, Looked, OnlyLooks, any_refused, is_refused, lines_with, look_text, looks_text}
+use Rattle.office_program.specs.Entering.Checked.{AreLooks, Checks, IsChecked, IsCut, IsKnown, IsKnownOf, IsLook, Looked, LooksOver, OnlyLooks, any_refused, is_refused, lines_with, look_text, looks_text}
 use Rattle.office_program.specs.Entering.Lines.{Telling}
 
 -- what is known of the request of a caller
@@ -131,3 +133,14 @@ ends_early tells caller lines rest left facts had was holds refused line told st
     means = means;
   });
 }
+
+-- Books that were looked up stand as they did.
+pub checked_over : (tells : Telling) (caller text : List ℕ) (name : Option (List ℕ)) (old new : Ledger) (had holds : Option (List ℕ)) (status : ExitStatus) (past : History)
+    → name ≡ named caller → BooksStand old past → OnlyLooks old new → Checks tells name (speaking_lines text) (facts_of past) status had holds
+    → LooksOver tells caller text new had holds status past
+checked_over tells caller text name old new had holds status past is stand looks checks =
+    let P : Option (List ℕ) → Type 0 = λ n. Checks tells n (speaking_lines text) (facts_of past) status had holds in
+    record { checks = subst P is checks; stand = still_stand old new past looks stand }
+
+pub looks_read : {T : Type 0} (old new : Ledger) (result : Result T BooksFault) → OnlyReads old new result → OnlyLooks old new
+looks_read old new result reads = record { clean = reads.goes.clean; zone = reads.goes.zone; keeps = reads.keeps }

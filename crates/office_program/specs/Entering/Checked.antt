@@ -82,7 +82,6 @@ known_text known.New = codes "new\n"
 known_text known.Again = codes "again\n"
 known_text (known.Refused why) = refused_line why
 
-
 abbrev pub look_text : (number : ℕ) → Look → List ℕ
 look_text number (look.Known what) = known_text what
 look_text number (look.Faulty rows) = course.faults_text rows

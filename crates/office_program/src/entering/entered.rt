@@ -34,9 +34,7 @@ fn enter_text<B: Books, C: Clock, F: NamedFiles, W: Write>(
     let mut progress = Progress::from(first);
     let mut lines = InputLines::of(text);
     while let Some(line) = lines.next_line() {
-        match enter_line(
-            alloc, office, caller, progress, line, files, clock, output,
-        ) {
+        match enter_line(alloc, office, caller, progress, line, files, clock, output) {
             Ok(next) => progress = next,
             Err(status) => return status,
         }

@@ -12,5 +12,4 @@ pub fn requests_are_repeated()
 /// they were.
 pub fn inputs_act_once<F: NamedFiles>(files: &F)
     ensures { AreSteady (F.tells files.now) → InputsActOnce (F.tells files.now) }
-{
-}
+{}
