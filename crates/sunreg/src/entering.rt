@@ -69,10 +69,11 @@ pub(crate) fn enter<'a>(
         (_, Err(_)) => Ending::Failed(Failure::Streams),
         (Err(status), Ok(())) => ending_of(status),
         (Ok(text), Ok(())) => {
-            let task = Task::Enter {
-                caller,
-                text: text.as_slice(),
-                only_read,
+            let text = text.as_slice();
+            let task = if only_read {
+                Task::Check { caller, text }
+            } else {
+                Task::Enter { caller, text }
             };
             ending_of_done(over_office(rt, &Files { rt }, path, task), OWN_HOST, 0)
         }
