@@ -1,5 +1,11 @@
 -- What reading a line answers.
 use Rattle.std.proofs.Common.{◌≡◌, inl, inr, ℕ, List, Option, Some, Result, Ok, Err, refl, sym, ap, subst, ◌∙◌}
+use Rattle.point_list.specs.Lists.{AreFaults, ExplainsList, SpellsList, list_faults, rows_read}
+use Rattle.point_list.specs.declared.fault.FaultyRow.{FaultyRow}
+use Rattle.point_list.specs.declared.fault.ListFault.{ListFault}
+use Rattle.point_list.specs.declared.fault.ListFault.TheVariants.{Faults}
+use Rattle.point_list.specs.declared.point.ListedPoint.{ListedPoint}
+use Rattle.read_plan.specs.PlannedLists.{IsPlanned, Planned}
 use Rattle.office_events.specs.declared.commands.Command.{Command}
 use Rattle.script_lines.specs.LineWords.Words.{words_of}
 use Rattle.script_lines.specs.Seen.{IsOnly, Reads}
@@ -12,7 +18,7 @@ use Rattle.office_program.specs.declared.entering.entries.Entry.TheVariants.{Ask
 use Rattle.office_program.specs.declared.entering.wanted.Wanted.{Wanted}
 use Rattle.office_program.specs.declared.entering.wanted.Wanted.TheVariants as wanted
 use Rattle.office_program.specs.Entering.FileLines.{FileLine, IsFileLine, IsNoFileLine}
-use Rattle.office_program.specs.Entering.Lines.{IsListEntry, IsWantedEntry, ReadsEntry, ReadsFile, ReadsList, ReadsScript, ReadsWanted, Telling, asked_by, file_request, wanted_in}
+use Rattle.office_program.specs.Entering.Lines.{IsListEntry, IsWantedEntry, ReadsEntry, ReadsFile, ReadsList, ReadsScript, ReadsWanted, Telling, asked_by, file_request, put_by, wanted_in}
 
 -- a command of which the bytes of the line are kept
 pub command_wanted : (caller : Option (List ℕ)) (text kept : List ℕ) (number : ℕ) (c : Command) (want : Wanted) → want ≡ wanted.Command number c → kept ≡ text
@@ -52,20 +58,13 @@ pub no_script : (caller : Option (List ℕ)) (text : List ℕ) (fault : LineFaul
 no_script caller text Bad reads = λ said line. absurd (reads said line)
 no_script caller text Memory reads = tt
 
-file_lists : (tells : Telling) (caller : Option (List ℕ)) (text bytes : List ℕ) (named : FileLine) (result : Result Entry LineFault)
+-- a list that a file has
+pub file_reads : (tells : Telling) (caller : Option (List ℕ)) (text bytes : List ℕ) (named : FileLine) (result : Result Entry LineFault)
     → tells named.name (Some bytes) → ReadsList caller named.number named.device bytes (file_request text bytes) result
     → ReadsFile tells caller text named result
-file_lists tells caller text bytes named (Ok entry) told reads = (bytes, told, reads)
-file_lists tells caller text bytes named (Err Bad) told reads = absurd reads
-file_lists tells caller text bytes named (Err Memory) told reads = tt
-
--- a list that a file has
-pub file_reads : (tells : Telling) (caller : Option (List ℕ)) (text bytes kept : List ℕ) (named : FileLine) (result : Result Entry LineFault)
-    → tells named.name (Some bytes) → kept ≡ file_request text bytes → ReadsList caller named.number named.device bytes kept result
-    → ReadsFile tells caller text named result
-file_reads tells caller text bytes kept named result told same reads =
-    let P : List ℕ → Type 0 = λ t. ReadsList caller named.number named.device bytes t result in
-    file_lists tells caller text bytes named result told (subst P same reads)
+file_reads tells caller text bytes named (Ok entry) told reads = (bytes, told, reads)
+file_reads tells caller text bytes named (Err Bad) told reads = absurd reads
+file_reads tells caller text bytes named (Err Memory) told reads = tt
 
 -- what a line comes to that names a file, and one that names none
 pub named_reads : (tells : Telling) (caller : Option (List ℕ)) (text : List ℕ) (named : FileLine) (result : Result Entry LineFault)
@@ -80,3 +79,17 @@ pub unnamed_reads : (tells : Telling) (caller : Option (List ℕ)) (text : List 
 unnamed_reads tells caller text (Ok entry) none reads = inr (none, reads)
 unnamed_reads tells caller text (Err Bad) none reads = inr (none, reads)
 unnamed_reads tells caller text (Err Memory) none reads = tt
+
+-- a list that was read, and planned
+pub list_read : (caller : Option (List ℕ)) (number : ℕ) (device : Option (List ℕ)) (text request : List ℕ) (points : List ListedPoint) (planned : Planned)
+    → SpellsList text points → planned.points ≡ points → IsPlanned planned
+    → ReadsList caller number device text request (Ok (Ask (asked_by caller number request (put_by device planned))))
+list_read caller number device text request points planned spells same is =
+    (planned, record { points = subst (SpellsList text) (sym same) spells; planned = is }, refl)
+
+-- the faulty rows of one that was not
+pub list_faulty : (caller : Option (List ℕ)) (number : ℕ) (device : Option (List ℕ)) (text request : List ℕ) (fault : ListFault) (told : List FaultyRow)
+    → fault ≡ Faults told → ExplainsList (list_faults (rows_read text)) fault → ReadsList caller number device text request (Ok (Faulty told))
+list_faulty caller number device text request fault told is explains =
+    let are : AreFaults (list_faults (rows_read text)) told = subst (ExplainsList (list_faults (rows_read text))) is explains in
+    ((λ none. are.1 (are.0 ∙ none)), are.0)

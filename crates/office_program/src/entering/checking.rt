@@ -59,7 +59,7 @@ fn known_by(found: Option<Repeat>) -> Known
 }
 
 // What books know of a request. They are only asked.
-fn known<B: Books>(books: &mut B, asked: &Asked) -> Known
+fn look_up<B: Books>(books: &mut B, asked: &Asked) -> Known
     ensures known { KnowsRequest (B.ledger books.old) (B.ledger books.new) asked.now result }
     ensures looks { OnlyLooks (B.ledger books.old) (B.ledger books.new) }
 {
@@ -86,7 +86,7 @@ fn look_at<B: Books, F: NamedFiles>(
 {
     match entry_in(alloc, caller, line, files) {
         Ok(entry) => match entry {
-            Entry::Ask(asked) => Ok(Look::Known(known(books, &asked))),
+            Entry::Ask(asked) => Ok(Look::Known(look_up(books, &asked))),
             Entry::Faulty(faults) => Ok(Look::Faulty(faults)),
         },
         Err(fault) => match fault {

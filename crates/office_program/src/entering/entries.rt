@@ -43,8 +43,10 @@ fn list_entry(
             })),
             Err(_) => Err(LineFault::Memory),
         },
-        Err(ListFault::Faults(faults)) => Ok(Entry::Faulty(faults)),
-        Err(ListFault::Memory) => Err(LineFault::Memory),
+        Err(fault) => match fault {
+            ListFault::Faults(faults) => Ok(Entry::Faulty(faults)),
+            ListFault::Memory => Err(LineFault::Memory),
+        },
     }
 }
 
@@ -106,6 +108,23 @@ fn script_entry(alloc: Global, caller: Option<Name>, line: &[u8]) -> Result<Entr
     }
 }
 
+// The entry of a line that names a file, which has these bytes.
+fn held_entry(
+    alloc: Global,
+    caller: Option<Name>,
+    line: &[u8],
+    named: &FileLine<'_>,
+    text: &[u8],
+) -> Result<Entry, LineFault>
+    ensures { ReadsList caller named.now.number named.now.device text.now
+        (lines.file_request line.now text.now) result }
+{
+    match file_request(alloc, line, text) {
+        Ok(request) => list_entry(alloc, caller, named.number, named.device, text, request),
+        Err(_) => Err(LineFault::Memory),
+    }
+}
+
 // The entry of a line that names a file.
 fn file_entry<F: NamedFiles>(
     alloc: Global,
@@ -117,11 +136,10 @@ fn file_entry<F: NamedFiles>(
     ensures { ReadsFile (F.tells files.now) caller line.now (seen_line named.now) result }
 {
     match files.read(alloc, named.name) {
-        Ok(Some(text)) => match file_request(alloc, line, &text) {
-            Ok(request) => list_entry(alloc, caller, named.number, named.device, &text, request),
-            Err(_) => Err(LineFault::Memory),
+        Ok(found) => match found {
+            Some(text) => held_entry(alloc, caller, line, named, &text),
+            None => Err(LineFault::Bad),
         },
-        Ok(None) => Err(LineFault::Bad),
         Err(_) => Err(LineFault::Memory),
     }
 }
