@@ -149,9 +149,9 @@ static LOOKS: [(&[u8], &[u8]); 2] = [
 fn looking_books_nothing(rt: HostRuntime) -> Result<(), Fail> {
     let (done, shown) = check(rt.alloc(), blank(rt.alloc())?, &LIST, SITE);
     assert_eq!(rt; done.end, ExitStatus::Fine);
-    assert_eq!(rt; shown.as_slice(), b"new\nnew\nnew\nnew\n");
+    assert_eq!(rt; shown.as_slice(), b"new\nnew\nnew\nnew\n".as_slice());
     let (done, shown) = enter(rt.alloc(), done.books, &LIST, SITE, 1000);
-    assert_eq!(rt; shown.as_slice(), b"ok\nok\nok\nok\n");
+    assert_eq!(rt; shown.as_slice(), b"ok\nok\nok\nok\n".as_slice());
     let mut books = done.books;
     for (text, printed) in &LOOKS {
         let (done, shown) = check(rt.alloc(), books, &LIST, text);
