@@ -2,8 +2,10 @@
 use crate::day::{REPORTED, book_day};
 use crate::files::Connects;
 use command_io::ExitStatus;
+use office_program::NamedFiles;
 use office_store::{OpenFault, SqlBooks};
 use socket_link::FixedClock;
+use std::alloc::{AllocError, Global};
 use std::test::Fail;
 use stored_office::{Done, Task, carry_out_stored, create_stored};
 
@@ -60,6 +62,46 @@ fn set_version<C: Connects>(connects: &C, path: &str) -> Result<(), Fail> {
     Ok(())
 }
 
+/// A folder without files.
+struct NoFiles;
+
+impl NamedFiles for NoFiles {
+    fn read(&self, _alloc: Global, _name: &[u8]) -> Result<Option<Vec<u8>>, AllocError> {
+        Ok(None)
+    }
+}
+
+/// Carries a task out at a moment that ends with a status: how, and what it prints.
+fn carry_out<C: Connects>(
+    rt: &HostRuntime,
+    connects: &C,
+    path: &str,
+    task: Task<'_>,
+    moment: u64,
+) -> Result<Report, Fail> {
+    let connection = connects.open(path)?;
+    let moments = [moment];
+    let mut clock = FixedClock::new(&moments);
+    let mut printed = Vec::new(rt.alloc());
+    let mut said = Vec::new(rt.alloc());
+    match carry_out_stored(
+        rt,
+        rt.alloc(),
+        connection,
+        task,
+        &NoFiles,
+        &mut clock,
+        &mut printed,
+        &mut said,
+    ) {
+        Ok(Done::Reported(end) | Done::Entered(end) | Done::Checked(end)) if said.is_empty() => {
+            Ok((Ok(end), printed))
+        }
+        Ok(_) => Err(Fail::from("no status")),
+        Err(fault) => Ok((Err(fault), printed)),
+    }
+}
+
 /// Reports a register at a moment.
 fn report<C: Connects>(
     rt: &HostRuntime,
@@ -68,25 +110,58 @@ fn report<C: Connects>(
     register: &str,
     moment: u64,
 ) -> Result<Report, Fail> {
-    let connection = connects.open(path)?;
-    let moments = [moment];
-    let mut clock = FixedClock::new(&moments);
-    let mut printed = Vec::new(rt.alloc());
-    let mut said = Vec::new(rt.alloc());
-    let task = Task::Report { register };
-    match carry_out_stored(
-        rt,
-        rt.alloc(),
-        connection,
-        task,
-        &mut clock,
-        &mut printed,
-        &mut said,
-    ) {
-        Ok(Done::Reported(end)) if said.is_empty() => Ok((Ok(end), printed)),
-        Ok(_) => Err(Fail::from("no report")),
-        Err(fault) => Ok((Err(fault), printed)),
+    carry_out(rt, connects, path, Task::Report { register }, moment)
+}
+
+/// A device that is entered.
+static DEVICE: &[u8] = b"1 device inv 1 5 1\n";
+
+/// Tasks over one office, and what they print: a line acts once, and looking at it says so.
+static ENTERED: [(Task<'static>, &[u8]); 4] = [
+    (
+        Task::Check {
+            caller: "desk",
+            text: DEVICE,
+        },
+        b"new\n",
+    ),
+    (
+        Task::Enter {
+            caller: "desk",
+            text: DEVICE,
+        },
+        b"ok\n",
+    ),
+    (
+        Task::Check {
+            caller: "desk",
+            text: DEVICE,
+        },
+        b"again\n",
+    ),
+    (
+        Task::Enter {
+            caller: "desk",
+            text: DEVICE,
+        },
+        b"ok\n",
+    ),
+];
+
+/// Whether a line is entered once.
+pub(crate) fn is_entered_once<C: Connects>(
+    rt: &HostRuntime,
+    connects: &C,
+    path: &str,
+) -> Result<bool, Fail> {
+    let made = create(rt, connects, path, "UTC0")?;
+    for (task, text) in &ENTERED {
+        let (end, printed) = carry_out(rt, connects, path, *task, 1000)?;
+        if end != Ok(ExitStatus::Fine) || printed.as_slice() != *text {
+            return Ok(false);
+        }
     }
+    Ok(made.is_none())
 }
 
 /// Whether each report comes as its row says.

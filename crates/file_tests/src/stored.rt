@@ -1,5 +1,5 @@
 //! Offices in files.
-use crate::commands::{is_made_once, is_reported, is_unknown};
+use crate::commands::{is_entered_once, is_made_once, is_reported, is_unknown};
 use crate::files::{Files, path, remove};
 use std::test::Fail;
 
@@ -14,6 +14,13 @@ fn an_office_is_made_once(rt: HostRuntime) -> Result<(), Fail> {
 fn a_day_is_reported(rt: HostRuntime) -> Result<(), Fail> {
     let path = path(&rt)?;
     assert!(rt; is_reported(&rt, &Files { rt: &rt }, &path)?);
+    remove(&rt, &path)
+}
+
+#[test]
+fn a_line_is_entered_once(rt: HostRuntime) -> Result<(), Fail> {
+    let path = path(&rt)?;
+    assert!(rt; is_entered_once(&rt, &Files { rt: &rt }, &path)?);
     remove(&rt, &path)
 }
 

@@ -4,7 +4,7 @@ use http_request::Status;
 use mb_wire::{Link, MemoryLink};
 use std::test::Fail;
 
-static STATUSES: [(Status, &[u8]); 10] = [
+static STATUSES: [(Status, &[u8]); 11] = [
     (Status::Fine, b"HTTP/1.1 200 OK\r\n"),
     (Status::BadRequest, b"HTTP/1.1 400 Bad Request\r\n"),
     (Status::NotFound, b"HTTP/1.1 404 Not Found\r\n"),

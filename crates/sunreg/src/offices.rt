@@ -201,6 +201,7 @@ pub(crate) fn over_office<'a, D: Databases>(
         rt.alloc(),
         connection,
         task,
+        &Files { rt },
         &mut clock,
         &mut output,
         &mut errors,
@@ -218,7 +219,9 @@ fn output_of<'r>(
     task: Task<'_>,
 ) -> io::Result<CommandOutput<Printer<'r, HostRuntime>>> {
     match task {
-        Task::Report { .. } | Task::Serve { .. } => Ok(CommandOutput::in_pieces(io::writer(rt))),
+        Task::Report { .. } | Task::Serve { .. } | Task::Enter { .. } | Task::Check { .. } => Ok(
+            CommandOutput::in_pieces(io::writer(rt)),
+        ),
         Task::Round { .. } | Task::Run { .. } => CommandOutput::by_lines(
             rt.alloc(),
             io::writer(rt),

@@ -8,7 +8,9 @@ ghost use Rattle.stored_office.specs.Tasks.Tasks.{IsOf, Does};
 
 use crate::files::Closes;
 use command_io::ExitStatus;
-use office_program::{PollEnd, ServeEnd, poll_books, report_books, serve_books};
+use office_program::{
+    NamedFiles, PollEnd, ServeEnd, check_books, enter_books, poll_books, report_books, serve_books,
+};
 use office_running::{RunFault, Settings, Site, run_office};
 use office_store::{OpenFault, SqlBooks};
 use socket_link::Clock;
@@ -31,6 +33,16 @@ pub enum Task<'a> {
         names: &'a [&'a str],
         connections: u32,
     },
+    /// What the lines of a text ask is asked under a caller, as `enter_books` does.
+    Enter {
+        caller: &'a str,
+        text: &'a [u8],
+    },
+    /// They are only looked at, as `check_books` does.
+    Check {
+        caller: &'a str,
+        text: &'a [u8],
+    },
     /// A device at a port of a host is polled, as `poll_books` does.
     Round {
         device: &'a str,
@@ -49,17 +61,28 @@ pub enum Task<'a> {
 pub enum Done {
     Reported(ExitStatus),
     Served(ServeEnd),
+    Entered(ExitStatus),
+    Checked(ExitStatus),
     Polled(PollEnd),
     Ran(Result<(), RunFault>),
 }
 
 /// Finds the books of a database, and carries a task out over them. Where there are no books, nothing is printed. What was
-/// booked is moved from the log into the file, as far as that can be done; a report leaves the file as it finds it.
-pub fn carry_out_stored<R: Net + std::rt::Clock, S: Closes, C: Clock, W: Write, E: Write>(
+/// booked is moved from the log into the file, as far as that can be done; a report and a look leave the file as they find it. Files that a text
+/// names are read by `files`.
+pub fn carry_out_stored<
+    R: Net + std::rt::Clock,
+    S: Closes,
+    F: NamedFiles,
+    C: Clock,
+    W: Write,
+    E: Write,
+>(
     rt: &R,
     alloc: Global,
     connection: Connection<S>,
     task: Task<'_>,
+    files: &F,
     clock: &mut C,
     output: &mut W,
     errors: &mut E,
@@ -69,7 +92,7 @@ pub fn carry_out_stored<R: Net + std::rt::Clock, S: Closes, C: Clock, W: Write, 
     ensures silent { IfErr result (λ fault. output.new ≡ output.old) }
     ensures same { IfOk result (IsOf task.entry) }
     ensures does { (past : History) → HasPast S.Store connection past
-        → IfOk result (Does S.Store past (C.moments clock.old) (C.moments clock.new)
+        → IfOk result (Does S.Store (F.tells files.now) past (C.moments clock.old) (C.moments clock.new)
         (W.contents output.old) (W.contents output.new) task.entry) }
 {
     match SqlBooks::open(alloc, connection) {
@@ -88,6 +111,15 @@ pub fn carry_out_stored<R: Net + std::rt::Clock, S: Closes, C: Clock, W: Write, 
                 let done = serve_books(rt, alloc, books, place, names, connections, clock, output);
                 S::close(done.books.into_connection());
                 Ok(Done::Served(done.end))
+            }
+            Task::Enter { caller, text } => {
+                let done = enter_books(alloc, books, caller, text, files, clock, output);
+                S::close(done.books.into_connection());
+                Ok(Done::Entered(done.end))
+            }
+            Task::Check { caller, text } => {
+                let done = check_books(alloc, books, caller, text, files, output);
+                Ok(Done::Checked(done.end))
             }
             Task::Round { device, host, port } => {
                 let done = poll_books(rt, alloc, books, device, (host, port), clock, output);
