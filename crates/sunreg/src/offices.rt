@@ -8,6 +8,7 @@ use crate::run_words::sites_of;
 use command_words::Device;
 use interval_core::Zone;
 use office_running::Settings;
+use office_store::OpenFault;
 use socket_link::SystemClock;
 use sqlite::{Connection, FileFrom, FileStore, Unknown};
 use std::fs::{self, Permissions};
@@ -112,7 +113,8 @@ fn make_office<'a, D: Databases>(
     }
 }
 
-// The same, where no log stands alone. A file that was made is its owner's alone, and goes again where no office is made in it.
+// The same, where no log stands alone. A file that was made is its owner's alone, and goes again where its tables could not be
+// made.
 fn create_in<'a, D: Databases>(
     rt: &HostRuntime,
     databases: &D,
@@ -131,16 +133,17 @@ fn create_in<'a, D: Databases>(
                 keep_private(rt, path);
                 keep_private(rt, log.as_str());
             }
+            // (it was locked then, and had no tables: nobody else made an office in it meanwhile)
             Err(
-                Failure::File {
-                    fault: FileFault::Busy,
+                Failure::Unmade {
+                    fault: OpenFault::Store | OpenFault::Memory,
                     ..
                 },
-            ) => {}
-            Err(_) => {
+            ) => {
                 let _gone = fs::remove_file(rt, path);
                 let _gone = fs::remove_file(rt, log.as_str());
             }
+            Err(_) => {}
         }
     }
     made
