@@ -17,7 +17,7 @@ The office and its log, a database of SQLite's format. What was accepted is in t
 .SH SEE ALSO
 .BR sqlite3 (1),
 .BR curl (1),
-.BR modpoll (1).
+.BR mbpoll (1).
 The pages
 .I README.md
 and
