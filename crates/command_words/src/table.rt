@@ -190,7 +190,7 @@ const CREATE: CommandText<'static> = CommandText {
 
 const ENTER: CommandText<'static> = CommandText {
     name: "enter",
-    about: "Sets an office up from lines of standard input, each of which acts once",
+    about: "Sets an office up by lines of standard input, which act once",
     after: "Example: sunreg enter --db office.db --caller site < site.txt",
     options: &[
         DB,
@@ -198,7 +198,7 @@ const ENTER: CommandText<'static> = CommandText {
         OptionText {
             name: "devices",
             value: Value::Optional("LIST"),
-            help: "Where @read asks: 1 to 64 of NAME=HOST:PORT, joined by commas",
+            help: "Devices that @read asks: NAME=HOST:PORT, joined by commas",
         },
         OptionText {
             name: "only-read",
@@ -317,7 +317,7 @@ const RUN: CommandText<'static> = CommandText {
 
 const EXPLAIN: CommandText<'static> = CommandText {
     name: "explain",
-    about: "Tells what a printed number means, its usual cause, and what to do",
+    about: "Tells what a printed number means, its cause, and what to do",
     after: "Example: sunreg explain refused 12",
     options: &[
         OptionText {

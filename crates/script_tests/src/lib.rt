@@ -29,6 +29,8 @@ mod loops;
 #[cfg(test)]
 mod number_words;
 #[cfg(test)]
+mod numbers;
+#[cfg(test)]
 mod printing;
 #[cfg(test)]
 mod replays;
@@ -42,5 +44,7 @@ mod scans;
 mod set_ups;
 #[cfg(test)]
 mod streams;
+#[cfg(test)]
+mod version;
 #[cfg(test)]
 mod wrong_words;

@@ -87,29 +87,42 @@ fn write_options<W: Write>(command: &CommandText<'_>, output: &mut W) -> io::Res
     output.write_all(b"--help' ;;\n")
 }
 
-fn write_script<W: Write>(output: &mut W) -> io::Result<()> {
-    let commands = program().commands;
-    output.write_all(HEAD.as_bytes())?;
-    output.write_all(b"    case $COMP_CWORD in\n    1) words='")?;
-    write_names(commands, output)?;
-    output.write_all(b" --help --version' ;;\n    *) case ${COMP_WORDS[1]}\" \"${COMP_WORDS[COMP_CWORD - 1]} in\n")?;
+// For each command, what stands behind its options.
+fn write_all_values<W: Write>(commands: &[CommandText<'_>], output: &mut W) -> io::Result<()> {
+    output.write_all(b"    *) case ${COMP_WORDS[1]}\" \"${COMP_WORDS[COMP_CWORD - 1]} in\n")?;
     for command in commands {
         write_values(command, output)?;
     }
-    output.write_all(b"    esac\n    case ${COMP_WORDS[1]} in\n")?;
+    output.write_all(b"    esac\n")
+}
+
+// For each command, its options and the words that may stand behind it.
+fn write_all_options<W: Write>(commands: &[CommandText<'_>], output: &mut W) -> io::Result<()> {
+    output.write_all(b"    case ${COMP_WORDS[1]} in\n")?;
     for command in commands {
         write_options(command, output)?;
     }
     output.write_all(b"    help) words='")?;
     write_names(commands, output)?;
-    output.write_all(b"' ;;\n    esac ;;\n    esac\n")?;
+    output.write_all(b"' ;;\n    esac ;;\n")
+}
+
+fn write_script<W: Write>(commands: &[CommandText<'_>], output: &mut W) -> io::Result<()> {
+    output.write_all(HEAD.as_bytes())?;
+    output.write_all(b"    case $COMP_CWORD in\n    1) words='")?;
+    write_names(commands, output)?;
+    output.write_all(b" --help --version' ;;\n")?;
+    write_all_values(commands, output)?;
+    write_all_options(commands, output)?;
+    output.write_all(b"    esac\n")?;
     output.write_all(TAIL.as_bytes())
 }
 
 /// Prints it.
 pub(crate) fn completions(rt: &HostRuntime) -> Ending<'static> {
     let mut output = Buffered::new(io::writer(rt));
-    match (write_script(&mut output), output.flush()) {
+    let written = write_script(program().commands, &mut output);
+    match (written, output.flush()) {
         (Ok(()), Ok(())) => Ending::Fine,
         _ => Ending::Failed(Failure::Streams),
     }
