@@ -24,7 +24,9 @@ fn read_within(rt: &HostRuntime, alloc: Global, name: &str) -> io::Result<Vec<u8
         if count == 0 || whole.len() > MOST_FILE {
             return Ok(whole);
         }
-        whole.extend_from_slice(&piece[..count])?;
+        if whole.extend_from_slice(&piece[..count]).is_err() {
+            return Err(io::Error::from(ErrorKind::OutOfMemory));
+        }
     }
     Ok(whole)
 }
@@ -36,20 +38,24 @@ impl NamedFiles for Files<'_> {
             return Ok(None);
         };
         match read_within(self.rt, alloc, name) {
-            Ok(bytes) if bytes.len() <= MOST_FILE => Ok(Some(bytes)),
-            Ok(_) => {
+            Ok(bytes) => {
+                if bytes.len() <= MOST_FILE {
+                    return Ok(Some(bytes));
+                }
                 say_unread(self.rt, name, "it has more than 65536 bytes");
                 Ok(None)
             }
-            Err(error) if error.kind() == ErrorKind::OutOfMemory => Err(AllocError),
-            Err(error) if error.kind() == ErrorKind::NotFound => {
-                say_unread(self.rt, name, "there is no such file");
-                Ok(None)
-            }
-            Err(_) => {
-                say_unread(self.rt, name, "it can't be read: look at its rights");
-                Ok(None)
-            }
+            Err(error) => match error.kind() {
+                ErrorKind::OutOfMemory => Err(AllocError),
+                ErrorKind::NotFound => {
+                    say_unread(self.rt, name, "there is no such file");
+                    Ok(None)
+                }
+                _ => {
+                    say_unread(self.rt, name, "it can't be read: look at its rights");
+                    Ok(None)
+                }
+            },
         }
     }
 }
