@@ -6,6 +6,7 @@ use office_program::{MOST_FILE, NamedFiles};
 use std::alloc::{AllocError, Global};
 use std::fs::File;
 use std::io::{self, ErrorKind, Read, Write};
+use std::str::from_utf8;
 use stored_office::{Ending, Failure, Task, ending_of, ending_of_done};
 
 // Says why a file that a line names isn't read.
@@ -33,7 +34,7 @@ fn read_within(rt: &HostRuntime, alloc: Global, name: &str) -> io::Result<Vec<u8
 
 impl NamedFiles for Files<'_> {
     fn read(&self, alloc: Global, name: &[u8]) -> Result<Option<Vec<u8>>, AllocError> {
-        let Ok(name) = str::from_utf8(name) else {
+        let Ok(name) = from_utf8(name) else {
             say_unread(self.rt, "a list", "the name of its file is no text");
             return Ok(None);
         };
