@@ -97,7 +97,8 @@ fn look_at<B: Books, F: NamedFiles>(
 }
 
 fn print_known<W: Write>(known: Known, output: &mut W) -> io::Result<()>
-    ensures { GotText result (spec.known_text known) (W.contents output.old) (W.contents output.new) }
+    ensures { GotText result (spec.known_text known)
+        (W.contents output.old) (W.contents output.new) }
 {
     match known {
         Known::New => output.take_text(b"new\n"),
