@@ -6,6 +6,7 @@ use office_program::{MOST_FILE, NamedFiles};
 use std::alloc::{AllocError, Global};
 use std::fs::File;
 use std::io::{self, ErrorKind, Read, Write};
+use std::str::from_utf8;
 use stored_office::{Ending, Failure, Task, ending_of, ending_of_done};
 
 // Says why a file that a line names isn't read.
@@ -24,32 +25,38 @@ fn read_within(rt: &HostRuntime, alloc: Global, name: &str) -> io::Result<Vec<u8
         if count == 0 || whole.len() > MOST_FILE {
             return Ok(whole);
         }
-        whole.extend_from_slice(&piece[..count])?;
+        if whole.extend_from_slice(&piece[..count]).is_err() {
+            return Err(io::Error::from(ErrorKind::OutOfMemory));
+        }
     }
     Ok(whole)
 }
 
 impl NamedFiles for Files<'_> {
     fn read(&self, alloc: Global, name: &[u8]) -> Result<Option<Vec<u8>>, AllocError> {
-        let Ok(name) = str::from_utf8(name) else {
+        let Ok(name) = from_utf8(name) else {
             say_unread(self.rt, "a list", "the name of its file is no text");
             return Ok(None);
         };
         match read_within(self.rt, alloc, name) {
-            Ok(bytes) if bytes.len() <= MOST_FILE => Ok(Some(bytes)),
-            Ok(_) => {
+            Ok(bytes) => {
+                if bytes.len() <= MOST_FILE {
+                    return Ok(Some(bytes));
+                }
                 say_unread(self.rt, name, "it has more than 65536 bytes");
                 Ok(None)
             }
-            Err(error) if error.kind() == ErrorKind::OutOfMemory => Err(AllocError),
-            Err(error) if error.kind() == ErrorKind::NotFound => {
-                say_unread(self.rt, name, "there is no such file");
-                Ok(None)
-            }
-            Err(_) => {
-                say_unread(self.rt, name, "it can't be read: look at its rights");
-                Ok(None)
-            }
+            Err(error) => match error.kind() {
+                ErrorKind::OutOfMemory => Err(AllocError),
+                ErrorKind::NotFound => {
+                    say_unread(self.rt, name, "there is no such file");
+                    Ok(None)
+                }
+                _ => {
+                    say_unread(self.rt, name, "it can't be read: look at its rights");
+                    Ok(None)
+                }
+            },
         }
     }
 }

@@ -54,11 +54,12 @@ with_came past (Faulty rows) = past
 
 -- It is answered as the office's definitions say, or the office failed outside, which is counted.
 abbrev pub IsCameAnswered : History → (before after : ℕ) → Came → Type 0
-IsCameAnswered past before after (Asked one) = IsAnswer past one.at one.event before after one.result
+IsCameAnswered past before after (Asked one) =
+    IsAnswer past one.at one.event before after one.result
 IsCameAnswered past before after (Faulty rows) = after ≡ before
 
--- What a script prints of the answer: an accepted event's notes and `ok`, or the number of the refusal; and a line for each faulty row,
--- and that the list is refused.
+-- What a script prints of the answer: an accepted event's notes and `ok`, or the number of the refusal; and a line for each
+-- faulty row, and that the list is refused.
 abbrev pub reply_text : History → (at : ℕ) → Event → Result Answer Refusal → List ℕ
 reply_text past at e (Ok given) =
     accepted_text given (notes_after past at e (Ok given)) (outgoing_after past at e (Ok given))

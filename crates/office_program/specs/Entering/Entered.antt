@@ -52,7 +52,8 @@ pub record IsStoppedTold (tells : Telling) (lines : List Line) (past : History) 
   pub printed : Appends had holds (stopped_text past stopped)
   pub means : status ≡ Refused
 
--- Where it was broken off, a part of the text of those that were taken is printed, or all of it and a part of that of a bad line.
+-- Where it was broken off, a part of the text of those that were taken is printed, or all of it and a part of that of a
+-- bad line.
 pub record IsBrokenOff (tells : Telling) (lines : List Line) (past : History) (taken : List Taken)
     (status : ExitStatus) (had holds : Option (List ℕ)) : Type 0 where
   pub rest : List Line

@@ -50,7 +50,8 @@ wanted_in _ = wanted.Nothing
 -- ---- What it comes to
 
 -- The request of a command, of which these bytes are kept.
-abbrev pub asked_by : (caller : Option (List ℕ)) → (number : ℕ) → (request : List ℕ) → Command → Asked
+abbrev pub asked_by : (caller : Option (List ℕ)) → (number : ℕ) → (request : List ℕ) → Command
+    → Asked
 asked_by caller number request c =
     record { caller = caller; number = number; request = request; command = c }
 
@@ -73,7 +74,8 @@ IsListEntry caller number device text request (Faulty rows) =
 
 -- Of a script's line the bytes of the line are kept,
 abbrev pub IsWantedEntry : (caller : Option (List ℕ)) → (text : List ℕ) → Wanted → Entry → Type 0
-IsWantedEntry caller text (wanted.Command number c) entry = entry ≡ Ask (asked_by caller number text c)
+IsWantedEntry caller text (wanted.Command number c) entry =
+    entry ≡ Ask (asked_by caller number text c)
 IsWantedEntry caller text (wanted.List number list) entry =
     IsListEntry caller number list.device list.text text entry
 IsWantedEntry caller text wanted.Nothing entry = ⊥
@@ -107,7 +109,8 @@ LacksFile tells text =
     (named : FileLine) × IsFileLine (words_of text) named × tells named.name None
 
 abbrev pub IsNoRequest : (text : List ℕ) → Type 0
-IsNoRequest text = (said : ScriptLine) → IsLine (words_of text) said → wanted_in said ≡ wanted.Nothing
+IsNoRequest text =
+    (said : ScriptLine) → IsLine (words_of text) said → wanted_in said ≡ wanted.Nothing
 
 abbrev pub IsBad : Telling → (text : List ℕ) → Type 0
 IsBad tells text = LacksFile tells text ⊎ (IsNoFileLine (words_of text) × IsNoRequest text)

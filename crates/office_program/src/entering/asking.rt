@@ -51,10 +51,7 @@ fn ask<B: Books, C: Clock, W: Write>(
     let at = progress.latest.max(told);
     let reply = office.feed(at, event);
     print_reply(office, reply, output)?;
-    Ok(Progress {
-        latest: at,
-        refused: progress.refused || reply.is_err(),
-    })
+    Ok(progress.asked(at, reply.is_err()))
 }
 
 // A line for each faulty row, and then that the list is refused.
@@ -70,10 +67,7 @@ fn tell_faults<W: Write>(
 {
     write_faults(rows, output)?;
     write_refusal(Refusal::Limit, output)?;
-    Ok(Progress {
-        latest: progress.latest,
-        refused: true,
-    })
+    Ok(progress.faulty())
 }
 
 // Asks what a line comes to, or tells the faults of its list.

@@ -1,5 +1,5 @@
 //! Looking at an input, of which nothing is asked.
-ghost use Rattle.std.specs.Prelude.{◌≡◌, IfErr};
+ghost use Rattle.std.specs.Prelude.{◌≡◌, ◌||◌, IfErr};
 ghost use Rattle.command_io.specs.Lines.{seen_line};
 ghost use Rattle.sun_points.specs.Writing.{GotText};
 ghost use Rattle.office_program.specs.Texts.Passing.{Lasts};
@@ -97,7 +97,8 @@ fn look_at<B: Books, F: NamedFiles>(
 }
 
 fn print_known<W: Write>(known: Known, output: &mut W) -> io::Result<()>
-    ensures { GotText result (spec.known_text known) (W.contents output.old) (W.contents output.new) }
+    ensures { GotText result (spec.known_text known)
+        (W.contents output.old) (W.contents output.new) }
 {
     match known {
         Known::New => output.take_text(b"new\n"),
@@ -169,6 +170,12 @@ fn check_line<B: Books, F: NamedFiles, W: Write>(
     }
 }
 
+fn either(one: bool, other: bool) -> bool
+    ensures { result ≡ (one || other) }
+{
+    one || other
+}
+
 // Looks at the lines of a text, one after the other.
 fn check_text<B: Books, F: NamedFiles, W: Write>(
     alloc: Global,
@@ -186,7 +193,7 @@ fn check_text<B: Books, F: NamedFiles, W: Write>(
     let mut lines = InputLines::of(text);
     while let Some(line) = lines.next_line() {
         match check_line(alloc, books, caller, line, files, output) {
-            Ok(more) => refused = refused || more,
+            Ok(more) => refused = either(refused, more),
             Err(status) => return status,
         }
     }

@@ -46,9 +46,9 @@ fn enter_text<B: Books, C: Clock, F: NamedFiles, W: Write>(
 /// under a caller and the number that is its first word: so what acted before is answered `ok`, and acts no second time. A
 /// line is asked at the moment that the clock tells, or at that of the line before where that is later.
 ///
-/// Each prints `ok` or `refused N`, or `row R fault N` for each faulty row of its point list and then `refused 12`; `bad line N` ends the
-/// command, and the rest isn't carried out. Where the opening is refused, `refused N` alone is printed. A caller that is no name has
-/// each line refused. The books are handed back.
+/// Each prints `ok` or `refused N`, or `row R fault N` for each faulty row of its point list and then `refused 12`; `bad line
+/// N` ends the command, and the rest isn't carried out. Where the opening is refused, `refused N` alone is printed. A caller
+/// that is no name has each line refused. The books are handed back.
 pub fn enter_books<B: Books, C: Clock, F: NamedFiles, W: Write>(
     alloc: Global,
     books: B,

@@ -1,5 +1,5 @@
 //! How far the lines of an input have come.
-ghost use Rattle.std.specs.Prelude.{◌≡◌, false};
+ghost use Rattle.std.specs.Prelude.{◌≡◌, ◌||◌, false, true};
 ghost use Rattle.office_program.specs.Entering.Entered.{status_of};
 
 use command_io::ExitStatus;
@@ -21,6 +21,26 @@ impl Progress {
         Progress {
             latest: moment,
             refused: false,
+        }
+    }
+
+    /// After one more line that was asked at a moment.
+    pub(crate) fn asked(self, at: u64, refused: bool) -> Progress
+        ensures { result ≡ record { latest = at; refused = self.refused || refused } }
+    {
+        Progress {
+            latest: at,
+            refused: self.refused || refused,
+        }
+    }
+
+    /// After one whose point list has faults.
+    pub(crate) fn faulty(self) -> Progress
+        ensures { result ≡ record { latest = self.latest; refused = true } }
+    {
+        Progress {
+            latest: self.latest,
+            refused: true,
         }
     }
 
