@@ -247,13 +247,14 @@ def clock_ahead(db):
     run = Process("run", *words, **clock)
     holds("run listens", run.wait_for(f"listening {port}"), run.said)
     before = int(time.time())
+    rounds = sum("round answered" in line for line in run.lines)
     set_clock("+600")
     time.sleep(5)
     said = [line.split() for line in run.said if "the clock went from" in line]
     same("it is said once", len(said), 1)
     moments = [int(word) for word in said[0] if word.isdigit()] if said else [0, 0]
     holds("with both moments", abs(moments[0] - before) <= 2 and 595 <= moments[1] - moments[0] <= 605, (said, before))
-    holds("rounds go on", run.wait_for("round answered"), run.lines)
+    holds("and rounds go on", sum("round answered" in line for line in run.lines) > rounds, run.lines)
     run.end()
     set_clock("+0")
     run = Process("run", *words, **clock)
@@ -335,7 +336,7 @@ class Meter:
                 stream.sendall(frame[:4] + bytes([0, 3 + len(data)]) + frame[6:8] + bytes([len(data)]) + data)
 
 
-def slowed(child, seconds, stop=0.9, go=0.02):
+def slowed(child, seconds, stop=1.2, go=0.15):
     """Stops a process for most of each second: its turns then take as long as those of a machine that is at its limit."""
     until = time.monotonic() + seconds
     while time.monotonic() < until and child.poll() is None:
@@ -415,13 +416,13 @@ def stuffed_pipes(db):
     fcntl.fcntl(writer, 1031, 4096)  # F_SETPIPE_SZ
     child = subprocess.Popen(
         [PROGRAM, "run", "--db", db, "--listen", str(port), "--every", "1", "--verbose", "--devices", f"inv=127.0.0.1:{device.port}"]
-        + [f"d{k}=127.0.0.1:1" for k in range(60)],
+        + [f"long-name-of-{k:03}=127.0.0.1:{device.port}" for k in range(60)],
         stdin=subprocess.DEVNULL, stdout=writer, stderr=writer,
     )
     CHILDREN.append(child)
     os.close(writer)
     waits(port, 60)
-    time.sleep(40)
+    time.sleep(50)
     before = device.answered
     time.sleep(5)
     holds("it polls while nobody reads", device.answered - before >= 4, device.answered - before)

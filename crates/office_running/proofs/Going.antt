@@ -177,9 +177,9 @@ goes_turn names ledger sees at old new begun failures turned observer opened tur
 }
 
 -- One event of a round is fed, and nothing else.
-pub goes_fed : {B : Type 0} (names : List (List ℕ)) (ledger : B → Ledger) (at : ℕ) (e : Event) (answer : Result Answer Refusal) (old new : Office B) → IsOfRound e
-    → After ledger old new (λ past. Stands ledger (with_answer past at e answer) new) → Ends ledger old new e answer → Goes names at ledger old new
-goes_fed names ledger at e answer old new is feeds ends = record {
+pub goes_fed : {B : Type 0} (names : List (List ℕ)) (ledger : B → Ledger) (at : ℕ) (e : Event) (answer : Result Answer Refusal) (old new : Office B)
+    → After ledger old new (λ past. Stands ledger (with_answer past at e answer) new) → Ends ledger old new e answer → IsOfRound e → Goes names at ledger old new
+goes_fed names ledger at e answer old new feeds ends is = record {
   stands = λ past stands clean. record {
     steps = Fed (record { at = at; event = e; result = answer }) ∷ [];
     each = ((refl, is), tt);

@@ -361,7 +361,7 @@ fn end_of(settings: &Settings<'_>, now: u64) -> u64 {
     }
 }
 
-// Tells what was left in the books of an open office, and that its port is open.
+// Opens the port of an open office, and tells what was left in its books, and that it listens.
 fn open<R: Net, W: Write>(
     rt: &R,
     alloc: Global,
@@ -372,13 +372,16 @@ fn open<R: Net, W: Write>(
     time: u64,
     output: &mut W,
 ) -> Result<Running, RunFault> {
-    print_left(left, output)?;
-    let running = Running::open(rt, alloc, settings, sites, lacks, time)?;
-    let port = settings.listen.port();
-    if writeln!(output, "listening {port}").is_err() || output.flush().is_err() {
-        return Err(RunFault::Output);
+    match Running::open(rt, alloc, settings, sites, lacks, time) {
+        Ok(mut running) => {
+            running.voice.tell_opened(left, settings.listen.port());
+            Ok(running)
+        }
+        Err(fault) => {
+            print_left(left, output)?;
+            Err(fault)
+        }
     }
-    Ok(running)
 }
 
 // The same from a moment on, and then turns until the time is up.

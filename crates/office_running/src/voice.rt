@@ -1,4 +1,5 @@
 //! What is kept and told of what the office is fed.
+use crate::leftovers::Left;
 use office_events::{Answer, Event, Name, Note, Refusal};
 use office_rounds::{Observer, Sum};
 use poll_core::Closing;
@@ -142,6 +143,17 @@ impl Voice {
     /// Takes what is to be said to people.
     pub(crate) fn take_said(&mut self) -> Vec<u8> {
         mem::replace(&mut self.said, Vec::new(self.alloc))
+    }
+
+    /// Tells what was left in the books, and at which port HTTP is answered.
+    pub(crate) fn tell_opened(&mut self, left: Option<Left>, port: u16) {
+        if let Some(left) = left {
+            let _done = put_number(&mut self.lines, b"books to ", left.latest);
+            let _done = put_number(&mut self.lines, b" lost ", left.waiting as u64);
+            let _done = put(&mut self.lines, b"\n");
+        }
+        let _done = put_number(&mut self.lines, b"listening ", u64::from(port));
+        let _done = put(&mut self.lines, b"\n");
     }
 
     /// Tells that the clock stands so many seconds before the latest moment.
