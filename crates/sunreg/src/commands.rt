@@ -89,6 +89,13 @@ pub(crate) fn carry_out<'a>(rt: &HostRuntime, line: &CommandLine<'a>) -> Ending<
             let settings = settings_of(*listen, *every, *lasts, host_names.as_slice(), *verbose);
             run(rt, *db, devices, &settings)
         }
+        CommandLine::Enter {
+            db,
+            caller,
+            devices,
+            only_read,
+        } => crate::entering::enter(rt, *db, *caller, devices, *only_read),
+        CommandLine::Backup { db, to } => crate::backups::backup(rt, *db, *to),
         CommandLine::Explain { what, number } => explain(rt, *what, *number),
         CommandLine::Completions => completions(rt),
     }

@@ -39,11 +39,7 @@ fn write_names<W: Write>(commands: &[CommandText<'_>], output: &mut W) -> io::Re
 }
 
 // Where a command's option stands before the word that is completed: its value is a file, or is not known here.
-fn write_value<W: Write>(
-    command: &str,
-    option: &OptionText<'_>,
-    output: &mut W,
-) -> io::Result<()> {
+fn write_value<W: Write>(command: &str, option: &OptionText<'_>, output: &mut W) -> io::Result<()> {
     match value_of(option.value) {
         Some(shown) if is_file(shown) => write!(
             output,

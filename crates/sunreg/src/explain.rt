@@ -39,7 +39,12 @@ fn write_meaning<W: Write>(meaning: &Meaning, output: &mut W) -> io::Result<()> 
         cause,
         remedy,
     } = meaning;
-    write!(output, "{} {number}{}: {means}\n", kind.word(), owner(*kind))?;
+    write!(
+        output,
+        "{} {number}{}: {means}\n",
+        kind.word(),
+        owner(*kind)
+    )?;
     write!(output, "Usual cause: {cause}.\n")?;
     write!(output, "What to do: {remedy}.\n")
 }
