@@ -428,7 +428,7 @@ def stuffed_pipes(db):
     holds("it polls while nobody reads", device.answered - before >= 4, device.answered - before)
     same("and answers", status_of(exchange(port, head("GET", "/status", []), seconds=5)), "200")
     text = b""
-    until = time.monotonic() + 20
+    until = time.monotonic() + 60
     while time.monotonic() < until and b" - dropped " not in text:
         text += os.read(reader, 65536)
     dropped = [line for line in text.decode(errors="replace").split("\n") if " - dropped " in line]
