@@ -18,12 +18,11 @@ pub enum CommandLine<'a> {
         db: &'a str,
         zone: &'a str,
     },
-    /// The commands in lines of standard input, each under a number of its own by a caller. `@read` is what a register
-    /// shows, asked of these devices. Where it is only read, nothing is asked of the office.
+    /// The commands in lines of standard input, each under a number of its own by a caller. Where they are only read, nothing
+    /// is asked of the office.
     Enter {
         db: &'a str,
         caller: &'a str,
-        devices: Vec<Device<'a>>,
         only_read: bool,
     },
     /// HTTP, for a number of connections. It may be asked by the names of this machine alone, and by these.

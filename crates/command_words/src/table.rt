@@ -196,11 +196,6 @@ const ENTER: CommandText<'static> = CommandText {
         DB,
         CALLER,
         OptionText {
-            name: "devices",
-            value: Value::Optional("LIST"),
-            help: "Devices that @read asks: NAME=HOST:PORT, joined by commas",
-        },
-        OptionText {
             name: "only-read",
             value: Value::Letter('n'),
             help: "Only tells which lines are bad, and which would repeat",

@@ -231,48 +231,28 @@ static ALL_DEVICES: [Device<'static>; 2] = [
 ];
 
 #[test]
-fn an_entering_asks_no_device_where_none_is_given(rt: HostRuntime) {
+fn an_entering_asks_where_no_letter_is_given(rt: HostRuntime) {
     let words = ["enter", "--db", "o.db", "--caller", "site"];
     match command_of(rt.alloc(), &words) {
         Ok(
             CommandLine::Enter {
                 db,
                 caller,
-                devices,
                 only_read,
             },
         ) => {
             assert!(rt; db == "o.db" && caller == "site" && !only_read);
-            assert!(rt; devices.is_empty());
         }
         _ => panic!(rt; "no enter"),
     }
 }
 
-static ENTER: [&str; 8] = [
-    "enter",
-    "-n",
-    "--caller",
-    "site",
-    "--db",
-    "o.db",
-    "--devices",
-    "inv=meter.lan:502,b=[::1]:1",
-];
+static ENTER: [&str; 6] = ["enter", "-n", "--caller", "site", "--db", "o.db"];
 
 #[test]
-fn an_entering_takes_devices_and_its_letter(rt: HostRuntime) {
+fn an_entering_takes_its_letter(rt: HostRuntime) {
     match command_of(rt.alloc(), &ENTER) {
-        Ok(
-            CommandLine::Enter {
-                devices,
-                only_read,
-                ..
-            },
-        ) => {
-            assert!(rt; devices.as_slice() == ALL_DEVICES.as_slice());
-            assert!(rt; only_read);
-        }
+        Ok(CommandLine::Enter { only_read, .. }) => assert!(rt; only_read),
         _ => panic!(rt; "no enter"),
     }
 }

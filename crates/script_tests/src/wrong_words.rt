@@ -44,7 +44,7 @@ static WRONG: [&[&str]; 40] = [
     &["loop", "--db", "x"],
     &["enter", "--db", "x"],
     &["enter", "--caller", "c"],
-    &["enter", "--db", "x", "--caller", "c", "--devices", ""],
+    &["enter", "--db", "x", "--caller", "c", "--devices", "inv=h:1"],
     &["enter", "--db", "x", "--caller", "c", "-m"],
     &["backup", "--db", "x"],
     &["explain", "refused"],

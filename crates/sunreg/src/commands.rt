@@ -1,5 +1,7 @@
 //! The commands, over the streams and sockets of the process.
+use crate::backups::backup;
 use crate::completions::completions;
+use crate::entering::enter;
 use crate::explain::explain;
 use crate::offices::{Files, OWN_HOST, create, over_office, run};
 use crate::run_words::settings_of;
@@ -92,10 +94,9 @@ pub(crate) fn carry_out<'a>(rt: &HostRuntime, line: &CommandLine<'a>) -> Ending<
         CommandLine::Enter {
             db,
             caller,
-            devices,
             only_read,
-        } => crate::entering::enter(rt, *db, *caller, devices, *only_read),
-        CommandLine::Backup { db, to } => crate::backups::backup(rt, *db, *to),
+        } => enter(rt, *db, *caller, *only_read),
+        CommandLine::Backup { db, to } => backup(rt, *db, *to),
         CommandLine::Explain { what, number } => explain(rt, *what, *number),
         CommandLine::Completions => completions(rt),
     }
