@@ -10,9 +10,25 @@ ghost use Rattle.stored_office.specs.BooksFound.{HasPast};
 ghost use Rattle.stored_office.specs.Backups.Whole.{HasPastIn, HasPastAlone};
 
 use crate::backups::faults::{CopyFault, close_fault_of, copy_fault_of};
-use crate::files::{is_office, make_file};
+use crate::files::make_file;
 use sqlite::{Connection, FileFrom, FileStore, Files, Start};
 use sqlite_disk::Disk;
+use store_files::layout_of;
+
+// Moves the log of a database into its file, which then holds its office alone, and gives both back.
+fn close_alone<D: Disk + Drop>(connection: Connection<FileStore<D>>) -> Result<Files<D>, CopyFault>
+    ensures { (past : History) → HasPast over_files connection past
+        → IfOk result (λ files. AreClean D.Disk files.log files.db
+        → HasPastAlone D.Disk files past) }
+{
+    match connection.close_files() {
+        Ok(files) => Ok(files),
+        Err((error, store)) => {
+            drop(store.close());
+            Err(close_fault_of(error))
+        }
+    }
+}
 
 /// Moves the log of an office's database into its file, and gives both back: the file then holds the office alone, of
 /// whichever version. Faults: `NotOurs` where the tables aren't those of an office, by their names and order.
@@ -25,15 +41,9 @@ pub fn whole_files<D: Disk + Drop>(
         → IfOk result (λ files. AreClean D.Disk files.log files.db
         → HasPastAlone D.Disk files past) }
 {
-    if !is_office(&connection) {
-        return Err(CopyFault::NotOurs);
-    }
-    match connection.close_files() {
-        Ok(files) => Ok(files),
-        Err((error, store)) => {
-            drop(store.close());
-            Err(close_fault_of(error))
-        }
+    match layout_of(connection.schema()) {
+        Some(_) => close_alone(connection),
+        None => Err(CopyFault::NotOurs),
     }
 }
 
@@ -45,7 +55,8 @@ pub fn whole_file<S: Start>(
     start: S,
 ) -> Result<Files<FileFrom<S>>, CopyFault>
     ensures { (past : History) → HasPastIn (image_at S.Start) past
-        → IfOk result (λ files. AreClean _ files.log files.db → HasPastAlone _ files past) }
+        → IfOk result (λ files. AreClean ⟦<FileFrom<S> as Disk>⟧ files.log files.db
+        → HasPastAlone ⟦<FileFrom<S> as Disk>⟧ files past) }
 {
     match make_file(rt, path, start) {
         Ok(connection) => whole_files(connection),

@@ -35,5 +35,8 @@ pub fn is_office<S: Alter>(connection: &Connection<S>) -> bool
     ensures foreign { result ≡ false → (layout : TheLayout)
         → ¬ IsNamedAs connection.now.schema layout }
 {
-    layout_of(connection.schema()).is_some()
+    match layout_of(connection.schema()) {
+        Some(_) => true,
+        None => false,
+    }
 }

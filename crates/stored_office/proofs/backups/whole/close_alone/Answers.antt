@@ -1,9 +1,9 @@
 use Rattle.office_rules.specs.History.{facts_of}
 use Rattle.office_store.proofs.LawsLemmas.Found.{found_files_keep_theirs}
-use Rattle.stored_office.proofs.backups.whole.whole_files.Goals as goal
+use Rattle.stored_office.proofs.backups.whole.close_alone.Goals as goal
 
-pub returns-in-Ok-clause-whole : goal.returns-in-Ok-clause-whole
-returns-in-Ok-clause-whole g c = λ past has clean.
+pub returns-in-Ok : goal.returns-in-Ok
+returns-in-Ok g c = λ past has clean.
     let copied = c.in-Ok.ensures.copied clean in
     let it = has.has copied.was_clean in
     record {
