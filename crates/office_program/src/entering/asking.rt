@@ -50,11 +50,22 @@ fn ask<B: Books, C: Clock, W: Write>(
     let told = clock.now();
     let at = progress.latest.max(told);
     let reply = office.feed(at, event);
-    print_reply(office, reply, output)?;
-    Ok(progress.asked(at, reply.is_err()))
+    match print_reply(office, reply, output) {
+        Ok(()) => Ok(progress.asked(at, reply.is_err())),
+        Err(error) => Err(error),
+    }
 }
 
-// A line for each faulty row, and then that the list is refused.
+/// Prints a line for each faulty row, and then that the list is refused.
+pub(crate) fn print_faults<W: Write>(rows: &[FaultyRow], output: &mut W) -> io::Result<()>
+    ensures { GotText result (faults_text rows.now)
+        (W.contents output.old) (W.contents output.new) }
+{
+    write_faults(rows, output)?;
+    write_refusal(Refusal::Limit, output)
+}
+
+// The same, and how far the lines have come then.
 fn tell_faults<W: Write>(
     rows: &[FaultyRow],
     progress: Progress,
@@ -65,9 +76,10 @@ fn tell_faults<W: Write>(
     ensures next { IfOk result
         (λ next. next ≡ record { latest = progress.latest; refused = true }) }
 {
-    write_faults(rows, output)?;
-    write_refusal(Refusal::Limit, output)?;
-    Ok(progress.faulty())
+    match print_faults(rows, output) {
+        Ok(()) => Ok(progress.faulty()),
+        Err(error) => Err(error),
+    }
 }
 
 // Asks what a line comes to, or tells the faults of its list.

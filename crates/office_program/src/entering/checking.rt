@@ -4,18 +4,18 @@ ghost use Rattle.command_io.specs.Lines.{seen_line};
 ghost use Rattle.sun_points.specs.Writing.{GotText};
 ghost use Rattle.office_program.specs.Texts.Passing.{Lasts};
 ghost use Rattle.office_program.specs.Entering.Checked as spec;
-ghost use Rattle.office_program.specs.Entering.Course.{faults_text};
 ghost use Rattle.office_program.specs.Entering.Checked.{ChecksLine, ChecksOver, ChecksText, KnowsRequest, LooksAt, OnlyLooks};
 
 use crate::command_end::CommandEnd;
+use crate::entering::asking::print_faults;
 use crate::entering::entries::{Entry, entry_in};
 use crate::entering::files::NamedFiles;
 use command_io::{ExitStatus, InputLine, InputLines};
 use office_books::{Books, Repeat};
 use office_events::{Asked, Name, Refusal};
-use point_list::{FaultyRow, FaultyRows};
+use point_list::FaultyRows;
 use script_lines::LineFault;
-use script_text::{write_bad_line, write_faults, write_refusal};
+use script_text::{write_bad_line, write_refusal};
 use std::alloc::{AllocError, Global};
 use std::io::{self, Write};
 use sun_points::Sink;
@@ -105,14 +105,6 @@ fn print_known<W: Write>(known: Known, output: &mut W) -> io::Result<()>
         Known::Again => output.take_text(b"again\n"),
         Known::Refused(why) => write_refusal(why, output),
     }
-}
-
-fn print_faults<W: Write>(rows: &[FaultyRow], output: &mut W) -> io::Result<()>
-    ensures { GotText result (faults_text rows.now)
-        (W.contents output.old) (W.contents output.new) }
-{
-    write_faults(rows, output)?;
-    write_refusal(Refusal::Limit, output)
 }
 
 // Prints what was found of the line of a number.
