@@ -117,18 +117,18 @@ fn tell_fault<W: Write>(fault: LineFault, number: u64, output: &mut W) -> ExitSt
 pub(crate) fn enter_line<B: Books, C: Clock, F: NamedFiles, W: Write>(
     alloc: Global,
     office: &mut Office<B>,
-    caller: Option<Name>,
+    caller: &Option<Name>,
     progress: Progress,
     line: InputLine<'_>,
     files: &F,
     clock: &mut C,
     output: &mut W,
 ) -> Result<Progress, ExitStatus>
-    ensures enters { EntersNext B.Books C.Clock W.Write (F.tells files.now) caller (seen_line line)
+    ensures enters { EntersNext B.Books C.Clock W.Write (F.tells files.now) caller.now (seen_line line.entry)
         progress office.old office.new clock.old clock.new output.old output.new result }
     ensures lasts { Lasts B.ledger office.old office.new }
 {
-    match entry_in(alloc, caller, line.text, files) {
+    match entry_in(alloc, *caller, line.text, files) {
         Ok(entry) => match enter_entry(office, progress, entry, clock, output) {
             Ok(next) => Ok(next),
             Err(_) => Err(ExitStatus::Failed),

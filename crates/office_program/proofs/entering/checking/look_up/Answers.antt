@@ -7,13 +7,13 @@ use Rattle.office_program.proofs.entering.checking.look_up.Goals as goal
 
 pub returns-in-Ok-clause-known : goal.returns-in-Ok-clause-known
 returns-in-Ok-clause-known g c = λ facts holds clean.
-    known_of facts c.args.asked.now (Some c.in-Some.caller.now) c.known_by.result c.in-Some.is
+    known_of facts c.args.asked.now (Some c.in-Some.caller) c.known_by.result c.in-Some.is
     (inl (c.known_by.ensures ∙ ap known_by (c.in-Ok.ensures.found facts holds clean
-    ∙ ap (repeat_of facts c.in-Some.caller.now c.args.asked.now.number) c.as_slice.ensures)))
+    ∙ ap (repeat_of facts c.in-Some.caller c.args.asked.now.number) c.as_slice.ensures)))
 
 pub returns-in-Err-clause-known : goal.returns-in-Err-clause-known
 returns-in-Err-clause-known g c = λ facts holds clean.
-    known_of facts c.args.asked.now (Some c.in-Some.caller.now) _ c.in-Some.is (inr (c.in-Err.fault, ap known.Refused c.from.ensures))
+    known_of facts c.args.asked.now (Some c.in-Some.caller) _ c.in-Some.is (inr (c.in-Err.fault, ap known.Refused c.from.ensures))
 
 pub returns-in-None-clause-known : goal.returns-in-None-clause-known
 returns-in-None-clause-known g c = λ facts holds clean. known_of facts c.args.asked.now None _ c.in-None.is refl

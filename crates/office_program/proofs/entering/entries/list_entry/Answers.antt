@@ -8,4 +8,4 @@ returns-in-Ok-new c =
 
 pub returns-in-Faults : goal.returns-in-Faults
 returns-in-Faults c =
-    list_faulty c.args.caller c.args.number c.args.device c.args.text.now c.args.request c.in-Err-read_list.fault c.in-Faults.faults c.in-Faults.is c.in-Err-read_list.ensures.faults
+    list_faulty c.args.caller c.args.number c.args.device c.args.text.now c.args.request c.in-Err.fault c.in-Faults.faults c.in-Faults.is c.in-Err.ensures.faults
