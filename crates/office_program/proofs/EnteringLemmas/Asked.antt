@@ -1,6 +1,6 @@
 -- One line that is asked of an office.
 use Rattle.std.proofs.Common.{◌≡◌, inl, inr, ℕ, ◌||◌, max, Bool, true, List, Option, Result, Ok, Err, refl, sym, ap, subst, ◌∙◌}
-use Rattle.std.specs.Prelude.{IfOk, IsErr, is_err}
+use Rattle.std.specs.Prelude.{IfOk, is_err}
 use Rattle.std.specs.declared.io.Error.{Error}
 use Rattle.command_io.specs.Lines.{Line}
 use Rattle.command_io.specs.declared.status.ExitStatus.{ExitStatus}
@@ -10,7 +10,7 @@ use Rattle.socket_link.specs.Clocks.{TellsMoment}
 use Rattle.script_lines.specs.declared.line_fault.LineFault.{LineFault}
 use Rattle.script_lines.specs.declared.line_fault.LineFault.TheVariants.{Bad, Memory}
 use Rattle.script_text.specs.AnswerText.{accepted_text}
-use Rattle.sun_points.specs.Writing.{GotPart, GotText}
+use Rattle.sun_points.specs.Writing.{GotText}
 use Rattle.office_events.specs.declared.answers.Answer.{Answer}
 use Rattle.office_events.specs.declared.events.Event.{Event}
 use Rattle.office_events.specs.declared.refusals.Refusal.{Refusal}
@@ -63,16 +63,6 @@ asked {E = E} ledger past progress begun now office at told e reply result text 
         next = next;
       },
     )
-
--- The same where a part of the reply was printed.
-pub asked_cut : {B E : Type 0} (ledger : B → Ledger) (past : History) (progress : Progress) (begun now : RoundState) (office : Office B) (at told : ℕ) (e : Event)
-    (reply : Result Answer Refusal) (result : Result Progress E) → TellsMoment begun.moments now.moments told → at ≡ max progress.latest told
-    → Stands ledger (with_answer past at e reply) office → IsAnswer past at e begun.failures now.failures reply → IsTold past at e reply office
-    → GotPart (told_text office reply) begun.printed now.printed → IsErr result
-    → (o : Answered) × (o.event ≡ e) × TakesLine {E = E} ledger past progress begun now office result (Asked o)
-asked_cut ledger past progress begun now office at told e reply (Ok next) tells is stands answer notes got failed = cc failed
-asked_cut {E = E} ledger past progress begun now office at told e reply (Err error) tells is stands answer notes got failed =
-    asked {E = E} ledger past progress begun now office at told e reply (Err error) (told_text office reply) tells is stands answer notes refl got tt
 
 -- The faults of a list were told, and nothing was asked.
 pub faulty : {B E : Type 0} (ledger : B → Ledger) (past : History) (progress : Progress) (begun now : RoundState) (office : Office B) (rows told : List FaultyRow)

@@ -19,7 +19,7 @@ use Rattle.office_books.specs.declared.faults.BooksFault.{BooksFault}
 use Rattle.office_core.specs.Leaving.{BooksStand}
 use Rattle.office_program.specs.declared.entering.checking.Known.{Known}
 use Rattle.office_program.specs.declared.entering.checking.Look.{Look}
-use Rattle.office_program.specs.Entering.Checked.{AreLooks, Checks, IsChecked, IsCut, IsKnown, IsKnownOf, IsLook, Looked, LooksOver, OnlyLooks, any_refused, is_refused, lines_with, look_text, looks_text}
+use Rattle.office_program.specs.Entering.Checked.{AreLooks, Checks, IsChecked, IsKnown, IsKnownOf, IsLook, IsShown, Looked, LooksOver, OnlyLooks, any_refused, is_refused, lines_with, look_text, looks_text}
 use Rattle.office_program.specs.Entering.Lines.{Telling}
 
 -- what is known of the request of a caller
@@ -55,15 +55,10 @@ still_stand old new past looks stand = record {
 }
 
 -- What was found of a line was printed, or a part of it.
-pub line_printed : (tells : Telling) (caller : Option (List ℕ)) (line : Line) (facts : List Fact) (had holds : Option (List ℕ)) (found : Look) (refused : Bool)
-    → IsLook tells caller line.text facts found → Appends had holds (look_text line.number found) → refused ≡ is_refused found
-    → IsChecked tells caller line facts had holds (Ok refused)
-line_printed tells caller line facts had holds found refused is printed same = (found, is, printed, same)
-
-pub line_cut : (tells : Telling) (caller : Option (List ℕ)) (line : Line) (facts : List Fact) (had holds : Option (List ℕ)) (found : Look) (status : ExitStatus)
-    → IsLook tells caller line.text facts found → GotPart (look_text line.number found) had holds
-    → IsChecked tells caller line facts had holds (Err status)
-line_cut tells caller line facts had holds found status is part = inl (record { found = found; is = is; part = part })
+pub line_shown : (tells : Telling) (caller : Option (List ℕ)) (line : Line) (facts : List Fact) (had holds : Option (List ℕ)) (found : Look) (result : Result Bool ExitStatus)
+    → IsLook tells caller line.text facts found → IsShown line.number found had holds result → IsChecked tells caller line facts had holds result
+line_shown tells caller line facts had holds found (Ok refused) is shown = (found, is, shown.0, shown.1)
+line_shown tells caller line facts had holds found (Err status) is part = inl (record { found = found; is = is; part = part })
 
 -- how far the lines have come, of which these are left
 pub record Underway (tells : Telling) (caller : Option (List ℕ)) (lines rest : List Line) (facts : List Fact) (had holds : Option (List ℕ)) (refused : Bool) : Type 0 where

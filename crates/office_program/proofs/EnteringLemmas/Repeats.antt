@@ -38,11 +38,11 @@ decided history at e kind kept =
     ap (unless_kept (unless_refused (answer_of (slots_of history) (facts_of history) at e) (refusal_of history at e))) kept
 
 pub requests_are_repeated : RequestsAreRepeated
-requests_are_repeated past more at then asked again accepted same =
+requests_are_repeated past more at again_at asked again accepted same =
     let history = more ++ Fed at (event.Asked asked) ∷ past in
     let kept = keeps_on more (Fed at (event.Asked asked) ∷ past) asked (kind_of asked.command) accepted
     (keeps_first past at asked (accepted_before more (Fed at (event.Asked asked) ∷ past) accepted)) in
-    decided history then (event.Asked again) (kind_of asked.command)
+    decided history again_at (event.Asked again) (kind_of asked.command)
     (answers (facts_of history) asked again (kind_of asked.command) same.caller same.number same.request kept)
 
 -- ---- One line comes to one request
@@ -126,7 +126,7 @@ acted_by : (history : History) (at : ℕ) (asked : Asked) (result : Result Answe
 acted_by history at asked result (Some (Ok kind)) why told ok = inl (kind, told, refl)
 acted_by history at asked result (Some (Err other)) why told ok = let never = rw told at ok in cc never
 acted_by history at asked result None None told ok = inr (refl, refl, told)
-acted_by history at asked result None (Some refused) told ok = let never = rw told at ok in cc never
+acted_by history at asked result None (Some reason) told ok = let never = rw told at ok in cc never
 
 not_outside : (result : Result Answer Refusal) (before after : ℕ) → IsOk result → FailsOutside before after result → ⊥
 not_outside (Ok given) before after ok fails = fails

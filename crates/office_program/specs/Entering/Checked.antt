@@ -98,6 +98,13 @@ is_refused (look.Known what) = is_refusal what
 is_refused (look.Faulty rows) = true
 is_refused look.Bad = true
 
+-- It was printed, or a part of it where the writing failed.
+abbrev pub IsShown : (number : ℕ) → Look → (had holds : Option (List ℕ)) → Result Bool ExitStatus
+    → Type 0
+IsShown number found had holds (Ok refused) =
+    Appends had holds (look_text number found) × (refused ≡ is_refused found)
+IsShown number found had holds (Err status) = GotPart (look_text number found) had holds
+
 -- It was looked at and printed, or a part of that where the writing failed; or memory was wanting.
 pub record IsCut (tells : Telling) (caller : Option (List ℕ)) (line : Line) (facts : List Fact)
     (had holds : Option (List ℕ)) : Type 0 where

@@ -50,11 +50,22 @@ fn ask<B: Books, C: Clock, W: Write>(
     let told = clock.now();
     let at = progress.latest.max(told);
     let reply = office.feed(at, event);
-    print_reply(office, reply, output)?;
-    Ok(progress.asked(at, reply.is_err()))
+    match print_reply(office, reply, output) {
+        Ok(()) => Ok(progress.asked(at, reply.is_err())),
+        Err(error) => Err(error),
+    }
 }
 
-// A line for each faulty row, and then that the list is refused.
+/// Prints a line for each faulty row, and then that the list is refused.
+pub(crate) fn print_faults<W: Write>(rows: &[FaultyRow], output: &mut W) -> io::Result<()>
+    ensures { GotText result (faults_text rows.now)
+        (W.contents output.old) (W.contents output.new) }
+{
+    write_faults(rows, output)?;
+    write_refusal(Refusal::Limit, output)
+}
+
+// The same, and how far the lines have come then.
 fn tell_faults<W: Write>(
     rows: &[FaultyRow],
     progress: Progress,
@@ -65,9 +76,10 @@ fn tell_faults<W: Write>(
     ensures next { IfOk result
         (λ next. next ≡ record { latest = progress.latest; refused = true }) }
 {
-    write_faults(rows, output)?;
-    write_refusal(Refusal::Limit, output)?;
-    Ok(progress.faulty())
+    match print_faults(rows, output) {
+        Ok(()) => Ok(progress.faulty()),
+        Err(error) => Err(error),
+    }
 }
 
 // Asks what a line comes to, or tells the faults of its list.
@@ -105,18 +117,18 @@ fn tell_fault<W: Write>(fault: LineFault, number: u64, output: &mut W) -> ExitSt
 pub(crate) fn enter_line<B: Books, C: Clock, F: NamedFiles, W: Write>(
     alloc: Global,
     office: &mut Office<B>,
-    caller: Option<Name>,
+    caller: &Option<Name>,
     progress: Progress,
     line: InputLine<'_>,
     files: &F,
     clock: &mut C,
     output: &mut W,
 ) -> Result<Progress, ExitStatus>
-    ensures enters { EntersNext B.Books C.Clock W.Write (F.tells files.now) caller (seen_line line)
+    ensures enters { EntersNext B.Books C.Clock W.Write (F.tells files.now) caller.now (seen_line line.entry)
         progress office.old office.new clock.old clock.new output.old output.new result }
     ensures lasts { Lasts B.ledger office.old office.new }
 {
-    match entry_in(alloc, caller, line.text, files) {
+    match entry_in(alloc, *caller, line.text, files) {
         Ok(entry) => match enter_entry(office, progress, entry, clock, output) {
             Ok(next) => Ok(next),
             Err(_) => Err(ExitStatus::Failed),

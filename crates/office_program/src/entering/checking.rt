@@ -4,18 +4,18 @@ ghost use Rattle.command_io.specs.Lines.{seen_line};
 ghost use Rattle.sun_points.specs.Writing.{GotText};
 ghost use Rattle.office_program.specs.Texts.Passing.{Lasts};
 ghost use Rattle.office_program.specs.Entering.Checked as spec;
-ghost use Rattle.office_program.specs.Entering.Course.{faults_text};
-ghost use Rattle.office_program.specs.Entering.Checked.{ChecksLine, ChecksOver, ChecksText, KnowsRequest, LooksAt, OnlyLooks};
+ghost use Rattle.office_program.specs.Entering.Checked.{ChecksLine, ChecksOver, ChecksText, IsShown, KnowsRequest, LooksAt, OnlyLooks};
 
 use crate::command_end::CommandEnd;
+use crate::entering::asking::print_faults;
 use crate::entering::entries::{Entry, entry_in};
 use crate::entering::files::NamedFiles;
 use command_io::{ExitStatus, InputLine, InputLines};
 use office_books::{Books, Repeat};
 use office_events::{Asked, Name, Refusal};
-use point_list::{FaultyRow, FaultyRows};
+use point_list::FaultyRows;
 use script_lines::LineFault;
-use script_text::{write_bad_line, write_faults, write_refusal};
+use script_text::{write_bad_line, write_refusal};
 use std::alloc::{AllocError, Global};
 use std::io::{self, Write};
 use sun_points::Sink;
@@ -107,14 +107,6 @@ fn print_known<W: Write>(known: Known, output: &mut W) -> io::Result<()>
     }
 }
 
-fn print_faults<W: Write>(rows: &[FaultyRow], output: &mut W) -> io::Result<()>
-    ensures { GotText result (faults_text rows.now)
-        (W.contents output.old) (W.contents output.new) }
-{
-    write_faults(rows, output)?;
-    write_refusal(Refusal::Limit, output)
-}
-
 // Prints what was found of the line of a number.
 fn print_look<W: Write>(look: &Look, number: u64, output: &mut W) -> io::Result<()>
     ensures { GotText result (spec.look_text number look.now)
@@ -147,25 +139,33 @@ fn is_refused(look: &Look) -> bool
     }
 }
 
+// Prints what was found of the line of a number, and says whether it is bad, faulty or would be refused.
+fn show<W: Write>(look: &Look, number: u64, output: &mut W) -> Result<bool, ExitStatus>
+    ensures shows { IsShown number look.now (W.contents output.old) (W.contents output.new) result }
+    ensures fails { IfErr result (λ status. status ≡ ExitStatus.Failed) }
+{
+    match print_look(look, number, output) {
+        Ok(()) => Ok(is_refused(look)),
+        Err(_) => Err(ExitStatus::Failed),
+    }
+}
+
 // Looks at a line, and prints what is found. It answers whether the line is bad, faulty or would be refused.
 fn check_line<B: Books, F: NamedFiles, W: Write>(
     alloc: Global,
     books: &mut B,
-    caller: Option<Name>,
+    caller: &Option<Name>,
     line: InputLine<'_>,
     files: &F,
     output: &mut W,
 ) -> Result<bool, ExitStatus>
-    ensures checks { ChecksLine (F.tells files.now) caller (seen_line line) (B.ledger books.old)
+    ensures checks { ChecksLine (F.tells files.now) caller.now (seen_line line.entry) (B.ledger books.old)
         (B.ledger books.new) (W.contents output.old) (W.contents output.new) result }
     ensures looks { OnlyLooks (B.ledger books.old) (B.ledger books.new) }
     ensures fails { IfErr result (λ status. status ≡ ExitStatus.Failed) }
 {
-    match look_at(alloc, books, caller, line.text, files) {
-        Ok(look) => match print_look(&look, line.number, output) {
-            Ok(()) => Ok(is_refused(&look)),
-            Err(_) => Err(ExitStatus::Failed),
-        },
+    match look_at(alloc, books, *caller, line.text, files) {
+        Ok(look) => show(&look, line.number, output),
         Err(_) => Err(ExitStatus::Failed),
     }
 }
@@ -180,12 +180,12 @@ fn either(one: bool, other: bool) -> bool
 fn check_text<B: Books, F: NamedFiles, W: Write>(
     alloc: Global,
     books: &mut B,
-    caller: Option<Name>,
+    caller: &Option<Name>,
     text: &[u8],
     files: &F,
     output: &mut W,
 ) -> ExitStatus
-    ensures checks { ChecksText (F.tells files.now) caller text.now (B.ledger books.old)
+    ensures checks { ChecksText (F.tells files.now) caller.now text.now (B.ledger books.old)
         (B.ledger books.new) (W.contents output.old) (W.contents output.new) result }
     ensures looks { OnlyLooks (B.ledger books.old) (B.ledger books.new) }
 {
@@ -221,6 +221,6 @@ pub fn check_books<B: Books, F: NamedFiles, W: Write>(
     ensures lasts { Lasts (B.ledger books) (B.ledger result.books) }
 {
     let caller = Name::new(caller.as_bytes());
-    let end = check_text(alloc, &mut books, caller, text, files, output);
+    let end = check_text(alloc, &mut books, &caller, text, files, output);
     CommandEnd { books, end }
 }

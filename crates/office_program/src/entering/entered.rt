@@ -20,14 +20,14 @@ use std::io::Write;
 fn enter_text<B: Books, C: Clock, F: NamedFiles, W: Write>(
     alloc: Global,
     office: &mut Office<B>,
-    caller: Option<Name>,
+    caller: &Option<Name>,
     first: u64,
     text: &[u8],
     files: &F,
     clock: &mut C,
     output: &mut W,
 ) -> ExitStatus
-    ensures enters { EntersTextOf B.Books C.Clock W.Write (F.tells files.now) caller text.now first
+    ensures enters { EntersTextOf B.Books C.Clock W.Write (F.tells files.now) caller.now text.now first
         office.old office.new clock.old clock.new output.old output.new result }
     ensures lasts { rounds.Lasts B.ledger office.old office.new }
 {
@@ -71,7 +71,7 @@ pub fn enter_books<B: Books, C: Clock, F: NamedFiles, W: Write>(
             let end = enter_text(
                 alloc,
                 &mut office,
-                caller,
+                &caller,
                 first,
                 text,
                 files,
