@@ -1,6 +1,12 @@
 //! Requests that come from a link.
+ghost use Rattle.std.specs.Prelude.{Ok};
+ghost use Rattle.http_request.specs.Asking.{TestsHead};
+ghost use Rattle.http_request.specs.HeadTests.{start_at};
+ghost use Rattle.http_request.specs.Whole.Whole.{Holds, IsWhole};
+
 use http_request::{
-    Ask, Head, HeadState, Inbox, Route, TakeFault, ask_of, body_in, read_request, router,
+    Ask, Found, Head, HeadState, Inbox, Posted, Route, TakeFault, a_command_tells_its_size, ask_in,
+    body_in, read_request, router,
 };
 use matchit::Router;
 use mb_wire::{Link, MemoryLink};
@@ -10,10 +16,31 @@ use std::test::Fail;
 static REQUEST: &[u8] =
     b"POST /devices HTTP/1.1\r\nContent-Length: 4\r\nOffice-Caller: anna\r\nOffice-Request: 7\r\n\r\n{ } and more";
 
-// The body of a command that was read.
-fn body_of<'b>(router: &Router<Route>, bytes: &'b [u8], head: &Head) -> &'b [u8] {
-    match ask_of(router, bytes, head) {
-        Ok(Ask::Command(_, posted)) => body_in(bytes, head, &posted),
+// The body of a command.
+fn body_of_command<'b>(
+    router: &Router<Route>,
+    bytes: &'b [u8],
+    head: &Head,
+    found: &Found<'b>,
+    posted: &Posted,
+) -> &'b [u8]
+    requires holds { IsWhole router.now bytes.now head.now }
+    requires asks { TestsHead router.now (start_at bytes.now head.now)
+        (Ok (Ask.Command found.now posted.now)) }
+{
+    a_command_tells_its_size(router, bytes, head, found, posted);
+    body_in(bytes, head, posted)
+}
+
+// The body of what was read, where it asks for a command.
+fn body_of<'b>(router: &Router<Route>, bytes: &'b [u8], head_state: &HeadState) -> &'b [u8]
+    requires { Holds router.now bytes.now head_state.now }
+{
+    match ask_in(router, bytes, head_state) {
+        Ok(Ask::Command(found, posted)) => match head_state {
+            HeadState::Whole(head) => body_of_command(router, bytes, head, &found, &posted),
+            HeadState::TooLarge | HeadState::NoHead | HeadState::Open => b"",
+        },
         Ok(Ask::Question(_)) | Err(_) => b"",
     }
 }
@@ -24,10 +51,8 @@ fn is_read(alloc: Global, router: &Router<Route>, piece: usize) -> Result<bool, 
     let mut link = MemoryLink::new(REQUEST, &mut [], piece.max(1), None);
     let mut inbox = Inbox::new(&mut room);
     match read_request(router, &mut inbox, &mut link) {
-        Ok(HeadState::Whole(head)) => Ok(
-            body_of(router, inbox.bytes(), &head) == b"{ } ".as_slice(),
-        ),
-        _ => Ok(false),
+        Ok(head_state) => Ok(body_of(router, inbox.bytes(), &head_state) == b"{ } ".as_slice()),
+        Err(_) => Ok(false),
     }
 }
 
