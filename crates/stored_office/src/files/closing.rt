@@ -3,8 +3,7 @@ ghost use Rattle.std.specs.Prelude.{◌↔◌, ◌≡◌, false, IsTrue};
 ghost use Rattle.store_files.specs.declared.layouts.Layout.{Layout as TheLayout};
 ghost use Rattle.store_files.specs.Layouts.{no_schema, IsNamedAs};
 
-use sqlite::{Alter, Connection, FileStore};
-use sqlite_disk::Disk;
+use sqlite::{Alter, Connection, FileFrom, FileStore, Unknown};
 use store_files::layout_of;
 
 /// A store whose log can be moved into its file.
@@ -13,8 +12,8 @@ pub trait Closes: Alter + Drop {
     fn close(connection: Connection<Self>);
 }
 
-impl<D: Disk + Drop> Closes for FileStore<D> {
-    fn close(connection: Connection<FileStore<D>>) {
+impl Closes for FileStore<FileFrom<Unknown>> {
+    fn close(connection: Connection<FileStore<FileFrom<Unknown>>>) {
         let _closed = connection.close();
     }
 }
