@@ -6,13 +6,12 @@ ghost use Rattle.store_files.specs.Layouts.{IsNamedAs};
 ghost use Rattle.stored_office.specs.BooksFound.{HasPast};
 ghost use Rattle.stored_office.specs.Tasks.Tasks.{IsOf, Does};
 
-use crate::files::Closes;
 use command_io::ExitStatus;
 use office_program::{PollEnd, ServeEnd, poll_books, report_books, serve_books};
 use office_running::{RunFault, Settings, Site, run_office};
 use office_store::{OpenFault, SqlBooks};
 use socket_link::Clock;
-use sqlite::Connection;
+use sqlite::{Alter, Connection};
 use std::alloc::Global;
 use std::io::Write;
 use std::net::Net;
@@ -53,9 +52,8 @@ pub enum Done {
     Ran(Result<(), RunFault>),
 }
 
-/// Finds the books of a database, and carries a task out over them. Where there are no books, nothing is printed. What was
-/// booked is moved from the log into the file, as far as that can be done; a report leaves the file as it finds it.
-pub fn carry_out_stored<R: Net + std::rt::Clock, S: Closes, C: Clock, W: Write, E: Write>(
+/// Finds the books of a database, and carries a task out over them. Where there are no books, nothing is printed.
+pub fn carry_out_stored<R: Net + std::rt::Clock, S: Alter + Drop, C: Clock, W: Write, E: Write>(
     rt: &R,
     alloc: Global,
     connection: Connection<S>,
@@ -86,17 +84,14 @@ pub fn carry_out_stored<R: Net + std::rt::Clock, S: Closes, C: Clock, W: Write, 
             } => {
                 let place = (host, port);
                 let done = serve_books(rt, alloc, books, place, names, connections, clock, output);
-                S::close(done.books.into_connection());
                 Ok(Done::Served(done.end))
             }
             Task::Round { device, host, port } => {
                 let done = poll_books(rt, alloc, books, device, (host, port), clock, output);
-                S::close(done.books.into_connection());
                 Ok(Done::Polled(done.end))
             }
             Task::Run { settings, sites } => {
                 let done = run_office(rt, alloc, books, settings, sites, clock, output, errors);
-                S::close(done.books.into_connection());
                 Ok(Done::Ran(done.end))
             }
         },
