@@ -82,15 +82,11 @@ no_log() {
     echo "sunreg: $1: it had no log beside it, $1-wal: a backup needs none, and a file copied alone lacks what stood there"
 }
 
-# The log is moved into the file where a command ends.
 run create --db office.db --zone UTC0
 same 'create' "$status $(cat out err)" '0 '
 cp office.db alone.db
 run report --db alone.db --register main
-same 'a new file holds its tables without its log' "$status $(cat out err)" "1 refused 1
-$(no_log alone.db)"
-run report --db alone.db --register main
-same 'a log that was missed is told once' "$status $(cat out err)" '1 refused 1'
+refused 'a new file without its log' "alone.db: it has no tables: an office's may stand in the log that belongs to it, alone.db-wal: give both, or a backup"
 serve office.db 2
 same 'a device' "$(put /devices 1 '{"name":"inv","unit":1,"timeout":60,"window":1}')" 200
 list='name,function,area,address,type,scale
@@ -98,7 +94,6 @@ wh,3,0,40094,acc32,
 '
 same 'its list' "$(put /devices/inv/list 2 "$list")" 200
 wait "$child"
-same 'what was served is in the file without its log' "$(cp office.db served.db && sqlite3 served.db 'SELECT count(*) FROM replies')" 2
 
 # Files without tables, and logs without their file.
 sqlite3 bare.db 'CREATE TABLE t (n); DROP TABLE t'
@@ -108,7 +103,7 @@ refused 'create over a file that is not empty' "bare.db: it isn't empty, though 
 run report --db bare.db --register main
 refused 'a file without tables' "bare.db: it has no tables: an office's may stand in the log that belongs to it, bare.db-wal: give both, or a backup"
 run create --db alone.db --zone UTC0
-refused 'create over a file copied alone' 'alone.db: it has tables already: give another file, or leave out create'
+refused 'create over a file copied alone' "alone.db: it isn't empty, though it has no tables: an office's may stand in its log: give a new file"
 serve office.db 9
 same 'one more' "$(put /devices 3 '{"name":"two","unit":1,"timeout":60,"window":1}')" 200
 kill -9 "$child"

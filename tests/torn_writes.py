@@ -23,7 +23,7 @@ COPIES = int(os.environ.get("TORN_COPIES", "300"))
 SEED = int(os.environ.get("TORN_SEED", time.time_ns() % 1_000_000_007))
 HEADER, FRAME = 32, 24  # bytes of the log's header, and of a frame's
 OFFICES = 3
-LEAST, ROUNDS = 24, 100  # so many commits stand in a log, after at most so many rounds
+LEAST, ROUNDS = 24, 100  # so many commits stand in a log that is torn, after at most so many rounds
 Frames = collections.namedtuple("Frames", "size commits end")
 
 
@@ -104,7 +104,7 @@ class Torn:
         it = soak.Soak(self.program, room)
         it.office.set_up()
         polls = 0
-        for turn in range(ROUNDS):  # (a round that ends moves the log into the file)
+        for turn in range(ROUNDS):
             at = int(time.time())
             it.next_stop = time.monotonic() + self.chance.uniform(0.1, 0.3) * (1 + turn / 10)
             it.usual = 0.01

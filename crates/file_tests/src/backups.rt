@@ -1,5 +1,5 @@
-//! Copies that hold an office alone, and files whose log was moved into them.
-use crate::commands::{KNOWN, are_reported, create, fill, is_none};
+//! Copies that hold an office alone, and whose tables a file has.
+use crate::commands::{KNOWN, are_reported, fill};
 use crate::files::{Connects, Files, path, remove};
 use sqlite::{Alter, Connection, Error, Unknown};
 use std::fs;
@@ -50,20 +50,10 @@ fn a_copy_holds_its_office_alone(rt: HostRuntime) -> Result<(), Fail> {
     copy_both(&rt, &from, &to)?;
     assert_eq!(rt; why_not_whole(&rt, &to), None);
     remove_log(&rt, &to)?;
+    assert!(rt; is_office(&files.open(&to)?));
     assert!(rt; are_reported(&rt, &files, &to, &KNOWN)?);
     remove(&rt, &from)?;
     remove(&rt, &to)
-}
-
-#[test]
-fn what_was_made_is_in_the_file_alone(rt: HostRuntime) -> Result<(), Fail> {
-    let path = path(&rt)?;
-    let files = Files { rt: &rt };
-    assert_eq!(rt; create(&rt, &files, &path, "UTC0")?, None);
-    remove_log(&rt, &path)?;
-    assert!(rt; is_office(&files.open(&path)?));
-    assert!(rt; !is_none(&rt, &files, &path)?);
-    remove(&rt, &path)
 }
 
 #[test]

@@ -35,7 +35,7 @@ static MADE: [(&str, Option<OpenFault>, bool); 3] = [
 ];
 
 /// Makes an office, and tells why it was not made.
-pub(crate) fn create<C: Connects>(
+fn create<C: Connects>(
     rt: &HostRuntime,
     connects: &C,
     path: &str,
@@ -181,11 +181,7 @@ pub(crate) fn are_reported<C: Connects>(
 }
 
 /// Whether a database has no office, and nothing is printed of it.
-pub(crate) fn is_none<C: Connects>(
-    rt: &HostRuntime,
-    connects: &C,
-    path: &str,
-) -> Result<bool, Fail> {
+fn is_none<C: Connects>(rt: &HostRuntime, connects: &C, path: &str) -> Result<bool, Fail> {
     let (end, printed) = report(rt, connects, path, "main", 5000)?;
     Ok(end == Err(OpenFault::NotOurs) && printed.is_empty())
 }

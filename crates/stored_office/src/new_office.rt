@@ -3,14 +3,12 @@ ghost use Rattle.std.specs.Prelude.{◌≡◌, ◌≢◌, ◌⊎◌, false, Err,
 ghost use Rattle.store_files.specs.Layouts.{no_schema};
 ghost use Rattle.store_files.specs.Zones.{IsZone};
 
-use crate::files::Closes;
 use office_store::{OpenFault, SqlBooks};
-use sqlite::Connection;
+use sqlite::{Alter, Connection};
 use std::alloc::Global;
 
 /// Makes the tables of a new office in a database that has no tables, for the days of a zone, as `SqlBooks::create` does.
-/// What was made is moved from the log into the file, as far as that can be done.
-pub fn create_stored<S: Closes>(
+pub fn create_stored<S: Alter + Drop>(
     alloc: Global,
     connection: Connection<S>,
     zone: &str,
@@ -23,10 +21,7 @@ pub fn create_stored<S: Closes>(
         → IfErr result (λ fault. (fault ≡ OpenFault.Store) ⊎ (fault ≡ OpenFault.Memory)) }
 {
     match SqlBooks::create(alloc, connection, zone) {
-        Ok(books) => {
-            S::close(books.into_connection());
-            Ok(())
-        }
+        Ok(_) => Ok(()),
         Err(unopened) => Err(unopened.fault),
     }
 }

@@ -10,13 +10,13 @@ use interval_core::Zone;
 use office_running::Settings;
 use office_store::OpenFault;
 use socket_link::SystemClock;
-use sqlite::{Connection, FileFrom, FileStore, Unknown};
+use sqlite::{Alter, Connection, FileFrom, FileStore, Unknown};
 use std::fs::{self, Permissions};
 use std::io::{self, ErrorKind, Printer, Write};
 use std::os::unix::fs::PermissionsExt;
 use stored_office::{
-    Closes, Done, Ending, Failure, FileFault, Task, carry_out_stored, create_stored,
-    ending_of_done, is_bare, is_office, make_file, open_file,
+    Done, Ending, Failure, FileFault, Task, carry_out_stored, create_stored, ending_of_done,
+    is_bare, is_office, make_file, open_file,
 };
 
 /// The host on which HTTP is answered.
@@ -25,7 +25,7 @@ pub(crate) const OWN_HOST: &str = "127.0.0.1";
 // Where a database comes from. What holds a connection is proved over any of these, since over a connection to a file it
 // would cost minutes.
 pub(crate) trait Databases {
-    type Store: Closes;
+    type Store: Alter + Drop;
 
     // A connection to the database at a path, which is made where there is none.
     fn make(&self, path: &str) -> Result<Connection<Self::Store>, FileFault>;

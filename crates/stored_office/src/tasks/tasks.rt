@@ -6,7 +6,6 @@ ghost use Rattle.store_files.specs.Layouts.{IsNamedAs};
 ghost use Rattle.stored_office.specs.BooksFound.{HasPast};
 ghost use Rattle.stored_office.specs.Tasks.Tasks.{IsOf, Does};
 
-use crate::files::Closes;
 use command_io::ExitStatus;
 use office_program::{
     NamedFiles, PollEnd, ServeEnd, check_books, enter_books, poll_books, report_books, serve_books,
@@ -14,7 +13,7 @@ use office_program::{
 use office_running::{RunFault, Settings, Site, run_office};
 use office_store::{OpenFault, SqlBooks};
 use socket_link::Clock;
-use sqlite::Connection;
+use sqlite::{Alter, Connection};
 use std::alloc::Global;
 use std::io::Write;
 use std::net::Net;
@@ -67,12 +66,11 @@ pub enum Done {
     Ran(Result<(), RunFault>),
 }
 
-/// Finds the books of a database, and carries a task out over them. Where there are no books, nothing is printed. What was
-/// booked is moved from the log into the file, as far as that can be done; a report and a look leave the file as they find it. Files that a text
-/// names are read by `files`.
+/// Finds the books of a database, and carries a task out over them. Where there are no books, nothing is printed. Files that
+/// a text names are read by `files`.
 pub fn carry_out_stored<
     R: Net + std::rt::Clock,
-    S: Closes,
+    S: Alter + Drop,
     F: NamedFiles,
     C: Clock,
     W: Write,
@@ -109,12 +107,10 @@ pub fn carry_out_stored<
             } => {
                 let place = (host, port);
                 let done = serve_books(rt, alloc, books, place, names, connections, clock, output);
-                S::close(done.books.into_connection());
                 Ok(Done::Served(done.end))
             }
             Task::Enter { caller, text } => {
                 let done = enter_books(alloc, books, caller, text, files, clock, output);
-                S::close(done.books.into_connection());
                 Ok(Done::Entered(done.end))
             }
             Task::Check { caller, text } => {
@@ -123,12 +119,10 @@ pub fn carry_out_stored<
             }
             Task::Round { device, host, port } => {
                 let done = poll_books(rt, alloc, books, device, (host, port), clock, output);
-                S::close(done.books.into_connection());
                 Ok(Done::Polled(done.end))
             }
             Task::Run { settings, sites } => {
                 let done = run_office(rt, alloc, books, settings, sites, clock, output, errors);
-                S::close(done.books.into_connection());
                 Ok(Done::Ran(done.end))
             }
         },

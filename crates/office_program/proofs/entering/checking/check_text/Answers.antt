@@ -20,7 +20,7 @@ loop-line-preserved g c =
           one_more (g.F.NamedFiles.tells c.args.files.now) c.args.caller.now (speaking_lines c.args.text.now) c.loop-line.lines c.next_line.new.self facts
           (g.W.Write.contents c.args.output.now) (g.W.Write.contents c.loop-line.output) (g.W.Write.contents c.check_line.new.output) c.loop-line.refused c.in-Ok.more _
           (seen_line c.in-Some.line) (was.1 facts holds (looks.clean clean)) c.in-Some.ensures
-          (c.in-Ok.ensures.checks facts (was.0.keeps.facts facts holds) clean) c.either.ensures,
+          (c.in-Ok.ensures.checks facts (was.0.keeps.facts facts holds) clean) c.either-refused.ensures,
     )
 
 pub returns-in-Err-clause-checks : goal.returns-in-Err-clause-checks

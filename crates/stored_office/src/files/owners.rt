@@ -1,22 +1,10 @@
-//! How a connection is left.
+//! Whose tables a database has.
 ghost use Rattle.std.specs.Prelude.{◌↔◌, ◌≡◌, false, IsTrue};
 ghost use Rattle.store_files.specs.declared.layouts.Layout.{Layout as TheLayout};
 ghost use Rattle.store_files.specs.Layouts.{no_schema, IsNamedAs};
 
-use sqlite::{Alter, Connection, FileFrom, FileStore, Unknown};
+use sqlite::{Alter, Connection};
 use store_files::layout_of;
-
-/// A store whose log can be moved into its file.
-pub trait Closes: Alter + Drop {
-    /// Ends a connection. What was committed stays, and is moved from the log into the file as far as that can be done.
-    fn close(connection: Connection<Self>);
-}
-
-impl Closes for FileStore<FileFrom<Unknown>> {
-    fn close(connection: Connection<FileStore<FileFrom<Unknown>>>) {
-        let _closed = connection.close();
-    }
-}
 
 /// Whether a database has neither tables nor views.
 pub fn is_bare<S: Alter>(connection: &Connection<S>) -> bool
