@@ -1,5 +1,5 @@
 -- One line that is asked of an office.
-use Rattle.std.proofs.Common.{◌≡◌, inl, inr, ℕ, ◌||◌, max, Bool, true, List, Option, Result, Ok, Err, refl, sym, ap, subst, ◌∙◌}
+use Rattle.std.proofs.Common.{◌≡◌, inl, inr, ℕ, ◌||◌, max, Bool, true, List, Option, Result, Ok, Err, refl, ap, subst, ◌∙◌}
 use Rattle.std.specs.Prelude.{IfOk, is_err}
 use Rattle.std.specs.declared.io.Error.{Error}
 use Rattle.command_io.specs.Lines.{Line}
@@ -20,13 +20,13 @@ use Rattle.office_rules.specs.Refusals.{with_answer}
 use Rattle.office_books.specs.Ledgers.{Ledger}
 use Rattle.office_core.specs.EventRun.{Answered}
 use Rattle.office_core.specs.Standing.{Stands, outgoing_in}
-use Rattle.office_core.specs.Taking.{IsAnswer, IsTold, failures_of}
+use Rattle.office_core.specs.Taking.{IsAnswer, IsTold}
 use Rattle.office_core.specs.declared.office.Office.{Office}
 use Rattle.office_rounds.specs.Rounds.{RoundState}
 use Rattle.office_program.specs.declared.entering.entries.Entry.{Entry}
 use Rattle.office_program.specs.declared.entering.progress.Progress.{Progress}
 use Rattle.office_program.specs.Entering.Asking.{TellsFault, told_text}
-use Rattle.office_program.specs.Entering.Course.{Asked, Came, Comes, EntersLine, Faulty, IsCameOf, IsUntouched, TakesLine, came_text, faults_text, progress_after, reply_text}
+use Rattle.office_program.specs.Entering.Course.{Asked, Came, EntersLine, Faulty, IsCameOf, IsUntouched, TakesLine, faults_text, progress_after, reply_text}
 use Rattle.office_program.specs.Entering.Lines.{IsEntry, ReadsEntry, Telling}
 
 -- what an office tells is printed as a script prints it

@@ -1,11 +1,9 @@
 -- Looking at an input.
-use Rattle.std.proofs.Common.{◌≡◌, ◌⊎◌, inl, inr, ℕ, ◌||◌, Bool, true, false, List, [], ◌∷◌, ◌++◌, Option, Some, None, Result, Ok, Err, refl, sym, ap, subst, ◌∙◌, append-nil}
+use Rattle.std.proofs.Common.{◌≡◌, inl, inr, ℕ, ◌||◌, Bool, false, List, [], ◌∷◌, ◌++◌, Option, Result, Ok, Err, refl, sym, ap, subst, ◌∙◌, append-nil}
 use Rattle.std.specs.Prelude.{if◌then◌else◌}
 use Rattle.std.specs.Io.KnownBytes.{Appends}
-use Rattle.std.specs.declared.alloc.AllocError.{AllocError}
 use Rattle.std.proofs.KnownBytes.{Appends-nil, Appends-trans}
-use Rattle.std.specs.declared.io.Error.{Error}
-use Rattle.sun_points.specs.Writing.{GotPart, GotText}
+use Rattle.sun_points.specs.Writing.{GotPart}
 use Rattle.script_text.proofs.Got.{got_both}
 use Rattle.command_io.specs.Lines.{Line, speaking_lines}
 use Rattle.command_io.specs.declared.status.ExitStatus.{ExitStatus}
@@ -19,7 +17,7 @@ use Rattle.office_books.specs.declared.faults.BooksFault.{BooksFault}
 use Rattle.office_core.specs.Leaving.{BooksStand}
 use Rattle.office_program.specs.declared.entering.checking.Known.{Known}
 use Rattle.office_program.specs.declared.entering.checking.Look.{Look}
-use Rattle.office_program.specs.Entering.Checked.{AreLooks, Checks, IsChecked, IsKnown, IsKnownOf, IsLook, IsShown, Looked, LooksOver, OnlyLooks, any_refused, is_refused, lines_with, look_text, looks_text}
+use Rattle.office_program.specs.Entering.Checked.{AreLooks, Checks, IsChecked, IsKnown, IsKnownOf, IsLook, IsShown, Looked, LooksOver, OnlyLooks, any_refused, lines_with, look_text, looks_text}
 use Rattle.office_program.specs.Entering.Lines.{Telling}
 
 -- what is known of the request of a caller

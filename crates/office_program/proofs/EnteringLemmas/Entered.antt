@@ -1,5 +1,5 @@
 -- An office that was opened, and entered into.
-use Rattle.std.proofs.Common.{◌≡◌, inl, inr, ℕ, List, [], ◌∷◌, Option, Some, refl, sym, ap, subst, ◌∙◌}
+use Rattle.std.proofs.Common.{◌≡◌, inl, inr, ℕ, List, [], ◌∷◌, Option, Some, sym, ap, subst, ◌∙◌}
 use Rattle.command_io.specs.Lines.{speaking_lines}
 use Rattle.command_io.specs.declared.status.ExitStatus.{ExitStatus}
 use Rattle.socket_link.specs.Clocks.{TellsMoment, next_moment}

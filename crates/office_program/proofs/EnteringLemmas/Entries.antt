@@ -18,7 +18,7 @@ use Rattle.office_program.specs.declared.entering.entries.Entry.TheVariants.{Ask
 use Rattle.office_program.specs.declared.entering.wanted.Wanted.{Wanted}
 use Rattle.office_program.specs.declared.entering.wanted.Wanted.TheVariants as wanted
 use Rattle.office_program.specs.Entering.FileLines.{FileLine, IsFileLine, IsNoFileLine}
-use Rattle.office_program.specs.Entering.Lines.{IsListEntry, IsWantedEntry, ReadsEntry, ReadsFile, ReadsList, ReadsScript, ReadsWanted, Telling, asked_by, file_request, put_by, wanted_in}
+use Rattle.office_program.specs.Entering.Lines.{IsWantedEntry, ReadsEntry, ReadsFile, ReadsList, ReadsScript, ReadsWanted, Telling, asked_by, file_request, put_by, wanted_in}
 
 -- a command of which the bytes of the line are kept
 pub command_wanted : (caller : Option (List ℕ)) (text kept : List ℕ) (number : ℕ) (c : Command) (want : Wanted) → want ≡ wanted.Command number c → kept ≡ text

@@ -1,9 +1,9 @@
 -- The words of a line that names a file, taken one by one.
 use Rattle.std.proofs.Common.{◌≡◌, inl, inr, ℕ, ◌==◌, List, [], ◌∷◌, Option, Some, None, refl, sym, ap, ◌∙◌, subst}
-use Rattle.std.specs.Prelude.{codes, option_map, if◌then◌else◌}
+use Rattle.std.specs.Prelude.{codes, option_map}
 use Rattle.std.specs.Str.{bytes_eq}
 use Rattle.std.proofs.lemmas.Bool.{eqb-true}
-use Rattle.script_lines.specs.LineWords.Fields.{AnyName, Field, Number, Spell, Word, first_value, nothing_more, ◌>>=◌}
+use Rattle.script_lines.specs.LineWords.Fields.{AnyName, Field, Number, Spell, Word, first_value, nothing_more}
 use Rattle.script_lines.proofs.Chosen.{chosen, is_text, same}
 use Rattle.script_lines.proofs.Made.{bound, first_spelled}
 use Rattle.office_program.specs.Entering.FileLines.{FileLine, IsFileLine, IsNoFileLine, file_in, file_said, file_word, list_word}

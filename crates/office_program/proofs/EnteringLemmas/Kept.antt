@@ -1,11 +1,10 @@
 -- What is kept of a request stays, whatever is accepted after it.
-use Rattle.std.proofs.Common.{◌≡◌, inl, inr, ℕ, ◌==◌, nat_lt, Bool, true, false, cond, ◌||◌, ◌&&◌, List, [], ◌∷◌, ◌++◌, map, reverse, refl, sym, ap, subst, ◌∙◌, Option, Some, None, Result, Ok, Err, eq-eqb}
+use Rattle.std.proofs.Common.{◌≡◌, inl, inr, ℕ, ◌==◌, nat_lt, Bool, true, false, ◌&&◌, List, [], ◌∷◌, ◌++◌, map, reverse, refl, sym, ap, subst, ◌∙◌, Option, Some, None, Result, Ok, Err, eq-eqb}
 use Rattle.std.specs.Prelude.{if◌then◌else◌}
 use Rattle.std.specs.Str.{bytes_eq}
 use Rattle.std.specs.List.{find}
 use Rattle.std.specs.Option.{is_none, option_map, option_and_then, option_to_list}
-use Rattle.std.proofs.lemmas.Bool.{and_left, and_parts, cases_Bool, cond-false, cond-true, eqb-true, or_parts}
-use Rattle.office_events.specs.declared.answers.Answer.TheVariants as answer
+use Rattle.std.proofs.lemmas.Bool.{and_parts, cases_Bool, cond-false, cond-true, eqb-true, or_parts}
 use Rattle.office_events.specs.declared.answers.CommandKind.{CommandKind}
 use Rattle.office_events.specs.declared.commands.Command.{Command}
 use Rattle.office_events.specs.declared.events.Asked.{Asked}
@@ -18,8 +17,8 @@ use Rattle.office_events.specs.declared.facts.Reply.{Reply}
 use Rattle.office_events.specs.declared.refusals.Refusal.{Refusal}
 use Rattle.office_events.specs.declared.refusals.Refusal.TheVariants as refusal
 use Rattle.office_rules.specs.Facts.{as_reply, moment_limit, replies_in, reply_of, same}
-use Rattle.office_rules.specs.History.{Accepted, Fed, History, Opened, added_by, facts_of, kind_of, lost, reply_by, slots_of, next_poll, with_lost, with_settled}
-use Rattle.office_rules.specs.Refusals.{AreAccepted, by_reply, decision_of, kept_of, refusal_of}
+use Rattle.office_rules.specs.History.{Fed, History, Opened, added_by, facts_of, kind_of, lost, reply_by, slots_of, next_poll, with_lost, with_settled}
+use Rattle.office_rules.specs.Refusals.{AreAccepted, by_reply, kept_of, refusal_of}
 use Rattle.office_rules.specs.Sessions.{Slot}
 use Rattle.office_rules.proofs.EndedFacts.{unseen-with_settled}
 use Rattle.office_rules.proofs.LawfulChanges.{not_refused}

@@ -23,10 +23,10 @@ use Rattle.office_program.specs.declared.entering.entries.Entry.TheVariants as e
 use Rattle.office_program.specs.declared.entering.wanted.Wanted.{Wanted}
 use Rattle.office_program.specs.declared.entering.wanted.Wanted.TheVariants as wanted
 use Rattle.office_program.specs.Entering.FileLines.{FileLine}
-use Rattle.office_program.specs.Entering.Lines.{IsEntry, IsFileEntry, IsListEntry, IsScriptEntry, IsWantedEntry, Telling, asked_by, file_request, put_by, wanted_in}
+use Rattle.office_program.specs.Entering.Lines.{IsEntry, IsFileEntry, IsListEntry, IsScriptEntry, IsWantedEntry, Telling, asked_by, file_request, wanted_in}
 use Rattle.office_program.specs.Entering.Course.{AreAnswered, AreComing, Came, Comes, Faulty, IsCameAnswered, IsCameOf, Taken, history_behind, lines_with, with_came}
 use Rattle.office_program.specs.Entering.Course as course
-use Rattle.office_program.specs.Entering.Repeats.{ActsNoMore, AreSteady, EntersAgain, HasActed, HasEntered, HasRepeated, HaveActed, InputsActOnce, IsRepeated, IsSameRequest, RequestsAreRepeated}
+use Rattle.office_program.specs.Entering.Repeats.{ActsNoMore, AreSteady, HasActed, HasRepeated, HaveActed, InputsActOnce, IsRepeated, IsSameRequest, RequestsAreRepeated}
 use Rattle.office_program.proofs.EnteringLemmas.FileWords.{one_line}
 use Rattle.office_program.proofs.EnteringLemmas.Kept.{Keeps, accepted_before, answers, keeps_first, keeps_on, kept_again}
 

@@ -1,6 +1,6 @@
 -- How far the lines of an input have come: what each was asked as and answered, what was printed, and where the office
 -- stands. Lists of lines that were taken stand latest first.
-use Rattle.std.specs.Prelude.{◌≡◌, ◌⊎◌, ◌||◌, ℕ, max, Bool, true, false, List, [], ◌∷◌, ◌++◌, Option, Result, Ok, Err, IfOk, is_err}
+use Rattle.std.specs.Prelude.{◌≡◌, ◌⊎◌, ◌||◌, ℕ, max, true, false, List, [], ◌∷◌, ◌++◌, Option, Result, Ok, Err, IfOk, is_err}
 use Rattle.std.specs.List.{flat_map}
 use Rattle.std.specs.Io.KnownBytes.{Appends}
 use Rattle.command_io.specs.Lines.{Line}

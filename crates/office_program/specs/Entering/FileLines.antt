@@ -1,5 +1,5 @@
 -- A line that names the file of a point list: `NUMBER list DEVICE @NAME`.
-use Rattle.std.specs.Prelude.{◌≡◌, ℕ, ◌==◌, List, [], ◌∷◌, Option, Some, None, codes, if◌then◌else◌, option_map}
+use Rattle.std.specs.Prelude.{ℕ, ◌==◌, List, [], ◌∷◌, Option, Some, None, codes, if◌then◌else◌, option_map}
 use Rattle.std.specs.Str.{bytes_eq}
 use Rattle.script_lines.specs.LineWords.Fields.{AnyName, Field, Number, Of, Spell, Word, first_value, nothing_more, ◌>>=◌}
 use Rattle.office_program.specs.declared.entering.file_line.FileLine as declared
