@@ -1,0 +1,108 @@
+"""Booked polls a second of rounds over a file, beside offices in C and Python: rounds.py PROGRAM [TURNS]
+
+bench/round.sh calls it. Each office has a file and devices of its own; all must have printed the same, and booked the same in the end.
+"""
+import os
+import subprocess
+import sys
+import time
+
+from sites import TESTS, check_same, check_told, clear, compiled, free_port, load, machine, measured, medians, places, query, serve, site
+
+# Polls, how many at once, devices, and meters a device.
+ROUNDS = [(32, 16, 1, 32), (32, 1, 1, 32), (512, 16, 1, 32), (512, 1, 1, 32), (32, 16, 64, 32), (32, 1, 64, 32)]
+SECONDS = 12
+
+
+def offices(program):
+    """The words of a round of each office that can be measured here, by their names, for a file, a device and its port."""
+    sockets, plain = TESTS / "peers/plain_office.py", compiled("office")
+    found = {
+        "sunreg": lambda db, name, port: [program, "round", "--db", db, "--device", name, "--port", port],
+        "C": lambda db, name, port: [plain, db, 0, 1, f"{name}={port}"],
+        "Python": lambda db, name, port: [sys.executable, sockets, db, name, port],
+    }
+    for it in (sys.executable, "/usr/bin/python3"):
+        if subprocess.run([it, "-c", "import pymodbus"], stderr=subprocess.DEVNULL).returncode == 0:
+            pymodbus = [it, "-B", str(TESTS / "peers/pymodbus_office.py")]
+            found["pymodbus"] = lambda db, name, port: [*pymodbus, db, name, port]
+            break
+    else:
+        print("rounds.py: pymodbus is not installed, so an office by it is not measured", file=sys.stderr)
+    return found
+
+
+def ratio(peer, ours):
+    return f"{peer / max(ours, 1e-6):.{2 if peer < 10 * ours else 1}f}"
+
+
+def compare(place, room, words, row, turns):
+    """One row of the table: rounds of the first device of a file."""
+    polls, window, devices, meters = row
+    files = {name: room / f"{name}.db" for name in words}
+    for db in files.values():
+        site(db, devices, polls, meters, window)
+    ports = dict(zip(words, serve(len(words))))
+    runs = {name: [] for name in words}
+    for _ in range(turns):
+        time.sleep(1.1)
+        printed = {name: room / f"{name}.printed" for name in words}
+        for name, of in words.items():
+            runs[name].append(measured(of(files[name], "d0", ports[name]), printed[name]))
+        check_told(printed, window)
+    check_same(files)
+    took, cost, opened = medians(runs["sunreg"])
+    cells = [f"{polls}/{window}", devices * meters, place, f"{polls / took:,.0f}", f"{1000 * cost:.0f} ms", f"{1000 * opened:.0f} ms"]
+    for name in list(words)[1:]:
+        theirs, price, before = medians(runs[name])
+        cells += [ratio(theirs, took), ratio(price, cost)]
+        if name == "C":
+            cells.append(ratio(price - before, cost - opened))
+    print("|", " | ".join(map(str, cells)), "|", flush=True)
+    clear(room)
+
+
+def scheduled(place, room, program, window):
+    """One row of the second table: 64 devices of 32 meters each, polled each second."""
+    devices, reads = 64, 32
+    files = {"sunreg": room / "sunreg.db", "C": room / "C.db"}
+    cells = [f"{devices} x {reads}/{window}", place]
+    for name, db in files.items():
+        names = site(db, devices, reads, reads, window)
+        pairs = list(zip(names, serve(devices)))
+        if name == "sunreg":
+            addresses = ",".join(f"{it}=127.0.0.1:{port}" for it, port in pairs)
+            words = [program, "run", "--db", db, "--listen", free_port(), "--every", 1, "--devices", addresses, "--for", SECONDS]
+        else:
+            words = [compiled("office"), db, 1, SECONDS - 1, *(f"{it}={port}" for it, port in pairs)]
+        _, cost, opened = measured(words, room / f"{name}.printed")
+        moments = [int(it) for it in query(db, "SELECT moment FROM outcomes WHERE outcome = 1")]
+        span = max(moments) - min(moments) + 1
+        cells += [f"{len(moments) / span:,.0f}", f"{100 * (cost - opened) / span:.0f} %", f"{1e6 * (cost - opened) / len(moments):.0f} us"]
+    print("|", " | ".join(cells), "|", flush=True)
+    clear(room)
+
+
+def main():
+    program, turns = os.path.abspath(sys.argv[1]), int(sys.argv[2]) if len(sys.argv) > 2 else 5
+    rooms = places()
+    machine(program)
+    words = offices(program)
+    others = list(words)[1:]
+    heads = ["Polls/at once", "Meters", "Place", "sunreg, polls a second", "its processor time", "of it opening"]
+    for it in others:
+        heads += [f"{it}: ratio by the clock", "of processor time"] + ["without opening"] * (it == "C")
+    print("|", " | ".join(heads), "|\n|" + "---|" * len(heads), flush=True)
+    for row in ROUNDS:
+        for place, room in rooms.items():
+            compare(place, room, words, row, turns)
+    heads = ["Each second", "Place"] + [it for name in ("sunreg", "C") for it in (f"{name}, polls a second", "of a processor", "a poll")]
+    print("\n|", " | ".join(heads), "|\n|" + "---|" * len(heads), flush=True)
+    for window in (16, 1):
+        for place, room in rooms.items():
+            scheduled(place, room, program, window)
+    print(f"load {load()} at the end", flush=True)
+
+
+if __name__ == "__main__":
+    main()
