@@ -19,6 +19,7 @@ from room import CHILDREN, ROOM, free_port, run, start, stop
 COMPILED = {
     "plain_server": ["cc", "-O2", TESTS / "peers/plain_server.c"],
     "office": ["cc", "-O2", HERE / "office.c", "-lsqlite3"],
+    "count_statements.so": ["cc", "-O2", "-shared", "-fPIC", HERE / "count_statements.c", "-lsqlite3"],
     "replay": ["rustc", "-O", "--edition", "2024", HERE / "replay.rs"],
 }
 APART = 128
