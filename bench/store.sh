@@ -4,7 +4,7 @@
 # device of 512 meters, 16 at once or one after the other (two commits a reading), one of 32, and one of 64 such. The rate should not fall as the file
 # grows. The opening of the file is told apart, and the size of the files: `bench/store.sh [PROGRAM [ROUNDS]]`, out/sunreg by default, which
 # `./sunreg-build` makes. All must have printed and booked the same. Ratios are the peer's by ours, so above 1 sunreg is faster. It needs a C compiler,
-# libsqlite3 with its header, python3 and sqlite3. The files stand in /dev/shm, and then in TMPDIR: give a folder of a real disk, which counts its commits.
+# libsqlite3 with its header, python3 and sqlite3. The files stand in /dev/shm, and in TMPDIR: give a folder of a real disk, on which the last size alone is measured.
 set -eu
 here=$(dirname "$(readlink -f "$0")")
 program=${1:-$here/../out/sunreg}

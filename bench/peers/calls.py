@@ -20,7 +20,8 @@ CONNECTS = re.compile(r"\d+ +connect\((\d+)<.*AF_INET")
 # The functions of the kit's `sqlite` that each statement comes through, by one of them and once: those that read, and those that write.
 READING = ("sqlite::connection::Connection::query_near::<", "sqlite::connection::Connection::rows_near::<")
 WRITING = ("sqlite::connection::Connection::execute_inside::<",)
-HEADS = ["Polls/at once", "Office", "reads of tables", "writes of rows", "fdatasyncs", "bytes of the log", "of them zeros ahead", "writes into the file"]
+HEADS = ["Polls/at once", "Office", "reads of tables", "writes of rows", "fdatasyncs", "bytes of the log", "of them zeros ahead", "of them a count", "writes into the file"]
+FRAME = 4120
 HEADS += ["writes to standard output", "sends", "takes"]
 
 
@@ -43,6 +44,9 @@ def traced(words, folder):
             size = int(got)
             if call.startswith(("pwrite", "write")) and name.endswith("-wal"):
                 yield "bytes of the log", size
+                # (the kit's SQLite begins a commit that it syncs once by a frame of no page, with a count of what follows)
+                if size == 8 and text.startswith('"\\377\\0\\0\\0'):
+                    yield "of them a count", FRAME
                 if size > 4096 and text and not text.strip('"').replace("\\0", ""):
                     yield "of them zeros ahead", size
             elif call.startswith(("pwrite", "write")) and name.endswith(".db"):
@@ -117,8 +121,7 @@ def row(row, name, words, count, folder):
 def main():
     programs = [os.path.abspath(it) for it in sys.argv[1:]]
     folder = places()["tmpfs"]
-    for it in programs:
-        machine(it)
+    machine(*programs)
     print("|", " | ".join(HEADS), "|\n|" + "---|" * len(HEADS), flush=True)
     peers = {name: it for name, it in offices(programs[0]).items() if name in ("C", "Python")}
     for it in ROUNDS:

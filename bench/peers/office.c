@@ -24,6 +24,8 @@
 
 enum { MOST_DEVICES = 64, MOST_WINDOW = 16, NAME = 17, QUARTER = 900, MOST_QUARTERS = 3000, ROOM = 4096 };
 static const int64_t MOST_TOTAL = 4000000000000000000;
+/* mWh of a count at a scale factor of -3 to 3 */
+static const int64_t UNITS[] = {1, 10, 100, 1000, 10000, 100000, 1000000};
 
 /* A counter and the meter that is open at it. */
 struct counter {
@@ -198,8 +200,7 @@ static void open_file(const char *path) {
 
 /* Why a reading is held, or 0. */
 static int cause_of(const struct counter *it, int64_t now, int64_t raw) {
-    static const int64_t units[] = {1, 10, 100, 1000, 10000, 100000, 1000000};
-    int64_t unit = units[it->last_sf + 3], gone = (raw - it->last_raw + it->range) % it->range;
+    int64_t unit = UNITS[it->last_sf + 3], gone = (raw - it->last_raw + it->range) % it->range;
     __int128 could = (__int128)it->ceiling * (now - it->last_at) * 5;
     if (raw == 0)
         return 1;
@@ -230,7 +231,6 @@ static void spread(const struct counter *it, int64_t till, int64_t energy) {
 }
 
 static void book(struct counter *it, int64_t poll, int64_t now, int64_t raw) {
-    static const int64_t units[] = {1, 10, 100, 1000, 10000, 100000, 1000000};
     int cause = cause_of(it, now, raw);
     if (cause) {
         carry_out(with(add_hold, "isiiiii", next_hold++, it->meter, poll, now, raw, (int64_t)it->sf, (int64_t)cause));
@@ -238,7 +238,7 @@ static void book(struct counter *it, int64_t poll, int64_t now, int64_t raw) {
             printf("held %s %lld cause %d\n", it->meter, (long long)raw, cause);
         return;
     }
-    int64_t rolls = raw < it->last_raw, step = (raw - it->last_raw + it->range) % it->range * units[it->sf + 3];
+    int64_t rolls = raw < it->last_raw, step = (raw - it->last_raw + it->range) % it->range * UNITS[it->sf + 3];
     carry_out(with(add_entry, "siiiii", it->meter, ++it->entries, now, raw, rolls, (int64_t)it->sf));
     spread(it, now, step);
     it->last_at = now;
@@ -260,8 +260,10 @@ static void settle(struct device *device, struct waiting *waiting, const uint8_t
     else if (length != 7 || frame[1] != waiting->read->function || frame[2] != 4)
         outcome = 4, code = 2;
     carry_out(with(add_outcome, "iiii", waiting->poll, now, outcome, code));
-    if (is_alone)
-        printf(code ? "poll %lld %s %d\n" : "poll %lld %s\n", (long long)waiting->poll, words[outcome], (int)code);
+    if (is_alone && code)
+        printf("poll %lld %s %d\n", (long long)waiting->poll, words[outcome], (int)code);
+    else if (is_alone)
+        printf("poll %lld %s\n", (long long)waiting->poll, words[outcome]);
     waiting->is_pending = false;
     device->pending--;
     if (outcome != 1)

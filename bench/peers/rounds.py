@@ -7,10 +7,11 @@ import subprocess
 import sys
 import time
 
-from sites import TESTS, check_same, check_told, clear, compiled, free_port, load, machine, measured, medians, places, query, serve, site
+from sites import TESTS, check_same, check_told, check_whole, clear, compiled, free_port, load, machine, measured, medians, places, query, serve, site
 
-# Polls, how many at once, devices, and meters a device.
-ROUNDS = [(32, 16, 1, 32), (32, 1, 1, 32), (512, 16, 1, 32), (512, 1, 1, 32), (32, 16, 64, 32), (32, 1, 64, 32)]
+# Polls, how many at once, devices, meters a device, and whether each meter stands in the place of one before.
+ROUNDS = [(32, 16, 1, 32, False), (32, 1, 1, 32, False), (512, 16, 1, 32, False), (512, 1, 1, 32, False)]
+ROUNDS += [(32, 16, 64, 32, False), (32, 1, 64, 32, False), (32, 16, 64, 32, True), (32, 1, 64, 32, True)]
 SECONDS = 12
 
 
@@ -20,11 +21,11 @@ def offices(program):
     found = {
         "sunreg": lambda db, name, port: [program, "round", "--db", db, "--device", name, "--port", port],
         "C": lambda db, name, port: [plain, db, 0, 1, f"{name}={port}"],
-        "Python": lambda db, name, port: [sys.executable, sockets, db, name, port],
+        "Python": lambda db, name, port: [sys.executable, "-u", sockets, db, name, port],
     }
     for it in (sys.executable, "/usr/bin/python3"):
-        if subprocess.run([it, "-c", "import pymodbus"], stderr=subprocess.DEVNULL).returncode == 0:
-            pymodbus = [it, "-B", str(TESTS / "peers/pymodbus_office.py")]
+        if subprocess.run([it, "-c", "import pymodbus.client"], stderr=subprocess.DEVNULL).returncode == 0:
+            pymodbus = [it, "-B", "-u", str(TESTS / "peers/pymodbus_office.py")]
             found["pymodbus"] = lambda db, name, port: [*pymodbus, db, name, port]
             break
     else:
@@ -38,10 +39,10 @@ def ratio(peer, ours):
 
 def compare(place, room, words, row, turns):
     """One row of the table: rounds of the first device of a file."""
-    polls, window, devices, meters = row
+    polls, window, devices, meters, exchanged = row
     files = {name: room / f"{name}.db" for name in words}
     for db in files.values():
-        site(db, devices, polls, meters, window)
+        site(db, devices, polls, meters, window, exchanged)
     ports = dict(zip(words, serve(len(words))))
     runs = {name: [] for name in words}
     for _ in range(turns):
@@ -52,7 +53,8 @@ def compare(place, room, words, row, turns):
         check_told(printed, window)
     check_same(files)
     took, cost, opened = medians(runs["sunreg"])
-    cells = [f"{polls}/{window}", devices * meters, place, f"{polls / took:,.0f}", f"{1000 * cost:.0f} ms", f"{1000 * opened:.0f} ms"]
+    cells = [f"{polls}/{window}", f"{devices * meters * (1 + exchanged):,}", place, f"{polls / took:,.0f}", f"{1000 * cost:.0f} ms", f"{1000 * opened:.0f} ms"]
+    cells.append(f"{1e6 * (cost - opened) / polls:,.0f} us")
     for name in list(words)[1:]:
         theirs, price, before = medians(runs[name])
         cells += [ratio(theirs, took), ratio(price, cost)]
@@ -60,6 +62,18 @@ def compare(place, room, words, row, turns):
             cells.append(ratio(price - before, cost - opened))
     print("|", " | ".join(map(str, cells)), "|", flush=True)
     clear(room)
+
+
+def check_alike(files):
+    """Ends the process unless all files, by their names, are whole, and each meter has the same readings as far as all have booked so many."""
+    for name, db in files.items():
+        check_whole(name, db)
+    most = min(int(query(db, "SELECT min(place) FROM (SELECT max(place) AS place FROM entries GROUP BY meter)")[0]) for db in files.values())
+    text = f"SELECT meter, place, kind, raw, rolls, sf FROM entries WHERE place <= {most} ORDER BY 1, 2"
+    (first, rows), *others = ((name, query(db, text)) for name, db in files.items())
+    for name, of in others:
+        if rows != of or most < 3:
+            sys.exit(f"{first} and {name} have not booked the same readings")
 
 
 def scheduled(place, room, program, window):
@@ -79,6 +93,7 @@ def scheduled(place, room, program, window):
         moments = [int(it) for it in query(db, "SELECT moment FROM outcomes WHERE outcome = 1")]
         span = max(moments) - min(moments) + 1
         cells += [f"{len(moments) / span:,.0f}", f"{100 * (cost - opened) / span:.0f} %", f"{1e6 * (cost - opened) / len(moments):.0f} us"]
+    check_alike(files)
     print("|", " | ".join(cells), "|", flush=True)
     clear(room)
 
@@ -89,7 +104,7 @@ def main():
     machine(program)
     words = offices(program)
     others = list(words)[1:]
-    heads = ["Polls/at once", "Meters", "Place", "sunreg, polls a second", "its processor time", "of it opening"]
+    heads = ["Polls/at once", "Meters", "Place", "sunreg, polls a second", "its processor time", "of it opening", "else a poll"]
     for it in others:
         heads += [f"{it}: ratio by the clock", "of processor time"] + ["without opening"] * (it == "C")
     print("|", " | ".join(heads), "|\n|" + "---|" * len(heads), flush=True)
@@ -98,9 +113,10 @@ def main():
             compare(place, room, words, row, turns)
     heads = ["Each second", "Place"] + [it for name in ("sunreg", "C") for it in (f"{name}, polls a second", "of a processor", "a poll")]
     print("\n|", " | ".join(heads), "|\n|" + "---|" * len(heads), flush=True)
-    for window in (16, 1):
-        for place, room in rooms.items():
-            scheduled(place, room, program, window)
+    # (one poll at a time is 4,096 commits a second, which a disk that writes them through doesn't have)
+    for place, window in (("tmpfs", 16), ("tmpfs", 1), ("disk", 16)):
+        if place in rooms:
+            scheduled(place, rooms[place], program, window)
     print(f"load {load()} at the end", flush=True)
 
 

@@ -73,13 +73,14 @@ def said(*words):
     return (done.stdout or done.stderr or "-").splitlines()[0]
 
 
-def machine(program):
+def machine(*programs):
     """Prints when, where and of what it is measured."""
     cpu = next((it.split(":")[1].strip() for it in open("/proc/cpuinfo") if it.startswith("model name")), "?")
     print(f"{time.strftime('%Y-%m-%d %H:%M')} UTC, {os.cpu_count()} processors ({cpu}), Linux {os.uname().release}; load {load()}")
-    sums = said("sha256sum", program).split()[0][:16]
-    print(f"{program}: {os.path.getsize(program):,} bytes, SHA-256 {sums}; {said('rt', 'version')}")
-    print(f"SQLite {said('sqlite3', '--version').split()[0]}, {said('cc', '--version')}, {said(sys.executable, '--version')}", flush=True)
+    for it in programs:
+        print(f"{it}: {os.path.getsize(it):,} bytes, SHA-256 {said('sha256sum', it).split()[0][:16]}")
+    versions = [f"SQLite {said('sqlite3', '--version').split()[0]}", said("cc", "--version"), said("rustc", "--version"), said(sys.executable, "--version"), said("rt", "version")]
+    print("; ".join(versions), flush=True)
 
 
 def load():
@@ -98,27 +99,39 @@ def device_lines(place, name, window, reads):
     return lines + [f"INSERT INTO points VALUES ('{name}', {n + 1}, 'P{n}', 3, 0, {APART * n}, 'acc32', '');" for n in range(reads)]
 
 
-def meter_lines(place, device, read, entries, rows, total):
-    """A meter at a read of a device, with its entries and interval rows."""
-    *_, end, raw, _, _, _ = entries[-1]
-    meter = f"m{place - 1}"
+def register_line(place, device, read):
+    """A register at a read of a device."""
+    return f"INSERT INTO registers VALUES ({place}, 'r{place}', '{device}', 3, {APART * read}, 0, 0);"
+
+
+def meter_lines(place, register, entries, rows=(), ended=0):
+    """A meter at the register of a place, with its entries and interval rows."""
+    meter, *_, end, raw, _, _, _ = entries[-1]
+    total = sum(mwh for _, _, mwh in rows)
     return [
-        f"INSERT INTO registers VALUES ({place}, 'r{place - 1}', '{device}', 3, {APART * read}, 0, 0);",
-        f"INSERT INTO installations VALUES ({place}, '{meter}', 'r{place - 1}', 100000, 0, {end}, {raw}, 0, {total});",
+        f"INSERT INTO installations VALUES ({place}, '{meter}', 'r{register}', 100000, {ended}, {end}, {raw}, 0, {total});",
         f"INSERT INTO ranges VALUES ('{meter}', 4294967296);",
         *(f"INSERT INTO entries VALUES {it};" for it in entries),
         *(f"INSERT INTO intervals VALUES {it};" for it in rows),
     ]
 
 
-def site(db, devices, reads, meters, window):
-    """A file of devices with so many reads each, of which the first have a meter each. Returns the devices' names."""
-    at, lines, names = int(time.time()) - 10, [], [f"d{n}" for n in range(devices)]
+def site(db, devices, reads, meters, window, exchanged=False):
+    """A file of devices with so many reads each, of which the first have a meter each, and where they were exchanged one before it. Returns the
+    devices' names."""
+    at, lines, names, place = int(time.time()) - 10, [], [f"d{n}" for n in range(devices)], 0
     for n, name in enumerate(names):
         lines += device_lines(n + 1, name, window, reads)
         for read in range(meters):
-            place = n * meters + read + 1
-            lines += meter_lines(place, name, read, [(f"m{place - 1}", 1, 1, at, BEGUN, 0, 0, 0)], [], 0)
+            register = n * meters + read + 1
+            lines.append(register_line(register, name, read))
+            if exchanged:
+                place, old = place + 1, f"o{register}"
+                entries = [(old, 1, 1, at - QUARTER, BEGUN, 0, 0, 0), (old, 2, 4, at, BEGUN + 1, 0, 0, 0)]
+                rows = [(old, *it) for it in shares(at - QUARTER, at, 1000)]
+                lines += meter_lines(place, register, entries, rows, ended=1)
+            place += 1
+            lines += meter_lines(place, register, [(f"m{register}", 1, 1, at, BEGUN, 0, 0, 0)])
     fill(db, lines)
     return names
 
@@ -202,16 +215,21 @@ def stray_interval(db):
     return next(iter(wanted), None)
 
 
+def check_whole(name, db):
+    """Ends the process unless a file's tables are sound, and its installations and interval rows are those of its entries."""
+    for text, wanted in (("PRAGMA integrity_check; PRAGMA foreign_key_check", ["ok"]), (LAST_IS_ENTRY, ["0"])):
+        if query(db, text) != wanted:
+            sys.exit(f"{name}: {text} finds a fault")
+    if stray := stray_interval(db):
+        sys.exit(f"{name}: the interval row {stray} is not that of the entries")
+
+
 def check_same(files):
-    """Ends the process unless the files of all offices, by their names, have the same rows, but for the moments, and whole books."""
+    """Ends the process unless the files of all offices, by their names, are whole, and have the same rows but for the moments."""
     tables = {}
     for name, db in files.items():
+        check_whole(name, db)
         tables[name] = {table: query(db, f"SELECT {columns} FROM {table} ORDER BY 1, 2") for table, columns in COLUMNS.items()}
-        for text, wanted in (("PRAGMA integrity_check; PRAGMA foreign_key_check", ["ok"]), (LAST_IS_ENTRY, ["0"])):
-            if query(db, text) != wanted:
-                sys.exit(f"{name}: {text} finds a fault")
-        if stray := stray_interval(db):
-            sys.exit(f"{name}: the interval row {stray} is not that of the entries")
     (first, rows), *others = tables.items()
     for name, of in others:
         for table in COLUMNS:
