@@ -17,9 +17,10 @@ from sites import clear, compiled, machine, places, run, serve, site
 ROUNDS = [(512, 1, 32), (512, 16, 32), (32, 1, 32), (32, 16, 32)]
 CALL = re.compile(r"\d+ +(\w+)\((\d+)<([^>]*)>, ?(?:(\"[^\"]*\")\.*, (\d+))?.* = (-?\d+)")
 CONNECTS = re.compile(r"\d+ +connect\((\d+)<.*AF_INET")
-# The functions of the kit's `sqlite` that each statement comes through, by one of them and once: those that read, and those that write.
-READING = ("sqlite::connection::Connection::query_near::<", "sqlite::connection::Connection::rows_near::<")
-WRITING = ("sqlite::connection::Connection::execute_inside::<",)
+# The functions of the kit's `sqlite` that each statement comes through, by one row of them and once: those that read, and those that write. Of a row the
+# first counts that the compiler left as a function of its own.
+READING = (("connection::Connection::query_near",), ("connection::Connection::rows_near", "connection::Connection::query"))
+WRITING = (("connection::Connection::execute_inside", "transaction::Transaction::execute"),)
 HEADS = ["Polls/at once", "Office", "reads of tables", "writes of rows", "fdatasyncs", "bytes of the log", "of them zeros ahead", "of them a count", "writes into the file"]
 FRAME = 4120
 HEADS += ["writes to standard output", "sends", "takes"]
@@ -67,10 +68,11 @@ def preloaded(words, folder):
     return map(int, counts.read_text().split())
 
 
-def addresses(program, names):
-    """Where the functions begin that a program has of these."""
-    lines = [it.split(" ", 2) for it in run("nm", program).stdout.splitlines()]
-    return [int(at, 16) for at, kind, name in lines if kind in "tT" and name.startswith(names)]
+def addresses(program, rows):
+    """Where the functions begin that a program has of these, one of each row."""
+    found = {name: int(at, 16) for at, name in re.findall(r"^(\w+) [tT] (.*?)(?:::<.*)?$", run("nm", program).stdout, re.M)}
+    kept = [next((found[f"sqlite::{it}"] for it in row if f"sqlite::{it}" in found), None) for row in rows]
+    return [] if None in kept else kept
 
 
 def broken(words, folder):

@@ -65,14 +65,19 @@ def compare(place, room, words, row, turns):
 
 
 def check_alike(files):
-    """Ends the process unless all files, by their names, are whole, and each meter has the same readings as far as all have booked so many."""
+    """Ends the process unless all files, by their names, are whole, and have the same readings of each meter, booked or held, as far as all have so many:
+    two rounds in one second, as a busy machine makes them, are held."""
+    readings = {}
     for name, db in files.items():
         check_whole(name, db)
-    most = min(int(query(db, "SELECT min(place) FROM (SELECT max(place) AS place FROM entries GROUP BY meter)")[0]) for db in files.values())
-    text = f"SELECT meter, place, kind, raw, rolls, sf FROM entries WHERE place <= {most} ORDER BY 1, 2"
-    (first, rows), *others = ((name, query(db, text)) for name, db in files.items())
+        readings[name] = {}
+        for row in query(db, "SELECT meter, raw FROM entries WHERE kind = 2 UNION ALL SELECT meter, raw FROM holds ORDER BY 1, 2"):
+            meter, raw = row.split("|")
+            readings[name].setdefault(meter, []).append(int(raw))
+    most = min(len(it) for of in readings.values() for it in of.values())
+    (first, ours), *others = ((name, {meter: it[:most] for meter, it in of.items()}) for name, of in readings.items())
     for name, of in others:
-        if rows != of or most < 3:
+        if ours != of:
             sys.exit(f"{first} and {name} have not booked the same readings")
 
 
