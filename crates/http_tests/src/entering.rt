@@ -11,6 +11,7 @@ use std::alloc::{AllocError, Global};
 use std::test::Fail;
 
 /// One file in a folder.
+#[derive(Clone, Copy)]
 struct OneFile {
     name: &'static [u8],
     bytes: &'static [u8],
@@ -25,12 +26,12 @@ impl NamedFiles for OneFile {
     }
 }
 
-static LIST: OneFile = OneFile {
+const LIST: OneFile = OneFile {
     name: b"inv.csv",
     bytes: b"name,function,area,address,type,scale\nwh,3,0,40094,acc32,\n",
 };
 
-static FAULTY: OneFile = OneFile {
+const FAULTY: OneFile = OneFile {
     name: b"inv.csv",
     bytes: b"name,function,area,address,type,scale\nwh,5,0,40094,acc32,\n",
 };
@@ -62,66 +63,60 @@ fn check(
     (end, printed)
 }
 
-static SITE: &[u8] =
+const SITE: &[u8] =
     b"1 device inv 1 5 1\n\n# main\n2 list inv @inv.csv\n3 register main inv 3 40094 0\n4 install main m1 5000 0 100000\n";
 
 /// A text, a file, a moment, how entering ends, and what it prints.
-type Row = (
-    &'static [u8],
-    &'static OneFile,
-    u64,
-    ExitStatus,
-    &'static [u8],
-);
+type Row = (&'static [u8], OneFile, u64, ExitStatus, &'static [u8]);
 
 // Over the same books, one after the other: a site, the same again, a changed line and a new one, a changed file, a bad line, one
 // that can't be entered, a file that isn't there, and a clock that was set back.
 static TEXTS: [Row; 9] = [
-    (SITE, &LIST, 1000, ExitStatus::Fine, b"ok\nok\nok\nok\n"),
-    (SITE, &LIST, 2000, ExitStatus::Fine, b"ok\nok\nok\nok\n"),
+    (SITE, LIST, 1000, ExitStatus::Fine, b"ok\nok\nok\nok\n"),
+    (SITE, LIST, 2000, ExitStatus::Fine, b"ok\nok\nok\nok\n"),
     (
         b"1 device inv 2 5 1\n5 device other 2 5 1",
-        &LIST,
+        LIST,
         2000,
         ExitStatus::Refused,
         b"refused 11\nok\n",
     ),
     (
         b"2 list inv @inv.csv\n6 list inv @inv.csv\n",
-        &FAULTY,
+        FAULTY,
         2000,
         ExitStatus::Refused,
         b"row 2 fault 5\nrefused 12\nrow 2 fault 5\nrefused 12\n",
     ),
     (
         b"7 device third 3 5 1\n\n8 device\n9 device fourth 4 5 1\n",
-        &LIST,
+        LIST,
         2000,
         ExitStatus::Refused,
         b"ok\nbad line 3\n",
     ),
     (
         b"8 connect inv\n",
-        &LIST,
+        LIST,
         2000,
         ExitStatus::Refused,
         b"bad line 1\n",
     ),
     (
         b"8 round inv 0\n",
-        &LIST,
+        LIST,
         2000,
         ExitStatus::Refused,
         b"bad line 1\n",
     ),
     (
         b"8 list inv @none.csv\n",
-        &LIST,
+        LIST,
         2000,
         ExitStatus::Refused,
         b"bad line 1\n",
     ),
-    (SITE, &LIST, 999, ExitStatus::Refused, b"refused 3\n"),
+    (SITE, LIST, 999, ExitStatus::Refused, b"refused 3\n"),
 ];
 
 #[test]
