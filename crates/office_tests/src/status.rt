@@ -133,14 +133,22 @@ fn lack(device: &[u8], lack: Lack) -> DeviceLack {
     }
 }
 
+fn not_in_list(import: &Register) -> DeviceLack {
+    lack(b"grid", Lack::NotInList(*import))
+}
+
+fn no_meter(import: &Register) -> DeviceLack {
+    lack(b"grid", Lack::NoMeter(*import))
+}
+
 // One of each.
-fn lacks(import: Register) -> [DeviceLack; 5] {
+fn lacks(import: &Register) -> [DeviceLack; 5] {
     [
         lack(b"none", Lack::NoDevice),
         lack(b"inv", Lack::NoList),
         lack(b"inv", Lack::NoRegister),
-        lack(b"grid", Lack::NotInList(import)),
-        lack(b"grid", Lack::NoMeter(import)),
+        not_in_list(import),
+        no_meter(import),
     ]
 }
 
@@ -151,7 +159,7 @@ const LACKS: &str =
 fn what_devices_lack_is_in_the_status(rt: HostRuntime) {
     let mut text = Vec::new(rt.alloc());
     if let Some(import) = import() {
-        assert!(rt; put_status(&mut text, &Counts::new(), &[], &lacks(import)).is_ok());
+        assert!(rt; put_status(&mut text, &Counts::new(), &[], &lacks(&import)).is_ok());
     }
     assert!(rt; text.ends_with(LACKS.as_bytes()));
 }
@@ -167,7 +175,7 @@ sunreg: register import: no meter is open at it: POST /registers/import/install
 fn what_devices_lack_is_said(rt: HostRuntime) {
     let mut text = Vec::new(rt.alloc());
     if let Some(import) = import() {
-        for lack in &lacks(import) {
+        for lack in &lacks(&import) {
             assert!(rt; put_lack(&mut text, lack).is_ok());
         }
     }
