@@ -114,38 +114,24 @@ fn report<C: Connects>(
 }
 
 /// A device that is entered.
-static DEVICE: &[u8] = b"1 device inv 1 5 1\n";
+const DEVICE: &[u8] = b"1 device inv 1 5 1\n";
 
-/// Tasks over one office, and what they print: a line acts once, and looking at it says so.
-static ENTERED: [(Task<'static>, &[u8]); 4] = [
-    (
-        Task::Check {
-            caller: "desk",
-            text: DEVICE,
-        },
-        b"new\n",
-    ),
-    (
-        Task::Enter {
-            caller: "desk",
-            text: DEVICE,
-        },
-        b"ok\n",
-    ),
-    (
-        Task::Check {
-            caller: "desk",
-            text: DEVICE,
-        },
-        b"again\n",
-    ),
-    (
-        Task::Enter {
-            caller: "desk",
-            text: DEVICE,
-        },
-        b"ok\n",
-    ),
+/// The line is looked at, or entered.
+fn entering(looks: bool) -> Task<'static> {
+    let (caller, text) = ("desk", DEVICE);
+    if looks {
+        Task::Check { caller, text }
+    } else {
+        Task::Enter { caller, text }
+    }
+}
+
+/// Whether the line is looked at, one time after the other, and what is printed: it acts once, and looking at it says so.
+static ENTERED: [(bool, &[u8]); 4] = [
+    (true, b"new\n"),
+    (false, b"ok\n"),
+    (true, b"again\n"),
+    (false, b"ok\n"),
 ];
 
 /// Whether a line is entered once.
@@ -155,8 +141,8 @@ pub(crate) fn is_entered_once<C: Connects>(
     path: &str,
 ) -> Result<bool, Fail> {
     let made = create(rt, connects, path, "UTC0")?;
-    for (task, text) in &ENTERED {
-        let (end, printed) = carry_out(rt, connects, path, *task, 1000)?;
+    for (looks, text) in &ENTERED {
+        let (end, printed) = carry_out(rt, connects, path, entering(*looks), 1000)?;
         if end != Ok(ExitStatus::Fine) || printed.as_slice() != *text {
             return Ok(false);
         }
