@@ -255,7 +255,7 @@ pub(crate) fn run<'a>(
         Err(failure) => return Ending::Failed(failure),
     };
     let task = Task::Run {
-        settings,
+        settings: &*settings,
         sites: sites.as_slice(),
     };
     let done = over_office(rt, &Files { rt }, path, task);
