@@ -57,7 +57,7 @@ fn lines_that_nobody_reads_are_counted(rt: HostRuntime) {
     queue.advance(65_536);
     queue.tell_dropped(1_700_000_000);
     assert_eq!(rt; queue.waiting(), DROPPED);
-    queue.advance(10);
+    queue.advance(11);
     queue.put(FIRST);
     assert_eq!(rt;
         queue.waiting(),
