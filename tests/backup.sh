@@ -167,8 +167,7 @@ run backup --db folder --to new.db
 same 'backup of a folder' "$status $(head -n 1 err)" '3 failed'
 run backup --db office.db --to none/new.db
 refused 'backup into no folder' "none/new.db: it can't be written: look at its folder's rights and the disk's room"
-head -c 20000 office.db > torn.db
-cp office.db-wal torn.db-wal
+head -c 20000 copy.db > torn.db
 run backup --db torn.db --to new.db
 refused 'backup of a torn file' 'torn.db: it is no SQLite database, or a damaged one, so there is no backup of it'
 same 'nothing is left of those' "$(ls new.db* none 2> /dev/null)" ''

@@ -18,9 +18,9 @@ block() {
   awk -v kind="\`\`\`$1" '/^## /{ below = $0 == "## A site in five commands" } below && $0 == kind { inside = 1; next } inside && /^```$/ { exit } inside' "$top/README.md"
 }
 
-# what does not hang on when it is run: a day is DAY, a moment is AT, and counts of quarter hours are N
+# what does not hang on when it is run: a day is DAY, a moment is AT, counts of quarter hours are N, and rounds alike are one
 settled() {
-  sed -E 's/[0-9]{4}-[0-9]{2}-[0-9]{2} +[0-9]+/DAY N/; s/^[0-9]{10} /AT /; s/ to [0-9]{10} / to AT /'
+  sed -E 's/[0-9]{4}-[0-9]{2}-[0-9]{2} +[0-9]+/DAY N/; s/^[0-9]{10} /AT /; s/ to [0-9]{10} / to AT /' | uniq
 }
 
 passed=0

@@ -116,7 +116,7 @@ run '' run --db "$office" --listen 65536 --every 1 --devices d=127.0.0.1:1
 is 'run: a port out of range' 2 '' "error: invalid value '65536' for '--listen <PORT>': not a number from 1 to 65535"
 port=${STATUSES_PORT:-18691}
 run '' run --db "$office" --listen "$port" --every 86400 --devices d=127.0.0.1:1 --for 1
-is 'run: for a second' 0 "$(printf 'books to 0 lost 0\nlistening %s' "$port")" ''
+is 'run: for a second' 0 "$(printf 'books to 0 lost 0\nlistening %s' "$port")" 'sunreg: d: the office has no device of that name: POST /devices'
 
 if [ -w /dev/full ]; then
     printf '1000 tick\n' | "$program" > /dev/full 2> "$room/err"
