@@ -3,6 +3,7 @@
 # most 2.5 times as long. A small program over the proved libraries is proved and built in a copy of the repository, and times itself.
 set -euo pipefail
 runs="${1:-1000}"
+# shellcheck source=tests/scratch.sh
 . "$(dirname "$(readlink -f "$0")")/../tests/scratch.sh"
 
 cat > "$scratch/plan_bench.rt" <<END

@@ -8,4 +8,4 @@ program=${1:-$here/../out/sunreg}
 for it in python3 sqlite3; do
     command -v $it > /dev/null || { echo "report.sh: $it is not installed (apt-get install $it)" >&2; exit 2; }
 done
-PYTHONDONTWRITEBYTECODE=1 python3 "$here/../tests/peers/report.py" "$program" ${2:-}
+PYTHONDONTWRITEBYTECODE=1 python3 "$here/../tests/peers/report.py" "$program" ${2:+"$2"}

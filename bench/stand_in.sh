@@ -10,6 +10,7 @@ program=${1:-$here/../out/sunreg}
 room=$(mktemp -d)
 trap 'rm -rf "$room"' EXIT
 flags=$(pkg-config --cflags --libs libmodbus 2> "$room/said" || echo -I/usr/include/modbus -lmodbus)
+# shellcheck disable=SC2086 # (the flags are several words)
 if cc -O2 -DLIBMODBUS -o "$room/reads" "$peers/reads.c" $flags 2> "$room/said" \
     && cc -O2 -o "$room/libmodbus_server" "$peers/libmodbus_server.c" $flags 2> "$room/said"; then
     server=libmodbus_server
@@ -19,4 +20,4 @@ else
     cc -O2 -o "$room/reads" "$peers/reads.c"
     cc -O2 -o "$room/plain_server" "$peers/plain_server.c"
 fi
-PYTHONDONTWRITEBYTECODE=1 python3 "$peers/stand_in.py" "$program" "$room/reads" "$room/$server" ${2:-}
+PYTHONDONTWRITEBYTECODE=1 python3 "$peers/stand_in.py" "$program" "$room/reads" "$room/$server" ${2:+"$2"}

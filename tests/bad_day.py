@@ -1,7 +1,9 @@
 """bad_day.py PROGRAM ROOM: see bad_day.sh."""
+import fcntl
 import glob
 import json
 import os
+import signal
 import socket
 import subprocess
 import sys
@@ -122,12 +124,12 @@ def stand_in(raw, host="127.0.0.1", family=socket.AF_INET):
     return port
 
 
-def office(name):
+def office(name, **surroundings):
     """Makes an office with the device inv and its meter; its file."""
     db = f"{ROOM}/{name}.db"
     same(f"{name}: create", subprocess.run([PROGRAM, "create", "--db", db, "--zone", "UTC0"]).returncode, 0)
     port = free_port()
-    serve = Process("serve", "--db", db, "--port", str(port), "--connections", "5")
+    serve = Process("serve", "--db", db, "--port", str(port), "--connections", "5", **surroundings)
     waits(port)
     same(f"{name}: a device", post(port, 1, "/devices", {"name": "inv", "unit": 1, "timeout": 1, "window": 1}), "200")
     rows = "name,function,area,address,type,scale\nwh,3,0,40094,acc32,\n"
@@ -221,20 +223,57 @@ def library_of_faketime():
     return found[0] if found else None
 
 
+def set_clock(text):
+    with open(f"{ROOM}/clock.new", "w") as file:
+        file.write(text)
+    os.rename(f"{ROOM}/clock.new", f"{ROOM}/clock")
+
+
+def clock_of(library):
+    """The surroundings of a process whose clock `set_clock` sets."""
+    set_clock("+0")
+    names = ("FAKETIME_NO_CACHE", "FAKETIME_DONT_FAKE_MONOTONIC", "DONT_FAKE_MONOTONIC")
+    return {"LD_PRELOAD": library, "FAKETIME_TIMESTAMP_FILE": f"{ROOM}/clock", **{name: "1" for name in names}}
+
+
+def clock_ahead(db):
+    """A clock that goes ahead is told with both moments; an office that was left then isn't opened before, and that is explained."""
+    library = library_of_faketime()
+    if library is None:
+        return
+    clock = clock_of(library)
+    port, device = free_port(), stand_in(5400)
+    words = ("--db", db, "--listen", str(port), "--every", "2", "--devices", f"inv=127.0.0.1:{device}")
+    run = Process("run", *words, **clock)
+    holds("run listens", run.wait_for(f"listening {port}"), run.said)
+    before = int(time.time())
+    rounds = sum("round answered" in line for line in run.lines)
+    set_clock("+600")
+    time.sleep(5)
+    said = [line.split() for line in run.said if "the clock went from" in line]
+    same("it is said once", len(said), 1)
+    moments = [int(word) for word in said[0] if word.isdigit()] if said else [0, 0]
+    holds("with both moments", abs(moments[0] - before) <= 2 and 595 <= moments[1] - moments[0] <= 605, (said, before))
+    holds("and rounds go on", sum("round answered" in line for line in run.lines) > rounds, run.lines)
+    run.end()
+    set_clock("+0")
+    run = Process("run", *words, **clock)
+    same("it isn't opened before", run.child.wait(20), 1)
+    time.sleep(0.5)
+    said = [line for line in run.said if "the books go to" in line]
+    holds("and that is explained", len(said) == 1 and str(moments[1])[:7] in said[0], run.said)
+    same("as before on standard output", run.lines, ["refused 3"])
+    set_clock("+700")
+    holds("once the clock has passed it, it is", Process("run", *words, "--for", "2", **clock).wait_for("listening"))
+    time.sleep(3)
+
+
 def clock_set_back(db):
     library = library_of_faketime()
     if library is None:
         print("bad_day: no faketime here: a clock that is set back isn't tried", flush=True)
         return
-    setting = f"{ROOM}/clock"
-
-    def set_clock(text):
-        with open(setting + ".new", "w") as file:
-            file.write(text)
-        os.rename(setting + ".new", setting)
-
-    set_clock("+0")
-    clock = {"LD_PRELOAD": library, "FAKETIME_TIMESTAMP_FILE": setting, "FAKETIME_NO_CACHE": "1", "FAKETIME_DONT_FAKE_MONOTONIC": "1", "DONT_FAKE_MONOTONIC": "1"}
+    clock = clock_of(library)
     port, device = free_port(), stand_in(5300)
     words = ("--db", db, "--listen", str(port), "--every", "2", "--devices", f"inv=127.0.0.1:{device}")
     run = Process("run", *words, **clock)
@@ -267,13 +306,200 @@ def clock_set_back(db):
     serve.end()
 
 
+class Meter:
+    """A device in a thread of this process, which answers after a while; how many times it has."""
+
+    def __init__(self, after=0.0):
+        self.after, self.answered, self.raw = after, 0, 5000
+        self.listener = socket.create_server(("127.0.0.1", 0))
+        self.port = self.listener.getsockname()[1]
+        threading.Thread(target=self.serve, daemon=True).start()
+
+    def serve(self):
+        while True:
+            stream, _ = self.listener.accept()
+            threading.Thread(target=self.talk, args=(stream,), daemon=True).start()
+
+    def talk(self, stream):
+        with stream:
+            while True:
+                frame = b""
+                while len(frame) < 12:
+                    more = stream.recv(12 - len(frame))
+                    if not more:
+                        return
+                    frame += more
+                time.sleep(self.after)
+                self.raw += 1
+                data = self.raw.to_bytes(4, "big")[: 2 * frame[11]]
+                self.answered += 1
+                stream.sendall(frame[:4] + bytes([0, 3 + len(data)]) + frame[6:8] + bytes([len(data)]) + data)
+
+
+def slowed(child, seconds, stop=1.2, go=0.15):
+    """Stops a process for most of each second: its turns then take as long as those of a machine that is at its limit."""
+    until = time.monotonic() + seconds
+    while time.monotonic() < until and child.poll() is None:
+        os.kill(child.pid, signal.SIGSTOP)
+        time.sleep(stop)
+        os.kill(child.pid, signal.SIGCONT)
+        time.sleep(go)
+
+
+def bytes_before_a_deadline(db):
+    """A device answers in 0.4 s at a timeout of 1 s, while the process is held up for longer than that: no poll is silent."""
+    device, port = Meter(after=0.4), free_port()
+    run = Process("run", "--db", db, "--listen", str(port), "--every", "2", "--devices", f"inv=127.0.0.1:{device.port}", "--for", "30")
+    holds("run listens", run.wait_for(f"listening {port}"), run.said)
+    slowed(run.child, 25)
+    run.child.wait(30)
+    rounds = [line for line in run.lines if "round answered" in line]
+    holds("rounds go on while it is held up", len(rounds) >= 4, run.lines)
+    same("no poll of it was silent", [line for line in rounds if "answered 1 silent 0 failed 0" not in line], [])
+    run.end()
+
+
+def large_meter():
+    """An office whose meter has two years of quarter hours, from a clock that stood so far back; its file."""
+    library = library_of_faketime()
+    if library is None:
+        print("bad_day: no faketime here: large questions aren't tried", flush=True)
+        return None
+    clock = clock_of(library)
+    set_clock("-63072000")
+    db = office("large", **clock)
+    set_clock("+0")
+    port, now = free_port(), int(time.time())
+    serve = Process("serve", "--db", db, "--port", str(port), "--connections", "40")
+    waits(port)
+    for k in range(1, 25):
+        entry = {"raw": 5000 + 1000000 * k, "rolls": 0, "at": now - 63072000 + k * 2620000}
+        same(f"an entry by hand {k}", post(port, 100 + k, "/registers/main/manual", entry), "200")
+    serve.end()
+    return db
+
+
+def asks_on(port, until, sizes):
+    """Asks for all rows again and again, and reads them."""
+    while time.monotonic() < until:
+        try:
+            sizes.append(len(exchange(port, head("GET", "/meters/m1/intervals", []), seconds=60)))
+        except OSError:
+            time.sleep(0.1)
+
+
+def large_questions():
+    """A device answers in 0.4 s at a timeout of 1 s, while eight peers read all rows of a large meter again and again."""
+    db = large_meter()
+    if db is None:
+        return
+    device, port = Meter(after=0.4), free_port()
+    device.raw = 5000 + 1000000 * 24
+    run = Process("run", "--db", db, "--listen", str(port), "--every", "2", "--devices", f"inv=127.0.0.1:{device.port}", "--for", "40")
+    holds("run listens", run.wait_for(f"listening {port}"), run.said)
+    sizes, until = [], time.monotonic() + 30
+    readers = [threading.Thread(target=asks_on, args=(port, until, sizes), daemon=True) for _ in range(8)]
+    for reader in readers:
+        reader.start()
+    run.child.wait(90)
+    rounds = [line for line in run.lines if "round answered" in line]
+    holds("many rows were read", sizes and max(sizes) > 1000000, sizes[:5])
+    holds("rounds go on meanwhile", len(rounds) >= 4, run.lines)
+    same("no poll was silent", [line for line in rounds if "answered 1 silent 0 failed 0" not in line], [])
+    run.end()
+
+
+def stuffed_pipes(db):
+    """Nobody reads what run prints: it polls and answers all the same, and says later how many lines it dropped."""
+    device, port = Meter(), free_port()
+    reader, writer = os.pipe()
+    fcntl.fcntl(writer, 1031, 4096)  # F_SETPIPE_SZ
+    child = subprocess.Popen(
+        [PROGRAM, "run", "--db", db, "--listen", str(port), "--every", "1", "--verbose", "--devices", f"inv=127.0.0.1:{device.port}"]
+        + [f"long-name-of-{k:03}=127.0.0.1:{device.port}" for k in range(60)],
+        stdin=subprocess.DEVNULL, stdout=writer, stderr=writer,
+    )
+    CHILDREN.append(child)
+    os.close(writer)
+    waits(port, 60)
+    time.sleep(50)
+    before = device.answered
+    time.sleep(5)
+    holds("it polls while nobody reads", device.answered - before >= 4, device.answered - before)
+    same("and answers", status_of(exchange(port, head("GET", "/status", []), seconds=5)), "200")
+    text = b""
+    until = time.monotonic() + 60
+    while time.monotonic() < until and b" - dropped " not in text:
+        text += os.read(reader, 65536)
+    dropped = [line for line in text.decode(errors="replace").split("\n") if " - dropped " in line]
+    holds("it tells how many lines were dropped", dropped and dropped[0].split()[2:3] == ["dropped"], text[-300:])
+    child.kill()
+    child.wait()
+    os.close(reader)
+
+
+def what_is_lacking():
+    """What a device lacks is told at once, and again by /status; a refusal is explained once."""
+    db = office("lacking")
+    port = free_port()
+    serve = Process("serve", "--db", db, "--port", str(port), "--connections", "4")
+    waits(port)
+    same("a device without a list", post(port, 11, "/devices", {"name": "bare", "unit": 1, "timeout": 1, "window": 1}), "200")
+    far = {"name": "import", "device": "inv", "function": 3, "address": 40117, "scale_at": 40125}
+    same("a register that no read has", post(port, 12, "/registers", far), "200")
+    serve.end()
+    device, port = Meter(), free_port()
+    words = [f"{name}=127.0.0.1:{device.port}" for name in ("inv", "bare", "none")]
+    run = Process("run", "--db", db, "--listen", str(port), "--every", "1", "--for", "6", "--devices", *words)
+    holds("run listens", run.wait_for(f"listening {port}"), run.said)
+    lacks = json.loads(exchange(port, head("GET", "/status", [])).split("\r\n\r\n", 1)[1]).get("lacks")
+    run.child.wait(20)
+    wanted = [
+        "sunreg: register import: not in the list of inv (needs function 3, 40117 to 40125)",
+        "sunreg: register import: no meter is open at it: POST /registers/import/install",
+        "sunreg: bare: no point list yet: sunreg scan --list, or POST /devices/bare/list",
+        "sunreg: bare: it has no register, so nothing of it is booked: POST /registers",
+        "sunreg: none: the office has no device of that name: POST /devices",
+    ]
+    same("what lacks is said once", run.said, wanted)
+    same("and told by /status", lacks, [
+        {"device": "inv", "lack": "not_in_list", "register": "import"},
+        {"device": "inv", "lack": "no_meter", "register": "import"},
+        {"device": "bare", "lack": "no_list"},
+        {"device": "bare", "lack": "no_register"},
+        {"device": "none", "lack": "no_device"},
+    ])
+    holds("each round is printed as before", sum("bare refused 1" in line for line in run.lines) >= 3, run.lines)
+    run.end()
+
+
+def held_once():
+    """A reading that is held again and again is explained once."""
+    db = office("held")
+    device, port = Meter(), free_port()
+    device.raw = 4000
+    run = Process("run", "--db", db, "--listen", str(port), "--every", "1", "--for", "6", "--devices", f"inv=127.0.0.1:{device.port}")
+    holds("a reading is held", run.wait_for(" held m1 "), run.lines + run.said)
+    run.child.wait(20)
+    held = [line for line in run.lines if " held m1 " in line]
+    holds("each is printed", len(held) >= 3, run.lines)
+    same("and explained once", len([line for line in run.said if line.startswith("sunreg: m1: held: ")]), 1)
+    run.end()
+
+
 try:
     said_safely()
+    what_is_lacking()
+    held_once()
     foreign_pages()
     db = office("day")
     methods(db)
     by_ipv6(db)
+    bytes_before_a_deadline(db)
+    large_questions()
+    stuffed_pipes(db)
     clock_set_back(db)
+    clock_ahead(db)
 finally:
     for child in CHILDREN:
         child.kill()

@@ -1,8 +1,9 @@
 #!/bin/sh
-# Tries the built program on a bad day: pages of other names that ask it, requests in many pieces, a device by an IPv6 address, a clock that is
-# set back while peers keep silent: `tests/bad_day.sh [PROGRAM]`, out/sunreg by default, which `./sunreg-build` makes. `faketime` sets the
-# clock; where this is run as root it is installed by apt (not with PEERS_INSTALL=no), and where it can't be had that is said. It takes a
-# minute and ends on 'N passed, M failed'.
+# Tries the built program on a bad day: pages of other names that ask it, requests in many pieces, a device by an IPv6 address, devices that
+# lack something, a process that is held up or asked for many rows while a device takes its time, pipes that nobody reads, a clock that is
+# set back while peers keep silent, and ahead: `tests/bad_day.sh [PROGRAM]`, out/sunreg by default, which `./sunreg-build` makes. `faketime`
+# sets the clock; where this is run as root it is installed by apt (not with PEERS_INSTALL=no), and where it can't be had that is said. It
+# takes four minutes and ends on 'N passed, M failed'.
 set -u
 here=$(dirname "$(readlink -f "$0")")
 program=$(readlink -f "${1:-$here/../out/sunreg}")

@@ -50,15 +50,28 @@ for words in '' replay plan chain loop; do
     is "$words: a read that fails" 3 '' 'failed'
 done
 
-for words in help --help -h 'help replay' 'plan --help' 'stand-in -h' 'help help'; do
+for words in help --help -h 'help replay' 'plan --help' 'stand-in -h' 'help help' 'help explain' 'completions bash'; do
     run '' $words
     [ -s "$room/out" ] || status=none
     : > "$room/out"
     is "$words" 0 '' ''
 done
 
+run '' --versions
+is 'no such option' 2 '' "error: unexpected argument '--versions' found"
 run '' --version
-is 'no such option' 2 '' "error: unexpected argument '--version' found"
+is 'version' 0 "$(head -n 1 "$room/out"; sed -n 2p "$room/out")" ''
+run '' explain held 1
+is 'explain' 0 "$(printf '%s\n' 'held 1: the device shows 0: not accumulated' \
+    "Usual cause: a device that doesn't count this energy, or that has just started." \
+    "What to do: nothing where it passes; else book another counter, since the device doesn't have this one.")" ''
+run '' explain held 9
+is 'explain: no such number' 2 '' "error: invalid value '9' for '<NUMBER>': the numbers of held are 1 2 3 4 5 6 7 8"
+run '' explain hold 1
+is 'explain: no such word' 2 '' \
+    "error: invalid value 'hold' for '<WHAT>': not refused, held, lost, malformed, exception, fault or status"
+run '' completions zsh
+is 'completions: another shell' 2 '' "error: invalid value 'zsh' for '<SHELL>': there are completions for bash alone"
 "$program" "$(printf '\377')" > "$room/out" 2> "$room/err"
 status=$?
 is 'a word that is not in UTF-8' 2 '' 'error: the words are not in UTF-8'
@@ -103,7 +116,7 @@ run '' run --db "$office" --listen 65536 --every 1 --devices d=127.0.0.1:1
 is 'run: a port out of range' 2 '' "error: invalid value '65536' for '--listen <PORT>': not a number from 1 to 65535"
 port=${STATUSES_PORT:-18691}
 run '' run --db "$office" --listen "$port" --every 86400 --devices d=127.0.0.1:1 --for 1
-is 'run: for a second' 0 "$(printf 'books to 0 lost 0\nlistening %s' "$port")" ''
+is 'run: for a second' 0 "$(printf 'books to 0 lost 0\nlistening %s' "$port")" 'sunreg: d: the office has no device of that name: POST /devices'
 
 if [ -w /dev/full ]; then
     printf '1000 tick\n' | "$program" > /dev/full 2> "$room/err"

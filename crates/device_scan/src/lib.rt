@@ -14,4 +14,4 @@ mod tries;
 pub use fault::ScanFault;
 pub use hearing::MOST_TAKES;
 pub use scan::Scan;
-pub use scanning::{MOST_READS, Witness, scan_over};
+pub use scanning::{MOST_READS, ScanObserver, scan_over};

@@ -22,14 +22,14 @@ use sun_chain::{Image, Model};
 pub const MOST_READS: u64 = 657;
 
 /// Who is shown which model is read.
-pub trait Witness {
+pub trait ScanObserver {
     fn reads(&mut self, model: Model);
 }
 
 // Shows which model is read.
-fn show<W: Witness>(scan: &Scan, witness: &mut W) {
+fn show<W: ScanObserver>(scan: &Scan, observer: &mut W) {
     if let Some(model) = scan.model() {
-        witness.reads(model);
+        observer.reads(model);
     }
 }
 
@@ -54,11 +54,11 @@ fn take_in(scan: &mut Scan, span: ReadSpan, answer: Answer) -> Result<(), AllocE
 /// Scans a unit over a link to it that was just made: asks for the mark, for the head of each model, and for the registers of the
 /// models that have a table, one read at a time. A read that brings no words is asked for once more. What was answered is
 /// the image; nothing else is in it.
-pub fn scan_over<L: Link, W: Witness>(
+pub fn scan_over<L: Link, W: ScanObserver>(
     alloc: Global,
     link: &mut L,
     unit: u8,
-    witness: &mut W,
+    observer: &mut W,
 ) -> Result<Image, ScanFault>
     ensures scanned { IfOk result (λ image. Scans unit (L.remaining link.old) (L.given link.old)
         (L.remaining link.new) (L.given link.new) (word_in image)) }
@@ -72,7 +72,7 @@ pub fn scan_over<L: Link, W: Witness>(
     let mut scan = Scan::new(alloc);
     let mut client = Client::new(unit);
     while let Some(span) = scan.next() {
-        show(&scan, witness);
+        show(&scan, observer);
         match client.read(alloc, link, span) {
             Ok(answer) => match take_in(&mut scan, span, answer) {
                 Ok(()) => {}

@@ -2,20 +2,21 @@
 use crate::day::{REPORTED, book_day};
 use crate::files::Connects;
 use command_io::ExitStatus;
+use office_program::NamedFiles;
 use office_store::{OpenFault, SqlBooks};
 use socket_link::FixedClock;
-use std::alloc::Global;
+use std::alloc::{AllocError, Global};
 use std::test::Fail;
-use stored_office::{create_stored, report_stored};
+use stored_office::{Done, Task, carry_out_stored, create_stored};
 
 /// How a report ends, and what it prints.
 type Report = (Result<ExitStatus, OpenFault>, Vec<u8>);
 
 /// A register, a moment, how the report of it ends, and what it prints.
-type Row = (&'static str, u64, ExitStatus, &'static [u8]);
+pub(crate) type Row = (&'static str, u64, ExitStatus, &'static [u8]);
 
 /// Reports of the day, where the clock was set back to before its last event, and after it.
-static KNOWN: [Row; 2] = [
+pub(crate) static KNOWN: [Row; 2] = [
     ("main", 3699, ExitStatus::Refused, b"refused 3\n"),
     ("main", 5000, ExitStatus::Fine, REPORTED),
 ];
@@ -35,21 +36,21 @@ static MADE: [(&str, Option<OpenFault>, bool); 3] = [
 
 /// Makes an office, and tells why it was not made.
 fn create<C: Connects>(
-    alloc: Global,
+    rt: &HostRuntime,
     connects: &C,
     path: &str,
     zone: &str,
 ) -> Result<Option<OpenFault>, Fail> {
-    Ok(create_stored(alloc, connects.make(path)?, zone).err())
+    Ok(create_stored(rt.alloc(), connects.make(path)?, zone).err())
 }
 
 /// Makes an office, and books the day in it.
-fn fill<C: Connects>(alloc: Global, connects: &C, path: &str) -> Result<(), Fail> {
-    if create(alloc, connects, path, "UTC0")?.is_some() {
+pub(crate) fn fill<C: Connects>(rt: &HostRuntime, connects: &C, path: &str) -> Result<(), Fail> {
+    if create(rt, connects, path, "UTC0")?.is_some() {
         return Err(Fail::from("not made"));
     }
-    match SqlBooks::open(alloc, connects.open(path)?) {
-        Ok(books) => book_day(alloc, books),
+    match SqlBooks::open(rt.alloc(), connects.open(path)?) {
+        Ok(books) => book_day(rt.alloc(), books),
         Err(_) => Err(Fail::from("no books")),
     }
 }
@@ -61,31 +62,103 @@ fn set_version<C: Connects>(connects: &C, path: &str) -> Result<(), Fail> {
     Ok(())
 }
 
-/// Reports a register at a moment.
-fn report<C: Connects>(
-    alloc: Global,
+/// A folder without files.
+struct NoFiles;
+
+impl NamedFiles for NoFiles {
+    fn read(&self, _alloc: Global, _name: &[u8]) -> Result<Option<Vec<u8>>, AllocError> {
+        Ok(None)
+    }
+}
+
+/// Carries a task out at a moment that ends with a status: how, and what it prints.
+fn carry_out<C: Connects>(
+    rt: &HostRuntime,
     connects: &C,
     path: &str,
-    register: &str,
+    task: Task<'_>,
     moment: u64,
 ) -> Result<Report, Fail> {
     let connection = connects.open(path)?;
     let moments = [moment];
     let mut clock = FixedClock::new(&moments);
-    let mut printed = Vec::new(alloc);
-    let end = report_stored(alloc, connection, register, &mut clock, &mut printed);
-    Ok((end, printed))
+    let mut printed = Vec::new(rt.alloc());
+    let mut said = Vec::new(rt.alloc());
+    match carry_out_stored(
+        rt,
+        rt.alloc(),
+        connection,
+        task,
+        &NoFiles,
+        &mut clock,
+        &mut printed,
+        &mut said,
+    ) {
+        Ok(Done::Reported(end) | Done::Entered(end) | Done::Checked(end)) if said.is_empty() => {
+            Ok((Ok(end), printed))
+        }
+        Ok(_) => Err(Fail::from("no status")),
+        Err(fault) => Ok((Err(fault), printed)),
+    }
+}
+
+/// Reports a register at a moment.
+fn report<C: Connects>(
+    rt: &HostRuntime,
+    connects: &C,
+    path: &str,
+    register: &str,
+    moment: u64,
+) -> Result<Report, Fail> {
+    carry_out(rt, connects, path, Task::Report { register }, moment)
+}
+
+/// A device that is entered.
+const DEVICE: &[u8] = b"1 device inv 1 5 1\n";
+
+/// The line is looked at, or entered.
+fn entering(looks: bool) -> Task<'static> {
+    let (caller, text) = ("desk", DEVICE);
+    if looks {
+        Task::Check { caller, text }
+    } else {
+        Task::Enter { caller, text }
+    }
+}
+
+/// Whether the line is looked at, one time after the other, and what is printed: it acts once, and looking at it says so.
+static ENTERED: [(bool, &[u8]); 4] = [
+    (true, b"new\n"),
+    (false, b"ok\n"),
+    (true, b"again\n"),
+    (false, b"ok\n"),
+];
+
+/// Whether a line is entered once.
+pub(crate) fn is_entered_once<C: Connects>(
+    rt: &HostRuntime,
+    connects: &C,
+    path: &str,
+) -> Result<bool, Fail> {
+    let made = create(rt, connects, path, "UTC0")?;
+    for (looks, text) in &ENTERED {
+        let (end, printed) = carry_out(rt, connects, path, entering(*looks), 1000)?;
+        if end != Ok(ExitStatus::Fine) || printed.as_slice() != *text {
+            return Ok(false);
+        }
+    }
+    Ok(made.is_none())
 }
 
 /// Whether each report comes as its row says.
-fn are_reported<C: Connects>(
-    alloc: Global,
+pub(crate) fn are_reported<C: Connects>(
+    rt: &HostRuntime,
     connects: &C,
     path: &str,
     rows: &[Row],
 ) -> Result<bool, Fail> {
     for (register, moment, status, text) in rows {
-        let (end, printed) = report(alloc, connects, path, register, *moment)?;
+        let (end, printed) = report(rt, connects, path, register, *moment)?;
         if end != Ok(*status) || printed.as_slice() != *text {
             return Ok(false);
         }
@@ -94,21 +167,19 @@ fn are_reported<C: Connects>(
 }
 
 /// Whether a database has no office, and nothing is printed of it.
-fn is_none<C: Connects>(alloc: Global, connects: &C, path: &str) -> Result<bool, Fail> {
-    let (end, printed) = report(alloc, connects, path, "main", 5000)?;
+fn is_none<C: Connects>(rt: &HostRuntime, connects: &C, path: &str) -> Result<bool, Fail> {
+    let (end, printed) = report(rt, connects, path, "main", 5000)?;
     Ok(end == Err(OpenFault::NotOurs) && printed.is_empty())
 }
 
 /// Whether an office is made once, and for a zone alone.
 pub(crate) fn is_made_once<C: Connects>(
-    alloc: Global,
+    rt: &HostRuntime,
     connects: &C,
     path: &str,
 ) -> Result<bool, Fail> {
     for (zone, why, none) in &MADE {
-        if create(alloc, connects, path, zone)? != *why
-            || is_none(alloc, connects, path)? != *none
-        {
+        if create(rt, connects, path, zone)? != *why || is_none(rt, connects, path)? != *none {
             return Ok(false);
         }
     }
@@ -117,24 +188,24 @@ pub(crate) fn is_made_once<C: Connects>(
 
 /// Whether what was booked is reported.
 pub(crate) fn is_reported<C: Connects>(
-    alloc: Global,
+    rt: &HostRuntime,
     connects: &C,
     path: &str,
 ) -> Result<bool, Fail> {
-    fill(alloc, connects, path)?;
-    are_reported(alloc, connects, path, &KNOWN)
+    fill(rt, connects, path)?;
+    are_reported(rt, connects, path, &KNOWN)
 }
 
 /// Whether a name that is no register's is refused, and an office of a version that isn't known is none.
 pub(crate) fn is_unknown<C: Connects>(
-    alloc: Global,
+    rt: &HostRuntime,
     connects: &C,
     path: &str,
 ) -> Result<bool, Fail> {
-    fill(alloc, connects, path)?;
-    if !are_reported(alloc, connects, path, &UNKNOWN)? {
+    fill(rt, connects, path)?;
+    if !are_reported(rt, connects, path, &UNKNOWN)? {
         return Ok(false);
     }
     set_version(connects, path)?;
-    is_none(alloc, connects, path)
+    is_none(rt, connects, path)
 }

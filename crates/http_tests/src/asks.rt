@@ -51,13 +51,13 @@ static REJECTION: &[u8] =
 fn a_rejection_is_a_fault(rt: HostRuntime) -> Result<(), Fail> {
     let mut text = Vec::new(rt.alloc());
     let route = StatusRoute::Rejected(Status::MethodNotAllowed);
-    reply_status(rt.alloc(), &mut text, route, &Counts::new(), &[])?;
+    reply_status(rt.alloc(), &mut text, route, &Counts::new(), &[], &[])?;
     assert_eq!(rt; text.as_slice(), REJECTION);
     Ok(())
 }
 
 static HEAD: &[u8] =
-    b"HTTP/1.1 200 OK\r\nContent-Type: application/json\r\nContent-Length: 256\r\nConnection: close\r\n\r\n{\"devices\":[],";
+    b"HTTP/1.1 200 OK\r\nContent-Type: application/json\r\nContent-Length: 267\r\nConnection: close\r\n\r\n{\"devices\":[],";
 
 #[test]
 fn the_status_has_a_head(rt: HostRuntime) -> Result<(), Fail> {
@@ -68,8 +68,9 @@ fn the_status_has_a_head(rt: HostRuntime) -> Result<(), Fail> {
         StatusRoute::Status,
         &Counts::new(),
         &[],
+        &[],
     )?;
-    assert_eq!(rt; text.len(), 91 + 256);
+    assert_eq!(rt; text.len(), 91 + 267);
     assert!(rt; text.starts_with(HEAD));
     Ok(())
 }

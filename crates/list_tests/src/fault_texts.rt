@@ -1,5 +1,6 @@
 //! Faults of images, chains and point lists.
 use crate::texts::tells;
+use device_scan::ScanFault;
 use point_list::{FaultyRow, FaultyRows, ListFault, RowFault, WriteListFault};
 use std::alloc::Global;
 use std::test::Fail;
@@ -11,6 +12,13 @@ const IMAGES: [(ImageFault, &str); 2] = [
         "the words would end past address 65535",
     ),
     (ImageFault::Memory, "memory ran out"),
+];
+
+const SCANS: [(ScanFault, &str); 4] = [
+    (ScanFault::Gone, "the device closed the connection"),
+    (ScanFault::Failed, "the connection failed"),
+    (ScanFault::Garbled, "the device sent what is no Modbus"),
+    (ScanFault::Memory, "memory ran out"),
 ];
 
 const CHAINS: [(ChainFault, &str); 5] = [
@@ -94,6 +102,11 @@ fn faulty(alloc: Global, count: usize) -> Result<FaultyRows, Fail> {
         rows.push(*row)?;
     }
     Ok(FaultyRows::new(rows))
+}
+
+#[test]
+fn scans(rt: HostRuntime) -> Result<(), Fail> {
+    tells(&rt, rt.alloc(), &SCANS)
 }
 
 #[test]

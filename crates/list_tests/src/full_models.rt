@@ -225,7 +225,8 @@ static BOTH_ENDS: [Line; 2] = [
     },
 ];
 
-fn full_image(alloc: Global) -> Result<Image, Fail> {
+/// The words of the mark, a model 1, a model 103 and a model 203, all full, and the end's ID.
+pub(crate) fn full_image(alloc: Global) -> Result<Image, Fail> {
     let mut image = image_of(alloc, &BOTH_ENDS)?;
     put_digits(&mut image)?;
     let models = [

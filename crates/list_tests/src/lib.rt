@@ -52,7 +52,11 @@ mod scaled_values;
 #[cfg(test)]
 mod scales;
 #[cfg(test)]
+mod scans;
+#[cfg(test)]
 mod spelled_lists;
+#[cfg(test)]
+mod stand_in_link;
 #[cfg(test)]
 mod texts;
 #[cfg(test)]

@@ -1,18 +1,17 @@
 -- What was done with an office that was opened.
-use Rattle.std.proofs.Common.{◌≡◌, ◌⊎◌, inl, inr, ℕ, List, Option, Result, ◌∷◌, refl, sym, subst}
+use Rattle.std.proofs.Common.{◌≡◌, inr, ℕ, List, Option, ◌∷◌, refl, subst}
 use Rattle.command_io.specs.declared.status.ExitStatus.{ExitStatus}
 use Rattle.office_events.specs.Names.{named}
 use Rattle.office_rules.specs.History.{History, Opened}
 use Rattle.office_books.specs.Ledgers.{Ledger}
-use Rattle.office_core.specs.Standing.{After, Stands, books_in}
+use Rattle.office_core.specs.Standing.{After, books_in}
 use Rattle.office_core.specs.Taking.{failures_of}
 use Rattle.office_core.specs.declared.office.Office.{Office}
 use Rattle.office_program.specs.Texts.OpenedOffice.{Opens}
 use Rattle.office_program.specs.Texts.Reports.{Asks, ReportPrints}
 use Rattle.office_program.specs.Texts.EndTexts.{TellsEnd}
-use Rattle.office_program.specs.Opened.{WithOffice}
-use Rattle.office_program.specs.Report.{Reports, TellsReport}
-use Rattle.office_program.specs.HttpPort.{Port, Serves, ServesPort, TellsServing}
+use Rattle.office_program.specs.Report.{TellsReport}
+use Rattle.office_program.specs.HttpPort.{Port, ServesPort, TellsServing}
 use Rattle.office_program.specs.declared.http_port.ServeEnd.{ServeEnd}
 use Rattle.office_program.specs.declared.http_port.ServeEnd.TheVariants.{Served, Unopened, NoPort, Broken}
 use Rattle.office_program.specs.PortRound.{PollsPort, TellsPolling}

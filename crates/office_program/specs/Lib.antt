@@ -1,4 +1,5 @@
 pub mod Opened
+pub mod Entering
 pub mod Report
 pub mod HttpPort
 pub mod PortRound

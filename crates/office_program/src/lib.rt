@@ -2,12 +2,16 @@
 #![tactic(auto)]
 
 mod command_end;
+mod entering;
 mod http_port;
 mod port_round;
 mod report;
 mod texts;
 
 pub use command_end::CommandEnd;
+pub use entering::{
+    MOST_FILE, NamedFiles, check_books, enter_books, inputs_act_once, requests_are_repeated,
+};
 pub use http_port::{ServeEnd, serve_books};
 pub use port_round::{PATIENCE, PollEnd, poll_books};
 pub use report::report_books;

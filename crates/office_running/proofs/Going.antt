@@ -1,13 +1,16 @@
 -- The steps of a run, and its turns.
-use Rattle.std.proofs.Common.{◌≡◌, ◌⊎◌, inl, inr, ℕ, true, false, Bool, List, [], ◌∷◌, ◌++◌, Option, Some, None, refl, sym, ap, ◌∙◌, subst, append_assoc}
+use Rattle.std.proofs.Common.{◌≡◌, ◌⊎◌, inl, inr, ℕ, true, false, Bool, List, [], ◌∷◌, ◌++◌, Option, Some, None, Result, refl, sym, ap, ◌∙◌, subst, append_assoc}
 use Rattle.std.specs.Prelude.{max, position, slice_get, if◌then◌else◌}
+use Rattle.office_events.specs.declared.answers.Answer.{Answer}
 use Rattle.office_events.specs.declared.events.Event.{Event}
+use Rattle.office_events.specs.declared.refusals.Refusal.{Refusal}
 use Rattle.office_rules.specs.History.{History, Opened}
 use Rattle.office_rules.specs.Refusals.{with_answer}
 use Rattle.office_books.specs.Ledgers.{KeepsFacts, Ledger}
 use Rattle.office_core.specs.Leaving.{BooksStand}
 use Rattle.office_core.specs.EventRun.{Answered}
 use Rattle.office_core.specs.Standing.{After, Stands, books_in}
+use Rattle.office_core.specs.Taking.{Ends}
 use Rattle.office_core.specs.declared.office.Office.{Office}
 use Rattle.office_http.specs.Connections.Connections.{ServesOne}
 use Rattle.office_http.specs.Connections.Named.{MayAsk}
@@ -28,6 +31,7 @@ use Rattle.office_rounds.specs.declared.driver.device_events.DeviceEvent.{Device
 use Rattle.office_rounds.specs.declared.driver.device_events.DeviceEvent.TheVariants.{Connected, Received, Closed, Tick}
 use Rattle.office_program.specs.Texts.OpenedOffice.{Opens}
 use Rattle.office_program.specs.Texts.Passing.{Lasts}
+use Rattle.run_status.specs.Advice.Lacks.{LooksUp}
 use Rattle.run_status.specs.RunHttp.Answer as asking
 use Rattle.run_status.specs.declared.run_http.answer.PeerReply.{PeerReply}
 use Rattle.run_status.specs.declared.run_http.answer.PeerReply.TheVariants.{Open, Replied, Failed}
@@ -172,6 +176,19 @@ goes_turn names ledger sees at old new begun failures turned observer opened tur
   zone = lasts.zone;
 }
 
+-- One event of a round is fed, and nothing else.
+pub goes_fed : {B : Type 0} (names : List (List ℕ)) (ledger : B → Ledger) (at : ℕ) (e : Event) (answer : Result Answer Refusal) (old new : Office B)
+    → After ledger old new (λ past. Stands ledger (with_answer past at e answer) new) → Ends ledger old new e answer → IsOfRound e → Goes names at ledger old new
+goes_fed names ledger at e answer old new feeds ends is = record {
+  stands = λ past stands clean. record {
+    steps = Fed (record { at = at; event = e; result = answer }) ∷ [];
+    each = ((refl, is), tt);
+    stands = feeds past stands clean;
+  };
+  clean = ends.clean;
+  zone = ends.zone;
+}
+
 -- ---- A request of a peer
 
 may_of : (may : Bool) (route : Option StatusRoute) → None ≡ (if may then route else Some (Rejected Misdirected)) → may ≡ true
@@ -275,6 +292,13 @@ ran_opened {B = B} names ledger past begun opened now office new books is opens 
       are = so.are;
       stand = so.stands.books;
     }))
+
+-- Books that are only looked up in stand as they did, and last.
+pub looked_stand : (a b c : Ledger) (past : History) → LooksUp b c → (BooksStand a past → BooksStand b past) → BooksStand a past → BooksStand c past
+looked_stand a b c past looks before stands = reads_stand b c past looks.keeps (before stands)
+
+pub looked_last : (a b c : Ledger) → LooksUp b c → Lasts a b → Lasts a c
+looked_last a b c looks first = record { clean = λ clean. first.clean (looks.clean clean); zone = looks.zone ∙ first.zone }
 
 -- A wrong answer that was taken as true stays one.
 pub lasts_both : (a b c : Ledger) → Lasts a b → Lasts b c → Lasts a c

@@ -1,11 +1,10 @@
 //! The two clocks of a run: by one it waits, and the other tells at which moments things come.
-ghost use Rattle.std.specs.Prelude.{◌≡◌, IfOk};
+ghost use Rattle.std.specs.Prelude.{◌≡◌};
 ghost use Rattle.office_running.specs.Runs.{ReadsClock};
 
-use crate::fault::RunFault;
+use crate::voice::Voice;
 use run_schedule::{RunTime, SteadyClock};
 use socket_link::Clock;
-use std::io::Write;
 use std::time::{SystemTime, UNIX_EPOCH};
 
 /// When something comes.
@@ -53,40 +52,26 @@ pub(crate) fn to_next_second<R: std::rt::Clock>(rt: &R, time: &mut RunTime) -> u
     time.to_next_second()
 }
 
-// Tells that the clock stands so many seconds before the latest moment.
-fn tell_set_back<W: Write, E: Write>(
-    moment: u64,
-    seconds: u64,
-    output: &mut W,
-    errors: &mut E,
-) -> Result<(), RunFault> {
-    let _said = writeln!(
-        errors,
-        "sunreg: the clock stands {seconds} seconds before {moment}, up to which the books go; until it has caught up, all that comes is booked at {moment}"
-    );
-    match writeln!(output, "{moment} clock set back {seconds}") {
-        Ok(()) => Ok(()),
-        Err(_) => Err(RunFault::Output),
-    }
-}
-
-/// The moment of what comes now: the clock's, or the latest where the clock stands before it, which is told once.
-pub(crate) fn read_clock<C: Clock, W: Write, E: Write>(
+/// The moment of what comes now: the clock's, or the latest where the clock stands before it. A clock that is set back is told
+/// once, and one that goes ahead by more than a minute.
+pub(crate) fn read_clock<C: Clock>(
     steady: &mut SteadyClock,
     clock: &mut C,
-    output: &mut W,
-    errors: &mut E,
-) -> Result<u64, RunFault>
+    voice: &mut Voice,
+) -> u64
     ensures reads { ReadsClock steady.old.latest steady.new.latest
         (C.moments clock.old) (C.moments clock.new) }
-    ensures moment { IfOk result (λ moment. moment ≡ steady.new.latest) }
+    ensures moment { result ≡ steady.new.latest }
 {
     let told = clock.now();
     let reading = steady.read(told);
     if let Some(seconds) = reading.set_back {
-        tell_set_back(reading.moment, seconds, output, errors)?;
+        voice.tell_set_back(reading.moment, seconds);
     }
-    Ok(reading.moment)
+    if let Some(before) = reading.ahead_from {
+        voice.tell_ahead(before, reading.moment);
+    }
+    reading.moment
 }
 
 /// The time of the run now.

@@ -9,12 +9,31 @@ use crate::voice::{Standing, Voice};
 use mio::{Registry, Token};
 use office_books::Books;
 use office_core::Office;
-use office_events::Piece;
-use office_rounds::{DeviceEvent, Round, Stage, turn};
+use office_events::{Answer, Event, Name, Note, Piece, Refusal};
+use office_rounds::{DeviceEvent, Observer, Round, Stage, turn};
 use poll_core::Closing;
 use run_schedule::Phase;
 use std::alloc::{AllocError, Global};
 use std::net::Net;
+
+/// How many pieces of a device's bytes are taken at most before the moment goes on: more than it has replies on their way.
+const MOST_PIECES: u32 = 64;
+
+// What bytes brought is told to the rounds. That of the device takes the answer, unless it wishes to start reads, of which this
+// is no answer.
+fn tell_rounds(
+    rounds: &mut [Round],
+    place: usize,
+    answer: Result<Answer, Refusal>,
+    notes: &[Note],
+) {
+    if place < rounds.len() && rounds[place].stage == Stage::Waiting {
+        rounds[place].answer(answer);
+    }
+    for round in rounds.iter_mut() {
+        round.apply_notes(notes);
+    }
+}
 
 /// The devices: the connection to each, and how far its round has come.
 #[derive(Drop)]
@@ -219,6 +238,95 @@ impl Polling {
             return self.look(place, voice, now);
         }
         None
+    }
+
+    // The name of the device of a place whose replies are waited for, also where its round wishes to start more reads.
+    fn waiting_at(&self, place: usize) -> Option<Option<Name>> {
+        if place >= self.rounds.len() {
+            return None;
+        }
+        match self.rounds[place].stage {
+            Stage::Waiting | Stage::Starting => Some(self.rounds[place].device),
+            Stage::Off | Stage::Joining | Stage::Leaving(_) => None,
+        }
+    }
+
+    // What came of a device whose replies are waited for, a piece at most, and its name.
+    fn listen(&mut self, place: usize) -> Option<(Option<Name>, Vec<u8>)> {
+        let device = self.waiting_at(place)?;
+        if place >= self.slots.len() {
+            return None;
+        }
+        let bytes = self.slots[place].listen()?;
+        Some((device, bytes))
+    }
+
+    // Feeds what came of a device alone. What its round wishes then is for the next turn, since a read that is started at a
+    // moment that has passed would be waited for less long.
+    fn hear<B: Books>(
+        &mut self,
+        place: usize,
+        device: Option<Name>,
+        bytes: Vec<u8>,
+        office: &mut Office<B>,
+        voice: &mut Voice,
+        now: Now,
+    )
+        ensures { (names : List (List ℕ))
+            → Goes names now.moment B.ledger office.old office.new }
+    {
+        let event = Event::Bytes(device, Piece::new(bytes));
+        let answer = office.feed(now.moment, &event);
+        let notes = office.notes();
+        tell_rounds(&mut self.rounds, place, answer, notes);
+        voice.observe(
+            Some(place),
+            now.moment,
+            &event,
+            answer,
+            notes,
+            office.outgoing(),
+        );
+    }
+
+    // Feeds what came of a device of which replies are waited for, a piece at most. It answers whether nothing did.
+    #[tactic(auto, using(crate::proofs::Going::goes_none))]
+    fn hear_piece<B: Books>(
+        &mut self,
+        place: usize,
+        office: &mut Office<B>,
+        voice: &mut Voice,
+        now: Now,
+    ) -> bool
+        ensures { (names : List (List ℕ))
+            → Goes names now.moment B.ledger office.old office.new }
+    {
+        match self.listen(place) {
+            Some((device, bytes)) => {
+                self.hear(place, device, bytes, office, voice, now);
+                false
+            }
+            None => true,
+        }
+    }
+
+    /// Feeds what has come of a device of which replies are waited for, before the moment goes on.
+    pub(crate) fn hear_device<B: Books>(
+        &mut self,
+        place: usize,
+        office: &mut Office<B>,
+        voice: &mut Voice,
+        now: Now,
+    )
+        ensures { (names : List (List ℕ))
+            → Goes names now.moment B.ledger office.old office.new }
+    {
+        for _piece in 0..MOST_PIECES {
+            let is_over = self.hear_piece(place, office, voice, now);
+            if is_over {
+                return;
+            }
+        }
     }
 
     /// Feeds what happens at a place, a piece of bytes at most.

@@ -6,6 +6,7 @@ use crate::settings::Site;
 use crate::voice::Standing;
 use mio::net::TcpStream;
 use mio::{Interest, Registry, Token};
+use poll_core::Closing;
 use run_schedule::{MOST_EVERY, Phase, Timing};
 use std::alloc::Global;
 use std::io::Read;
@@ -37,6 +38,8 @@ pub(crate) struct Slot {
     alloc: Global,
     stream: Option<TcpStream>,
     unsent: Outbox,
+    /// How it has ended, where that was seen and is not told yet.
+    ended: Option<Closing>,
 }
 
 // Whether a connection that was begun stands: None where it does not stand yet.
@@ -77,6 +80,7 @@ impl Slot {
             alloc,
             stream: None,
             unsent: Outbox::empty(alloc),
+            ended: None,
         }
     }
 
@@ -103,6 +107,7 @@ impl Slot {
         time: u64,
     ) -> bool {
         self.unsent = Outbox::empty(self.alloc);
+        self.ended = None;
         self.timing.begin(time);
         self.connect(rt, registry, token)
     }
@@ -111,6 +116,7 @@ impl Slot {
     fn close(&mut self) {
         self.stream = None;
         self.unsent = Outbox::empty(self.alloc);
+        self.ended = None;
         self.ready = false;
     }
 
@@ -187,6 +193,11 @@ impl Slot {
 
     // What a look at the connection sees.
     fn see(&mut self) -> Seen {
+        match self.ended {
+            Some(Closing::Gone) => return Seen::Closed,
+            Some(Closing::Failed) => return Seen::Failed,
+            None => {}
+        }
         match self.timing.phase {
             Phase::Resting => Seen::Nothing,
             Phase::Connecting => self.connection(),
@@ -205,5 +216,20 @@ impl Slot {
         let seen = self.see();
         self.ready = matches!(seen, Seen::Stands | Seen::Bytes(_));
         seen
+    }
+
+    /// Takes what came of a device that is polled, a piece at most. An end of the connection is seen by the next look.
+    pub(crate) fn listen(&mut self) -> Option<Vec<u8>> {
+        if !self.ready || self.timing.phase != Phase::Polling {
+            return None;
+        }
+        match self.look() {
+            Seen::Bytes(bytes) => return Some(bytes),
+            Seen::Closed => self.ended = Some(Closing::Gone),
+            Seen::Failed => self.ended = Some(Closing::Failed),
+            Seen::Nothing | Seen::Stands => return None,
+        }
+        self.ready = true;
+        None
     }
 }

@@ -8,6 +8,7 @@ use crate::device_polls::Polling;
 use crate::fault::RunFault;
 use crate::http_port::Serving;
 use crate::leftovers::{Left, print_left};
+use crate::outlet::Outlet;
 use crate::settings::{Settings, Site};
 use crate::voice::Voice;
 use mio::{Events, Poll, Token};
@@ -16,10 +17,12 @@ use office_core::Office;
 use office_rounds::DeviceEvent;
 use poll_core::Closing;
 use run_schedule::{MOST_PEERS, RunTime, SteadyClock};
+use run_status::DeviceLack;
 use socket_link::Clock;
 use std::alloc::{AllocError, Global};
 use std::io::{ErrorKind, Write};
 use std::net::Net;
+use std::os::fd::RawFd;
 use std::time::Duration;
 
 /// The token of the first device.
@@ -35,32 +38,37 @@ struct Running {
     polling: Polling,
     serving: Serving,
     voice: Voice,
+    /// The lines of what happens, and what is said to people.
+    lines: Outlet,
+    sayings: Outlet,
+    /// The time of this turn.
+    time: u64,
     /// The time of the latest tick.
     ticked: u64,
 }
 
-// Prints, and gives out at once.
-fn print<W: Write>(text: &[u8], output: &mut W) -> Result<(), RunFault> {
-    if text.is_empty() {
-        return Ok(());
-    }
-    match output.write_all(text) {
-        Ok(()) => {}
-        Err(_) => return Err(RunFault::Output),
-    }
-    match output.flush() {
-        Ok(()) => Ok(()),
-        Err(_) => Err(RunFault::Output),
-    }
-}
-
 // The voice of some devices.
-fn voice_of(alloc: Global, sites: &[Site], verbose: bool) -> Result<Voice, AllocError> {
+fn voice_of(
+    alloc: Global,
+    sites: &[Site],
+    lacks: Vec<DeviceLack>,
+    verbose: bool,
+) -> Result<Voice, AllocError> {
     let mut names = Vec::new(alloc);
     for site in sites {
         names.push(site.name)?;
     }
-    Voice::new(alloc, names, verbose)
+    let mut voice = Voice::new(alloc, names, lacks, verbose)?;
+    voice.say_lacks();
+    Ok(voice)
+}
+
+// The descriptor of output, and that of errors.
+fn descriptors_of(settings: &Settings<'_>) -> (Option<RawFd>, Option<RawFd>) {
+    match settings.descriptors {
+        Some(descriptors) => (Some(descriptors.output), Some(descriptors.errors)),
+        None => (None, None),
+    }
 }
 
 impl Running {
@@ -70,27 +78,42 @@ impl Running {
         alloc: Global,
         settings: &Settings<'_>,
         sites: &[Site],
+        lacks: Vec<DeviceLack>,
         time: u64,
     ) -> Result<Running, RunFault> {
         let Ok(poll) = Poll::new(rt) else {
             return Err(RunFault::Sockets);
         };
         let polling = Polling::new(alloc, sites, settings.every, time)?;
-        let voice = voice_of(alloc, sites, settings.verbose)?;
+        let voice = voice_of(alloc, sites, lacks, settings.verbose)?;
+        let (output, errors) = descriptors_of(settings);
         let serving = Serving::open(rt, alloc, poll.registry(), settings.listen)?;
         Ok(Running {
             poll,
             polling,
             serving,
             voice,
+            lines: Outlet::open(rt, alloc, output),
+            sayings: Outlet::open(rt, alloc, errors),
+            time,
             ticked: time,
         })
     }
 
-    // Prints what is to be told.
-    fn print<W: Write>(&mut self, output: &mut W) -> Result<(), RunFault> {
-        let lines = self.voice.take_lines();
-        print(&lines, output)
+    // Prints what is to be told, as far as nobody has to be waited for. What can't be said to people isn't told to anybody.
+    fn print<W: Write, E: Write>(
+        &mut self,
+        now: Now,
+        output: &mut W,
+        errors: &mut E,
+    ) -> Result<(), RunFault> {
+        self.sayings.put(now.moment, &self.voice.take_said());
+        let _said = self.sayings.write(errors);
+        self.lines.put(now.moment, &self.voice.take_lines());
+        match self.lines.write(output) {
+            Ok(()) => Ok(()),
+            Err(_) => Err(RunFault::Output),
+        }
     }
 
     // What is to be done once a second, but for the office.
@@ -189,15 +212,12 @@ impl Running {
         }
     }
 
-    // Waits until a socket is ready, or the next second begins.
-    fn wait<R: std::rt::Clock>(
-        &mut self,
-        rt: &R,
-        time: &mut RunTime,
-        events: &mut Events<Global>,
-    ) -> Result<(), RunFault> {
-        let wait = Duration::from_millis(self.patience(rt, time));
-        match self.poll.poll(events, Some(wait)) {
+    // Waits so many milliseconds at most until a socket is ready, and takes note of those that are.
+    fn look(&mut self, events: &mut Events<Global>, milliseconds: u64) -> Result<(), RunFault> {
+        match self
+            .poll
+            .poll(events, Some(Duration::from_millis(milliseconds)))
+        {
             Ok(()) => {}
             Err(error) if error.kind() == ErrorKind::Interrupted => return Ok(()),
             Err(_) => return Err(RunFault::Sockets),
@@ -213,16 +233,29 @@ impl Running {
         Ok(())
     }
 
-    // Prints what is to be told, and waits unless the time is up.
-    fn rest<R: std::rt::Clock, W: Write>(
+    // Waits until a socket is ready, or the next second begins.
+    fn wait<R: std::rt::Clock>(
         &mut self,
         rt: &R,
         time: &mut RunTime,
         events: &mut Events<Global>,
+    ) -> Result<(), RunFault> {
+        let milliseconds = self.patience(rt, time);
+        self.look(events, milliseconds)
+    }
+
+    // Prints what is to be told, and waits unless the time is up.
+    fn rest<R: std::rt::Clock, W: Write, E: Write>(
+        &mut self,
+        rt: &R,
+        time: &mut RunTime,
+        events: &mut Events<Global>,
+        now: Now,
         output: &mut W,
+        errors: &mut E,
         is_over: bool,
     ) -> Result<(), RunFault> {
-        self.print(output)?;
+        self.print(now, output, errors)?;
         if self.voice.stopped {
             return Err(RunFault::Stopped);
         }
@@ -230,6 +263,37 @@ impl Running {
             return Ok(());
         }
         self.wait(rt, time, events)
+    }
+
+    // Feeds what has come of devices.
+    fn hear_devices<B: Books>(&mut self, office: &mut Office<B>, now: Now)
+        ensures { (names : List (List ℕ))
+            → Goes names now.moment B.ledger office.old office.new }
+    {
+        for place in 0..self.polling.count() {
+            self.polling
+                .hear_device(place, office, &mut self.voice, now);
+        }
+    }
+
+    // The next turn begins. Where it has a tick, what has come of devices is fed before that, at the moment of the turn that
+    // ends: what came before a deadline is no silence.
+    #[tactic(auto, using(crate::proofs::Going::goes_none))]
+    fn end_turn<R: std::rt::Clock, B: Books>(
+        &mut self,
+        rt: &R,
+        time: &mut RunTime,
+        events: &mut Events<Global>,
+        office: &mut Office<B>,
+        now: Now,
+    )
+        ensures { (names : List (List ℕ))
+            → Goes names now.moment B.ledger office.old office.new }
+    {
+        self.time = read_time(rt, time);
+        if self.ticked < self.time && self.look(events, 0).is_ok() {
+            self.hear_devices(office, now);
+        }
     }
 
     // One turn of the loop. It answers whether the time is up.
@@ -249,13 +313,14 @@ impl Running {
         ensures { TakesTurn (texts names.now) B.ledger steady.old.latest steady.new.latest
             (C.moments clock.old) (C.moments clock.new) office.old office.new }
     {
-        let moment = read_clock(steady, clock, output, errors)?;
+        let moment = read_clock(steady, clock, &mut self.voice);
         let now = Now {
-            time: read_time(rt, time),
+            time: self.time,
             moment,
         };
         let is_over = self.act(rt, names, office, now, until);
-        self.rest(rt, time, events, output, is_over)?;
+        self.rest(rt, time, events, now, output, errors, is_over)?;
+        self.end_turn(rt, time, events, office, now);
         Ok(is_over)
     }
 
@@ -296,23 +361,27 @@ fn end_of(settings: &Settings<'_>, now: u64) -> u64 {
     }
 }
 
-// Tells what was left in the books of an open office, and that its port is open.
+// Opens the port of an open office, and tells what was left in its books, and that it listens.
 fn open<R: Net, W: Write>(
     rt: &R,
     alloc: Global,
     left: Option<Left>,
+    lacks: Vec<DeviceLack>,
     settings: &Settings<'_>,
     sites: &[Site],
     time: u64,
     output: &mut W,
 ) -> Result<Running, RunFault> {
-    print_left(left, output)?;
-    let running = Running::open(rt, alloc, settings, sites, time)?;
-    let port = settings.listen.port();
-    if writeln!(output, "listening {port}").is_err() || output.flush().is_err() {
-        return Err(RunFault::Output);
+    match Running::open(rt, alloc, settings, sites, lacks, time) {
+        Ok(mut running) => {
+            running.voice.tell_opened(left, settings.listen.port());
+            Ok(running)
+        }
+        Err(fault) => {
+            print_left(left, output)?;
+            Err(fault)
+        }
     }
-    Ok(running)
 }
 
 // The same from a moment on, and then turns until the time is up.
@@ -320,6 +389,7 @@ fn run_from<R: Net + std::rt::Clock, B: Books, C: Clock, W: Write, E: Write>(
     rt: &R,
     alloc: Global,
     left: Option<Left>,
+    lacks: Vec<DeviceLack>,
     settings: &Settings<'_>,
     sites: &[Site],
     office: &mut Office<B>,
@@ -335,7 +405,7 @@ fn run_from<R: Net + std::rt::Clock, B: Books, C: Clock, W: Write, E: Write>(
     let mut time = time_from(rt, moment);
     let mut events = Events::with_capacity(alloc, 64)?;
     let begun = time.seconds();
-    let mut running = open(rt, alloc, left, settings, sites, begun, output)?;
+    let mut running = open(rt, alloc, left, lacks, settings, sites, begun, output)?;
     let until = end_of(settings, begun);
     running.turns(
         rt,
@@ -356,6 +426,7 @@ pub(crate) fn run_open<R: Net + std::rt::Clock, B: Books, C: Clock, W: Write, E:
     rt: &R,
     alloc: Global,
     left: Option<Left>,
+    lacks: Vec<DeviceLack>,
     settings: &Settings<'_>,
     sites: &[Site],
     office: &mut Office<B>,
@@ -368,6 +439,6 @@ pub(crate) fn run_open<R: Net + std::rt::Clock, B: Books, C: Clock, W: Write, E:
 {
     let moment = clock.now();
     run_from(
-        rt, alloc, left, settings, sites, office, moment, clock, output, errors,
+        rt, alloc, left, lacks, settings, sites, office, moment, clock, output, errors,
     )
 }

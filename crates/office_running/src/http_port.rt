@@ -186,6 +186,7 @@ impl Serving {
             route,
             &monitor.counts,
             &monitor.states,
+            &voice.lacks,
         ) {
             Ok(()) => PeerReply::Replied(text),
             Err(_) => PeerReply::Failed,

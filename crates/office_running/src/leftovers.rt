@@ -7,6 +7,7 @@ ghost use Rattle.office_running.specs.Runs.{IsLeft};
 
 use crate::fault::RunFault;
 use office_books::Books;
+use socket_link::Clock;
 use std::io::Write;
 
 /// What was left in books.
@@ -47,5 +48,20 @@ pub(crate) fn print_left<W: Write>(left: Option<Left>, output: &mut W) -> Result
     match writeln!(output, "books to {latest} lost {waiting}") {
         Ok(()) => Ok(()),
         Err(_) => Err(RunFault::Output),
+    }
+}
+
+/// Says why an office may not be opened: its books go further than the clock.
+pub(crate) fn say_unopened<C: Clock, E: Write>(left: Option<Left>, clock: &mut C, errors: &mut E) {
+    let Some(left) = left else {
+        return;
+    };
+    let now = clock.now();
+    let latest = left.latest;
+    if now < latest {
+        let _said = writeln!(
+            errors,
+            "sunreg: the books go to {latest}, and the clock says {now}: where the clock is wrong, set it right; where the books have an entry that was made at a false moment, wait until the clock has passed it, or go on from a copy made before"
+        );
     }
 }

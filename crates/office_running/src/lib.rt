@@ -7,13 +7,15 @@ mod devices;
 mod event_loop;
 mod fault;
 mod http_port;
+mod lacking;
 mod leftovers;
 mod office;
 mod outbox;
+mod outlet;
 mod peers;
 mod settings;
 mod voice;
 
 pub use fault::RunFault;
 pub use office::{Ran, run_office};
-pub use settings::{Settings, Site};
+pub use settings::{Descriptors, Settings, Site};

@@ -7,7 +7,8 @@ ghost use Rattle.office_running.specs.Runs.{BooksRun};
 
 use crate::event_loop::run_open;
 use crate::fault::RunFault;
-use crate::leftovers::left_in;
+use crate::lacking::lacks_in;
+use crate::leftovers::{left_in, say_unopened};
 use crate::settings::{Settings, Site};
 use office_books::Books;
 use office_program::open_office;
@@ -25,8 +26,9 @@ pub struct Ran<B> {
 
 /// Opens an office over books, polls its devices on a schedule and answers HTTP on a port, until the time is up. It prints
 /// up to which moment the books go and how many polls are lost, and `listening PORT` once the port is open; then a line an
-/// event. A clock that is set back is told once, and what comes then comes at the latest moment. All that the office is fed comes
-/// at moments of the clock, in seconds since 1970-01-01 UTC.
+/// event, as far as these can be written without waiting for a reader: others are dropped and counted. On errors it says once
+/// what a device lacks, and what each refusal and each held reading means. A clock that is set back is told once, and what comes
+/// then comes at the latest moment. All that the office is fed comes at moments of the clock, in seconds since 1970-01-01 UTC.
 pub fn run_office<R: Net + std::rt::Clock, B: Books, C: Clock, W: Write, E: Write>(
     rt: &R,
     alloc: Global,
@@ -43,12 +45,14 @@ pub fn run_office<R: Net + std::rt::Clock, B: Books, C: Clock, W: Write, E: Writ
     ensures lasts { Lasts (B.ledger books) (B.ledger result.books) }
 {
     let left = left_in(&mut books);
+    let lacks = lacks_in(alloc, &mut books, sites);
     match open_office(alloc, books, clock, output) {
         Ok(mut office) => {
             let end = run_open(
                 rt,
                 alloc,
                 left,
+                lacks,
                 settings,
                 sites,
                 &mut office,
@@ -61,9 +65,12 @@ pub fn run_office<R: Net + std::rt::Clock, B: Books, C: Clock, W: Write, E: Writ
                 end,
             }
         }
-        Err(unopened) => Ran {
-            books: unopened.books,
-            end: Err(RunFault::Unopened(unopened.status)),
-        },
+        Err(unopened) => {
+            say_unopened(left, clock, errors);
+            Ran {
+                books: unopened.books,
+                end: Err(RunFault::Unopened(unopened.status)),
+            }
+        }
     }
 }

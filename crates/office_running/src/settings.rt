@@ -1,12 +1,20 @@
 //! How a process runs.
 use office_events::Name;
 use std::net::SocketAddr;
+use std::os::fd::RawFd;
 
 /// A device that is polled: its name in the office, which is `None` where no device can have it, and where it is.
 #[derive(Clone, Copy)]
 pub struct Site {
     pub name: Option<Name>,
     pub addr: SocketAddr,
+}
+
+/// The descriptors behind output and errors.
+#[derive(Clone, Copy)]
+pub struct Descriptors {
+    pub output: RawFd,
+    pub errors: RawFd,
 }
 
 /// How a process runs. Times are in seconds.
@@ -22,4 +30,6 @@ pub struct Settings<'n> {
     pub host_names: &'n [&'n str],
     /// Whether each poll has a line.
     pub verbose: bool,
+    /// The descriptors behind output and errors, so that neither is waited for; `None` where they never make a write wait.
+    pub descriptors: Option<Descriptors>,
 }

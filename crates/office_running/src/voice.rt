@@ -1,8 +1,12 @@
 //! What is kept and told of what the office is fed.
+use crate::leftovers::Left;
 use office_events::{Answer, Event, Name, Note, Refusal};
 use office_rounds::{Observer, Sum};
 use poll_core::Closing;
-use run_status::{RunMonitor, put, put_head, put_lines, put_sum};
+use run_status::{
+    DeviceLack, Lack, RunMonitor, Told, ToldNumber, Topic, put, put_head, put_held, put_lack,
+    put_lines, put_number, put_refusal, put_sum,
+};
 use script_text::write_note;
 use std::alloc::{AllocError, Global};
 use std::{io, mem};
@@ -19,17 +23,21 @@ pub(crate) enum Standing {
     Unreachable,
 }
 
-/// Who is shown what the office is fed: a desk, and the lines that are to be printed. A line for which there was no memory
-/// is left out, or is cut off.
+/// Who is shown what the office is fed: a desk, the lines that are to be printed, and what is to be said to people. A line for
+/// which there was no memory is left out, or is cut off.
 #[derive(Drop)]
 pub(crate) struct Voice {
     pub(crate) monitor: RunMonitor,
     /// Whether the office has stopped.
     pub(crate) stopped: bool,
+    /// What the devices lacked when the run began.
+    pub(crate) lacks: Vec<DeviceLack>,
     alloc: Global,
     names: Vec<Option<Name>>,
     verbose: bool,
     lines: Vec<u8>,
+    said: Vec<u8>,
+    told: Told,
 }
 
 // How a device stands after a round whose polls ended so.
@@ -77,16 +85,45 @@ impl Voice {
     pub(crate) fn new(
         alloc: Global,
         names: Vec<Option<Name>>,
+        lacks: Vec<DeviceLack>,
         verbose: bool,
     ) -> Result<Voice, AllocError> {
         Ok(Voice {
             monitor: RunMonitor::new(alloc, &names)?,
             stopped: false,
+            lacks,
             alloc,
             names,
             verbose,
             lines: Vec::new(alloc),
+            said: Vec::new(alloc),
+            told: Told::new(alloc),
         })
+    }
+
+    // Says what a device lacks; its refusals for that say no more.
+    fn say_lack(&mut self, lack: &DeviceLack) {
+        let _done = put_lack(&mut self.said, lack);
+        let topic = match lack.lack {
+            Lack::NoDevice => Topic::Connection,
+            Lack::NoList => Topic::Round,
+            _ => return,
+        };
+        let _told = self.told.tell(ToldNumber {
+            topic,
+            name: lack.device,
+            number: Refusal::NotFound.number(),
+        });
+    }
+
+    /// Says what the devices lack.
+    pub(crate) fn say_lacks(&mut self) {
+        for place in 0..self.lacks.len() {
+            if place < self.lacks.len() {
+                let lack = self.lacks[place];
+                self.say_lack(&lack);
+            }
+        }
     }
 
     // The name of the device of a place.
@@ -101,6 +138,47 @@ impl Voice {
     /// Takes the lines that are to be printed.
     pub(crate) fn take_lines(&mut self) -> Vec<u8> {
         mem::replace(&mut self.lines, Vec::new(self.alloc))
+    }
+
+    /// Takes what is to be said to people.
+    pub(crate) fn take_said(&mut self) -> Vec<u8> {
+        mem::replace(&mut self.said, Vec::new(self.alloc))
+    }
+
+    /// Tells what was left in the books, and at which port HTTP is answered.
+    pub(crate) fn tell_opened(&mut self, left: Option<Left>, port: u16) {
+        if let Some(left) = left {
+            let _done = put_number(&mut self.lines, b"books to ", left.latest);
+            let _done = put_number(&mut self.lines, b" lost ", left.waiting as u64);
+            let _done = put(&mut self.lines, b"\n");
+        }
+        let _done = put_number(&mut self.lines, b"listening ", u64::from(port));
+        let _done = put(&mut self.lines, b"\n");
+    }
+
+    /// Tells that the clock stands so many seconds before the latest moment.
+    pub(crate) fn tell_set_back(&mut self, moment: u64, seconds: u64) {
+        let _done = put_number(&mut self.lines, b"", moment);
+        let _done = put_number(&mut self.lines, b" clock set back ", seconds);
+        let _done = put(&mut self.lines, b"\n");
+        let _done = put_number(&mut self.said, b"sunreg: the clock stands ", seconds);
+        let _done = put_number(&mut self.said, b" seconds before ", moment);
+        let _done = put_number(
+            &mut self.said,
+            b", up to which the books go; until it has caught up, all that comes is booked at ",
+            moment,
+        );
+        let _done = put(&mut self.said, b"\n");
+    }
+
+    /// Tells that the clock has gone from one moment to another, further than a run lets pass between two looks at it.
+    pub(crate) fn tell_ahead(&mut self, before: u64, moment: u64) {
+        let _done = put_number(&mut self.said, b"sunreg: the clock went from ", before);
+        let _done = put_number(&mut self.said, b" to ", moment);
+        let _done = put(
+            &mut self.said,
+            b" at once; if that is not the time, set the clock right and start again: what is booked now stays at that moment\n",
+        );
     }
 
     /// Tells how a device stands, where that was otherwise before.
@@ -142,6 +220,78 @@ impl Voice {
     }
 }
 
+// Whether an event is the connection of a device.
+fn topic_of(event: &Event) -> Topic {
+    match event {
+        Event::Connected(_) => Topic::Connection,
+        _ => Topic::Round,
+    }
+}
+
+impl Voice {
+    // Says why an event of a device was refused, unless that was said last of it.
+    fn say_refusal(&mut self, device: &Option<Name>, event: &Event, why: Refusal) {
+        let is_new = self.told.tell(ToldNumber {
+            topic: topic_of(event),
+            name: *device,
+            number: why.number(),
+        });
+        if is_new {
+            let _done = put_refusal(&mut self.said, device, event, why);
+        }
+    }
+
+    // All is well with a device that is connected, or whose reads were started.
+    fn say_answer(
+        &mut self,
+        device: &Option<Name>,
+        event: &Event,
+        answer: Result<Answer, Refusal>,
+    ) {
+        match answer {
+            Ok(Answer::Started { .. }) => self.told.forget(Topic::Round, *device),
+            Ok(_) => {
+                if matches!(event, Event::Connected(_)) {
+                    self.told.forget(Topic::Connection, *device);
+                }
+            }
+            Err(why) => self.say_refusal(device, event, why),
+        }
+    }
+
+    // Says why a reading of a meter was held, unless that was said last of it.
+    fn say_note(&mut self, note: &Note) {
+        match note {
+            Note::Outcome { .. } => {}
+            Note::Reading { meter, .. } => self.told.forget(Topic::Meter, Some(*meter)),
+            Note::Held { meter, cause, .. } => {
+                let is_new = self.told.tell(ToldNumber {
+                    topic: Topic::Meter,
+                    name: Some(*meter),
+                    number: cause.number(),
+                });
+                if is_new {
+                    let _done = put_held(&mut self.said, meter, *cause);
+                }
+            }
+        }
+    }
+
+    // Says what people are to be told of an event.
+    fn say(
+        &mut self,
+        device: &Option<Name>,
+        event: &Event,
+        answer: Result<Answer, Refusal>,
+        notes: &[Note],
+    ) {
+        self.say_answer(device, event, answer);
+        for note in notes {
+            self.say_note(note);
+        }
+    }
+}
+
 impl Observer for Voice {
     ghost sees = { λ _ _ _. Unit {0} };
 
@@ -161,6 +311,7 @@ impl Observer for Voice {
         if self.verbose {
             self.tell_polls(at, &name, notes);
         }
+        self.say(&name, event, answer, notes);
         if matches!(answer, Err(Refusal::Stopped)) {
             self.stopped = true;
         }

@@ -56,6 +56,8 @@ mod round_faults;
 mod rounds;
 mod runs;
 #[cfg(test)]
+mod sayings;
+#[cfg(test)]
 mod schedule;
 #[cfg(test)]
 mod scripts;

@@ -56,6 +56,23 @@ fn a_clock_that_is_set_back_is_told_once(rt: HostRuntime) {
         let reading = steady_clock.read(now);
         assert_eq!(rt; reading.moment, moment);
         assert_eq!(rt; reading.set_back, told);
+        assert_eq!(rt; reading.ahead_from, None);
+    }
+}
+
+// It goes ahead by a minute, by a minute and a second, and by an hour after it was set back.
+#[test]
+fn a_clock_that_goes_ahead_is_told(rt: HostRuntime) {
+    let mut steady_clock = SteadyClock::new(1000);
+    let cases = [
+        (1060, None),
+        (1121, Some(1060)),
+        (1122, None),
+        (1000, None),
+        (4722, Some(1122)),
+    ];
+    for (now, ahead_from) in cases {
+        assert_eq!(rt; steady_clock.read(now).ahead_from, ahead_from);
     }
 }
 

@@ -1,8 +1,9 @@
 //! The status and the metrics of a known history.
 use energy_core::Cause;
-use office_events::{Name, Note};
+use mb_wire::ReadFunction;
+use office_events::{Name, Note, Register, ScaleSource};
 use poll_core::{LostCause, Outcome};
-use run_status::{Counts, DeviceState, put_metrics, put_status};
+use run_status::{Counts, DeviceLack, DeviceState, Lack, put_lack, put_metrics, put_status};
 use std::str;
 
 fn outcome(outcome: Outcome) -> Note {
@@ -59,12 +60,12 @@ fn devices() -> [DeviceState; 2] {
 }
 
 const STATUS: &str =
-    "{\"devices\":[{\"name\":\"inv\",\"connected\":true,\"last_reading\":1700000000},{\"name\":\"roof-2\",\"connected\":false,\"last_reading\":null}],\"polls\":{\"answered\":2,\"exception\":1,\"silent\":1,\"malformed\":0,\"lost\":1},\"readings\":1,\"held\":{\"not_accumulated\":1,\"scale_changed\":0,\"not_later\":0,\"span_too_long\":0,\"gap_too_long\":0,\"too_fast\":0,\"total_full\":0,\"not_below_range\":1},\"refusals\":1}\n";
+    "{\"devices\":[{\"name\":\"inv\",\"connected\":true,\"last_reading\":1700000000},{\"name\":\"roof-2\",\"connected\":false,\"last_reading\":null}],\"polls\":{\"answered\":2,\"exception\":1,\"silent\":1,\"malformed\":0,\"lost\":1},\"readings\":1,\"held\":{\"not_accumulated\":1,\"scale_changed\":0,\"not_later\":0,\"span_too_long\":0,\"gap_too_long\":0,\"too_fast\":0,\"total_full\":0,\"not_below_range\":1},\"refusals\":1,\"lacks\":[]}\n";
 
 #[test]
 fn the_status_is_json(rt: HostRuntime) {
     let mut text = Vec::new(rt.alloc());
-    assert!(rt; put_status(&mut text, &counts(), &devices()).is_ok());
+    assert!(rt; put_status(&mut text, &counts(), &devices(), &[]).is_ok());
     assert_eq!(rt; str::from_utf8(&text), Ok(STATUS));
 }
 
@@ -110,6 +111,73 @@ fn the_metrics_are_in_text_format(rt: HostRuntime) {
 #[test]
 fn no_device_is_an_empty_list(rt: HostRuntime) {
     let mut text = Vec::new(rt.alloc());
-    assert!(rt; put_status(&mut text, &Counts::new(), &[]).is_ok());
+    assert!(rt; put_status(&mut text, &Counts::new(), &[], &[]).is_ok());
     assert!(rt; text.starts_with(b"{\"devices\":[],\"polls\":"));
+}
+
+// The register import of grid, which needs the registers 40117 to 40125 by function 3.
+fn import() -> Option<Register> {
+    Some(Register {
+        name: Name::new(b"import")?,
+        device: Name::new(b"grid")?,
+        function: ReadFunction::HoldingRegisters,
+        address: 40117,
+        scale: ScaleSource::Register(40125),
+    })
+}
+
+fn lack(device: &[u8], lack: Lack) -> DeviceLack {
+    DeviceLack {
+        device: Name::new(device),
+        lack,
+    }
+}
+
+fn not_in_list(import: &Register) -> DeviceLack {
+    lack(b"grid", Lack::NotInList(*import))
+}
+
+fn no_meter(import: &Register) -> DeviceLack {
+    lack(b"grid", Lack::NoMeter(*import))
+}
+
+// One of each.
+fn lacks(import: &Register) -> [DeviceLack; 5] {
+    [
+        lack(b"none", Lack::NoDevice),
+        lack(b"inv", Lack::NoList),
+        lack(b"inv", Lack::NoRegister),
+        not_in_list(import),
+        no_meter(import),
+    ]
+}
+
+const LACKS: &str =
+    "\"refusals\":0,\"lacks\":[{\"device\":\"none\",\"lack\":\"no_device\"},{\"device\":\"inv\",\"lack\":\"no_list\"},{\"device\":\"inv\",\"lack\":\"no_register\"},{\"device\":\"grid\",\"lack\":\"not_in_list\",\"register\":\"import\"},{\"device\":\"grid\",\"lack\":\"no_meter\",\"register\":\"import\"}]}\n";
+
+#[test]
+fn what_devices_lack_is_in_the_status(rt: HostRuntime) {
+    let mut text = Vec::new(rt.alloc());
+    if let Some(import) = import() {
+        assert!(rt; put_status(&mut text, &Counts::new(), &[], &lacks(&import)).is_ok());
+    }
+    assert!(rt; text.ends_with(LACKS.as_bytes()));
+}
+
+const SENTENCES: &str = "sunreg: none: the office has no device of that name: POST /devices
+sunreg: inv: no point list yet: sunreg scan --list, or POST /devices/inv/list
+sunreg: inv: it has no register, so nothing of it is booked: POST /registers
+sunreg: register import: not in the list of grid (needs function 3, 40117 to 40125)
+sunreg: register import: no meter is open at it: POST /registers/import/install
+";
+
+#[test]
+fn what_devices_lack_is_said(rt: HostRuntime) {
+    let mut text = Vec::new(rt.alloc());
+    if let Some(import) = import() {
+        for lack in &lacks(&import) {
+            assert!(rt; put_lack(&mut text, lack).is_ok());
+        }
+    }
+    assert_eq!(rt; str::from_utf8(&text), Ok(SENTENCES));
 }

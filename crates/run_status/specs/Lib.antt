@@ -1,3 +1,4 @@
+pub mod Advice
 pub mod Status
 pub mod Monitor
 pub mod RunHttp

@@ -1,3 +1,4 @@
 pub mod Output
 pub mod Watching
 pub mod Lines
+pub mod Queues

@@ -1,3 +1,4 @@
 pub mod Counts
+pub mod LackingText
 pub mod StatusText
 pub mod MetricsText

@@ -2,7 +2,7 @@
 use command_words::{WordsFault, command_of};
 use std::alloc::Global;
 
-static HELP: [&[&str]; 12] = [
+static HELP: [&[&str]; 14] = [
     &["--help"],
     &["-h"],
     &["help"],
@@ -15,6 +15,8 @@ static HELP: [&[&str]; 12] = [
     &["-h", "bogus"],
     &["serve", "--port", "x", "--help"],
     &["report", "--db", "x", "-h", "--bogus"],
+    &["help", "explain"],
+    &["completions", "-h"],
 ];
 
 // The text of the help that the words ask for.
@@ -38,21 +40,26 @@ Polls SunSpec meters by Modbus TCP; keeps their energy by quarter hours and days
 Usage: sunreg [COMMAND]
 
 Commands:
-  replay    Runs a script from standard input over books in memory
-  plan      Prints the reads that a point list from standard input needs
-  chain     Lists the SunSpec models of an image from standard input
-  scan      Lists the SunSpec models of a live device, which it only reads
-  create    Makes the tables of a new office in a file
-  serve     Answers HTTP on 127.0.0.1, one connection after the other
-  round     Polls the whole plan of one device once
-  report    Prints a register's energy by days
-  stand-in  Plays a Modbus device, with a bank from standard input
-  loop      Runs a script whose devices are a stand-in in this process
-  run       Polls devices on a schedule and answers HTTP, until it is ended
-  help      Print this message or the help of the given subcommand(s)
+  replay       Runs a script from standard input over books in memory
+  plan         Prints the reads that a point list from standard input needs
+  chain        Lists the SunSpec models of an image from standard input
+  scan         Lists the SunSpec models of a live device, which it only reads
+  create       Makes the tables of a new office in a file
+  enter        Sets an office up by lines of standard input, which act once
+  serve        Answers HTTP on 127.0.0.1, one connection after the other
+  round        Polls the whole plan of one device once
+  report       Prints a register's energy by days
+  backup       Makes one whole file of an office
+  stand-in     Plays a Modbus device, with a bank from standard input
+  loop         Runs a script whose devices are a stand-in in this process
+  run          Polls devices on a schedule and answers HTTP, until it is ended
+  explain      Tells what a printed number means, its cause, and what to do
+  completions  Prints what a shell completes the words of sunreg by
+  help         Print this message or the help of the given subcommand(s)
 
 Options:
-  -h, --help  Print help
+  -h, --help     Print help
+  -V, --version  Print version
 
 Without a command it is replay. Help on a command: sunreg help COMMAND
 Example: sunreg replay < script.txt
@@ -72,6 +79,21 @@ Options:
   -h, --help              Print help
 
 Example: sunreg serve --db office.db --port 8080 --connections 100
+";
+
+static EXPLAIN: &str = "\
+Tells what a printed number means, its cause, and what to do
+
+Usage: sunreg explain <WHAT> <NUMBER>
+
+Arguments:
+  <WHAT>    refused, held, lost, malformed, exception, fault or status
+  <NUMBER>  The number that stands behind it
+
+Options:
+  -h, --help  Print help
+
+Example: sunreg explain refused 12
 ";
 
 static RUN: &str = "\
@@ -102,6 +124,7 @@ fn the_texts_of_help_stand(rt: HostRuntime) {
         (["help", "serve"], SERVE),
         (["serve", "-h"], SERVE),
         (["run", "--help"], RUN),
+        (["help", "explain"], EXPLAIN),
     ] {
         assert!(rt; help(rt.alloc(), &words).is_some_and(|text| text.as_str() == expected));
     }
@@ -112,7 +135,7 @@ fn help_fits_one_screen(rt: HostRuntime) {
     let Some(text) = help(rt.alloc(), &["--help"]) else {
         panic!(rt; "no help");
     };
-    assert!(rt; text.as_str().lines().count() <= 24);
+    assert!(rt; text.as_str().lines().count() <= 30);
     for line in text.as_str().lines() {
         assert!(rt; line.len() <= 80, "{line}");
     }

@@ -29,6 +29,8 @@ mod loops;
 #[cfg(test)]
 mod number_words;
 #[cfg(test)]
+mod numbers;
+#[cfg(test)]
 mod printing;
 #[cfg(test)]
 mod replays;
@@ -37,8 +39,12 @@ mod right_words;
 #[cfg(test)]
 mod rows;
 #[cfg(test)]
+mod scans;
+#[cfg(test)]
 mod set_ups;
 #[cfg(test)]
 mod streams;
+#[cfg(test)]
+mod version;
 #[cfg(test)]
 mod wrong_words;

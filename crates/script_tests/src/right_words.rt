@@ -1,7 +1,7 @@
 //! Words that spell a command.
 use command_words::{CommandLine, Device, command_of};
 
-const RIGHT: [(&[&str], CommandLine<'static>); 16] = [
+const RIGHT: [(&[&str], CommandLine<'static>); 20] = [
     // no word is replay
     (&[], CommandLine::Replay { zone: "UTC0" }),
     (&["replay"], CommandLine::Replay { zone: "UTC0" }),
@@ -139,6 +139,29 @@ const RIGHT: [(&[&str], CommandLine<'static>); 16] = [
             connections: 10,
         },
     ),
+    (
+        &["backup", "--to", "copy of o.db", "--db", "o.db"],
+        CommandLine::Backup {
+            db: "o.db",
+            to: "copy of o.db",
+        },
+    ),
+    // what is no number is told by the table of meanings, and not here
+    (
+        &["explain", "refused", "12"],
+        CommandLine::Explain {
+            what: "refused",
+            number: "12",
+        },
+    ),
+    (
+        &["explain", "--", "-1", "--help"],
+        CommandLine::Explain {
+            what: "-1",
+            number: "--help",
+        },
+    ),
+    (&["completions", "bash"], CommandLine::Completions),
 ];
 
 #[test]
@@ -206,6 +229,33 @@ static ALL_DEVICES: [Device<'static>; 2] = [
         port: 1,
     },
 ];
+
+#[test]
+fn an_entering_asks_where_no_letter_is_given(rt: HostRuntime) {
+    let words = ["enter", "--db", "o.db", "--caller", "site"];
+    match command_of(rt.alloc(), &words) {
+        Ok(
+            CommandLine::Enter {
+                db,
+                caller,
+                only_read,
+            },
+        ) => {
+            assert!(rt; db == "o.db" && caller == "site" && !only_read);
+        }
+        _ => panic!(rt; "no enter"),
+    }
+}
+
+static ENTER: [&str; 6] = ["enter", "-n", "--caller", "site", "--db", "o.db"];
+
+#[test]
+fn an_entering_takes_its_letter(rt: HostRuntime) {
+    match command_of(rt.alloc(), &ENTER) {
+        Ok(CommandLine::Enter { only_read, .. }) => assert!(rt; only_read),
+        _ => panic!(rt; "no enter"),
+    }
+}
 
 const SERVE: [&str; 7] = [
     "serve",

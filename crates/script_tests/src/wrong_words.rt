@@ -1,12 +1,13 @@
 //! Words that spell no command.
 use command_words::{WordsFault, command_of};
 
-static WRONG: [&[&str]; 30] = [
+static WRONG: [&[&str]; 40] = [
     &["bogus"],
     &[""],
     &["Plan"],
-    &["--version"],
-    &["-V"],
+    &["--versions"],
+    &["plan", "--version"],
+    &["plan", "-V"],
     &["--zone", "UTC0"],
     &["plan", "more"],
     &["plan", "--zone", "UTC0"],
@@ -41,6 +42,23 @@ static WRONG: [&[&str]; 30] = [
     &["scan", "--port", "1", "--list", "--setup", "inv"],
     &["stand-in", "--connections", "1"],
     &["loop", "--db", "x"],
+    &["enter", "--db", "x"],
+    &["enter", "--caller", "c"],
+    &[
+        "enter",
+        "--db",
+        "x",
+        "--caller",
+        "c",
+        "--devices",
+        "inv=h:1",
+    ],
+    &["enter", "--db", "x", "--caller", "c", "-m"],
+    &["backup", "--db", "x"],
+    &["explain", "refused"],
+    &["explain", "refused", "1", "2"],
+    &["completions"],
+    &["completions", "zsh"],
     &["run", "--db", "x", "--listen", "1", "--every", "1"],
 ];
 
@@ -69,6 +87,20 @@ fn the_options_that_lack_are_named(rt: HostRuntime) {
         panic!(rt; "not wrong");
     };
     assert_eq!(rt; text.as_str(), LACKS_TEXT);
+}
+
+static SHELL_TEXT: &str =
+    "error: invalid value 'Bash' for '<SHELL>': there are completions for bash alone
+
+For more information, try '--help'.
+";
+
+#[test]
+fn another_shell_is_named(rt: HostRuntime) {
+    let Err(WordsFault::Wrong(text)) = command_of(rt.alloc(), &["completions", "Bash"]) else {
+        panic!(rt; "not wrong");
+    };
+    assert_eq!(rt; text.as_str(), SHELL_TEXT);
 }
 
 static BOGUS_TEXT: &str = "error: unrecognized subcommand 'bogus'

@@ -12,6 +12,9 @@ use Rattle.office_store.specs.declared.books.SqlBooks.{SqlBooks}
 use Rattle.office_program.specs.Report.{TellsReport}
 use Rattle.office_program.specs.HttpPort.{Port, TellsServing}
 use Rattle.office_program.specs.PortRound.{TellsPolling}
+use Rattle.office_program.specs.Entering.Checked.{LooksOver}
+use Rattle.office_program.specs.Entering.Entered.{TellsEntering}
+use Rattle.office_program.specs.Entering.Lines.{Telling}
 use Rattle.office_program.specs.declared.http_port.ServeEnd.{ServeEnd}
 use Rattle.office_program.specs.declared.port_round.PollEnd.{PollEnd}
 
@@ -45,6 +48,17 @@ module _ {S : Type 0} (g : Ghosts S) where
       → (moments later had holds : Option (List ℕ)) → ServeEnd → Type 0
   Serves past at moments later had holds end = OverBooks past (λ found left.
       TellsServing ledger_in past at moments later found left had holds end)
+
+  -- what is entered into such books, and what looking at it finds
+  abbrev pub Enters : Telling → (past : History) → (caller text : List ℕ)
+      → (moments later had holds : Option (List ℕ)) → ExitStatus → Type 0
+  Enters tells past caller text moments later had holds status = OverBooks past (λ found left.
+      TellsEntering ledger_in past tells caller text moments later found left had holds status)
+
+  abbrev pub Looks : Telling → (past : History) → (caller text : List ℕ)
+      → (had holds : Option (List ℕ)) → ExitStatus → Type 0
+  Looks tells past caller text had holds status = OverBooks past (λ found left.
+      LooksOver tells caller text (ledger_in left) had holds status past)
 
   abbrev pub Polls : (past : History) → (device : List ℕ)
       → (moments later had holds : Option (List ℕ)) → PollEnd → Type 0

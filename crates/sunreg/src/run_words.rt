@@ -1,9 +1,14 @@
 //! What the words of `run` mean to a run: its settings, and where its devices are.
 use command_words::Device;
 use office_events::Name;
-use office_running::{Settings, Site};
+use office_running::{Descriptors, Settings, Site};
 use std::net::{SocketAddr, ToSocketAddrs};
 use stored_office::Failure;
+
+/// The descriptors that each program has (POSIX, unistd.h).
+const STANDARD_OUTPUT: i32 = 1;
+
+const STANDARD_ERROR: i32 = 2;
 
 /// The settings of a run that answers on a port of this machine alone.
 pub(crate) fn settings_of<'n>(
@@ -22,6 +27,10 @@ pub(crate) fn settings_of<'n>(
         },
         host_names,
         verbose,
+        descriptors: Some(Descriptors {
+            output: STANDARD_OUTPUT,
+            errors: STANDARD_ERROR,
+        }),
     }
 }
 

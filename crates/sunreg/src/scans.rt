@@ -1,6 +1,6 @@
 //! The models of a live device, over a socket.
 use command_io::Buffered;
-use device_scan::{ScanFault, Witness};
+use device_scan::{ScanFault, ScanObserver};
 use mb_wire::Link;
 use office_events::Name;
 use socket_link::{Clock, DeadlineLink, SocketLink, SystemClock};
@@ -36,7 +36,7 @@ struct Terminal<'a> {
     is_shown: bool,
 }
 
-impl Witness for Terminal<'_> {
+impl ScanObserver for Terminal<'_> {
     fn reads(&mut self, model: Model) {
         if self.is_shown {
             let Model { address, id, .. } = model;

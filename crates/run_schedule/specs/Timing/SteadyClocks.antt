@@ -8,9 +8,17 @@ abbrev pub set_back_by : SteadyClock → ℕ → Option ℕ
 set_back_by steady_clock now =
     if nat_lt now steady_clock.latest && not steady_clock.is_back then Some (steady_clock.latest - now) else None
 
+-- From where the moment went ahead by more than a minute.
+abbrev pub ahead_by : (latest now : ℕ) → Option ℕ
+ahead_by latest now = if nat_lt 60 (now - latest) then Some latest else None
+
 -- the moment goes on, or stays where the clock was set back
 abbrev pub read_by : SteadyClock → ℕ → ClockReading
-read_by steady_clock now = record { moment = max steady_clock.latest now; set_back = set_back_by steady_clock now }
+read_by steady_clock now = record {
+  moment = max steady_clock.latest now;
+  set_back = set_back_by steady_clock now;
+  ahead_from = ahead_by steady_clock.latest now;
+}
 
 abbrev pub clock_after : SteadyClock → ℕ → SteadyClock
 clock_after steady_clock now = record { latest = max steady_clock.latest now; is_back = nat_lt now steady_clock.latest }

@@ -1,6 +1,9 @@
 //! A clock that goes on.
 ghost use Rattle.std.specs.Prelude.{◌≡◌, ◌≤◌, false};
-ghost use Rattle.run_schedule.specs.Timing.SteadyClocks.{read_by, clock_after};
+ghost use Rattle.run_schedule.specs.Timing.SteadyClocks.{ahead_by, read_by, clock_after};
+
+/// How many seconds the moment may go ahead from one reading to the next, without that being told.
+const MOST_AHEAD: u64 = 60;
 
 /// A moment that never goes back.
 #[derive(Clone, Copy, Debug, PartialEq, Eq)]
@@ -9,6 +12,19 @@ pub struct ClockReading {
     pub moment: u64,
     /// How many seconds the clock stands before the latest moment, where that is to be told now; it is told once.
     pub set_back: Option<u64>,
+    /// From which moment on it went ahead, where it did so by more than a minute.
+    pub ahead_from: Option<u64>,
+}
+
+// The moment before, where the clock has gone ahead of it by more than a minute.
+fn ahead_from(latest: u64, now: u64) -> Option<u64>
+    ensures { result ≡ ahead_by latest now }
+{
+    if now.saturating_sub(latest) > MOST_AHEAD {
+        Some(latest)
+    } else {
+        None
+    }
 }
 
 /// What is known of a clock that may be set back.
@@ -46,11 +62,13 @@ impl SteadyClock {
             return ClockReading {
                 moment: now,
                 set_back: None,
+                ahead_from: ahead_from(latest, now),
             };
         }
         ClockReading {
             moment: latest,
             set_back: if was_back { None } else { Some(latest - now) },
+            ahead_from: None,
         }
     }
 }

@@ -12,6 +12,7 @@ use Rattle.http_request.specs.declared.status.Status.TheVariants.{Fine, MethodNo
 use Rattle.http_answer.specs.Sending.Bodies.{fault_text}
 use Rattle.run_status.specs.Status.StatusText.{with_status}
 use Rattle.run_status.specs.Status.MetricsText.{with_metrics}
+use Rattle.run_status.specs.declared.advice.lacks.DeviceLack.{DeviceLack}
 use Rattle.run_status.specs.declared.status.counts.Counts.{Counts}
 use Rattle.run_status.specs.declared.status.status.DeviceState.{DeviceState}
 use Rattle.run_status.specs.declared.run_http.route.StatusRoute.{StatusRoute}
@@ -60,10 +61,11 @@ with_reply status kind body text =
     ++ codes "\r\nContent-Type: " ++ kind ++ codes "\r\nContent-Length: " ++ decimal (length body)
     ++ codes "\r\nConnection: close\r\n\r\n" ++ body
 
-abbrev pub with_route_reply : StatusRoute → Counts → List DeviceState → List ℕ → List ℕ
-with_route_reply Status counts devices text =
-    with_reply Fine (codes "application/json") (with_status [] counts devices) text
-with_route_reply Metrics counts devices text =
+abbrev pub with_route_reply : StatusRoute → Counts → List DeviceState → List DeviceLack
+    → List ℕ → List ℕ
+with_route_reply Status counts devices lacks text =
+    with_reply Fine (codes "application/json") (with_status [] counts devices lacks) text
+with_route_reply Metrics counts devices lacks text =
     with_reply Fine (codes "text/plain; version=0.0.4") (with_metrics [] counts devices) text
-with_route_reply (Rejected status) counts devices text =
+with_route_reply (Rejected status) counts devices lacks text =
     with_reply status (codes "application/json") (fault_text status) text

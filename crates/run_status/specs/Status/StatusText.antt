@@ -1,5 +1,7 @@
 -- `/status`: the counts and the devices, as JSON. Each definition gives a text with something at its end.
 use Rattle.std.specs.Prelude.{ℕ, Bool, true, false, List, [], ◌∷◌, ◌++◌, Option, Some, None, codes, decimal, slice_index}
+use Rattle.run_status.specs.Status.LackingText.{with_lacks}
+use Rattle.run_status.specs.declared.advice.lacks.DeviceLack.{DeviceLack}
 use Rattle.run_status.specs.declared.status.counts.Counts.{Counts}
 use Rattle.run_status.specs.declared.status.status.DeviceState.{DeviceState}
 
@@ -57,8 +59,12 @@ with_held text held =
     ++ codes ",\"total_full\":" ++ decimal (slice_index held 6) ++ codes ",\"not_below_range\":"
     ++ decimal (slice_index held 7)
 
-abbrev pub with_status : List ℕ → Counts → List DeviceState → List ℕ
-with_status text counts devices =
+abbrev pub with_counts : List ℕ → Counts → List DeviceState → List ℕ
+with_counts text counts devices =
     with_held (with_polls (with_devices (text ++ codes "{\"devices\":[") devices) counts)
     counts.held
-    ++ codes "},\"refusals\":" ++ decimal counts.refusals ++ codes "}\n"
+    ++ codes "},\"refusals\":" ++ decimal counts.refusals
+
+abbrev pub with_status : List ℕ → Counts → List DeviceState → List DeviceLack → List ℕ
+with_status text counts devices lacks =
+    with_lacks (with_counts text counts devices) lacks ++ codes "}\n"

@@ -5,6 +5,7 @@ ghost use Rattle.http_answer.specs.Sending.Bodies.{fault_text};
 ghost use Rattle.http_request.specs.Hosts as hosts;
 ghost use Rattle.run_status.specs.RunHttp.StatusRoute as texts;
 
+use crate::advice::DeviceLack;
 use crate::status::{Counts, DeviceState, put, put_metrics, put_number, put_status, put_word};
 use http_request::{HeadState, Status, may_ask, parse_head};
 use std::alloc::{AllocError, Global};
@@ -102,14 +103,15 @@ pub fn reply_status(
     route: StatusRoute,
     counts: &Counts,
     devices: &[DeviceState],
+    lacks: &[DeviceLack],
 ) -> Result<(), AllocError>
     ensures { OnOk result (text.new.items
-        ≡ texts.with_route_reply route counts.now devices.now text.old.items) }
+        ≡ texts.with_route_reply route counts.now devices.now lacks.now text.old.items) }
 {
     match route {
         StatusRoute::Status => {
             let mut body = Vec::new(alloc);
-            put_status(&mut body, counts, devices)?;
+            put_status(&mut body, counts, devices, lacks)?;
             put_reply(text, Status::Fine, b"application/json", &body)
         }
         StatusRoute::Metrics => {

@@ -2,7 +2,9 @@
 ghost use Rattle.std.specs.Prelude.{◌≡◌, OnOk};
 ghost use Rattle.run_status.specs.Status.StatusText as json;
 
+use crate::advice::DeviceLack;
 use crate::status::counts::Counts;
+use crate::status::lacking::put_lacks;
 use crate::status::pieces::{put, put_number, put_word};
 use office_events::Name;
 use std::alloc::AllocError;
@@ -104,14 +106,16 @@ pub fn put_status(
     text: &mut Vec<u8>,
     counts: &Counts,
     devices: &[DeviceState],
+    lacks: &[DeviceLack],
 ) -> Result<(), AllocError>
     ensures { OnOk result (text.new.items
-        ≡ json.with_status text.old.items counts.now devices.now) }
+        ≡ json.with_status text.old.items counts.now devices.now lacks.now) }
 {
     put(text, b"{\"devices\":[")?;
     put_devices(text, devices)?;
     put_polls(text, counts)?;
     put_held(text, &counts.held)?;
     put_number(text, b"},\"refusals\":", counts.refusals)?;
+    put_lacks(text, lacks)?;
     put(text, b"}\n")
 }

@@ -3,7 +3,7 @@ ghost use Rattle.std.specs.Prelude.{◌<◌, ◌≤◌, IfSome, length};
 ghost use Rattle.mb_device.specs.StandIn.Exchanges.{Exchanged};
 
 use mb_device::{Bank, Server, Trick};
-use mb_wire::{Link, LinkFailed};
+use mb_wire::{Link, give_all};
 use office_events::Name;
 use std::alloc::{AllocError, Global};
 use std::io;
@@ -40,18 +40,6 @@ pub(crate) struct Wire<'t, L: Link + Drop> {
 pub(crate) struct Wires<'t, L: Link + Drop> {
     tricks: &'t [(u64, Trick)],
     all: Vec<Wire<'t, L>>,
-}
-
-// Gives all of the bytes, in as many gives as it takes.
-fn give_all<L: Link>(link: &mut L, bytes: &[u8]) -> Result<(), LinkFailed> {
-    if bytes.is_empty() {
-        return Ok(());
-    }
-    let count = link.give(bytes)?;
-    if count == 0 {
-        return Err(LinkFailed);
-    }
-    give_all(link, &bytes[count..])
 }
 
 // A turn of the stand-in, and how many frames it answered; none where it leaves the connection.

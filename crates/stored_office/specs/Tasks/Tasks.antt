@@ -4,17 +4,20 @@ use Rattle.sqlite.specs.Store.{Ghosts}
 use Rattle.office_rules.specs.History.{History}
 use Rattle.http_request.specs.Hosts.{texts}
 use Rattle.office_program.specs.HttpPort.{port as port_of}
+use Rattle.office_program.specs.Entering.Lines.{Telling}
 use Rattle.office_running.specs.Runs.{BooksRun}
-use Rattle.stored_office.specs.BooksFound.{OverBooks, Reports, Serves, Polls, ledger_in}
+use Rattle.stored_office.specs.BooksFound.{OverBooks, Reports, Serves, Enters, Looks, Polls, ledger_in}
 use Rattle.stored_office.specs.declared.tasks.tasks.Task.{Task}
 use Rattle.stored_office.specs.declared.tasks.tasks.Task.TheVariants as task
 use Rattle.stored_office.specs.declared.tasks.tasks.Done.{Done}
-use Rattle.stored_office.specs.declared.tasks.tasks.Done.TheVariants.{Reported, Served, Polled, Ran}
+use Rattle.stored_office.specs.declared.tasks.tasks.Done.TheVariants.{Reported, Served, Entered, Checked, Polled, Ran}
 
 -- A task ends as its kind does.
 abbrev pub IsOf : Task → Done → Type 0
 IsOf (task.Report register) (Reported end) = Unit {0}
 IsOf (task.Serve host port names connections) (Served end) = Unit {0}
+IsOf (task.Enter caller text) (Entered end) = Unit {0}
+IsOf (task.Check caller text) (Checked end) = Unit {0}
 IsOf (task.Round device host port) (Polled end) = Unit {0}
 IsOf (task.Run settings sites) (Ran end) = Unit {0}
 IsOf _ _ = ⊥
@@ -26,15 +29,19 @@ module _ {S : Type 0} (g : Ghosts S) where
   Runs names moments later past =
       OverBooks g past (λ found left. BooksRun names moments later (ledger_in g left) past)
 
-  -- The task that was asked for was done, and so it ended.
-  unfoldable pub Does : (past : History) → (moments later had holds : Option (List ℕ)) → Task → Done
-      → Type 0
-  Does past moments later had holds (task.Report register) (Reported end) =
+  -- The task that was asked for was done, and so it ended; files that a text names tell this.
+  unfoldable pub Does : Telling → (past : History) → (moments later had holds : Option (List ℕ))
+      → Task → Done → Type 0
+  Does tells past moments later had holds (task.Report register) (Reported end) =
       Reports g past register.now moments later had holds end
-  Does past moments later had holds (task.Serve host port names connections) (Served end) =
+  Does tells past moments later had holds (task.Serve host port names connections) (Served end) =
       Serves g past (port_of (texts names.now) connections) moments later had holds end
-  Does past moments later had holds (task.Round device host port) (Polled end) =
+  Does tells past moments later had holds (task.Enter caller text) (Entered end) =
+      Enters g tells past caller.now text.now moments later had holds end
+  Does tells past moments later had holds (task.Check caller text) (Checked end) =
+      Looks g tells past caller.now text.now had holds end
+  Does tells past moments later had holds (task.Round device host port) (Polled end) =
       Polls g past device.now moments later had holds end
-  Does past moments later had holds (task.Run settings sites) (Ran end) =
+  Does tells past moments later had holds (task.Run settings sites) (Ran end) =
       Runs (texts settings.now.host_names.now) moments later past
-  Does past moments later had holds _ _ = ⊥
+  Does tells past moments later had holds _ _ = ⊥

@@ -6,12 +6,12 @@ ghost use Rattle.store_files.specs.Layouts.{IsNamedAs};
 ghost use Rattle.stored_office.specs.BooksFound.{HasPast};
 ghost use Rattle.stored_office.specs.Tasks.Tasks.{IsOf, Does};
 
-use crate::tasks::stored_run::run_stored;
-use crate::{poll_stored, report_stored, serve_stored};
 use command_io::ExitStatus;
-use office_program::{PollEnd, ServeEnd};
-use office_running::{RunFault, Settings, Site};
-use office_store::OpenFault;
+use office_program::{
+    NamedFiles, PollEnd, ServeEnd, check_books, enter_books, poll_books, report_books, serve_books,
+};
+use office_running::{RunFault, Settings, Site, run_office};
+use office_store::{OpenFault, SqlBooks};
 use socket_link::Clock;
 use sqlite::{Alter, Connection};
 use std::alloc::Global;
@@ -21,24 +21,34 @@ use std::net::Net;
 /// What is done over the books of an office.
 #[derive(Clone, Copy)]
 pub enum Task<'a> {
-    /// A register is reported, as `report_stored` does.
+    /// A register is reported, as `report_books` does.
     Report {
         register: &'a str,
     },
-    /// HTTP is answered on so many connections at a port of a host, by these names too, as `serve_stored` does.
+    /// HTTP is answered on so many connections at a port of a host, by these names too, as `serve_books` does.
     Serve {
         host: &'a str,
         port: u16,
         names: &'a [&'a str],
         connections: u32,
     },
-    /// A device at a port of a host is polled, as `poll_stored` does.
+    /// What the lines of a text ask is asked under a caller, as `enter_books` does.
+    Enter {
+        caller: &'a str,
+        text: &'a [u8],
+    },
+    /// They are only looked at, as `check_books` does.
+    Check {
+        caller: &'a str,
+        text: &'a [u8],
+    },
+    /// A device at a port of a host is polled, as `poll_books` does.
     Round {
         device: &'a str,
         host: &'a str,
         port: u16,
     },
-    /// Devices are polled on a schedule and HTTP is answered, as `run_stored` does.
+    /// Devices are polled on a schedule and HTTP is answered, as `run_office` does.
     Run {
         settings: &'a Settings<'a>,
         sites: &'a [Site],
@@ -50,16 +60,27 @@ pub enum Task<'a> {
 pub enum Done {
     Reported(ExitStatus),
     Served(ServeEnd),
+    Entered(ExitStatus),
+    Checked(ExitStatus),
     Polled(PollEnd),
     Ran(Result<(), RunFault>),
 }
 
-/// Finds the books of a database, and carries a task out over them. Where there are no books, nothing is printed.
-pub fn carry_out_stored<R: Net + std::rt::Clock, S: Alter + Drop, C: Clock, W: Write, E: Write>(
+/// Finds the books of a database, and carries a task out over them. Where there are no books, nothing is printed. Files that
+/// a text names are read by `files`.
+pub fn carry_out_stored<
+    R: Net + std::rt::Clock,
+    S: Alter + Drop,
+    F: NamedFiles,
+    C: Clock,
+    W: Write,
+    E: Write,
+>(
     rt: &R,
     alloc: Global,
     connection: Connection<S>,
     task: Task<'_>,
+    files: &F,
     clock: &mut C,
     output: &mut W,
     errors: &mut E,
@@ -69,51 +90,42 @@ pub fn carry_out_stored<R: Net + std::rt::Clock, S: Alter + Drop, C: Clock, W: W
     ensures silent { IfErr result (λ fault. output.new ≡ output.old) }
     ensures same { IfOk result (IsOf task.entry) }
     ensures does { (past : History) → HasPast S.Store connection past
-        → IfOk result (Does S.Store past (C.moments clock.old) (C.moments clock.new)
+        → IfOk result (Does S.Store (F.tells files.now) past (C.moments clock.old) (C.moments clock.new)
         (W.contents output.old) (W.contents output.new) task.entry) }
 {
-    match task {
-        Task::Report { register } => {
-            match report_stored(alloc, connection, register, clock, output) {
-                Ok(end) => Ok(Done::Reported(end)),
-                Err(fault) => Err(fault),
+    match SqlBooks::open(alloc, connection) {
+        Ok(books) => match task {
+            Task::Report { register } => {
+                let done = report_books(alloc, books, register, clock, output);
+                Ok(Done::Reported(done.end))
             }
-        }
-        Task::Serve {
-            host,
-            port,
-            names,
-            connections,
-        } => {
-            let place = (host, port);
-            match serve_stored(
-                rt,
-                alloc,
-                connection,
-                place,
+            Task::Serve {
+                host,
+                port,
                 names,
                 connections,
-                clock,
-                output,
-            ) {
-                Ok(end) => Ok(Done::Served(end)),
-                Err(fault) => Err(fault),
+            } => {
+                let place = (host, port);
+                let done = serve_books(rt, alloc, books, place, names, connections, clock, output);
+                Ok(Done::Served(done.end))
             }
-        }
-        Task::Round { device, host, port } => {
-            let place = (host, port);
-            match poll_stored(rt, alloc, connection, device, place, clock, output) {
-                Ok(end) => Ok(Done::Polled(end)),
-                Err(fault) => Err(fault),
+            Task::Enter { caller, text } => {
+                let done = enter_books(alloc, books, caller, text, files, clock, output);
+                Ok(Done::Entered(done.end))
             }
-        }
-        Task::Run { settings, sites } => {
-            match run_stored(
-                rt, alloc, connection, settings, sites, clock, output, errors,
-            ) {
-                Ok(end) => Ok(Done::Ran(end)),
-                Err(fault) => Err(fault),
+            Task::Check { caller, text } => {
+                let done = check_books(alloc, books, caller, text, files, output);
+                Ok(Done::Checked(done.end))
             }
-        }
+            Task::Round { device, host, port } => {
+                let done = poll_books(rt, alloc, books, device, (host, port), clock, output);
+                Ok(Done::Polled(done.end))
+            }
+            Task::Run { settings, sites } => {
+                let done = run_office(rt, alloc, books, settings, sites, clock, output, errors);
+                Ok(Done::Ran(done.end))
+            }
+        },
+        Err(unopened) => Err(unopened.fault),
     }
 }

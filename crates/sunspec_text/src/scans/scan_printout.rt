@@ -11,7 +11,7 @@ ghost use Rattle.sunspec_text.specs.Scans.ScanText.{SetupPrints};
 use crate::chains::{print_image, print_lack};
 use crate::scans::setup_lines::{Site, setup_text};
 use command_io::ExitStatus;
-use device_scan::{MOST_READS, MOST_TAKES, ScanFault, Witness, scan_over};
+use device_scan::{MOST_READS, MOST_TAKES, ScanFault, ScanObserver, scan_over};
 use mb_wire::Link;
 use point_list::{FaultyRows, ListFault, PointList, from_chain, write_list};
 use script_text::write_faults;
@@ -33,12 +33,12 @@ pub enum ScanForm<'a> {
 /// Scans a unit over a link to it that was just made, and prints the chain of models in the words that it answered, or another form
 /// of it; or only `fault N`, or `row R fault N` where a list would have too many points. A link that fails, ends or
 /// brings what is no Modbus is told as the fault, and nothing is printed then.
-pub fn scan_text<L: Link, V: Witness, W: Write>(
+pub fn scan_text<L: Link, V: ScanObserver, W: Write>(
     alloc: Global,
     link: &mut L,
     unit: u8,
     form: ScanForm<'_>,
-    witness: &mut V,
+    observer: &mut V,
     output: &mut W,
 ) -> Result<ExitStatus, ScanFault>
     ensures printed { IfOk result (ScanPrints unit form.entry
@@ -52,7 +52,7 @@ pub fn scan_text<L: Link, V: Witness, W: Write>(
     ensures ends { L.ended link.new ≡ risen (is_gone result) (L.ended link.old) }
     ensures takes { L.taken link.new ≤ L.taken link.old + 2 * MOST_TAKES * MOST_READS }
 {
-    match scan_over(alloc, link, unit, witness) {
+    match scan_over(alloc, link, unit, observer) {
         Ok(image) => Ok(print_form(alloc, &image, form, output)),
         Err(fault) => Err(fault),
     }

@@ -1,4 +1,4 @@
-use Rattle.std.proofs.Common.{◌≡◌, ap}
+use Rattle.std.proofs.Common.{ap}
 use Rattle.http_request.specs.Hosts.{texts}
 use Rattle.office_program.specs.HttpPort.{port}
 use Rattle.office_program.proofs.Done.{served}

@@ -1,0 +1,16 @@
+#!/bin/sh
+# Counts what `sunreg round` calls for each settled poll, beside offices in C (bench/peers/office.c) and Python (tests/peers/plain_office.py) that book the
+# same: statements that read tables and that write rows, fdatasyncs, bytes written to the log, writes to standard output and more; 512 and 32 polls, one or
+# 16 at once, 32 of them of a meter: `bench/calls.sh [PROGRAM [AFTER]]`, out/sunreg by default, which `./sunreg-build` makes; with a second program both
+# stand in the table. The opening doesn't count. It needs strace, gdb, a C compiler, libsqlite3 with its header, python3 and sqlite3. The files stand in
+# /dev/shm: counts are the same on a disk.
+set -eu
+here=$(dirname "$(readlink -f "$0")")
+[ "$#" -gt 0 ] || set -- "$here/../out/sunreg"
+for it in "$@"; do
+    [ -x "$it" ] || { echo "calls.sh: $it is not built: run ./sunreg-build" >&2; exit 2; }
+done
+for it in strace gdb cc python3 sqlite3; do
+    command -v $it > /dev/null || { echo "calls.sh: $it is not installed" >&2; exit 2; }
+done
+PYTHONDONTWRITEBYTECODE=1 exec python3 "$here/peers/calls.py" "$@"

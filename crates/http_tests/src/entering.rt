@@ -1,0 +1,164 @@
+//! Inputs that are entered into books in memory, and looked at.
+use crate::office::blank;
+use command_io::ExitStatus;
+use memory_books::ListBooks;
+use office_program::{
+    CommandEnd, MOST_FILE, NamedFiles, check_books, enter_books, inputs_act_once,
+    requests_are_repeated,
+};
+use socket_link::FixedClock;
+use std::alloc::{AllocError, Global};
+use std::test::Fail;
+
+/// One file in a folder.
+#[derive(Clone, Copy)]
+struct OneFile {
+    name: &'static [u8],
+    bytes: &'static [u8],
+}
+
+impl NamedFiles for OneFile {
+    fn read(&self, alloc: Global, name: &[u8]) -> Result<Option<Vec<u8>>, AllocError> {
+        if name == self.name && self.bytes.len() <= MOST_FILE {
+            return Ok(Some(Vec::from_slice(alloc, self.bytes)?));
+        }
+        Ok(None)
+    }
+}
+
+const LIST: OneFile = OneFile {
+    name: b"inv.csv",
+    bytes: b"name,function,area,address,type,scale\nwh,3,0,40094,acc32,\n",
+};
+
+const FAULTY: OneFile = OneFile {
+    name: b"inv.csv",
+    bytes: b"name,function,area,address,type,scale\nwh,5,0,40094,acc32,\n",
+};
+
+/// Enters a text at a moment: how it ends, and what it prints.
+fn enter(
+    alloc: Global,
+    books: ListBooks,
+    files: &OneFile,
+    text: &[u8],
+    moment: u64,
+) -> (CommandEnd<ListBooks, ExitStatus>, Vec<u8>) {
+    let moments = [moment];
+    let mut clock = FixedClock::new(&moments);
+    let mut printed = Vec::new(alloc);
+    let end = enter_books(alloc, books, "desk", text, files, &mut clock, &mut printed);
+    (end, printed)
+}
+
+/// Looks at a text: how it ends, and what it prints.
+fn check(
+    alloc: Global,
+    books: ListBooks,
+    files: &OneFile,
+    text: &[u8],
+) -> (CommandEnd<ListBooks, ExitStatus>, Vec<u8>) {
+    let mut printed = Vec::new(alloc);
+    let end = check_books(alloc, books, "desk", text, files, &mut printed);
+    (end, printed)
+}
+
+const SITE: &[u8] =
+    b"1 device inv 1 5 1\n\n# main\n2 list inv @inv.csv\n3 register main inv 3 40094 0\n4 install main m1 5000 0 100000\n";
+
+/// A text, a file, a moment, how entering ends, and what it prints.
+type Row = (&'static [u8], OneFile, u64, ExitStatus, &'static [u8]);
+
+// Over the same books, one after the other: a site, the same again, a changed line and a new one, a changed file, a bad line, one
+// that can't be entered, a file that isn't there, and a clock that was set back.
+static TEXTS: [Row; 9] = [
+    (SITE, LIST, 1000, ExitStatus::Fine, b"ok\nok\nok\nok\n"),
+    (SITE, LIST, 2000, ExitStatus::Fine, b"ok\nok\nok\nok\n"),
+    (
+        b"1 device inv 2 5 1\n5 device other 2 5 1",
+        LIST,
+        2000,
+        ExitStatus::Refused,
+        b"refused 11\nok\n",
+    ),
+    (
+        b"2 list inv @inv.csv\n6 list inv @inv.csv\n",
+        FAULTY,
+        2000,
+        ExitStatus::Refused,
+        b"row 2 fault 5\nrefused 12\nrow 2 fault 5\nrefused 12\n",
+    ),
+    (
+        b"7 device third 3 5 1\n\n8 device\n9 device fourth 4 5 1\n",
+        LIST,
+        2000,
+        ExitStatus::Refused,
+        b"ok\nbad line 3\n",
+    ),
+    (
+        b"8 connect inv\n",
+        LIST,
+        2000,
+        ExitStatus::Refused,
+        b"bad line 1\n",
+    ),
+    (
+        b"8 round inv 0\n",
+        LIST,
+        2000,
+        ExitStatus::Refused,
+        b"bad line 1\n",
+    ),
+    (
+        b"8 list inv @none.csv\n",
+        LIST,
+        2000,
+        ExitStatus::Refused,
+        b"bad line 1\n",
+    ),
+    (SITE, LIST, 999, ExitStatus::Refused, b"refused 3\n"),
+];
+
+#[test]
+fn an_input_acts_once(rt: HostRuntime) -> Result<(), Fail> {
+    let mut books = blank(rt.alloc())?;
+    for (text, files, moment, end, printed) in &TEXTS {
+        let (done, shown) = enter(rt.alloc(), books, files, text, *moment);
+        assert_eq!(rt; done.end, *end);
+        assert_eq!(rt; shown.as_slice(), *printed);
+        books = done.books;
+    }
+    Ok(())
+}
+
+// A site before it is entered and after, with a changed line and a bad one.
+static LOOKS: [(&[u8], &[u8]); 2] = [
+    (SITE, b"again\nagain\nagain\nagain\n"),
+    (
+        b"1 device inv 2 5 1\n5 tick\n6 device other 2 5 1\n",
+        b"refused 11\nbad line 2\nnew\n",
+    ),
+];
+
+#[test]
+fn looking_books_nothing(rt: HostRuntime) -> Result<(), Fail> {
+    let (done, shown) = check(rt.alloc(), blank(rt.alloc())?, &LIST, SITE);
+    assert_eq!(rt; done.end, ExitStatus::Fine);
+    assert_eq!(rt; shown.as_slice(), b"new\nnew\nnew\nnew\n".as_slice());
+    let (done, shown) = enter(rt.alloc(), done.books, &LIST, SITE, 1000);
+    assert_eq!(rt; shown.as_slice(), b"ok\nok\nok\nok\n".as_slice());
+    let mut books = done.books;
+    for (text, printed) in &LOOKS {
+        let (done, shown) = check(rt.alloc(), books, &LIST, text);
+        assert_eq!(rt; shown.as_slice(), *printed);
+        books = done.books;
+    }
+    Ok(())
+}
+
+#[test]
+fn laws_of_repeats_are_called(rt: HostRuntime) {
+    requests_are_repeated();
+    inputs_act_once(&LIST);
+    assert_eq!(rt; LIST.bytes.len() <= MOST_FILE, true);
+}

@@ -1,0 +1,133 @@
+//! A link to a stand-in in the same process.
+ghost use Rattle.std.specs.Prelude.{◌≤◌, ◌<◌, length};
+
+use mb_device::{Bank, Server, Trick};
+use mb_wire::{LastTake, Link, LinkFailed, MemoryLink, Took};
+
+/// How many bytes of answers may wait.
+const ROOM: usize = 1024;
+
+/// A link to a stand-in that answers at once what it is given. It brings nothing more until it is given more, and ends once a
+/// trick has cut it off.
+#[derive(Drop)]
+pub(crate) struct StandInLink<'t> {
+    server: Server<'t>,
+    bank: Bank,
+    answers: [u8; ROOM],
+    // The answers that were not taken stand from here to here.
+    start: usize,
+    end: usize,
+    is_over: bool,
+    gives: u64,
+    takes: u64,
+    ends: u64,
+    last: Option<LastTake>,
+    ghost ordered: { start ≤ end },
+    ghost within: { end ≤ 1024 },
+}
+
+impl<'t> StandInLink<'t> {
+    pub(crate) fn new(bank: Bank, tricks: &'t [(u64, Trick)]) -> StandInLink<'t> {
+        StandInLink {
+            server: Server::tricked(tricks),
+            bank,
+            answers: [0; ROOM],
+            start: 0,
+            end: 0,
+            is_over: false,
+            gives: 0,
+            takes: 0,
+            ends: 0,
+            last: None,
+        }
+    }
+
+    /// How often something was given: once a request.
+    pub(crate) fn gives(&self) -> u64 {
+        self.gives
+    }
+}
+
+// What a stand-in answers to bytes, in front of `answers`; how many bytes that are, and whether it is over.
+fn answer_to(
+    server: &mut Server<'_>,
+    bank: &mut Bank,
+    bytes: &[u8],
+    answers: &mut [u8; ROOM],
+) -> (usize, bool)
+    ensures { result.0 ≤ 1024 }
+{
+    let mut link = MemoryLink::new(bytes, answers, ROOM, None);
+    let turned = server.turn(&mut link, bank);
+    let is_over = match turned {
+        Ok(turned) => turned.ended,
+        Err(_) => true,
+    };
+    (link.given().len().min(ROOM), is_over)
+}
+
+// Copies bytes to the front of a piece, and says how many.
+fn copy(bytes: &[u8], piece: &mut [u8]) -> usize
+    ensures within { result ≤ length bytes.now }
+    ensures fits { result ≤ length piece.new }
+    ensures moves { 0 < length bytes.now → 0 < length piece.new → 0 < result }
+{
+    let count = bytes.len().min(piece.len());
+    piece[..count].copy_from_slice(&bytes[..count]);
+    count
+}
+
+impl Link for StandInLink<'_> {
+    ghost failed = { λ link. 0 };
+
+    ghost taken = { λ link. link.takes };
+
+    ghost ended = { λ link. link.ends };
+
+    ghost last = { λ link. link.last };
+
+    fn take(&mut self, piece: &mut [u8]) -> Result<Took, LinkFailed> {
+        self.takes = self.takes.saturating_add(1);
+        let answer = if self.start < self.end {
+            let count = copy(&self.answers[self.start..self.end], piece);
+            self.start += count;
+            Ok(Took::Bytes(count))
+        } else if self.is_over {
+            self.ends = self.ends.saturating_add(1);
+            Ok(Took::End)
+        } else {
+            Ok(Took::Idle)
+        };
+        self.last = Some(LastTake {
+            room: piece.len(),
+            answer,
+        });
+        answer
+    }
+
+    fn give(&mut self, bytes: &[u8]) -> Result<usize, LinkFailed> {
+        self.gives = self.gives.saturating_add(1);
+        let mut answers = [0; ROOM];
+        let kept = copy(&self.answers[self.start..self.end], &mut answers);
+        let mut fresh = [0; ROOM];
+        let (count, is_over) = answer_to(&mut self.server, &mut self.bank, bytes, &mut fresh);
+        let added = copy(&fresh[..count], &mut answers[kept..]);
+        self.answers = answers;
+        self.start = 0;
+        self.end = kept + added;
+        self.is_over = is_over;
+        Ok(bytes.len())
+    }
+
+    fn failures(&self) -> u64 {
+        0
+    }
+
+    fn takes(&self) -> u64 {
+        self.takes
+    }
+
+    fn last_take(&self) -> Option<LastTake> {
+        self.last
+    }
+}

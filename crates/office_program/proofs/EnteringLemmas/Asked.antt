@@ -1,0 +1,110 @@
+-- One line that is asked of an office.
+use Rattle.std.proofs.Common.{◌≡◌, inl, inr, ℕ, ◌||◌, max, Bool, true, List, Option, Result, Ok, Err, refl, ap, subst, ◌∙◌}
+use Rattle.std.specs.Prelude.{IfOk, is_err}
+use Rattle.std.specs.declared.io.Error.{Error}
+use Rattle.command_io.specs.Lines.{Line}
+use Rattle.command_io.specs.declared.status.ExitStatus.{ExitStatus}
+use Rattle.command_io.specs.declared.status.ExitStatus.TheVariants.{Fine, Refused, Failed}
+use Rattle.point_list.specs.declared.fault.FaultyRow.{FaultyRow}
+use Rattle.socket_link.specs.Clocks.{TellsMoment}
+use Rattle.script_lines.specs.declared.line_fault.LineFault.{LineFault}
+use Rattle.script_lines.specs.declared.line_fault.LineFault.TheVariants.{Bad, Memory}
+use Rattle.script_text.specs.AnswerText.{accepted_text}
+use Rattle.sun_points.specs.Writing.{GotText}
+use Rattle.office_events.specs.declared.answers.Answer.{Answer}
+use Rattle.office_events.specs.declared.events.Event.{Event}
+use Rattle.office_events.specs.declared.refusals.Refusal.{Refusal}
+use Rattle.office_rules.specs.History.{History}
+use Rattle.office_rules.specs.Notes.{notes_after}
+use Rattle.office_rules.specs.Refusals.{with_answer}
+use Rattle.office_books.specs.Ledgers.{Ledger}
+use Rattle.office_core.specs.EventRun.{Answered}
+use Rattle.office_core.specs.Standing.{Stands, outgoing_in}
+use Rattle.office_core.specs.Taking.{IsAnswer, IsTold}
+use Rattle.office_core.specs.declared.office.Office.{Office}
+use Rattle.office_rounds.specs.Rounds.{RoundState}
+use Rattle.office_program.specs.declared.entering.entries.Entry.{Entry}
+use Rattle.office_program.specs.declared.entering.progress.Progress.{Progress}
+use Rattle.office_program.specs.Entering.Asking.{TellsFault, told_text}
+use Rattle.office_program.specs.Entering.Course.{Asked, Came, EntersLine, Faulty, IsCameOf, IsUntouched, TakesLine, faults_text, progress_after, reply_text}
+use Rattle.office_program.specs.Entering.Lines.{IsEntry, ReadsEntry, Telling}
+
+-- what an office tells is printed as a script prints it
+told_is : {B : Type 0} (office : Office B) (past : History) (at : ℕ) (e : Event) (reply : Result Answer Refusal) → IsTold past at e reply office
+    → told_text office reply ≡ reply_text past at e reply
+told_is office past at e (Ok given) told =
+    ap (λ notes. accepted_text given notes (outgoing_in office)) told.notes
+    ∙ ap (λ frames. accepted_text given (notes_after past at e (Ok given)) frames) told.outgoing
+told_is office past at e (Err why) told = refl
+
+abbrev pub one : (at : ℕ) → Event → Result Answer Refusal → Answered
+one at e reply = record { at = at; event = e; result = reply }
+
+-- how far the lines have come then
+pub next_is : (progress next : Progress) (at : ℕ) (e : Event) (reply : Result Answer Refusal) (failed : Bool)
+    → next ≡ record { latest = at; refused = progress.refused || failed } → failed ≡ is_err reply → next ≡ progress_after progress (Asked (one at e reply))
+next_is progress next at e reply failed is same =
+    is ∙ ap (λ (b : Bool). let p : Progress = record { latest = at; refused = progress.refused || b } in p) same
+
+-- An event was asked, and the reply was printed.
+pub asked : {B E : Type 0} (ledger : B → Ledger) (past : History) (progress : Progress) (begun now : RoundState) (office : Office B) (at told : ℕ) (e : Event)
+    (reply : Result Answer Refusal) (result : Result Progress E) (text : List ℕ) → TellsMoment begun.moments now.moments told → at ≡ max progress.latest told
+    → Stands ledger (with_answer past at e reply) office → IsAnswer past at e begun.failures now.failures reply → IsTold past at e reply office
+    → text ≡ told_text office reply → GotText result text begun.printed now.printed
+    → IfOk result (λ next. next ≡ progress_after progress (Asked (one at e reply)))
+    → (o : Answered) × (o.event ≡ e) × TakesLine {E = E} ledger past progress begun now office result (Asked o)
+asked {E = E} ledger past progress begun now office at told e reply result text tells is stands answer notes same got next =
+    let P : List ℕ → Type 0 = λ t. GotText result t begun.printed now.printed in (
+      one at e reply,
+      refl,
+      record {
+        takes = record { stands = stands; answered = answer; timed = record { told = told; tells = tells; is = is } };
+        text = subst P (same ∙ told_is office past at e reply notes) got;
+        next = next;
+      },
+    )
+
+-- The faults of a list were told, and nothing was asked.
+pub faulty : {B E : Type 0} (ledger : B → Ledger) (past : History) (progress : Progress) (begun now : RoundState) (office : Office B) (rows told : List FaultyRow)
+    (result : Result Progress E) → Stands ledger past office → now.moments ≡ begun.moments → now.failures ≡ begun.failures → told ≡ rows
+    → GotText result (faults_text told) begun.printed now.printed
+    → IfOk result (λ next. next ≡ record { latest = progress.latest; refused = true })
+    → TakesLine {E = E} ledger past progress begun now office result (Faulty rows)
+faulty ledger past progress begun now office rows told result stands moments failures same got next =
+    let P : List FaultyRow → Type 0 = λ r. GotText result (faults_text r) begun.printed now.printed in
+    record {
+      takes = record { stands = stands; answered = failures; timed = moments };
+      text = subst P same got;
+      next = next;
+    }
+
+abbrev Entered : {B E : Type 0} → (B → Ledger) → Entry → (past : History) → Progress → (begun now : RoundState) → Office B → Result Progress E → Type 0
+Entered {E = E} ledger entry past progress begun now office result =
+    (came : Came) × IsCameOf entry came × TakesLine {E = E} ledger past progress begun now office result came
+
+-- What a line came to was taken and printed, or a part of that.
+pub line_taken : {B : Type 0} (ledger : B → Ledger) (tells : Telling) (caller : Option (List ℕ)) (line : Line) (past : History) (progress next : Progress)
+    (begun now : RoundState) (old new : Office B) (entry : Entry) → IsEntry tells caller line.text entry
+    → Entered {E = Error} ledger entry past progress begun now new (Ok next)
+    → EntersLine ledger tells caller line past progress begun now old new (Ok next)
+line_taken ledger tells caller line past progress next begun now old new entry is done =
+    (done.0, record { entry = entry; is = is; comes = done.1 }, record { takes = done.2.takes; text = done.2.text; next = done.2.next })
+
+pub line_cut : {B : Type 0} (ledger : B → Ledger) (tells : Telling) (caller : Option (List ℕ)) (line : Line) (past : History) (progress : Progress)
+    (begun now : RoundState) (old new : Office B) (entry : Entry) (error : Error) → IsEntry tells caller line.text entry
+    → Entered {E = Error} ledger entry past progress begun now new (Err error)
+    → EntersLine ledger tells caller line past progress begun now old new (Err Failed)
+line_cut ledger tells caller line past progress begun now old new entry error is done =
+    inl (done.0, record { entry = entry; is = is; comes = done.1 }, record { takes = done.2.takes; text = done.2.text; next = tt })
+
+-- It is bad, or memory was wanting.
+pub line_faulty : {B : Type 0} (ledger : B → Ledger) (tells : Telling) (caller : Option (List ℕ)) (line : Line) (past : History) (progress : Progress)
+    (begun now : RoundState) (old new : Office B) (fault : LineFault) (status : ExitStatus) → IsUntouched begun now old new
+    → ReadsEntry tells caller line.text (Err fault) → TellsFault fault line.number status begun.printed now.printed
+    → EntersLine ledger tells caller line past progress begun now old new (Err status)
+line_faulty ledger tells caller line past progress begun now old new Bad Fine stays bad told = absurd told
+line_faulty ledger tells caller line past progress begun now old new Bad Refused stays bad told = (stays, bad, told)
+line_faulty ledger tells caller line past progress begun now old new Bad Failed stays bad told = inr (inl (stays, bad, told))
+line_faulty ledger tells caller line past progress begun now old new Memory Fine stays bad told = absurd told
+line_faulty ledger tells caller line past progress begun now old new Memory Refused stays bad told = absurd told
+line_faulty ledger tells caller line past progress begun now old new Memory Failed stays bad told = inr (inr (stays, told))

@@ -1,0 +1,71 @@
+-- An office that was opened, and entered into.
+use Rattle.std.proofs.Common.{◌≡◌, inl, inr, ℕ, List, [], ◌∷◌, Option, Some, sym, ap, subst, ◌∙◌}
+use Rattle.command_io.specs.Lines.{speaking_lines}
+use Rattle.command_io.specs.declared.status.ExitStatus.{ExitStatus}
+use Rattle.socket_link.specs.Clocks.{TellsMoment, next_moment}
+use Rattle.office_events.specs.Names.{named}
+use Rattle.office_rules.specs.History.{History, Opened}
+use Rattle.office_books.specs.Ledgers.{Ledger}
+use Rattle.office_core.specs.Standing.{After, books_in}
+use Rattle.office_core.specs.Taking.{failures_of}
+use Rattle.office_core.specs.declared.office.Office.{Office}
+use Rattle.office_rounds.specs.Rounds.{round_state}
+use Rattle.office_program.specs.Texts.OpenedOffice.{Opens, TellsUnopened}
+use Rattle.office_program.specs.Entering.Entered.{EntersLines, TellsEntering}
+use Rattle.office_program.specs.Entering.Lines.{Telling}
+
+-- the moment of an opening is the one that the clock told
+told_at : (moments then : Option (List ℕ)) (listed : List ℕ) (behind : Option (List ℕ)) (first at : ℕ) → TellsMoment moments then first
+    → listed ≡ first ∷ [] → TellsMoment (Some listed) behind at → at ≡ first
+told_at moments then listed behind first at told is opens = opens.0 ∙ ap next_moment is
+
+-- The opening was refused.
+pub unopened : {B : Type 0} (ledger : B → Ledger) (tells : Telling) (past : History) (caller text : List ℕ) (moments then : Option (List ℕ)) (listed : List ℕ)
+    (behind : Option (List ℕ)) (first : ℕ) (books back : B) (had holds : Option (List ℕ)) (status : ExitStatus) → TellsMoment moments then first → listed ≡ first ∷ []
+    → TellsUnopened past (Some listed) behind (ledger books) (ledger back) status had holds
+    → TellsEntering ledger past tells caller text moments then books back had holds status
+unopened ledger tells past caller text moments then listed behind first books back had holds status told is refused =
+    let same = told_at moments then listed behind first refused.at told is refused.timed in
+    let P : ℕ → Type 0 = λ at. TellsMoment moments then at in
+    inl (record {
+      at = refused.at;
+      timed = subst P (sym same) told;
+      why = refused.why;
+      refused = refused.refused;
+      told = refused.told;
+    })
+
+kept : {B : Type 0} (ledger : B → Ledger) (left : Office B) (back : B) → back ≡ books_in left → (ledger back).is_clean
+    → (ledger (books_in left)).is_clean
+kept {B = B} ledger left back is clean = let P : B → Type 0 = λ b. (ledger b).is_clean in subst P is clean
+
+-- It was opened, and entered into.
+pub entered : {B W : Type 0} (ledger : B → Ledger) (contents : W → Option (List ℕ)) (tells : Telling) (past : History) (caller text : List ℕ) (name : Option (List ℕ))
+    (moments then later : Option (List ℕ)) (listed : List ℕ) (behind : Option (List ℕ)) (first : ℕ) (books back : B) (opened left : Office B) (before silent : W)
+    (holds : Option (List ℕ)) (status : ExitStatus) → name ≡ named caller → TellsMoment moments then first → listed ≡ first ∷ []
+    → ((ledger (books_in opened)).is_clean → Opens ledger past (Some listed) behind opened) → silent ≡ before
+    → ((ledger (books_in left)).is_clean → (ledger (books_in opened)).is_clean)
+    → After ledger opened left (EntersLines ledger tells name (speaking_lines text) first (round_state (contents silent) then (failures_of ledger opened))
+    (round_state holds later (failures_of ledger left)) left status)
+    → back ≡ books_in left → (ledger back).is_clean
+    → TellsEntering ledger past tells caller text moments later books back (contents before) holds status
+entered {W = W} ledger contents tells past caller text name moments then later listed behind first books back opened left before silent holds status names told is opens same lasts enters handed clean =
+    let whole = kept ledger left back handed clean in
+    let opening = opens (lasts whole) in
+    let at_first = told_at moments then listed behind first opening.at told is opening.timed in
+    let done = enters (Opened opening.at ∷ past) opening.stands whole in
+    let P : Option (List ℕ) → Type 0 = λ n. EntersLines ledger tells n (speaking_lines text) first (round_state (contents silent) then (failures_of ledger opened))
+    (round_state holds later (failures_of ledger left)) left status (Opened opening.at ∷ past) in
+    let Q : ℕ → Type 0 = λ m. EntersLines ledger tells (named caller) (speaking_lines text) m (round_state (contents silent) then (failures_of ledger opened))
+    (round_state holds later (failures_of ledger left)) left status (Opened opening.at ∷ past) in
+    let R : W → Type 0 = λ w. EntersLines ledger tells (named caller) (speaking_lines text) opening.at (round_state (contents w) then (failures_of ledger opened))
+    (round_state holds later (failures_of ledger left)) left status (Opened opening.at ∷ past) in
+    let S : ℕ → Type 0 = λ m. TellsMoment moments then m in
+    inr (record {
+      then = then;
+      opened = opened;
+      opens = record { at = opening.at; timed = subst S (sym at_first) told; stands = opening.stands };
+      left = left;
+      does = subst R same (subst Q (sym at_first) (subst P names done));
+      handed = handed;
+    })

@@ -1,0 +1,95 @@
+-- What reading a line answers.
+use Rattle.std.proofs.Common.{◌≡◌, inl, inr, ℕ, List, Option, Some, Result, Ok, Err, refl, sym, ap, subst, ◌∙◌}
+use Rattle.point_list.specs.Lists.{AreFaults, ExplainsList, SpellsList, list_faults, rows_read}
+use Rattle.point_list.specs.declared.fault.FaultyRow.{FaultyRow}
+use Rattle.point_list.specs.declared.fault.ListFault.{ListFault}
+use Rattle.point_list.specs.declared.fault.ListFault.TheVariants.{Faults}
+use Rattle.point_list.specs.declared.point.ListedPoint.{ListedPoint}
+use Rattle.read_plan.specs.PlannedLists.{IsPlanned, Planned}
+use Rattle.office_events.specs.declared.commands.Command.{Command}
+use Rattle.script_lines.specs.LineWords.Words.{words_of}
+use Rattle.script_lines.specs.Seen.{IsOnly, Reads}
+use Rattle.script_lines.specs.declared.line_fault.LineFault.{LineFault}
+use Rattle.script_lines.specs.declared.line_fault.LineFault.TheVariants.{Bad, Memory}
+use Rattle.script_lines.specs.declared.script.GivenList.{GivenList}
+use Rattle.script_lines.specs.declared.script.ScriptLine.{ScriptLine}
+use Rattle.office_program.specs.declared.entering.entries.Entry.{Entry}
+use Rattle.office_program.specs.declared.entering.entries.Entry.TheVariants.{Ask, Faulty}
+use Rattle.office_program.specs.declared.entering.wanted.Wanted.{Wanted}
+use Rattle.office_program.specs.declared.entering.wanted.Wanted.TheVariants as wanted
+use Rattle.office_program.specs.Entering.FileLines.{FileLine, IsFileLine, IsNoFileLine}
+use Rattle.office_program.specs.Entering.Lines.{IsWantedEntry, ReadsEntry, ReadsFile, ReadsList, ReadsScript, ReadsWanted, Telling, asked_by, file_request, put_by, wanted_in}
+
+-- a command of which the bytes of the line are kept
+pub command_wanted : (caller : Option (List ℕ)) (text kept : List ℕ) (number : ℕ) (c : Command) (want : Wanted) → want ≡ wanted.Command number c → kept ≡ text
+    → ReadsWanted caller text want (Ok (Ask (asked_by caller number kept c)))
+command_wanted caller text kept number c want is same = rw is (ap (λ bytes. Ask (asked_by caller number bytes c)) same)
+
+list_reads : (caller : Option (List ℕ)) (text : List ℕ) (number : ℕ) (list : GivenList) (result : Result Entry LineFault)
+    → ReadsList caller number list.device list.text text result → ReadsWanted caller text (wanted.List number list) result
+list_reads caller text number list (Ok entry) reads = reads
+list_reads caller text number list (Err Bad) reads = absurd reads
+list_reads caller text number list (Err Memory) reads = tt
+
+-- a list whose bytes are those of the line
+pub list_wanted : (caller : Option (List ℕ)) (text kept bytes : List ℕ) (number : ℕ) (list : GivenList) (want : Wanted) (result : Result Entry LineFault)
+    → want ≡ wanted.List number list → kept ≡ text → bytes ≡ list.text → ReadsList caller number list.device bytes kept result
+    → ReadsWanted caller text want result
+list_wanted caller text kept bytes number list want result is same its reads =
+    let P : List ℕ → Type 0 = λ t. ReadsList caller number list.device bytes t result in
+    let Q : List ℕ → Type 0 = λ b. ReadsList caller number list.device b text result in
+    rw is (list_reads caller text number list result (subst Q its (subst P same reads)))
+
+-- a line of a script comes to what it asks
+pub script_reads : (caller : Option (List ℕ)) (text : List ℕ) (said : ScriptLine) (want : Wanted) (result : Result Entry LineFault)
+    → want ≡ wanted_in said → IsOnly (words_of text) said → ReadsWanted caller text want result → ReadsScript caller text result
+script_reads caller text said want (Ok entry) is only reads = record {
+  said = said;
+  is = only;
+  comes = subst (λ (w : Wanted). IsWantedEntry caller text w entry) is reads;
+}
+script_reads caller text said want (Err Bad) is only reads =
+    λ other line. ap wanted_in (only.only other line) ∙ sym is ∙ reads
+script_reads caller text said want (Err Memory) is only reads = tt
+
+-- one that can't be read asks nothing
+pub no_script : (caller : Option (List ℕ)) (text : List ℕ) (fault : LineFault) → (let r : Result ScriptLine LineFault = Err fault in Reads (words_of text) r)
+    → ReadsScript caller text (Err fault)
+no_script caller text Bad reads = λ said line. absurd (reads said line)
+no_script caller text Memory reads = tt
+
+-- a list that a file has
+pub file_reads : (tells : Telling) (caller : Option (List ℕ)) (text bytes : List ℕ) (named : FileLine) (result : Result Entry LineFault)
+    → tells named.name (Some bytes) → ReadsList caller named.number named.device bytes (file_request text bytes) result
+    → ReadsFile tells caller text named result
+file_reads tells caller text bytes named (Ok entry) told reads = (bytes, told, reads)
+file_reads tells caller text bytes named (Err Bad) told reads = absurd reads
+file_reads tells caller text bytes named (Err Memory) told reads = tt
+
+-- what a line comes to that names a file, and one that names none
+pub named_reads : (tells : Telling) (caller : Option (List ℕ)) (text : List ℕ) (named : FileLine) (result : Result Entry LineFault)
+    → IsFileLine (words_of text) named → ReadsFile tells caller text named result → ReadsEntry tells caller text result
+named_reads tells caller text named (Ok entry) is reads =
+    inl (record { line = named; is = is; bytes = reads.0; told = reads.1; comes = reads.2 })
+named_reads tells caller text named (Err Bad) is reads = inl (named, is, reads)
+named_reads tells caller text named (Err Memory) is reads = tt
+
+pub unnamed_reads : (tells : Telling) (caller : Option (List ℕ)) (text : List ℕ) (result : Result Entry LineFault)
+    → IsNoFileLine (words_of text) → ReadsScript caller text result → ReadsEntry tells caller text result
+unnamed_reads tells caller text (Ok entry) none reads = inr (none, reads)
+unnamed_reads tells caller text (Err Bad) none reads = inr (none, reads)
+unnamed_reads tells caller text (Err Memory) none reads = tt
+
+-- a list that was read, and planned
+pub list_read : (caller : Option (List ℕ)) (number : ℕ) (device : Option (List ℕ)) (text request : List ℕ) (points : List ListedPoint) (planned : Planned)
+    → SpellsList text points → planned.points ≡ points → IsPlanned planned
+    → ReadsList caller number device text request (Ok (Ask (asked_by caller number request (put_by device planned))))
+list_read caller number device text request points planned spells same is =
+    (planned, record { points = subst (SpellsList text) (sym same) spells; planned = is }, refl)
+
+-- the faulty rows of one that was not
+pub list_faulty : (caller : Option (List ℕ)) (number : ℕ) (device : Option (List ℕ)) (text request : List ℕ) (fault : ListFault) (told : List FaultyRow)
+    → fault ≡ Faults told → ExplainsList (list_faults (rows_read text)) fault → ReadsList caller number device text request (Ok (Faulty told))
+list_faulty caller number device text request fault told is explains =
+    let are : AreFaults (list_faults (rows_read text)) told = subst (ExplainsList (list_faults (rows_read text))) is explains in
+    ((λ none. are.1 (are.0 ∙ none)), are.0)

@@ -1,0 +1,293 @@
+-- An input that is entered again.
+use Rattle.std.proofs.Common.{◌≡◌, ◌⊎◌, inl, inr, ℕ, Bool, true, false, List, [], ◌∷◌, ◌++◌, Option, Some, None, Result, Ok, Err, refl, sym, ap, subst, ◌∙◌, append_assoc}
+use Rattle.std.specs.Prelude.{IsOk, if◌then◌else◌}
+use Rattle.command_io.specs.Lines.{Line}
+use Rattle.script_lines.specs.LineWords.Words.{words_of}
+use Rattle.script_lines.specs.declared.script.ScriptLine.{ScriptLine}
+use Rattle.office_events.specs.declared.answers.Answer.{Answer}
+use Rattle.office_events.specs.declared.answers.Answer.TheVariants as answer
+use Rattle.office_events.specs.declared.answers.CommandKind.{CommandKind}
+use Rattle.office_events.specs.declared.events.Asked.{Asked}
+use Rattle.office_events.specs.declared.events.Event.{Event}
+use Rattle.office_events.specs.declared.events.Event.TheVariants as event
+use Rattle.office_events.specs.declared.facts.Fact.{Fact}
+use Rattle.office_events.specs.declared.refusals.Refusal.{Refusal}
+use Rattle.office_rules.specs.Facts.{reply_of}
+use Rattle.office_rules.specs.History.{Fed, History, facts_of, kind_of, next_poll, slots_of}
+use Rattle.office_rules.specs.Refusals.{AreAccepted, answer_of, decision_of, is_start, kept_of, reads_in_all, refusal_of, sent_count, unless_kept, unless_refused, with_answer}
+use Rattle.office_core.specs.EventRun.{Answered}
+use Rattle.office_core.specs.Failing.{FailsOutside}
+use Rattle.office_core.specs.Taking.{IsAnswer}
+use Rattle.office_program.specs.declared.entering.entries.Entry.{Entry}
+use Rattle.office_program.specs.declared.entering.entries.Entry.TheVariants as entry
+use Rattle.office_program.specs.declared.entering.wanted.Wanted.{Wanted}
+use Rattle.office_program.specs.declared.entering.wanted.Wanted.TheVariants as wanted
+use Rattle.office_program.specs.Entering.FileLines.{FileLine}
+use Rattle.office_program.specs.Entering.Lines.{IsEntry, IsFileEntry, IsListEntry, IsScriptEntry, IsWantedEntry, Telling, asked_by, file_request, wanted_in}
+use Rattle.office_program.specs.Entering.Course.{AreAnswered, AreComing, Came, Comes, Faulty, IsCameAnswered, IsCameOf, Taken, history_behind, lines_with, with_came}
+use Rattle.office_program.specs.Entering.Course as course
+use Rattle.office_program.specs.Entering.Repeats.{ActsNoMore, AreSteady, HasActed, HasRepeated, HaveActed, InputsActOnce, IsRepeated, IsSameRequest, RequestsAreRepeated}
+use Rattle.office_program.proofs.EnteringLemmas.FileWords.{one_line}
+use Rattle.office_program.proofs.EnteringLemmas.Kept.{Keeps, accepted_before, answers, keeps_first, keeps_on, kept_again}
+
+-- ---- One request
+
+decided : (history : History) (at : ℕ) (e : Event) (kind : CommandKind) → kept_of (facts_of history) e ≡ Some (Ok kind)
+    → decision_of history at e ≡ Ok (answer.Again kind)
+decided history at e kind kept =
+    ap (unless_kept (unless_refused (answer_of (slots_of history) (facts_of history) at e) (refusal_of history at e))) kept
+
+pub requests_are_repeated : RequestsAreRepeated
+requests_are_repeated past more at again_at asked again accepted same =
+    let history = more ++ Fed at (event.Asked asked) ∷ past in
+    let kept = keeps_on more (Fed at (event.Asked asked) ∷ past) asked (kind_of asked.command) accepted
+    (keeps_first past at asked (accepted_before more (Fed at (event.Asked asked) ∷ past) accepted)) in
+    decided history again_at (event.Asked again) (kind_of asked.command)
+    (answers (facts_of history) asked again (kind_of asked.command) same.caller same.number same.request kept)
+
+-- ---- One line comes to one request
+
+abbrev SameEntry : Entry → Entry → Type 0
+SameEntry (entry.Ask a) (entry.Ask b) = IsSameRequest a b
+SameEntry (entry.Faulty a) (entry.Faulty b) = Unit {0}
+SameEntry _ _ = ⊥
+
+by_request : (caller : Option (List ℕ)) (number : ℕ) (request : List ℕ) (a b : Asked)
+    → a.caller ≡ caller → b.caller ≡ caller → a.number ≡ number → b.number ≡ number → a.request ≡ request → b.request ≡ request → IsSameRequest a b
+by_request caller number request a b ca cb na nb ra rb = record { caller = cb ∙ sym ca; number = nb ∙ sym na; request = rb ∙ sym ra }
+
+same_list : (caller : Option (List ℕ)) (number : ℕ) (device : Option (List ℕ)) (text request : List ℕ) (a b : Entry)
+    → IsListEntry caller number device text request a → IsListEntry caller number device text request b → SameEntry a b
+same_list caller number device text request (entry.Ask a) (entry.Ask b) first second =
+    by_request caller number request a b (ap (λ (x : Asked). x.caller) first.2) (ap (λ (x : Asked). x.caller) second.2)
+    (ap (λ (x : Asked). x.number) first.2) (ap (λ (x : Asked). x.number) second.2)
+    (ap (λ (x : Asked). x.request) first.2) (ap (λ (x : Asked). x.request) second.2)
+same_list caller number device text request (entry.Ask a) (entry.Faulty b) first second = absurd (second.0 first.1.points.faultless)
+same_list caller number device text request (entry.Faulty a) (entry.Ask b) first second = absurd (first.0 second.1.points.faultless)
+same_list caller number device text request (entry.Faulty a) (entry.Faulty b) first second = tt
+
+same_command : (a b made : Asked) (x y : Entry) → x ≡ entry.Ask made → y ≡ entry.Ask made → SameEntry x y
+same_command a b made x y first second = rw (first, second) (record { caller = refl; number = refl; request = refl })
+
+same_wanted : (caller : Option (List ℕ)) (text : List ℕ) (want : Wanted) (a b : Entry) → IsWantedEntry caller text want a → IsWantedEntry caller text want b → SameEntry a b
+same_wanted caller text (wanted.Command number c) a b first second =
+    let made = asked_by caller number text c in same_command made made made a b first second
+same_wanted caller text (wanted.List number list) a b first second = same_list caller number list.device list.text text a b first second
+same_wanted caller text wanted.Nothing a b first second = absurd first
+
+same_script : (caller : Option (List ℕ)) (text : List ℕ) (a b : Entry) → IsScriptEntry caller text a → IsScriptEntry caller text b → SameEntry a b
+same_script caller text a b first second =
+    let said : second.said ≡ first.said = first.is.only second.said second.is.is in
+    same_wanted caller text (wanted_in first.said) a b first.comes
+    (subst (λ (s : ScriptLine). IsWantedEntry caller text (wanted_in s) b) said second.comes)
+
+some_bytes : (a b : List ℕ) → Some a ≡ Some b → a ≡ b
+some_bytes a b h = cc h
+
+same_file : (tells : Telling) (caller : Option (List ℕ)) (text : List ℕ) (a b : Entry) → AreSteady tells → IsFileEntry tells caller text a → IsFileEntry tells caller text b
+    → SameEntry a b
+same_file tells caller text a b steady first second =
+    let line : second.line ≡ first.line = one_line (words_of text) second.line first.line second.is first.is in
+    let P : FileLine → Type 0 = λ l. tells l.name (Some second.bytes) in
+    let told = subst P line second.told in
+    let bytes : second.bytes ≡ first.bytes = some_bytes second.bytes first.bytes (steady first.line.name (Some second.bytes) (Some first.bytes) told first.told) in
+    let Q : FileLine → Type 0 = λ l. IsListEntry caller l.number l.device second.bytes (file_request text second.bytes) b in
+    let R : List ℕ → Type 0 = λ bs. IsListEntry caller first.line.number first.line.device bs (file_request text bs) b in
+    same_list caller first.line.number first.line.device first.bytes (file_request text first.bytes) a b first.comes
+    (subst R bytes (subst Q line second.comes))
+
+same_entry : (tells : Telling) (caller : Option (List ℕ)) (text : List ℕ) (a b : Entry) → AreSteady tells → IsEntry tells caller text a → IsEntry tells caller text b → SameEntry a b
+same_entry tells caller text a b steady (inl first) (inl second) = same_file tells caller text a b steady first second
+same_entry tells caller text a b steady (inl first) (inr second) = absurd (second.0 first.line first.is)
+same_entry tells caller text a b steady (inr first) (inl second) = absurd (first.0 second.line second.is)
+same_entry tells caller text a b steady (inr first) (inr second) = same_script caller text a b first.1 second.1
+
+-- ---- What was asked is kept
+
+-- a request of the line is kept
+abbrev KeepsCame : History → Came → Type 0
+KeepsCame later (course.Asked one) =
+    (asked : Asked) × (kind : CommandKind) × (one.event ≡ event.Asked asked) × Keeps (facts_of later) asked kind
+KeepsCame later (Faulty rows) = ⊥
+
+abbrev KeepsEach : History → List Taken → Type 0
+KeepsEach later [] = Unit {0}
+KeepsEach later (one ∷ earlier) = KeepsCame later one.came × KeepsEach later earlier
+
+-- how a request was answered that was asked before, or accepted
+abbrev Acted : (history : History) (at : ℕ) (asked : Asked) → Result Answer Refusal → (kept : Option (Result CommandKind Refusal)) → (why : Option Refusal) → Type 0
+Acted history at asked result kept why =
+    ((kind : CommandKind) × (result ≡ Ok (answer.Again kind)) × (kept ≡ Some (Ok kind)))
+    ⊎ ((kept ≡ None) × (why ≡ None) × (result ≡ Ok (answer_of (slots_of history) (facts_of history) at (event.Asked asked))))
+
+acted_by : (history : History) (at : ℕ) (asked : Asked) (result : Result Answer Refusal) (kept : Option (Result CommandKind Refusal)) (why : Option Refusal)
+    → result ≡ unless_kept (unless_refused (answer_of (slots_of history) (facts_of history) at (event.Asked asked)) why) kept → IsOk result
+    → Acted history at asked result kept why
+acted_by history at asked result (Some (Ok kind)) why told ok = inl (kind, told, refl)
+acted_by history at asked result (Some (Err other)) why told ok = let never = rw told at ok in cc never
+acted_by history at asked result None None told ok = inr (refl, refl, told)
+acted_by history at asked result None (Some reason) told ok = let never = rw told at ok in cc never
+
+not_outside : (result : Result Answer Refusal) (before after : ℕ) → IsOk result → FailsOutside before after result → ⊥
+not_outside (Ok given) before after ok fails = fails
+not_outside (Err why) before after ok fails = cc ok
+
+-- what is answered to a command that is accepted is no repeat
+fed_by : (history : History) (at : ℕ) (e : Event) (b : Bool) (first count of : ℕ) (kind : CommandKind)
+    → with_answer history at e (Ok (if b then answer.Started first count of else answer.Done kind)) ≡ Fed at e ∷ history
+fed_by history at e true first count of kind = refl
+fed_by history at e false first count of kind = refl
+
+fed : (history : History) (at : ℕ) (asked : Asked)
+    → with_answer history at (event.Asked asked) (Ok (answer_of (slots_of history) (facts_of history) at (event.Asked asked))) ≡ Fed at (event.Asked asked) ∷ history
+fed history at asked =
+    let c = asked.command in
+    fed_by history at (event.Asked asked) (is_start c) (next_poll (facts_of history)) (sent_count (slots_of history) (facts_of history) at c)
+    (reads_in_all (facts_of history) c) (kind_of c)
+
+-- the later history goes on from this one
+abbrev GoesOn : History → History → Type 0
+GoesOn later history = (more : History) × (later ≡ more ++ history)
+
+keeps_acted : (later more history : History) (one : Answered) (asked : Asked) → one.event ≡ event.Asked asked
+    → later ≡ more ++ with_answer history one.at (event.Asked asked) one.result → AreAccepted later
+    → Acted history one.at asked one.result (kept_of (facts_of history) (event.Asked asked)) (refusal_of history one.at (event.Asked asked))
+    → KeepsCame later (course.Asked one) × GoesOn later history
+keeps_acted later more history one asked is goes accepted (inl again) =
+    let here : later ≡ more ++ history =
+    goes ∙ ap (λ (r : Result Answer Refusal). more ++ with_answer history one.at (event.Asked asked) r) again.1 in
+    let kept = keeps_on more history asked again.0 (subst AreAccepted here accepted) (kept_again (facts_of history) asked again.0 again.2) in
+    let P : History → Type 0 = λ h. Keeps (facts_of h) asked again.0 in
+    ((asked, again.0, is, subst P (sym here) kept), (more, here))
+keeps_acted later more history one asked is goes accepted (inr new) =
+    let next = Fed one.at (event.Asked asked) ∷ history in
+    let here : later ≡ more ++ next =
+    goes ∙ ap (λ (r : Result Answer Refusal). more ++ with_answer history one.at (event.Asked asked) r) new.2
+    ∙ ap (λ (h : History). more ++ h) (fed history one.at asked) in
+    let all = subst AreAccepted here accepted in
+    let kept = keeps_on more next asked (kind_of asked.command) all (keeps_first history one.at asked (accepted_before more next all)) in
+    let P : History → Type 0 = λ h. Keeps (facts_of h) asked (kind_of asked.command) in (
+      (asked, kind_of asked.command, is, subst P (sym here) kept),
+      (more ++ Fed one.at (event.Asked asked) ∷ [], here ∙ sym (append_assoc more (Fed one.at (event.Asked asked) ∷ []) history)),
+    )
+
+keeps_asked : (later more history : History) (one : Answered) (asked : Asked) (before after : ℕ) → one.event ≡ event.Asked asked
+    → later ≡ more ++ with_answer history one.at one.event one.result → AreAccepted later → IsAnswer history one.at one.event before after one.result
+    → IsOk one.result → KeepsCame later (course.Asked one) × GoesOn later history
+keeps_asked later more history one asked before after is goes accepted (inl told) ok =
+    let P : Event → Type 0 = λ e. later ≡ more ++ with_answer history one.at e one.result in
+    let Q : Event → Type 0 = λ e. one.result ≡ decision_of history one.at e in
+    keeps_acted later more history one asked is (subst P is goes) accepted
+    (acted_by history one.at asked one.result (kept_of (facts_of history) (event.Asked asked)) (refusal_of history one.at (event.Asked asked)) (subst Q is told.0) ok)
+keeps_asked later more history one asked before after is goes accepted (inr fails) ok = absurd (not_outside one.result before after ok fails)
+
+keeps_entry : (later more history : History) (e : Entry) (came : Came) (before after : ℕ) → IsCameOf e came → later ≡ more ++ with_came history came → AreAccepted later
+    → IsCameAnswered history before after came → HasActed came → KeepsCame later came × GoesOn later history
+keeps_entry later more history (entry.Ask asked) (course.Asked one) before after is goes accepted answered ok =
+    keeps_asked later more history one asked before after is goes accepted answered ok
+keeps_entry later more history (entry.Ask asked) (Faulty rows) before after is goes accepted answered ok = absurd ok
+keeps_entry later more history (entry.Faulty rows) (course.Asked one) before after is goes accepted answered ok = absurd is
+keeps_entry later more history (entry.Faulty rows) (Faulty told) before after is goes accepted answered ok = absurd ok
+
+keeps_each : (tells : Telling) (caller : Option (List ℕ)) (taken : List Taken) (past later more : History) (before after : ℕ) → later ≡ more ++ history_behind past taken
+    → AreAccepted later → AreComing tells caller taken → AreAnswered past before after taken → HaveActed taken → KeepsEach later taken
+keeps_each tells caller [] past later more before after goes accepted are answered acted = tt
+keeps_each tells caller (one ∷ earlier) past later more before after goes accepted are answered acted =
+    let here = keeps_entry later more (history_behind past earlier) are.0.entry one.came answered.0 after are.0.comes goes accepted answered.2 acted.0 in
+    (here.0, keeps_each tells caller earlier past later here.1.0 before answered.0 here.1.1 accepted are.1 answered.1 acted.1)
+
+-- ---- What the same line asks is kept
+
+keeps_same : (facts : List Fact) (asked again : Asked) (kind : CommandKind) → IsSameRequest asked again → Keeps facts asked kind → Keeps facts again kind
+keeps_same facts asked again kind same kept = record {
+  caller = kept.caller;
+  named = same.caller ∙ kept.named;
+  reply = kept.reply;
+  found = ap (reply_of facts kept.caller) same.number ∙ kept.found;
+  bytes = kept.bytes ∙ sym same.request;
+  done = kept.done;
+}
+
+same_asked : (a b : Asked) → event.Asked a ≡ event.Asked b → a ≡ b
+same_asked a b h = cc h
+
+repeats_by : (later : History) (one : Answered) (a b : Entry) (came : Came) → IsCameOf a (course.Asked one) → IsCameOf b came → SameEntry a b
+    → KeepsCame later (course.Asked one) → KeepsCame later came
+repeats_by later one (entry.Ask x) (entry.Ask y) (course.Asked two) first second same kept =
+    let asked : kept.0 ≡ x = same_asked kept.0 x (sym kept.2 ∙ first) in
+    let P : Asked → Type 0 = λ z. Keeps (facts_of later) z kept.1 in
+    (y, kept.1, second, keeps_same (facts_of later) x y kept.1 same (subst P asked kept.3))
+repeats_by later one (entry.Ask x) (entry.Ask y) (Faulty rows) first second same kept = absurd second
+repeats_by later one (entry.Ask x) (entry.Faulty y) came first second same kept = absurd same
+repeats_by later one (entry.Faulty x) b came first second same kept = absurd first
+
+abbrev LineKept : Telling → (caller : Option (List ℕ)) → History → Line → Type 0
+LineKept tells caller later line = (came : Came) → Comes tells caller line.text came → KeepsCame later came
+
+line_kept : (tells : Telling) (caller : Option (List ℕ)) (later : History) (text : List ℕ) (first came : Came) → AreSteady tells → Comes tells caller text first
+    → KeepsCame later first → Comes tells caller text came → KeepsCame later came
+line_kept tells caller later text (course.Asked one) came steady comes kept again =
+    repeats_by later one comes.entry again.entry came comes.comes again.comes
+    (same_entry tells caller text comes.entry again.entry steady comes.is again.is) kept
+line_kept tells caller later text (Faulty rows) came steady comes kept again = absurd kept
+
+abbrev EachLine : (Line → Type 0) → List Line → Type 0
+EachLine P [] = Unit {0}
+EachLine P (line ∷ lines) = P line × EachLine P lines
+
+abbrev EachTaken : (Line → Type 0) → List Taken → Type 0
+EachTaken P [] = Unit {0}
+EachTaken P (one ∷ earlier) = P one.line × EachTaken P earlier
+
+each_in : (P : Line → Type 0) (taken : List Taken) (rest : List Line) → EachTaken P taken → EachLine P rest → EachLine P (lines_with taken rest)
+each_in P [] rest taken more = more
+each_in P (one ∷ earlier) rest taken more = each_in P earlier (one.line ∷ rest) taken.1 (taken.0, more)
+
+each_out : (P : Line → Type 0) (again : List Taken) (rest : List Line) → EachLine P (lines_with again rest) → EachTaken P again × EachLine P rest
+each_out P [] rest all = (tt, all)
+each_out P (two ∷ earlier) rest all = let more = each_out P earlier (two.line ∷ rest) all in ((more.1.0, more.0), more.1.1)
+
+each_kept : (tells : Telling) (caller : Option (List ℕ)) (later : History) (taken : List Taken) → AreSteady tells → AreComing tells caller taken → KeepsEach later taken
+    → EachTaken (LineKept tells caller later) taken
+each_kept tells caller later [] steady are kept = tt
+each_kept tells caller later (one ∷ earlier) steady are kept =
+    ((λ came comes. line_kept tells caller later one.line.text one.came came steady are.0 kept.0 comes), each_kept tells caller later earlier steady are.1 kept.1)
+
+-- ---- So nothing acts again
+
+outside_same : (history : History) (at : ℕ) (e : Event) (result : Result Answer Refusal) (before after : ℕ) → FailsOutside before after result
+    → with_answer history at e result ≡ history
+outside_same history at e (Ok given) before after fails = absurd fails
+outside_same history at e (Err why) before after fails = refl
+
+stays_asked : (later : History) (one : Answered) (before after : ℕ) → KeepsCame later (course.Asked one) → IsAnswer later one.at one.event before after one.result
+    → (with_answer later one.at one.event one.result ≡ later) × IsRepeated one.result
+stays_asked later one before after kept (inl told) =
+    let Q : Event → Type 0 = λ e. decision_of later one.at e ≡ Ok (answer.Again kept.1) in
+    let decision = subst Q (sym kept.2) (decided later one.at (event.Asked kept.0) kept.1 (answers (facts_of later) kept.0 kept.0 kept.1 refl refl refl kept.3)) in
+    let is : one.result ≡ Ok (answer.Again kept.1) = told.0 ∙ decision in
+    (ap (with_answer later one.at one.event) is, inl (kept.1, is))
+stays_asked later one before after kept (inr fails) =
+    (outside_same later one.at one.event one.result before after fails, inr (before, after, fails))
+
+stays_one : (later : History) (came : Came) (before after : ℕ) → KeepsCame later came → IsCameAnswered later before after came
+    → (with_came later came ≡ later) × HasRepeated came
+stays_one later (course.Asked one) before after kept answered = stays_asked later one before after kept answered
+stays_one later (Faulty rows) before after kept answered = absurd kept
+
+stays : (tells : Telling) (caller : Option (List ℕ)) (later : History) (again : List Taken) (before after : ℕ) → EachTaken (LineKept tells caller later) again
+    → AreComing tells caller again → AreAnswered later before after again → ActsNoMore later again
+stays tells caller later [] before after kept are answered = record { same = refl; repeated = tt }
+stays tells caller later (two ∷ earlier) before after kept are answered =
+    let rest = stays tells caller later earlier before answered.0 kept.1 are.1 answered.1 in
+    let P : History → Type 0 = λ h. IsCameAnswered h answered.0 after two.came in
+    let here = stays_one later two.came answered.0 after (kept.0 two.came are.0) (subst P rest.same answered.2) in
+    record { same = ap (λ (h : History). with_came h two.came) rest.same ∙ here.0; repeated = (here.1, rest.repeated) }
+
+pub inputs_act_once : (tells : Telling) → AreSteady tells → InputsActOnce tells
+inputs_act_once tells steady caller lines past later taken again entered enters =
+    let P : Line → Type 0 = LineKept tells caller later in
+    let kept = keeps_each tells caller taken past later enters.more entered.before entered.after enters.later_is enters.accepted entered.are entered.answered entered.acted in
+    let all : EachLine P lines = subst (EachLine P) (sym entered.whole) (each_in P taken [] (each_kept tells caller later taken steady entered.are kept) tt) in
+    let part = each_out P again enters.rest (subst (EachLine P) enters.part all) in
+    stays tells caller later again enters.before enters.after part.0 enters.are enters.answered

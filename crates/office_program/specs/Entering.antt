@@ -1,0 +1,7 @@
+pub mod FileLines
+pub mod Lines
+pub mod Course
+pub mod Asking
+pub mod Entered
+pub mod Repeats
+pub mod Checked

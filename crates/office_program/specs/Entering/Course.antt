@@ -1,0 +1,183 @@
+-- How far the lines of an input have come: what each was asked as and answered, what was printed, and where the office
+-- stands. Lists of lines that were taken stand latest first.
+use Rattle.std.specs.Prelude.{◌≡◌, ◌⊎◌, ◌||◌, ℕ, max, true, false, List, [], ◌∷◌, ◌++◌, Option, Result, Ok, Err, IfOk, is_err}
+use Rattle.std.specs.List.{flat_map}
+use Rattle.std.specs.Io.KnownBytes.{Appends}
+use Rattle.command_io.specs.Lines.{Line}
+use Rattle.command_io.specs.declared.status.ExitStatus.{ExitStatus}
+use Rattle.command_io.specs.declared.status.ExitStatus.TheVariants.{Fine, Refused, Failed}
+use Rattle.point_list.specs.declared.fault.FaultyRow.{FaultyRow}
+use Rattle.socket_link.specs.Clocks.{TellsMoment}
+use Rattle.sun_points.specs.Writing.{GotPart, GotText}
+use Rattle.script_text.specs.AnswerText.{accepted_text, bad_line, fault_line, refused_line}
+use Rattle.office_events.specs.declared.answers.Answer.{Answer}
+use Rattle.office_events.specs.declared.events.Event.{Event}
+use Rattle.office_events.specs.declared.events.Event.TheVariants as event
+use Rattle.office_events.specs.declared.refusals.Refusal.{Refusal}
+use Rattle.office_events.specs.declared.refusals.Refusal.TheVariants.{Limit}
+use Rattle.office_rules.specs.History.{History}
+use Rattle.office_rules.specs.Notes.{notes_after, outgoing_after}
+use Rattle.office_rules.specs.Refusals.{with_answer}
+use Rattle.office_books.specs.Ledgers.{Ledger}
+use Rattle.office_core.specs.EventRun.{Answered}
+use Rattle.office_core.specs.Standing.{Stands}
+use Rattle.office_core.specs.Taking.{IsAnswer}
+use Rattle.office_core.specs.declared.office.Office.{Office}
+use Rattle.office_rounds.specs.Rounds.{RoundState}
+use Rattle.office_program.specs.declared.entering.entries.Entry.{Entry}
+use Rattle.office_program.specs.declared.entering.entries.Entry.TheVariants as entry
+use Rattle.office_program.specs.declared.entering.progress.Progress.{Progress}
+use Rattle.office_program.specs.Entering.Lines.{IsBad, IsEntry, Telling}
+
+-- ---- One line
+
+-- What a line that isn't bad came to: it was asked, and answered; or its point list has faulty rows, and it was not asked.
+pub data Came : Type 0 where
+  Asked : Answered → Came
+  Faulty : List FaultyRow → Came
+
+abbrev pub IsCameOf : Entry → Came → Type 0
+IsCameOf (entry.Ask asked) (Asked one) = one.event ≡ event.Asked asked
+IsCameOf (entry.Faulty rows) (Faulty told) = told ≡ rows
+IsCameOf _ _ = ⊥
+
+pub record Comes (tells : Telling) (caller : Option (List ℕ)) (text : List ℕ) (came : Came) : Type 0
+  where
+    pub entry : Entry
+    pub is : IsEntry tells caller text entry
+    pub comes : IsCameOf entry came
+
+-- what the office has accepted after it
+abbrev pub with_came : History → Came → History
+with_came past (Asked one) = with_answer past one.at one.event one.result
+with_came past (Faulty rows) = past
+
+-- It is answered as the office's definitions say, or the office failed outside, which is counted.
+abbrev pub IsCameAnswered : History → (before after : ℕ) → Came → Type 0
+IsCameAnswered past before after (Asked one) =
+    IsAnswer past one.at one.event before after one.result
+IsCameAnswered past before after (Faulty rows) = after ≡ before
+
+-- What a script prints of the answer: an accepted event's notes and `ok`, or the number of the refusal; and a line for each
+-- faulty row, and that the list is refused.
+abbrev pub reply_text : History → (at : ℕ) → Event → Result Answer Refusal → List ℕ
+reply_text past at e (Ok given) =
+    accepted_text given (notes_after past at e (Ok given)) (outgoing_after past at e (Ok given))
+reply_text past at e (Err why) = refused_line why
+
+abbrev pub faults_text : List FaultyRow → List ℕ
+faults_text rows = flat_map fault_line rows ++ refused_line Limit
+
+abbrev pub came_text : History → Came → List ℕ
+came_text past (Asked one) = reply_text past one.at one.event one.result
+came_text past (Faulty rows) = faults_text rows
+
+-- It is asked at the moment that the clock tells, or at that of the line before where that is later.
+pub record IsAskedAt (latest : ℕ) (begun now : Option (List ℕ)) (at : ℕ) : Type 0 where
+  pub told : ℕ
+  pub tells : TellsMoment begun now told
+  pub is : at ≡ max latest told
+
+abbrev pub IsTimed : (latest : ℕ) → (begun now : Option (List ℕ)) → Came → Type 0
+IsTimed latest begun now (Asked one) = IsAskedAt latest begun now one.at
+IsTimed latest begun now (Faulty rows) = now ≡ begun
+
+-- the latest moment, and whether a line was refused or has faults, after one more
+abbrev pub progress_after : Progress → Came → Progress
+progress_after progress (Asked one) =
+    record { latest = one.at; refused = progress.refused || is_err one.result }
+progress_after progress (Faulty rows) = record { latest = progress.latest; refused = true }
+
+-- The office stands after it, and it was answered at its moment.
+pub record Takes {B : Type 0} (ledger : B → Ledger) (past : History) (latest : ℕ)
+    (begun now : RoundState) (office : Office B) (came : Came) : Type 0 where
+  pub stands : Stands ledger (with_came past came) office
+  pub answered : IsCameAnswered past begun.failures now.failures came
+  pub timed : IsTimed latest begun.moments now.moments came
+
+-- It was taken and printed, or a part of that where the writing failed.
+pub record TakesLine {B E : Type 0} (ledger : B → Ledger) (past : History) (progress : Progress)
+    (begun now : RoundState) (office : Office B) (result : Result Progress E) (came : Came) : Type 0
+  where
+    pub takes : Takes ledger past progress.latest begun now office came
+    pub text : GotText result (came_text past came) begun.printed now.printed
+    pub next : IfOk result (λ next. next ≡ progress_after progress came)
+
+-- Nothing was asked.
+pub record IsUntouched {B : Type 0} (begun now : RoundState) (old new : Office B) : Type 0 where
+  pub office : new ≡ old
+  pub moments : now.moments ≡ begun.moments
+  pub failures : now.failures ≡ begun.failures
+
+-- What a line of this number and this text does, between an office as it was found and as it is left: it is taken; it is
+-- bad, and that is printed; or the run is broken off, since a writing failed or memory was wanting.
+abbrev pub EntersLine : {B : Type 0} → (B → Ledger) → Telling → (caller : Option (List ℕ)) → Line
+    → (past : History) → Progress → (begun now : RoundState) → (old new : Office B)
+    → Result Progress ExitStatus → Type 0
+EntersLine ledger tells caller line past progress begun now old new (Ok next) =
+    (came : Came) × Comes tells caller line.text came
+    × TakesLine {E = ExitStatus} ledger past progress begun now new (Ok next) came
+EntersLine ledger tells caller line past progress begun now old new (Err Fine) = ⊥
+EntersLine ledger tells caller line past progress begun now old new (Err Refused) =
+    IsUntouched begun now old new × IsBad tells line.text
+    × Appends begun.printed now.printed (bad_line line.number)
+EntersLine ledger tells caller line past progress begun now old new (Err Failed) =
+    ((came : Came) × Comes tells caller line.text came
+    × TakesLine {E = ExitStatus} ledger past progress begun now new (Err Failed) came)
+    ⊎ (IsUntouched begun now old new × IsBad tells line.text
+    × GotPart (bad_line line.number) begun.printed now.printed)
+    ⊎ (IsUntouched begun now old new × Appends begun.printed now.printed [])
+
+-- ---- Several lines
+
+-- a line that was taken
+pub record Taken : Type 0 where
+  pub line : Line
+  pub came : Came
+
+-- the lines of an input: those that were taken, and then these
+abbrev pub lines_with : List Taken → (rest : List Line) → List Line
+lines_with [] rest = rest
+lines_with (one ∷ earlier) rest = lines_with earlier (one.line ∷ rest)
+
+-- what the office has accepted after them
+abbrev pub history_behind : History → List Taken → History
+history_behind past [] = past
+history_behind past (one ∷ earlier) = with_came (history_behind past earlier) one.came
+
+abbrev pub AreComing : Telling → (caller : Option (List ℕ)) → List Taken → Type 0
+AreComing tells caller [] = Unit {0}
+AreComing tells caller (one ∷ earlier) =
+    Comes tells caller one.line.text one.came × AreComing tells caller earlier
+
+abbrev pub AreAnswered : History → (before after : ℕ) → List Taken → Type 0
+AreAnswered past before after [] = after ≡ before
+AreAnswered past before after (one ∷ earlier) =
+    (between : ℕ) × AreAnswered past before between earlier
+    × IsCameAnswered (history_behind past earlier) between after one.came
+
+-- how far they come, from this moment on
+abbrev pub progress_of : (first : ℕ) → List Taken → Progress
+progress_of first [] = record { latest = first; refused = false }
+progress_of first (one ∷ earlier) = progress_after (progress_of first earlier) one.came
+
+abbrev pub AreTimed : (first : ℕ) → (begun now : Option (List ℕ)) → List Taken → Type 0
+AreTimed first begun now [] = now ≡ begun
+AreTimed first begun now (one ∷ earlier) =
+    (between : Option (List ℕ)) × AreTimed first begun between earlier
+    × IsTimed (progress_of first earlier).latest between now one.came
+
+abbrev pub text_after : History → List Taken → List ℕ
+text_after past [] = []
+text_after past (one ∷ earlier) =
+    text_after past earlier ++ came_text (history_behind past earlier) one.came
+
+-- Each was asked as it says, answered as the definitions say after those before it, at its moment; the office stands after
+-- them.
+pub record AreTaken {B : Type 0} (ledger : B → Ledger) (tells : Telling)
+    (caller : Option (List ℕ)) (past : History) (first : ℕ) (begun now : RoundState)
+    (office : Office B) (taken : List Taken) : Type 0 where
+  pub stands : Stands ledger (history_behind past taken) office
+  pub each : AreComing tells caller taken
+  pub answered : AreAnswered past begun.failures now.failures taken
+  pub timed : AreTimed first begun.moments now.moments taken

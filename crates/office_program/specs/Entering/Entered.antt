@@ -1,0 +1,112 @@
+-- What entering an input does: its lines are asked one after the other, up to the first that is bad.
+use Rattle.std.specs.Prelude.{◌≡◌, ◌⊎◌, ℕ, List, [], ◌∷◌, ◌++◌, Option, if◌then◌else◌}
+use Rattle.std.specs.Io.KnownBytes.{Appends}
+use Rattle.std.specs.declared.io.Write as writers
+use Rattle.command_io.specs.Lines.{Line, speaking_lines}
+use Rattle.command_io.specs.declared.status.ExitStatus.{ExitStatus}
+use Rattle.command_io.specs.declared.status.ExitStatus.TheVariants.{Fine, Refused, Failed}
+use Rattle.socket_link.specs.declared.clock.Clock as clocks
+use Rattle.sun_points.specs.Writing.{GotPart}
+use Rattle.script_text.specs.AnswerText.{bad_line}
+use Rattle.office_events.specs.Names.{named}
+use Rattle.office_rules.specs.History.{History, latest_of}
+use Rattle.office_books.specs.Ledgers.{Ledger}
+use Rattle.office_books.specs.declared.books.Books as stores
+use Rattle.office_core.specs.Standing.{After}
+use Rattle.office_core.specs.Taking.{failures_of}
+use Rattle.office_core.specs.declared.office.Office.{Office}
+use Rattle.office_rounds.specs.Between.{desk_of}
+use Rattle.office_rounds.specs.Rounds.{RoundState, round_state}
+use Rattle.office_program.specs.Texts.OpenedOffice.{TellsUnopened}
+use Rattle.office_program.specs.Opened.{OverStanding, WithOffice}
+use Rattle.office_program.specs.declared.entering.progress.Progress.{Progress}
+use Rattle.office_program.specs.Entering.Course.{AreTaken, Taken, lines_with, progress_of, text_after}
+use Rattle.office_program.specs.Entering.Lines.{IsBad, Telling}
+
+-- how it ends where no line is bad: with a refusal where one was refused or has faults
+abbrev pub status_of : Progress → ExitStatus
+status_of progress = if progress.refused then Refused else Fine
+
+-- behind those that were taken comes a bad line, and the rest isn't carried out
+pub record IsStopped (tells : Telling) (lines : List Line) (taken : List Taken) : Type 0 where
+  pub line : Line
+  pub rest : List Line
+  pub follow : lines ≡ lines_with taken (line ∷ rest)
+  pub bad : IsBad tells line.text
+
+-- all that is printed where it is stopped so
+abbrev pub stopped_text : {tells : Telling} {lines : List Line} {taken : List Taken} → History
+    → IsStopped tells lines taken → List ℕ
+stopped_text {taken = taken} past stopped = text_after past taken ++ bad_line stopped.line.number
+
+-- Where all lines were taken, their text is printed.
+pub record IsWhole (lines : List Line) (past : History) (first : ℕ) (taken : List Taken)
+    (status : ExitStatus) (had holds : Option (List ℕ)) : Type 0 where
+  pub follow : lines ≡ lines_with taken []
+  pub printed : Appends had holds (text_after past taken)
+  pub means : status ≡ status_of (progress_of first taken)
+
+pub record IsStoppedTold (tells : Telling) (lines : List Line) (past : History) (taken : List Taken)
+    (status : ExitStatus) (had holds : Option (List ℕ)) : Type 0 where
+  pub stopped : IsStopped tells lines taken
+  pub printed : Appends had holds (stopped_text past stopped)
+  pub means : status ≡ Refused
+
+-- Where it was broken off, a part of the text of those that were taken is printed, or all of it and a part of that of a
+-- bad line.
+pub record IsBrokenOff (tells : Telling) (lines : List Line) (past : History) (taken : List Taken)
+    (status : ExitStatus) (had holds : Option (List ℕ)) : Type 0 where
+  pub rest : List Line
+  pub follow : lines ≡ lines_with taken rest
+  pub printed : GotPart (text_after past taken) had holds
+      ⊎ ((stopped : IsStopped tells lines taken) × GotPart (stopped_text past stopped) had holds)
+  pub means : status ≡ Failed
+
+abbrev pub IsEnd : Telling → List Line → History → (first : ℕ) → List Taken → ExitStatus
+    → (had holds : Option (List ℕ)) → Type 0
+IsEnd tells lines past first taken status had holds =
+    IsWhole lines past first taken status had holds
+    ⊎ IsStoppedTold tells lines past taken status had holds
+    ⊎ IsBrokenOff tells lines past taken status had holds
+
+-- What entering the lines leaves of an office, from a moment on.
+pub record EntersLines {B : Type 0} (ledger : B → Ledger) (tells : Telling)
+    (caller : Option (List ℕ)) (lines : List Line) (first : ℕ) (begun now : RoundState)
+    (office : Office B) (status : ExitStatus) (past : History) : Type 0 where
+  pub taken : List Taken
+  pub are : AreTaken ledger tells caller past first begun now office taken
+  pub ends : IsEnd tells lines past first taken status begun.printed now.printed
+
+-- So it is of an office, the clock and the writer, each as it was found and as it was left.
+abbrev pub EntersTextOf : {B C W : Type 0} → stores.Ghosts B → clocks.Ghosts C → writers.Ghosts W
+    → Telling → (caller : Option (List ℕ)) → (text : List ℕ) → (first : ℕ) → (old new : Office B)
+    → (before after : C) → (had holds : W) → ExitStatus → Type 0
+EntersTextOf b c w tells caller text first old new before after had holds status =
+    After b.ledger old new (EntersLines b.ledger tells caller (speaking_lines text) first
+    (desk_of b c w old before had) (desk_of b c w new after holds) new status)
+
+-- The opened office was entered into, from the moment of its opening on.
+abbrev pub Enters : {B : Type 0} → (B → Ledger) → Telling → (caller : Option (List ℕ))
+    → (text : List ℕ) → (later had holds : Option (List ℕ)) → ExitStatus
+    → (behind : History) → (since : Option (List ℕ)) → (opened left : Office B) → Type 0
+Enters ledger tells caller text later had holds status behind since opened left =
+    EntersLines ledger tells caller (speaking_lines text) (latest_of behind)
+    (round_state had since (failures_of ledger opened))
+    (round_state holds later (failures_of ledger left)) left status behind
+
+-- The opening was refused, and that alone was printed; or the office was opened, and entered into.
+abbrev pub TellsEntering : {B : Type 0} → (B → Ledger) → (past : History) → Telling
+    → (caller text : List ℕ) → (moments later : Option (List ℕ)) → (books back : B)
+    → (had holds : Option (List ℕ)) → ExitStatus → Type 0
+TellsEntering ledger past tells caller text moments later books back had holds status =
+    TellsUnopened past moments later (ledger books) (ledger back) status had holds
+    ⊎ WithOffice ledger past moments back
+    (Enters ledger tells (named caller) text later had holds status)
+
+-- So it is of the books, the clock and the writer, each as it was found and as it was left.
+abbrev pub EntersOver : {B C W : Type 0} → stores.Ghosts B → clocks.Ghosts C → writers.Ghosts W
+    → Telling → (caller text : List ℕ) → (books back : B) → (before after : C) → (had holds : W)
+    → ExitStatus → Type 0
+EntersOver b c w tells caller text books back before after had holds status =
+    OverStanding b.ledger books back (λ past. TellsEntering b.ledger past tells caller text
+    (c.moments before) (c.moments after) books back (w.contents had) (w.contents holds) status)

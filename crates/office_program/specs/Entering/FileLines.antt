@@ -1,0 +1,51 @@
+-- A line that names the file of a point list: `NUMBER list DEVICE @NAME`.
+use Rattle.std.specs.Prelude.{ℕ, ◌==◌, List, [], ◌∷◌, Option, Some, None, codes, if◌then◌else◌, option_map}
+use Rattle.std.specs.Str.{bytes_eq}
+use Rattle.script_lines.specs.LineWords.Fields.{AnyName, Field, Number, Of, Spell, Word, first_value, nothing_more, ◌>>=◌}
+use Rattle.office_program.specs.declared.entering.file_line.FileLine as declared
+
+-- the number of the request, the device, and the name of the file
+pub record FileLine : Type 0 where
+  pub number : ℕ
+  pub device : Option (List ℕ)
+  pub name : List ℕ
+
+-- The words of such a line; `@` is 64.
+abbrev pub file_form : FileLine → List Field
+file_form line =
+    Of Number line.number ∷ Word (codes "list") ∷ Of AnyName line.device ∷ Word (64 ∷ line.name)
+    ∷ []
+
+abbrev pub IsFileLine : (words : List (List ℕ)) → FileLine → Type 0
+IsFileLine words line = Spell words (file_form line)
+
+-- the words are none
+abbrev pub IsNoFileLine : (words : List (List ℕ)) → Type 0
+IsNoFileLine words = (line : FileLine) → IsFileLine words line → ⊥
+
+-- ---- The same, word by word, as the words are taken.
+
+-- the line that was read, where a line is lent
+abbrev pub seen_line : declared.FileLine → FileLine
+seen_line line = record { number = line.number; device = line.device; name = line.name.now }
+
+abbrev pub file_in : List ℕ → Option (List ℕ)
+file_in [] = None
+file_in (byte ∷ name) = if byte == 64 then Some name else None
+
+abbrev pub file_word : List (List ℕ) → Option (List ℕ × List (List ℕ))
+file_word [] = None
+file_word (word ∷ words) = option_map (λ name. (name, words)) (file_in word)
+
+abbrev pub list_word : List (List ℕ) → Option (List (List ℕ))
+list_word [] = None
+list_word (word ∷ words) = if bytes_eq word (codes "list") then Some words else None
+
+abbrev pub file_said : List (List ℕ) → Option FileLine
+file_said words =
+    first_value Number words >>= λ number.
+    list_word number.1 >>= λ rest.
+    first_value AnyName rest >>= λ device.
+    file_word device.1 >>= λ name.
+    nothing_more name.1 >>= λ none.
+    Some (record { number = number.0; device = device.0; name = name.0 })

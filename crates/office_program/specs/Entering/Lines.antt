@@ -1,0 +1,151 @@
+-- What a line of an input asks of an office: it is a line of a script whose first word is the request's number, or it
+-- names the file of a point list.
+use Rattle.std.specs.Prelude.{◌≡◌, ◌≢◌, ◌⊎◌, ℕ, Bool, true, false, List, [], ◌∷◌, ◌++◌, Option, Some, None, Result, Ok, Err, if◌then◌else◌}
+use Rattle.point_list.specs.Lists.{SpellsList, list_faults, rows_read}
+use Rattle.read_plan.specs.PlannedLists.{IsPlanned, Planned}
+use Rattle.office_events.specs.declared.commands.Command.{Command}
+use Rattle.office_events.specs.declared.commands.Command.TheVariants as command
+use Rattle.office_events.specs.declared.events.Asked.{Asked}
+use Rattle.office_events.specs.declared.events.Event.{Event}
+use Rattle.office_events.specs.declared.events.Event.TheVariants as event
+use Rattle.script_lines.specs.Forms.{IsLine}
+use Rattle.script_lines.specs.LineWords.Words.{words_of}
+use Rattle.script_lines.specs.Seen.{IsOnly}
+use Rattle.script_lines.specs.declared.line_fault.LineFault.{LineFault}
+use Rattle.script_lines.specs.declared.line_fault.LineFault.TheVariants.{Bad, Memory}
+use Rattle.script_lines.specs.declared.script.ScriptLine.{ScriptLine}
+use Rattle.script_lines.specs.declared.script.ScriptLine.TheVariants as line
+use Rattle.office_program.specs.declared.entering.wanted.Wanted.{Wanted}
+use Rattle.office_program.specs.declared.entering.wanted.Wanted.TheVariants as wanted
+use Rattle.office_program.specs.declared.entering.entries.Entry.{Entry}
+use Rattle.office_program.specs.declared.entering.entries.Entry.TheVariants.{Ask, Faulty}
+use Rattle.office_program.specs.Entering.FileLines.{FileLine, IsFileLine, IsNoFileLine}
+
+-- What reading a file by its name may tell: its bytes, or that there is no such file.
+abbrev pub Telling : Type 1
+Telling = List ℕ → Option (List ℕ) → Type 0
+
+-- ---- A line of a script
+
+-- The commands that can be asked as requests: all but the start of polls.
+abbrev pub is_request : Command → Bool
+is_request (command.StartPoll c) = false
+is_request (command.StartRound c) = false
+is_request _ = true
+
+abbrev pub wanted_by : (number : ℕ) → Command → Wanted
+wanted_by number c = if is_request c then wanted.Command number c else wanted.Nothing
+
+-- events of devices ask nothing
+abbrev pub wanted_of : (number : ℕ) → Event → Wanted
+wanted_of number (event.Command c) = wanted_by number c
+wanted_of number _ = wanted.Nothing
+
+-- Of a script's lines these ask something: a command, by the number in the place of the moment, or a point list.
+abbrev pub wanted_in : ScriptLine → Wanted
+wanted_in (line.Event number e) = wanted_of number e
+wanted_in (line.List number list) = wanted.List number list
+wanted_in _ = wanted.Nothing
+
+-- ---- What it comes to
+
+-- The request of a command, of which these bytes are kept.
+abbrev pub asked_by : (caller : Option (List ℕ)) → (number : ℕ) → (request : List ℕ) → Command
+    → Asked
+asked_by caller number request c =
+    record { caller = caller; number = number; request = request; command = c }
+
+-- the text spells the list, with the reads of its plan
+pub record IsListOf (text : List ℕ) (list : Planned) : Type 0 where
+  pub points : SpellsList text list.points
+  pub planned : IsPlanned list
+
+abbrev pub put_by : (device : Option (List ℕ)) → Planned → Command
+put_by device list = command.PutList (record { device = device; list = list })
+
+-- The text of a point list spells one, which is asked for; or it has faulty rows, and nothing is asked.
+abbrev pub IsListEntry : (caller : Option (List ℕ)) → (number : ℕ) → (device : Option (List ℕ))
+    → (text request : List ℕ) → Entry → Type 0
+IsListEntry caller number device text request (Ask asked) =
+    (list : Planned) × IsListOf text list
+    × (asked ≡ asked_by caller number request (put_by device list))
+IsListEntry caller number device text request (Faulty rows) =
+    (list_faults (rows_read text) ≢ []) × (rows ≡ list_faults (rows_read text))
+
+-- Of a script's line the bytes of the line are kept,
+abbrev pub IsWantedEntry : (caller : Option (List ℕ)) → (text : List ℕ) → Wanted → Entry → Type 0
+IsWantedEntry caller text (wanted.Command number c) entry =
+    entry ≡ Ask (asked_by caller number text c)
+IsWantedEntry caller text (wanted.List number list) entry =
+    IsListEntry caller number list.device list.text text entry
+IsWantedEntry caller text wanted.Nothing entry = ⊥
+
+pub record IsScriptEntry (caller : Option (List ℕ)) (text : List ℕ) (entry : Entry) : Type 0 where
+  pub said : ScriptLine
+  pub is : IsOnly (words_of text) said
+  pub comes : IsWantedEntry caller text (wanted_in said) entry
+
+-- and of one that names a file those, a line feed (10), and the bytes of the file.
+abbrev pub file_request : (text bytes : List ℕ) → List ℕ
+file_request text bytes = text ++ 10 ∷ bytes
+
+pub record IsFileEntry (tells : Telling) (caller : Option (List ℕ)) (text : List ℕ) (entry : Entry)
+    : Type 0 where
+  pub line : FileLine
+  pub is : IsFileLine (words_of text) line
+  pub bytes : List ℕ
+  pub told : tells line.name (Some bytes)
+  pub comes : IsListEntry caller line.number line.device bytes (file_request text bytes) entry
+
+-- What a line comes to, before an office is asked.
+abbrev pub IsEntry : Telling → (caller : Option (List ℕ)) → (text : List ℕ) → Entry → Type 0
+IsEntry tells caller text entry =
+    IsFileEntry tells caller text entry
+    ⊎ (IsNoFileLine (words_of text) × IsScriptEntry caller text entry)
+
+-- A bad line names a file that isn't there; or it names none, and is no line of a script that asks something.
+abbrev pub LacksFile : Telling → (text : List ℕ) → Type 0
+LacksFile tells text =
+    (named : FileLine) × IsFileLine (words_of text) named × tells named.name None
+
+abbrev pub IsNoRequest : (text : List ℕ) → Type 0
+IsNoRequest text =
+    (said : ScriptLine) → IsLine (words_of text) said → wanted_in said ≡ wanted.Nothing
+
+abbrev pub IsBad : Telling → (text : List ℕ) → Type 0
+IsBad tells text = LacksFile tells text ⊎ (IsNoFileLine (words_of text) × IsNoRequest text)
+
+-- ---- What reading one answers. Want of memory says nothing of it.
+
+abbrev pub ReadsWanted : (caller : Option (List ℕ)) → (text : List ℕ) → Wanted
+    → Result Entry LineFault → Type 0
+ReadsWanted caller text want (Ok entry) = IsWantedEntry caller text want entry
+ReadsWanted caller text want (Err Bad) = want ≡ wanted.Nothing
+ReadsWanted caller text want (Err Memory) = Unit {0}
+
+abbrev pub ReadsList : (caller : Option (List ℕ)) → (number : ℕ) → (device : Option (List ℕ))
+    → (text request : List ℕ) → Result Entry LineFault → Type 0
+ReadsList caller number device text request (Ok entry) =
+    IsListEntry caller number device text request entry
+ReadsList caller number device text request (Err Bad) = ⊥
+ReadsList caller number device text request (Err Memory) = Unit {0}
+
+abbrev pub ReadsScript : (caller : Option (List ℕ)) → (text : List ℕ) → Result Entry LineFault
+    → Type 0
+ReadsScript caller text (Ok entry) = IsScriptEntry caller text entry
+ReadsScript caller text (Err Bad) = IsNoRequest text
+ReadsScript caller text (Err Memory) = Unit {0}
+
+abbrev pub ReadsFile : Telling → (caller : Option (List ℕ)) → (text : List ℕ) → FileLine
+    → Result Entry LineFault → Type 0
+ReadsFile tells caller text named (Ok entry) =
+    (bytes : List ℕ) × tells named.name (Some bytes)
+    × IsListEntry caller named.number named.device bytes (file_request text bytes) entry
+ReadsFile tells caller text named (Err Bad) = tells named.name None
+ReadsFile tells caller text named (Err Memory) = Unit {0}
+
+abbrev pub ReadsEntry : Telling → (caller : Option (List ℕ)) → (text : List ℕ)
+    → Result Entry LineFault → Type 0
+ReadsEntry tells caller text (Ok entry) = IsEntry tells caller text entry
+ReadsEntry tells caller text (Err Bad) = IsBad tells text
+ReadsEntry tells caller text (Err Memory) = Unit {0}

@@ -1,0 +1,93 @@
+-- What is asked again: an office keeps the answer to an accepted request, so a request acts once, and so does an input.
+use Rattle.std.specs.Prelude.{◌≡◌, ◌⊎◌, ℕ, List, [], ◌∷◌, ◌++◌, Option, Result, Ok, IsOk}
+use Rattle.command_io.specs.Lines.{Line}
+use Rattle.office_events.specs.declared.answers.Answer.{Answer}
+use Rattle.office_events.specs.declared.answers.Answer.TheVariants as answer
+use Rattle.office_events.specs.declared.answers.CommandKind.{CommandKind}
+use Rattle.office_events.specs.declared.events.Asked.{Asked}
+use Rattle.office_events.specs.declared.events.Event.TheVariants as event
+use Rattle.office_events.specs.declared.refusals.Refusal.{Refusal}
+use Rattle.office_rules.specs.History.{Fed, History, kind_of}
+use Rattle.office_rules.specs.Refusals.{AreAccepted, decision_of}
+use Rattle.office_core.specs.Failing.{FailsOutside}
+use Rattle.office_program.specs.Entering.Course.{AreAnswered, AreComing, Came, Faulty, Taken, history_behind, lines_with}
+use Rattle.office_program.specs.Entering.Course as course
+use Rattle.office_program.specs.Entering.Lines.{Telling}
+
+-- The same caller asks the same bytes under the same number.
+pub record IsSameRequest (asked again : Asked) : Type 0 where
+  pub caller : again.caller ≡ asked.caller
+  pub number : again.number ≡ asked.number
+  pub request : again.request ≡ asked.request
+
+-- Once a request was accepted, the same request is answered that this was done, and acts no second time, whatever else was
+-- accepted meanwhile.
+abbrev pub RequestsAreRepeated : Type 0
+RequestsAreRepeated = (past more : History) (at then : ℕ) (asked again : Asked)
+    → AreAccepted (more ++ Fed at (event.Asked asked) ∷ past) → IsSameRequest asked again
+    → decision_of (more ++ Fed at (event.Asked asked) ∷ past) then (event.Asked again)
+    ≡ Ok (answer.Again (kind_of asked.command))
+
+-- What files tell is the same each time.
+abbrev pub AreSteady : Telling → Type 0
+AreSteady tells =
+    (name : List ℕ) (a b : Option (List ℕ)) → tells name a → tells name b → a ≡ b
+
+-- Each line acted, or had acted before.
+abbrev pub HasActed : Came → Type 0
+HasActed (course.Asked one) = IsOk one.result
+HasActed (Faulty rows) = ⊥
+
+abbrev pub HaveActed : List Taken → Type 0
+HaveActed [] = Unit {0}
+HaveActed (one ∷ earlier) = HasActed one.came × HaveActed earlier
+
+-- The office answers that this was done before, or fails outside.
+abbrev pub IsRepeated : Result Answer Refusal → Type 0
+IsRepeated result =
+    ((kind : CommandKind) × (result ≡ Ok (answer.Again kind)))
+    ⊎ ((before after : ℕ) × FailsOutside before after result)
+
+abbrev pub HasRepeated : Came → Type 0
+HasRepeated (course.Asked one) = IsRepeated one.result
+HasRepeated (Faulty rows) = ⊥
+
+abbrev pub HaveRepeated : List Taken → Type 0
+HaveRepeated [] = Unit {0}
+HaveRepeated (one ∷ earlier) = HasRepeated one.came × HaveRepeated earlier
+
+-- All lines of an input were taken after some past, and each acted.
+pub record HasEntered (tells : Telling) (caller : Option (List ℕ)) (lines : List Line)
+    (past : History) (taken : List Taken) : Type 0 where
+  pub whole : lines ≡ lines_with taken []
+  pub are : AreComing tells caller taken
+  pub before : ℕ
+  pub after : ℕ
+  pub answered : AreAnswered past before after taken
+  pub acted : HaveActed taken
+
+-- Some first lines of it are taken again later, whatever else the office has accepted until then.
+pub record EntersAgain (tells : Telling) (caller : Option (List ℕ)) (lines : List Line)
+    (behind later : History) (again : List Taken) : Type 0 where
+  pub more : History
+  pub later_is : later ≡ more ++ behind
+  pub accepted : AreAccepted later
+  pub rest : List Line
+  pub part : lines ≡ lines_with again rest
+  pub are : AreComing tells caller again
+  pub before : ℕ
+  pub after : ℕ
+  pub answered : AreAnswered later before after again
+
+-- Then none of them acts: the office has accepted what it had before, so its facts are those of entering it once.
+pub record ActsNoMore (later : History) (again : List Taken) : Type 0 where
+  pub same : history_behind later again ≡ later
+  pub repeated : HaveRepeated again
+
+-- So it is of an input whose files tell the same each time.
+abbrev pub InputsActOnce : Telling → Type 0
+InputsActOnce tells =
+    (caller : Option (List ℕ)) (lines : List Line) (past later : History) (taken again : List Taken)
+    → HasEntered tells caller lines past taken
+    → EntersAgain tells caller lines (history_behind past taken) later again
+    → ActsNoMore later again

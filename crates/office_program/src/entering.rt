@@ -1,0 +1,16 @@
+//! Lines of an input, each asked of an office as a request under a caller and a number.
+
+mod asking;
+mod checking;
+mod entered;
+mod entries;
+mod file_line;
+mod files;
+mod laws;
+mod progress;
+mod wanted;
+
+pub use checking::check_books;
+pub use entered::enter_books;
+pub use files::{MOST_FILE, NamedFiles};
+pub use laws::{inputs_act_once, requests_are_repeated};

@@ -1,0 +1,138 @@
+//! A line of an input, asked of an office.
+ghost use Rattle.std.specs.Prelude.{◌≡◌, IfOk, true};
+ghost use Rattle.office_rounds.specs.Passing.{Lasts};
+ghost use Rattle.sun_points.specs.Writing.{GotText};
+ghost use Rattle.office_program.specs.Entering.Asking.{AsksNext, EntersEntry, EntersNext, TellsFault, told_text};
+ghost use Rattle.command_io.specs.Lines.{seen_line};
+ghost use Rattle.office_program.specs.Entering.Course.{faults_text};
+
+use crate::entering::entries::{Entry, entry_in};
+use crate::entering::files::NamedFiles;
+use crate::entering::progress::Progress;
+use command_io::{ExitStatus, InputLine};
+use office_books::Books;
+use office_core::Office;
+use office_events::{Answer, Event, Name, Refusal};
+use point_list::FaultyRow;
+use script_lines::LineFault;
+use script_text::{write_accepted, write_bad_line, write_faults, write_refusal};
+use socket_link::Clock;
+use std::alloc::Global;
+use std::io::{self, Write};
+
+// Prints what an office replied to the event that it was just fed.
+fn print_reply<B: Books, W: Write>(
+    office: &Office<B>,
+    reply: Result<Answer, Refusal>,
+    output: &mut W,
+) -> io::Result<()>
+    ensures { GotText result (told_text office.now reply)
+        (W.contents output.old) (W.contents output.new) }
+{
+    match reply {
+        Ok(answer) => write_accepted(&answer, office.notes(), office.outgoing(), output),
+        Err(why) => write_refusal(why, output),
+    }
+}
+
+// Asks at the moment that the clock tells, or at that of the line before where that is later, and prints the reply.
+fn ask<B: Books, C: Clock, W: Write>(
+    office: &mut Office<B>,
+    progress: Progress,
+    event: &Event,
+    clock: &mut C,
+    output: &mut W,
+) -> io::Result<Progress>
+    ensures asks { AsksNext B.Books C.Clock W.Write event.now progress office.old office.new
+        clock.old clock.new output.old output.new result }
+    ensures lasts { Lasts B.ledger office.old office.new }
+{
+    let told = clock.now();
+    let at = progress.latest.max(told);
+    let reply = office.feed(at, event);
+    match print_reply(office, reply, output) {
+        Ok(()) => Ok(progress.asked(at, reply.is_err())),
+        Err(error) => Err(error),
+    }
+}
+
+/// Prints a line for each faulty row, and then that the list is refused.
+pub(crate) fn print_faults<W: Write>(rows: &[FaultyRow], output: &mut W) -> io::Result<()>
+    ensures { GotText result (faults_text rows.now)
+        (W.contents output.old) (W.contents output.new) }
+{
+    write_faults(rows, output)?;
+    write_refusal(Refusal::Limit, output)
+}
+
+// The same, and how far the lines have come then.
+fn tell_faults<W: Write>(
+    rows: &[FaultyRow],
+    progress: Progress,
+    output: &mut W,
+) -> io::Result<Progress>
+    ensures text { GotText result (faults_text rows.now)
+        (W.contents output.old) (W.contents output.new) }
+    ensures next { IfOk result
+        (λ next. next ≡ record { latest = progress.latest; refused = true }) }
+{
+    match print_faults(rows, output) {
+        Ok(()) => Ok(progress.faulty()),
+        Err(error) => Err(error),
+    }
+}
+
+// Asks what a line comes to, or tells the faults of its list.
+fn enter_entry<B: Books, C: Clock, W: Write>(
+    office: &mut Office<B>,
+    progress: Progress,
+    entry: Entry,
+    clock: &mut C,
+    output: &mut W,
+) -> io::Result<Progress>
+    ensures enters { EntersEntry B.Books C.Clock W.Write entry progress office.old office.new
+        clock.old clock.new output.old output.new result }
+    ensures lasts { Lasts B.ledger office.old office.new }
+{
+    match entry {
+        Entry::Ask(asked) => ask(office, progress, &Event::Asked(asked), clock, output),
+        Entry::Faulty(faults) => tell_faults(faults.rows(), progress, output),
+    }
+}
+
+// Prints that a line is bad, and how the command ends; nothing where memory was wanting.
+fn tell_fault<W: Write>(fault: LineFault, number: u64, output: &mut W) -> ExitStatus
+    ensures { TellsFault fault number result (W.contents output.old) (W.contents output.new) }
+{
+    match fault {
+        LineFault::Bad => match write_bad_line(number, output) {
+            Ok(()) => ExitStatus::Refused,
+            Err(_) => ExitStatus::Failed,
+        },
+        LineFault::Memory => ExitStatus::Failed,
+    }
+}
+
+/// Asks what a line of an input asks, and prints the answer; or prints that the line is bad.
+pub(crate) fn enter_line<B: Books, C: Clock, F: NamedFiles, W: Write>(
+    alloc: Global,
+    office: &mut Office<B>,
+    caller: &Option<Name>,
+    progress: Progress,
+    line: InputLine<'_>,
+    files: &F,
+    clock: &mut C,
+    output: &mut W,
+) -> Result<Progress, ExitStatus>
+    ensures enters { EntersNext B.Books C.Clock W.Write (F.tells files.now) caller.now (seen_line line.entry)
+        progress office.old office.new clock.old clock.new output.old output.new result }
+    ensures lasts { Lasts B.ledger office.old office.new }
+{
+    match entry_in(alloc, *caller, line.text, files) {
+        Ok(entry) => match enter_entry(office, progress, entry, clock, output) {
+            Ok(next) => Ok(next),
+            Err(_) => Err(ExitStatus::Failed),
+        },
+        Err(fault) => Err(tell_fault(fault, line.number, output)),
+    }
+}

@@ -1,0 +1,91 @@
+//! Entering an input.
+ghost use Rattle.office_rounds.specs.Passing as rounds;
+ghost use Rattle.office_program.specs.Texts.Passing.{Lasts};
+ghost use Rattle.office_program.specs.Entering.Entered.{EntersOver, EntersTextOf};
+
+use crate::command_end::CommandEnd;
+use crate::entering::asking::enter_line;
+use crate::entering::files::NamedFiles;
+use crate::entering::progress::Progress;
+use crate::texts::open_office;
+use command_io::{ExitStatus, InputLines};
+use office_books::Books;
+use office_core::Office;
+use office_events::Name;
+use socket_link::{Clock, FixedClock};
+use std::alloc::Global;
+use std::io::Write;
+
+// Asks what the lines of a text ask, one after the other from a moment on, up to the first that is bad.
+fn enter_text<B: Books, C: Clock, F: NamedFiles, W: Write>(
+    alloc: Global,
+    office: &mut Office<B>,
+    caller: &Option<Name>,
+    first: u64,
+    text: &[u8],
+    files: &F,
+    clock: &mut C,
+    output: &mut W,
+) -> ExitStatus
+    ensures enters { EntersTextOf B.Books C.Clock W.Write (F.tells files.now) caller.now text.now first
+        office.old office.new clock.old clock.new output.old output.new result }
+    ensures lasts { rounds.Lasts B.ledger office.old office.new }
+{
+    let mut progress = Progress::from(first);
+    let mut lines = InputLines::of(text);
+    while let Some(line) = lines.next_line() {
+        match enter_line(alloc, office, caller, progress, line, files, clock, output) {
+            Ok(next) => progress = next,
+            Err(status) => return status,
+        }
+    }
+    progress.status()
+}
+
+/// Opens an office over books at the moment that the clock tells, and asks it what the lines of a text ask, each as a request
+/// under a caller and the number that is its first word: so what acted before is answered `ok`, and acts no second time. A
+/// line is asked at the moment that the clock tells, or at that of the line before where that is later.
+///
+/// Each prints `ok` or `refused N`, or `row R fault N` for each faulty row of its point list and then `refused 12`; `bad line
+/// N` ends the command, and the rest isn't carried out. Where the opening is refused, `refused N` alone is printed. A caller
+/// that is no name has each line refused. The books are handed back.
+pub fn enter_books<B: Books, C: Clock, F: NamedFiles, W: Write>(
+    alloc: Global,
+    books: B,
+    caller: &str,
+    text: &[u8],
+    files: &F,
+    clock: &mut C,
+    output: &mut W,
+) -> CommandEnd<B, ExitStatus>
+    ensures tells { EntersOver B.Books C.Clock W.Write (F.tells files.now) caller.now text.now
+        books result.books clock.old clock.new output.old output.new result.end }
+    ensures lasts { Lasts (B.ledger books) (B.ledger result.books) }
+{
+    let first = clock.now();
+    let moments = [first];
+    let mut opening = FixedClock::new(&moments);
+    match open_office(alloc, books, &mut opening, output) {
+        Ok(mut office) => {
+            let caller = Name::new(caller.as_bytes());
+            let end = enter_text(
+                alloc,
+                &mut office,
+                &caller,
+                first,
+                text,
+                files,
+                clock,
+                output,
+            );
+            CommandEnd {
+                books: office.into_books(),
+                end,
+            }
+        }
+        Err(unopened) => CommandEnd {
+            books: unopened.books,
+            end: unopened.status,
+        },
+    }
+}

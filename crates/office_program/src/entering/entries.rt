@@ -1,0 +1,160 @@
+//! What a line of an input comes to, before an office is asked.
+ghost use Rattle.std.specs.Prelude.{◌≡◌, Some, IfOk};
+ghost use Rattle.script_lines.specs.LineWords.Words.{words_of};
+ghost use Rattle.office_program.specs.Entering.FileLines.{seen_line};
+ghost use Rattle.office_program.specs.Entering.Lines as lines;
+ghost use Rattle.office_program.specs.Entering.Lines.{ReadsEntry, ReadsFile, ReadsList, ReadsScript, ReadsWanted};
+
+use crate::entering::file_line::{FileLine, file_line};
+use crate::entering::files::NamedFiles;
+use crate::entering::wanted::{Wanted, wanted_in};
+use office_events::{Asked, Command, Name, Piece, PlannedList, PutList};
+use point_list::{FaultyRows, ListFault, read_list};
+use script_lines::{LineFault, ScriptLine};
+use std::alloc::{AllocError, Global};
+
+/// What a line of an input comes to.
+#[derive(Drop)]
+pub(crate) enum Entry {
+    /// This is asked.
+    Ask(Asked),
+    /// Its point list has these faulty rows.
+    Faulty(FaultyRows),
+}
+
+// The entry of a point list, of whose request these bytes are kept.
+fn list_entry(
+    alloc: Global,
+    caller: Option<Name>,
+    number: u64,
+    device: Option<Name>,
+    text: &[u8],
+    request: Piece,
+) -> Result<Entry, LineFault>
+    ensures { ReadsList caller number device text.now request result }
+{
+    match read_list(alloc, text) {
+        Ok(points) => match PlannedList::new(alloc, points) {
+            Ok(list) => Ok(Entry::Ask(Asked {
+                caller,
+                number,
+                request,
+                command: Command::PutList(PutList { device, list }),
+            })),
+            Err(_) => Err(LineFault::Memory),
+        },
+        Err(fault) => match fault {
+            ListFault::Faults(faults) => Ok(Entry::Faulty(faults)),
+            ListFault::Memory => Err(LineFault::Memory),
+        },
+    }
+}
+
+// The bytes that are kept of a line.
+fn kept_line(alloc: Global, line: &[u8]) -> Result<Piece, AllocError>
+    ensures { IfOk result (λ kept. kept ≡ line.now) }
+{
+    Ok(Piece::new(Vec::from_slice(alloc, line)?))
+}
+
+// The bytes that are kept of a line that names a file: the line, a line feed, and the bytes of the file.
+fn file_request(alloc: Global, line: &[u8], text: &[u8]) -> Result<Piece, AllocError>
+    ensures { IfOk result (λ kept. kept ≡ lines.file_request line.now text.now) }
+{
+    let mut bytes = Vec::from_slice(alloc, line)?;
+    bytes.push(b'\n')?;
+    bytes.extend_from_slice(text)?;
+    Ok(Piece::new(bytes))
+}
+
+// The entry of what a line of a script asks.
+fn wanted_entry(
+    alloc: Global,
+    caller: Option<Name>,
+    line: &[u8],
+    want: Wanted,
+) -> Result<Entry, LineFault>
+    ensures { ReadsWanted caller line.now want result }
+{
+    match kept_line(alloc, line) {
+        Ok(request) => match want {
+            Wanted::Command(number, command) => Ok(Entry::Ask(Asked {
+                caller,
+                number,
+                request,
+                command,
+            })),
+            Wanted::List(number, list) => list_entry(
+                alloc,
+                caller,
+                number,
+                list.device,
+                list.text.as_slice(),
+                request,
+            ),
+            Wanted::Nothing => Err(LineFault::Bad),
+        },
+        Err(_) => Err(LineFault::Memory),
+    }
+}
+
+// The entry of a line of a script.
+fn script_entry(alloc: Global, caller: Option<Name>, line: &[u8]) -> Result<Entry, LineFault>
+    ensures { ReadsScript caller line.now result }
+{
+    match ScriptLine::read(alloc, line) {
+        Ok(said) => wanted_entry(alloc, caller, line, wanted_in(said)),
+        Err(fault) => Err(fault),
+    }
+}
+
+// The entry of a line that names a file, which has these bytes.
+fn held_entry(
+    alloc: Global,
+    caller: Option<Name>,
+    line: &[u8],
+    named: &FileLine<'_>,
+    text: &[u8],
+) -> Result<Entry, LineFault>
+    ensures { ReadsList caller named.now.number named.now.device text.now
+        (lines.file_request line.now text.now) result }
+{
+    match file_request(alloc, line, text) {
+        Ok(request) => list_entry(alloc, caller, named.number, named.device, text, request),
+        Err(_) => Err(LineFault::Memory),
+    }
+}
+
+// The entry of a line that names a file.
+fn file_entry<F: NamedFiles>(
+    alloc: Global,
+    caller: Option<Name>,
+    line: &[u8],
+    named: &FileLine<'_>,
+    files: &F,
+) -> Result<Entry, LineFault>
+    ensures { ReadsFile (F.tells files.now) caller line.now (seen_line named.now) result }
+{
+    match files.read(alloc, named.name) {
+        Ok(found) => match found {
+            Some(text) => held_entry(alloc, caller, line, named, &text),
+            None => Err(LineFault::Bad),
+        },
+        Err(_) => Err(LineFault::Memory),
+    }
+}
+
+/// The entry of a line, by what the file says that it may name.
+pub(crate) fn entry_in<F: NamedFiles>(
+    alloc: Global,
+    caller: Option<Name>,
+    line: &[u8],
+    files: &F,
+) -> Result<Entry, LineFault>
+    ensures { ReadsEntry (F.tells files.now) caller line.now result }
+{
+    match file_line(line) {
+        Some(named) => file_entry(alloc, caller, line, &named, files),
+        None => script_entry(alloc, caller, line),
+    }
+}

@@ -1,0 +1,59 @@
+//! A line that names the file of a point list.
+ghost use Rattle.std.specs.Prelude.{◌≡◌, option_map};
+ghost use Rattle.office_program.specs.Entering.FileLines as spec;
+ghost use Rattle.script_lines.specs.LineWords.Words.{words_of};
+
+use office_events::Name;
+use script_lines::{Words, next_name, next_number, nothing_more};
+
+/// `NUMBER list DEVICE @NAME`: the point list of a device stands in the file of a name.
+#[derive(Clone, Copy, Debug)]
+pub(crate) struct FileLine<'a> {
+    pub(crate) number: u64,
+    /// `None` where what was written is no name.
+    pub(crate) device: Option<Name>,
+    pub(crate) name: &'a [u8],
+}
+
+// The name of a file, behind `@`.
+fn file_in(word: &[u8]) -> Option<&[u8]>
+    ensures { option_map (λ name. name.now) result ≡ spec.file_in word.now }
+{
+    match word {
+        [b'@', name @ ..] => Some(name),
+        _ => None,
+    }
+}
+
+fn next_file<'a>(words: &mut Words<'a>) -> Option<&'a [u8]>
+    ensures { option_map (λ name. (name.now, words.new)) result ≡ spec.file_word words.old }
+{
+    file_in(words.next_word()?)
+}
+
+fn next_list(words: &mut Words<'_>) -> Option<()>
+    ensures { option_map (λ none. words.new) result ≡ spec.list_word words.old }
+{
+    if words.next_word()? == b"list".as_slice() {
+        Some(())
+    } else {
+        None
+    }
+}
+
+/// The line of this kind that a text is.
+pub(crate) fn file_line<'a>(line: &'a [u8]) -> Option<FileLine<'a>>
+    ensures { option_map spec.seen_line result ≡ spec.file_said (words_of line.now) }
+{
+    let mut words = Words::of(line);
+    let number = next_number(&mut words)?;
+    next_list(&mut words)?;
+    let device = next_name(&mut words)?;
+    let name = next_file(&mut words)?;
+    nothing_more(&mut words)?;
+    Some(FileLine {
+        number,
+        device,
+        name,
+    })
+}

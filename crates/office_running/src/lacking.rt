@@ -1,0 +1,30 @@
+//! What the devices lack when a run begins.
+ghost use Rattle.office_core.specs.Leaving.{BooksStand};
+ghost use Rattle.office_rules.specs.History.{History};
+ghost use Rattle.office_program.specs.Texts.Passing.{Lasts};
+ghost use Rattle.run_status.specs.Advice.Lacks.{LooksUp};
+
+use crate::settings::Site;
+use office_books::Books;
+use run_status::{DeviceLack, add_lacks};
+use std::alloc::Global;
+
+// Adds what a device lacks; where the books fail, or memory, only what was found before.
+fn add_of_site<B: Books>(lacks: &mut Vec<DeviceLack>, books: &mut B, site: &Site)
+    ensures { LooksUp (B.ledger books.old) (B.ledger books.new) }
+{
+    let _found = add_lacks(lacks, books, &site.name);
+}
+
+/// What the devices lack by the books.
+pub(crate) fn lacks_in<B: Books>(alloc: Global, books: &mut B, sites: &[Site]) -> Vec<DeviceLack>
+    ensures stands { (past : History) → BooksStand (B.ledger books.old) past
+        → BooksStand (B.ledger books.new) past }
+    ensures lasts { Lasts (B.ledger books.old) (B.ledger books.new) }
+{
+    let mut lacks = Vec::new(alloc);
+    for site in sites {
+        add_of_site(&mut lacks, books, site);
+    }
+    lacks
+}

@@ -1,0 +1,66 @@
+//! What is told to people once, and lines that nobody reads.
+use office_events::Name;
+use run_status::{LineQueue, Told, ToldNumber, Topic};
+
+fn refused(name: &[u8], number: u8) -> ToldNumber {
+    ToldNumber {
+        topic: Topic::Round,
+        name: Name::new(name),
+        number,
+    }
+}
+
+fn held(name: &[u8], number: u8) -> ToldNumber {
+    ToldNumber {
+        topic: Topic::Meter,
+        name: Name::new(name),
+        number,
+    }
+}
+
+#[test]
+fn a_number_is_told_until_it_changes(rt: HostRuntime) {
+    let mut told = Told::new(rt.alloc());
+    let cases = [
+        (refused(b"inv", 1), true),
+        (refused(b"inv", 1), false),
+        (held(b"inv", 1), true),
+        (refused(b"two", 1), true),
+        (refused(b"inv", 10), true),
+        (refused(b"inv", 1), true),
+        (held(b"inv", 1), false),
+    ];
+    for (number, is_told) in cases {
+        assert_eq!(rt; told.tell(number), is_told);
+    }
+    told.forget(Topic::Round, Name::new(b"inv"));
+    assert!(rt; told.tell(refused(b"inv", 1)));
+    assert!(rt; !told.tell(refused(b"two", 1)));
+}
+
+const FIRST: &[u8] = b"one\ntwo\n";
+
+const DROPPED: &[u8] = b"1700000000 - dropped 3 lines\n";
+
+// 65,528 bytes wait behind the first 8, so that there is no room for another line until all of them were written.
+#[test]
+fn lines_that_nobody_reads_are_counted(rt: HostRuntime) {
+    let long = vec![in rt.alloc(); b'x'; 65_528].expect(&rt, "some room");
+    let mut queue = LineQueue::new(rt.alloc());
+    queue.put(FIRST);
+    queue.put(&long);
+    queue.put(b"dropped\n");
+    queue.put(b"two more\ndropped\n");
+    queue.tell_dropped(1_699_999_999);
+    assert_eq!(rt; queue.waiting().len(), 65_536);
+    assert!(rt; queue.waiting().starts_with(FIRST));
+    queue.advance(65_536);
+    queue.tell_dropped(1_700_000_000);
+    assert_eq!(rt; queue.waiting(), DROPPED);
+    queue.advance(11);
+    queue.put(FIRST);
+    assert_eq!(rt;
+        queue.waiting(),
+        b"- dropped 3 lines\none\ntwo\n".as_slice()
+    );
+}

@@ -1,0 +1,118 @@
+-- Sentences for people. Each definition gives a text with a line at its end.
+use Rattle.std.specs.Prelude.{◌≡◌, ℕ, ◌+◌, min, max, List, ◌++◌, Option, Some, None, codes, decimal, Result, OnOk}
+use Rattle.std.specs.Borrow.{Bor}
+use Rattle.energy_core.specs.Verdict.{cause_number}
+use Rattle.energy_core.specs.declared.verdicts.Cause.{Cause}
+use Rattle.mb_wire.specs.Spans.{code_of}
+use Rattle.office_events.specs.Numbers.{refusal_number}
+use Rattle.office_events.specs.declared.commands.Command.TheVariants as command
+use Rattle.office_events.specs.declared.events.Event.{Event}
+use Rattle.office_events.specs.declared.events.Event.TheVariants as event
+use Rattle.office_events.specs.declared.facts.Register.{Register}
+use Rattle.office_events.specs.declared.facts.ScaleSource.{ScaleSource}
+use Rattle.office_events.specs.declared.facts.ScaleSource.TheVariants as source
+use Rattle.office_events.specs.declared.refusals.Refusal.{Refusal}
+use Rattle.office_events.specs.declared.refusals.Refusal.TheVariants as refusal
+use Rattle.printed_numbers.specs.Numbers.{IsMeaningOf}
+use Rattle.printed_numbers.specs.declared.kind.Kind.{Kind}
+use Rattle.printed_numbers.specs.declared.kind.Kind.TheVariants as kind
+use Rattle.printed_numbers.specs.declared.meaning.Meaning.{Meaning}
+use Rattle.run_status.specs.Advice.Lacks.{lack_of}
+use Rattle.run_status.specs.declared.advice.lacks.DeviceLack.{DeviceLack}
+use Rattle.run_status.specs.declared.advice.lacks.Lack.{Lack}
+use Rattle.run_status.specs.declared.advice.lacks.Lack.TheVariants.{NoDevice, NoList, NoRegister, NotInList, NoMeter}
+
+abbrev pub name_of : Option (List ℕ) → List ℕ
+name_of (Some name) = name
+name_of None = codes "-"
+
+abbrev pub with_subject : (device : Option (List ℕ)) → List ℕ → List ℕ
+with_subject device text = text ++ codes "sunreg: " ++ name_of device
+
+-- a reading needs the counter's two registers, and that of the scale
+abbrev pub first_by : (counter : ℕ) → ScaleSource → ℕ
+first_by counter (source.Fixed sf) = counter
+first_by counter (source.Register address) = min counter address
+
+abbrev pub last_by : (counter : ℕ) → ScaleSource → ℕ
+last_by counter (source.Fixed sf) = counter + 1
+last_by counter (source.Register address) = max (counter + 1) address
+
+abbrev pub first_needed : Register → ℕ
+first_needed register = first_by register.address register.scale
+
+abbrev pub last_needed : Register → ℕ
+last_needed register = last_by register.address register.scale
+
+abbrev pub with_list_of : (device : Option (List ℕ)) → List ℕ → List ℕ
+with_list_of device text = text ++ codes ": not in the list of " ++ name_of device
+
+abbrev pub with_unread : (device : Option (List ℕ)) → Register → List ℕ → List ℕ
+with_unread device register text =
+    with_list_of device (text ++ codes "sunreg: register " ++ register.name)
+    ++ codes " (needs function " ++ decimal (code_of register.function) ++ codes ", "
+    ++ decimal (first_needed register)
+    ++ codes " to " ++ decimal (last_needed register) ++ codes ")\n"
+
+abbrev pub with_unmetered : Register → List ℕ → List ℕ
+with_unmetered register text =
+    text ++ codes "sunreg: register " ++ register.name
+    ++ codes ": no meter is open at it: POST /registers/" ++ register.name ++ codes "/install\n"
+
+abbrev pub with_unlisted : (device : Option (List ℕ)) → List ℕ → List ℕ
+with_unlisted device text =
+    with_subject device text ++ codes ": no point list yet: sunreg scan --list, or POST /devices/"
+    ++ name_of device ++ codes "/list\n"
+
+abbrev pub with_lack_of : (device : Option (List ℕ)) → Lack → List ℕ → List ℕ
+with_lack_of device NoDevice text =
+    with_subject device text ++ codes ": the office has no device of that name: POST /devices\n"
+with_lack_of device NoList text = with_unlisted device text
+with_lack_of device NoRegister text =
+    with_subject device text
+    ++ codes ": it has no register, so nothing of it is booked: POST /registers\n"
+with_lack_of device (NotInList register) text = with_unread device register text
+with_lack_of device (NoMeter register) text = with_unmetered register text
+
+abbrev pub with_lack : DeviceLack → List ℕ → List ℕ
+with_lack lack text = with_lack_of lack.device lack.lack text
+
+-- what a number means, and what to do
+abbrev pub with_meaning : (before : List ℕ) → Meaning → List ℕ → List ℕ
+with_meaning before meaning text =
+    text ++ before ++ meaning.means.now ++ codes "; " ++ meaning.remedy.now ++ codes "\n"
+
+-- A device that isn't found at its connection is not in the books; one whose round isn't found has no list.
+abbrev pub lack_at : Event → Option Lack
+lack_at (event.Connected given) = Some NoDevice
+lack_at (event.Command (command.StartRound start)) = Some NoList
+lack_at _ = None
+
+abbrev pub lack_by : Event → Refusal → Option Lack
+lack_by e refusal.NotFound = lack_at e
+lack_by e _ = None
+
+-- the line says this of a meaning of the number
+abbrev pub MeansBehind : Kind → (number : ℕ) → (before old new : List ℕ) → Type 0
+MeansBehind k number before old new =
+    (meaning : Bor Meaning) × IsMeaningOf k number meaning
+    × (new ≡ with_meaning before meaning.now old)
+
+abbrev pub RefusalBehind : Option Lack → (device : Option (List ℕ)) → Refusal
+    → (old new : List ℕ) → Type 0
+RefusalBehind (Some lack) device why old new = new ≡ with_lack_of device lack old
+RefusalBehind None device why old new =
+    MeansBehind kind.Refused (refusal_number why) (codes ": ") (with_subject device old) new
+
+-- What a device lacks is said where its event was refused for that; else what the number means.
+abbrev pub PutsRefusal : {E : Type 0} → (device : Option (List ℕ)) → Event → Refusal
+    → (old new : List ℕ) → Result (Unit {0}) E → Type 0
+PutsRefusal device e why old new result =
+    OnOk result (RefusalBehind (lack_by e why) device why old new)
+
+abbrev pub PutsHeld : {E : Type 0} → (meter : List ℕ) → Cause → (old new : List ℕ)
+    → Result (Unit {0}) E → Type 0
+PutsHeld meter cause old new result =
+    OnOk result
+    (MeansBehind kind.Held (cause_number cause) (codes ": held: ") (with_subject (Some meter) old)
+    new)

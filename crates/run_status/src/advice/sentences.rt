@@ -1,0 +1,193 @@
+//! Sentences for people: what is lacking or wrong, and what to do.
+ghost use Rattle.std.specs.Prelude.{◌≡◌, ◌≤◌, ◌-◌, ◌^◌, OnOk};
+ghost use Rattle.run_status.specs.Advice.Sentences as sentences;
+
+use crate::advice::lacks::{DeviceLack, Lack};
+use crate::status::{put, put_number, put_word};
+use energy_core::Cause;
+use office_events::{Command, Event, Name, Refusal, Register, ScaleSource};
+use printed_numbers::{Kind, Meaning, meaning_of};
+use std::alloc::AllocError;
+
+// Puts the name of a device, and `-` for what is no one device's.
+fn put_subject(text: &mut Vec<u8>, device: &Option<Name>) -> Result<(), AllocError>
+    ensures { OnOk result (text.new.items ≡ sentences.with_subject device.now text.old.items) }
+{
+    match device {
+        Some(name) => put_word(text, b"sunreg: ", name.as_bytes()),
+        None => put(text, b"sunreg: -"),
+    }
+}
+
+// The first register that a reading needs.
+fn first_needed(register: &Register) -> u64
+    ensures { result ≡ sentences.first_needed register.now }
+{
+    let counter = u64::from(register.address);
+    match register.scale {
+        ScaleSource::Fixed(_) => counter,
+        ScaleSource::Register(address) => counter.min(u64::from(address)),
+    }
+}
+
+// And the last.
+fn last_needed(register: &Register) -> u64
+    ensures { result ≡ sentences.last_needed register.now }
+{
+    let counter = u64::from(register.address) + 1;
+    match register.scale {
+        ScaleSource::Fixed(_) => counter,
+        ScaleSource::Register(address) => counter.max(u64::from(address)),
+    }
+}
+
+// Puts whose list a register isn't in.
+fn put_list_of(text: &mut Vec<u8>, device: &Option<Name>) -> Result<(), AllocError>
+    ensures { OnOk result (text.new.items ≡ sentences.with_list_of device.now text.old.items) }
+{
+    match device {
+        Some(name) => put_word(text, b": not in the list of ", name.as_bytes()),
+        None => put_word(text, b": not in the list of ", b"-"),
+    }
+}
+
+// Puts that a register isn't read, and what a read would need.
+fn put_unread(
+    text: &mut Vec<u8>,
+    device: &Option<Name>,
+    register: &Register,
+) -> Result<(), AllocError>
+    ensures { OnOk result (text.new.items
+        ≡ sentences.with_unread device.now register.now text.old.items) }
+{
+    put_word(text, b"sunreg: register ", register.name.as_bytes())?;
+    put_list_of(text, device)?;
+    put_number(
+        text,
+        b" (needs function ",
+        u64::from(register.function.code()),
+    )?;
+    put_number(text, b", ", first_needed(register))?;
+    put_number(text, b" to ", last_needed(register))?;
+    put(text, b")\n")
+}
+
+// Puts that no meter is open at a register.
+fn put_unmetered(text: &mut Vec<u8>, register: &Register) -> Result<(), AllocError>
+    ensures { OnOk result (text.new.items ≡ sentences.with_unmetered register.now text.old.items) }
+{
+    put_word(text, b"sunreg: register ", register.name.as_bytes())?;
+    put_word(
+        text,
+        b": no meter is open at it: POST /registers/",
+        register.name.as_bytes(),
+    )?;
+    put(text, b"/install\n")
+}
+
+// Puts that a device has no list yet.
+fn put_unlisted(text: &mut Vec<u8>, device: &Option<Name>) -> Result<(), AllocError>
+    ensures { OnOk result (text.new.items ≡ sentences.with_unlisted device.now text.old.items) }
+{
+    put_subject(text, device)?;
+    match device {
+        Some(name) => put_word(
+            text,
+            b": no point list yet: sunreg scan --list, or POST /devices/",
+            name.as_bytes(),
+        )?,
+        None => put(
+            text,
+            b": no point list yet: sunreg scan --list, or POST /devices/-",
+        )?,
+    }
+    put(text, b"/list\n")
+}
+
+/// Puts a line that says what a device lacks, and what to do. Want of memory leaves a part of it.
+pub fn put_lack(text: &mut Vec<u8>, lack: &DeviceLack) -> Result<(), AllocError>
+    ensures { OnOk result (text.new.items ≡ sentences.with_lack lack.now text.old.items) }
+{
+    let device = &lack.device;
+    match &lack.lack {
+        Lack::NoDevice => {
+            put_subject(text, device)?;
+            put(
+                text,
+                b": the office has no device of that name: POST /devices\n",
+            )
+        }
+        Lack::NoList => put_unlisted(text, device),
+        Lack::NoRegister => {
+            put_subject(text, device)?;
+            put(
+                text,
+                b": it has no register, so nothing of it is booked: POST /registers\n",
+            )
+        }
+        Lack::NotInList(register) => put_unread(text, device, register),
+        Lack::NoMeter(register) => put_unmetered(text, register),
+    }
+}
+
+// Puts what a number means, and what to do.
+fn put_meaning(text: &mut Vec<u8>, before: &[u8], meaning: &Meaning) -> Result<(), AllocError>
+    ensures { OnOk result (text.new.items
+        ≡ sentences.with_meaning before.now meaning.now text.old.items) }
+{
+    put_word(text, before, meaning.means.as_bytes())?;
+    put_word(text, b"; ", meaning.remedy.as_bytes())?;
+    put(text, b"\n")
+}
+
+// What a device lacks of which an event was refused, where that says more than the number.
+fn lack_by(event: &Event, why: Refusal) -> Option<Lack>
+    ensures { result ≡ sentences.lack_by event.now why }
+{
+    match (why, event) {
+        (Refusal::NotFound, Event::Connected(_)) => Some(Lack::NoDevice),
+        (Refusal::NotFound, Event::Command(Command::StartRound(_))) => Some(Lack::NoList),
+        _ => None,
+    }
+}
+
+/// Puts a line that says what it means that an event of a device was refused, and what to do. Want of memory leaves a part of
+/// it.
+pub fn put_refusal(
+    text: &mut Vec<u8>,
+    device: &Option<Name>,
+    event: &Event,
+    why: Refusal,
+) -> Result<(), AllocError>
+    ensures { sentences.PutsRefusal device.now event.now why text.old.items text.new.items result }
+{
+    if let Some(lack) = lack_by(event, why) {
+        return put_lack(
+            text,
+            &DeviceLack {
+                device: *device,
+                lack,
+            },
+        );
+    }
+    match meaning_of(Kind::Refused, u32::from(why.number())) {
+        Some(meaning) => {
+            put_subject(text, device)?;
+            put_meaning(text, b": ", meaning)
+        }
+        None => Ok(()),
+    }
+}
+
+/// Puts a line that says why a reading of a meter was held, and what to do. Want of memory leaves a part of it.
+pub fn put_held(text: &mut Vec<u8>, meter: &Name, cause: Cause) -> Result<(), AllocError>
+    ensures { sentences.PutsHeld meter.now cause text.old.items text.new.items result }
+{
+    match meaning_of(Kind::Held, u32::from(cause.number())) {
+        Some(meaning) => {
+            put_word(text, b"sunreg: ", meter.as_bytes())?;
+            put_meaning(text, b": held: ", meaning)
+        }
+        None => Ok(()),
+    }
+}

@@ -1,0 +1,145 @@
+//! Lines that wait to be written.
+ghost use Rattle.std.specs.Prelude.{◌≡◌, OnOk};
+ghost use Rattle.run_status.specs.Monitor.Queues as queues;
+
+use crate::status::{put, put_number};
+use std::alloc::{AllocError, Global};
+
+/// How many bytes may wait, unless they were put at once.
+pub const MOST_WAITING: usize = 65_536;
+
+/// Lines that wait to be written. Those that come where there is no room are dropped and counted, until all that waits was
+/// written.
+#[derive(Drop)]
+pub struct LineQueue {
+    /// What was put since nothing waited.
+    pub bytes: Vec<u8>,
+    /// How many of these bytes were written.
+    pub written: usize,
+    /// How many lines were dropped, as far as that was not told.
+    pub dropped: u64,
+}
+
+// How many lines a text has.
+fn count_lines(text: &[u8]) -> u64
+    ensures { result ≡ queues.line_count text.now }
+{
+    text.iter().filter(|byte| **byte == b'\n').count() as u64
+}
+
+// Puts how many lines were dropped up to a moment.
+fn put_dropped(text: &mut Vec<u8>, at: u64, dropped: u64) -> Result<(), AllocError>
+    ensures { OnOk result (text.new.items ≡ queues.with_dropped at dropped text.old.items) }
+{
+    put_number(text, b"", at)?;
+    put_number(text, b" - dropped ", dropped)?;
+    put(text, b" lines\n")
+}
+
+impl LineQueue {
+    ghost use Rattle.std.specs.Prelude.{◌≡◌, []};
+
+    /// Nothing waits.
+    pub fn new(alloc: Global) -> LineQueue
+        ensures bytes { result.bytes.items ≡ [] }
+        ensures written { result.written ≡ 0 }
+        ensures dropped { result.dropped ≡ 0 }
+    {
+        LineQueue {
+            bytes: Vec::new(alloc),
+            written: 0,
+            dropped: 0,
+        }
+    }
+}
+
+impl LineQueue {
+    ghost use Rattle.std.specs.Prelude.{◌≡◌, ◌⊎◌, ◌+◌, ◌-◌, ◌^◌, min, drop};
+    ghost use Rattle.run_status.specs.Monitor.Queues as queues;
+    ghost use Rattle.run_status.specs.Monitor.Queues.{queue_of};
+
+    // Whether all that was put was written.
+    fn is_written(&self) -> bool
+        ensures { result ≡ queues.is_written (queue_of self.now) }
+    {
+        self.bytes.len() <= self.written
+    }
+
+    // Lets what was written whole go.
+    fn empty(&mut self)
+        ensures { queue_of self.new ≡ queues.emptied (queue_of self.old) }
+    {
+        if self.is_written() {
+            self.bytes.clear();
+            self.written = 0;
+        }
+    }
+
+    // Counts lines as dropped.
+    fn leave_out(&mut self, lines: &[u8])
+        ensures { queue_of self.new ≡ queues.left_out lines.now (queue_of self.old) }
+    {
+        self.dropped = self.dropped.saturating_add(count_lines(lines));
+    }
+
+    // Whether there is room for lines.
+    fn has_room(&self, lines: &[u8]) -> bool
+        ensures { result ≡ queues.has_room lines.now (queue_of self.now) }
+    {
+        let fits = self.bytes.len().saturating_add(lines.len()) <= MOST_WAITING;
+        self.dropped == 0 && (self.bytes.is_empty() || fits)
+    }
+
+    // Puts lines behind what was put, or counts them as dropped.
+    fn put_behind(&mut self, lines: &[u8])
+        ensures { queues.PutsBehind lines.now (queue_of self.old) (queue_of self.new) }
+    {
+        if !self.has_room(lines) {
+            self.leave_out(lines);
+            return;
+        }
+        match self.bytes.extend_from_slice(lines) {
+            Ok(()) => {}
+            Err(_) => self.leave_out(lines),
+        }
+    }
+
+    /// Puts lines, each with its end. Where there is no room for all of them, or no memory, they are dropped and counted.
+    pub fn put(&mut self, lines: &[u8])
+        ensures { queues.Puts lines.now (queue_of self.old) (queue_of self.new) }
+    {
+        self.empty();
+        self.put_behind(lines);
+    }
+
+    /// Puts a line that tells how many were dropped up to this moment, once all that waited was written. Where there is no
+    /// memory for it, it is told later.
+    pub fn tell_dropped(&mut self, at: u64)
+        ensures { queues.Tells at (queue_of self.old) (queue_of self.new) }
+    {
+        if self.dropped == 0 || !self.is_written() {
+            return;
+        }
+        self.empty();
+        match put_dropped(&mut self.bytes, at, self.dropped) {
+            Ok(()) => self.dropped = 0,
+            Err(_) => self.bytes.clear(),
+        }
+    }
+
+    /// What waits.
+    pub fn waiting(&self) -> &[u8]
+        ensures { result.now ≡ queues.waiting_in (queue_of self.now) }
+    {
+        self.bytes.get(self.written..).unwrap_or(&[])
+    }
+
+    /// So many bytes more were written.
+    pub fn advance(&mut self, count: usize)
+        ensures bytes { self.new.bytes ≡ self.old.bytes }
+        ensures written { self.new.written ≡ min (self.old.written + count) (2 ^ 64 - 1) }
+        ensures dropped { self.new.dropped ≡ self.old.dropped }
+    {
+        self.written = self.written.saturating_add(count);
+    }
+}

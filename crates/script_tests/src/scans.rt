@@ -1,0 +1,127 @@
+//! What is printed of a live device.
+use command_io::ExitStatus;
+use device_scan::{ScanFault, ScanObserver};
+use mb_wire::MemoryLink;
+use std::alloc::Global;
+use std::io::Write;
+use std::test::Fail;
+use sun_chain::Model;
+use sunspec_text::{ScanForm, Site, chain_text, scan_text};
+
+// Who is shown nothing.
+#[derive(Drop)]
+struct Nobody;
+
+impl ScanObserver for Nobody {
+    fn reads(&mut self, _model: Model) {}
+}
+
+// The words of a device from 40000 on: the mark, a model 103 whose counter WH shows 5000 at scale 0, and the end.
+fn words(alloc: Global) -> Result<Vec<u16>, Fail> {
+    let mut words = [0x5375, 0x6E53, 103, 50].to_vec(alloc)?;
+    for offset in 2..52u16 {
+        words.push(if offset == 25 { 5000 } else { 0 })?;
+    }
+    words.extend_from_slice(&[0xFFFF, 0])?;
+    Ok(words)
+}
+
+// The reads of a scan: the identifier, the first word, how many, and how many bytes that are.
+static READS: [(u8, usize, usize, u8); 4] = [
+    (1, 0, 2, 4),
+    (2, 2, 2, 4),
+    (3, 4, 50, 100),
+    (4, 54, 2, 4),
+];
+
+// What the device answers to them.
+fn replies(alloc: Global) -> Result<Vec<u8>, Fail> {
+    let words = words(alloc)?;
+    let mut bytes = Vec::new(alloc);
+    for (id, from, count, size) in &READS {
+        bytes.extend_from_slice(&[0, *id, 0, 0, 0, size.saturating_add(3), 1, 3, *size])?;
+        for word in words.iter().skip(*from).take(*count) {
+            bytes.extend_from_slice(&word.to_be_bytes())?;
+        }
+    }
+    Ok(bytes)
+}
+
+// How a scan ends over a link whose call number `fails` fails, and what it prints in a form.
+fn scanned(
+    alloc: Global,
+    form: ScanForm<'_>,
+    fails: Option<u64>,
+) -> Result<(Result<ExitStatus, ScanFault>, Vec<u8>), Fail> {
+    let bytes = replies(alloc)?;
+    let mut given = [0; 48];
+    let mut output = Vec::new(alloc);
+    let mut link = MemoryLink::new(&bytes, &mut given, 1, fails);
+    let end = scan_text(alloc, &mut link, 1, form, &mut Nobody, &mut output);
+    Ok((end, output))
+}
+
+// What `chain` prints of the same words.
+fn chain(alloc: Global) -> Result<Vec<u8>, Fail> {
+    let mut text = b"40000 ".to_vec(alloc)?;
+    for word in &words(alloc)? {
+        write!(text, "{word:04x}")?;
+    }
+    let mut output = Vec::new(alloc);
+    let _status = chain_text(alloc, &mut text.as_slice(), &mut output);
+    Ok(output)
+}
+
+#[test]
+fn a_scan_prints_the_chain(rt: HostRuntime) -> Result<(), Fail> {
+    let (end, printed) = scanned(rt.alloc(), ScanForm::Chain, None)?;
+    assert!(rt; end == Ok(ExitStatus::Fine));
+    assert!(rt; printed.starts_with(b"base 40000\nmodel 40002 103 50\n"));
+    assert!(rt; printed.as_slice() == chain(rt.alloc())?.as_slice());
+    Ok(())
+}
+
+#[test]
+fn a_scan_prints_the_list(rt: HostRuntime) -> Result<(), Fail> {
+    let (end, printed) = scanned(rt.alloc(), ScanForm::List, None)?;
+    assert!(rt; end == Ok(ExitStatus::Fine));
+    let begin = b"name,function,area,address,type,scale\nm1.A,3,0,40004,uint16,m1.A_SF\n";
+    assert!(rt; printed.starts_with(begin));
+    Ok(())
+}
+
+const SITE: Site<'static> = Site {
+    device: "inv",
+    unit: 1,
+    timeout: 5,
+};
+
+// The first line, what begins the second, and the lines behind it.
+const BEGIN: &[u8] = b"1 device inv 1 5 1\n2 list inv 6e616d652c";
+
+const END: &[u8] = b"0a\n\
+    # An install line needs the greatest power that can flow, in W, in place of CEILING, and no # in front.\n\
+    3 register inv-wh1 inv 3 40026 @40028\n\
+    # 4 install inv-wh1 inv-wh1 5000 0 CEILING\n";
+
+#[test]
+fn a_scan_prints_the_lines_that_set_a_device_up(rt: HostRuntime) -> Result<(), Fail> {
+    let (end, printed) = scanned(rt.alloc(), ScanForm::Setup(SITE), None)?;
+    assert!(rt; end == Ok(ExitStatus::Fine));
+    assert!(rt; printed.starts_with(BEGIN));
+    assert!(rt; printed.ends_with(END));
+    Ok(())
+}
+
+// The first give, the first take, and a give of the last request.
+static CALLS: [u64; 3] = [1, 13, 180];
+
+#[test]
+fn a_link_that_fails_prints_nothing(rt: HostRuntime) -> Result<(), Fail> {
+    for call in &CALLS {
+        let (end, printed) = scanned(rt.alloc(), ScanForm::Chain, Some(*call))?;
+        assert!(rt; end == Err(ScanFault::Failed), "{call}");
+        assert!(rt; printed.is_empty(), "{call}");
+    }
+    Ok(())
+}

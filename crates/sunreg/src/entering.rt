@@ -1,0 +1,88 @@
+//! Entering lines of standard input into an office in a file.
+use crate::escaped::Escaped;
+use crate::offices::{Files, OWN_HOST, over_office};
+use command_io::{Buffered, read_input};
+use office_program::{MOST_FILE, NamedFiles};
+use std::alloc::{AllocError, Global};
+use std::fs::File;
+use std::io::{self, ErrorKind, Read, Write};
+use std::str::from_utf8;
+use stored_office::{Ending, Failure, Task, ending_of, ending_of_done};
+
+// Says why a file that a line names isn't read.
+fn say_unread(rt: &HostRuntime, name: &str, why: &str) {
+    let mut errors = Escaped::new(rt.stderr());
+    let _said = write!(errors, "sunreg: {name}: {why}\n");
+}
+
+// What a file has, where it isn't longer than one may be.
+fn read_within(rt: &HostRuntime, alloc: Global, name: &str) -> io::Result<Vec<u8>> {
+    let mut file = File::open(rt, name)?;
+    let mut whole = Vec::new(alloc);
+    let mut piece = [0u8; 4096];
+    for _call in 0..MOST_FILE + 1 {
+        let count = file.read(&mut piece)?;
+        if count == 0 || whole.len() > MOST_FILE {
+            return Ok(whole);
+        }
+        if whole.extend_from_slice(&piece[..count]).is_err() {
+            return Err(io::Error::from(ErrorKind::OutOfMemory));
+        }
+    }
+    Ok(whole)
+}
+
+impl NamedFiles for Files<'_> {
+    fn read(&self, alloc: Global, name: &[u8]) -> Result<Option<Vec<u8>>, AllocError> {
+        let Ok(name) = from_utf8(name) else {
+            say_unread(self.rt, "a list", "the name of its file is no text");
+            return Ok(None);
+        };
+        match read_within(self.rt, alloc, name) {
+            Ok(bytes) => {
+                if bytes.len() <= MOST_FILE {
+                    return Ok(Some(bytes));
+                }
+                say_unread(self.rt, name, "it has more than 65536 bytes");
+                Ok(None)
+            }
+            Err(error) => match error.kind() {
+                ErrorKind::OutOfMemory => Err(AllocError),
+                ErrorKind::NotFound => {
+                    say_unread(self.rt, name, "there is no such file");
+                    Ok(None)
+                }
+                _ => {
+                    say_unread(self.rt, name, "it can't be read: look at its rights");
+                    Ok(None)
+                }
+            },
+        }
+    }
+}
+
+/// Asks an office in a file what the lines of standard input ask under a caller, or only looks at them.
+pub(crate) fn enter<'a>(
+    rt: &HostRuntime,
+    path: &'a str,
+    caller: &str,
+    only_read: bool,
+) -> Ending<'a> {
+    let mut input = rt.stdin();
+    let mut output = Buffered::new(io::writer(rt));
+    let read = read_input(rt.alloc(), &mut input, &mut output);
+    let flushed = output.flush();
+    match (read, flushed) {
+        (_, Err(_)) => Ending::Failed(Failure::Streams),
+        (Err(status), Ok(())) => ending_of(status),
+        (Ok(text), Ok(())) => {
+            let text = text.as_slice();
+            let task = if only_read {
+                Task::Check { caller, text }
+            } else {
+                Task::Enter { caller, text }
+            };
+            ending_of_done(over_office(rt, &Files { rt }, path, task), OWN_HOST, 0)
+        }
+    }
+}

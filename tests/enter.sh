@@ -1,0 +1,110 @@
+#!/usr/bin/env bash
+# Enters files into an office in a file with the built program: `tests/enter.sh [PROGRAM]`, out/sunreg by default, which
+# `./sunreg-build` makes. It ends on 'N passed, M failed'.
+set -u
+here=$(dirname "$(readlink -f "$0")")
+program=${1:-$here/../out/sunreg}
+[ -x "$program" ] || { echo "enter.sh: $program is not built: run ./sunreg-build" >&2; exit 2; }
+program=$(readlink -f "$program")
+room=$(mktemp -d) || exit 2
+trap 'rm -rf "$room"' EXIT
+cd "$room" || exit 2
+passed=0
+failed=0
+
+# is WHAT FOUND WANTED
+is() {
+    if [ "$2" = "$3" ]; then
+        passed=$((passed + 1))
+    else
+        failed=$((failed + 1))
+        printf '%s: found\n%s\nwanted\n%s\n' "$1" "$(printf '%s' "$2" | head -c 600)" "$3"
+    fi
+}
+
+# enter LINES [WORDS..]: enters lines; status, standard output (its lines joined by ;) and the first line on standard error are in came.
+# (sqlite3, by which facts are told, removes the log of a file that it closes, and the next command says that there is none)
+enter() {
+    lines=$1
+    shift
+    status=0
+    printf "$lines" | "$program" enter --db office.db --caller desk "$@" > out 2> err || status=$?
+    came="$status $(paste -sd ';' out) / $(grep -v 'it had no log beside it' err | head -n 1)"
+}
+
+# facts: what the office has recorded
+facts() {
+    sqlite3 office.db "SELECT name FROM sqlite_master WHERE type = 'table' ORDER BY name" | while read -r table; do
+        echo "$table"
+        sqlite3 office.db "SELECT * FROM $table"
+    done
+}
+
+list() {
+    printf 'name,function,area,address,type,scale\nwh,3,0,40094,acc32,wh_sf\nwh_sf,3,0,40096,sunssf,\n'
+}
+
+"$program" create --db office.db --zone UTC0
+list > inv.csv
+site='# a site\n\n1 device inv 1 5 1\n2 list inv @inv.csv\n3 register main inv 3 40094 @40096\n4 install main m1 5000 0 100000\n'
+enter "$site" -n
+is 'nothing is kept yet' "$came" '0 new;new;new;new / '
+enter "$site"
+is 'a site' "$came" '0 ok;ok;ok;ok / '
+if command -v sqlite3 > /dev/null; then
+    before=$(facts)
+    enter "$site"
+    is 'a site again' "$came" '0 ok;ok;ok;ok / '
+    is 'it acts no second time' "$(facts)" "$before"
+else
+    echo 'enter.sh: sqlite3 is not installed: the facts are not compared' >&2
+    enter "$site"
+    is 'a site again' "$came" '0 ok;ok;ok;ok / '
+fi
+enter "$site" -n
+is 'all is kept' "$came" '0 again;again;again;again / '
+enter "${site}5 register more inv 3 40190 0\n"
+is 'a line more' "$came" '0 ok;ok;ok;ok;ok / '
+enter '1 device inv 2 5 1\n6 device other 2 5 1\n'
+is 'a line that was changed' "$came" '1 refused 11;ok / '
+enter '1 device inv 2 5 1\n7 device third 2 5 1\n' -n
+is 'a line that was changed, looked at' "$came" '1 refused 11;new / '
+list | sed 's/40094/40092/' > inv.csv
+enter '2 list inv @inv.csv\n'
+is 'a file that was changed' "$came" '1 refused 11 / '
+list > inv.csv
+enter '2 list inv @inv.csv\n'
+is 'a file that was changed back' "$came" '0 ok / '
+enter '8 device inv 1 5 1\n9 device fourth 3 5 1\n'
+is 'a refusal goes on' "$came" '1 refused 2;ok / '
+enter '\n10 device fifth 4 5 1\n11 tick\n12 device sixth 5 5 1\n'
+is 'a bad line ends it' "$came" '1 ok;bad line 3 / '
+enter '12 device sixth 5 5 1\n11 tick\n10 device fifth 4 5 1\n' -n
+is 'the rest was not carried out' "$came" '1 new;bad line 2;again / '
+for line in 'device inv 1 5 1' '20 connect inv' '20 round inv 0' '20 start inv 3 0 1' '20 bytes inv 00' '20 list inv @' '20 list inv @inv.csv more' '20 list  @inv.csv' 'meter m1'; do
+    enter "$line\n"
+    is "a bad line: $line" "${came% /*}" '1 bad line 1'
+done
+enter '20 list inv @none.csv\n'
+is 'a file that is not there' "$came" '1 bad line 1 / sunreg: none.csv: there is no such file'
+head -c 70000 /dev/zero > long.csv
+enter '20 list inv @long.csv\n'
+is 'a file that is too long' "$came" '1 bad line 1 / sunreg: long.csv: it has more than 65536 bytes'
+printf 'name,function,area,address,type,scale\nwh,5,0,40094,acc32,\n' > faulty.csv
+enter '20 list inv @faulty.csv\n21 device seventh 6 5 1\n'
+is 'a list with faults' "$came" '1 row 2 fault 5;refused 12;ok / '
+enter "22 list inv $(list | od -An -tx1 | tr -d ' \n')\n"
+is 'a list as bytes' "$came" '0 ok / '
+printf '23 device eighth 7 5 1\n' | "$program" enter --db office.db --caller 'no-name-that-is-so-long' > out 2> err
+is 'a caller that is no name' "$? $(paste -sd ';' out)" '1 refused 12'
+printf '1 device ninth 8 5 1\n' | "$program" enter --db office.db --caller other > out 2> err
+is 'the numbers of another caller' "$? $(paste -sd ';' out)" '0 ok'
+sleep 1
+enter '24 manual main 6000 0\n25 void m1 2\n'
+is 'entries by hand' "$came" '1 ok;refused 16 / '
+printf '1 device a 1 5 1\n' | "$program" enter --db none.db --caller desk > out 2> err
+is 'a file that is missing' "$? $(cat out)" '3 '
+head -c 4194305 /dev/zero | "$program" enter --db office.db --caller desk > out 2> err
+is 'an input that is too long' "$? $(cat out)" '1 too long'
+echo "$passed passed, $failed failed"
+[ "$failed" = 0 ]

@@ -1,0 +1,47 @@
+#!/bin/sh
+# Types the commands that README.md shows under "A site in five commands" with the built program, and holds what they print to
+# what stands below them there, but for days, moments and what hangs on when a quarter hour ends: `tests/readme.sh [PROGRAM]`,
+# out/sunreg by default, which `./sunreg-build` makes. Half a minute. It ends on 'N passed, M failed'.
+set -eu
+top=$(dirname "$(dirname "$(readlink -f "$0")")")
+program=$(readlink -f "${1:-$top/out/sunreg}")
+[ -x "$program" ] || { echo "readme.sh: $program is not built: run ./sunreg-build" >&2; exit 2; }
+room=$(mktemp -d "${TMPDIR:-/tmp}/readme.XXXXXX")
+clear_up() {
+  [ -z "${stand_in-}" ] || kill "$stand_in" 2>/dev/null || :
+  rm -rf "$room"
+}
+trap clear_up EXIT
+
+# block KIND: the first block of a kind below the heading
+block() {
+  awk -v kind="\`\`\`$1" '/^## /{ below = $0 == "## A site in five commands" } below && $0 == kind { inside = 1; next } inside && /^```$/ { exit } inside' "$top/README.md"
+}
+
+# what does not hang on when it is run: a day is DAY, a moment is AT, counts of quarter hours are N, and rounds alike are one
+settled() {
+  sed -E 's/[0-9]{4}-[0-9]{2}-[0-9]{2} +[0-9]+/DAY N/; s/^[0-9]{10} /AT /; s/ to [0-9]{10} / to AT /' | uniq
+}
+
+passed=0
+failed=0
+same() {
+  if [ "$2" = "$3" ]; then
+    passed=$((passed + 1))
+  else
+    failed=$((failed + 1))
+    printf '%s:\n--- printed\n%s\n--- the page\n%s\n' "$1" "$2" "$3"
+  fi
+}
+
+block sh > "$room/commands"
+same 'five commands' "$(grep -c . "$room/commands")" 5
+mkdir "$room/docs"
+cp "$top/docs/inverter.txt" "$room/docs"
+ln -s "$program" "$room/sunreg"
+# (the stand-in in the background is ended with the shell that began it)
+(cd "$room" && { cat commands; echo 'kill $!'; } | sh > out 2> err) || same 'status' "$?" 0
+same 'what is printed' "$(settled < "$room/out")" "$(block text | settled)"
+same 'what is said' "$(grep -v '^sunreg: ' "$room/err" || :)" ''
+echo "$passed passed, $failed failed"
+[ "$failed" = 0 ]
