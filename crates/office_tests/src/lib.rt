@@ -29,6 +29,8 @@ mod links;
 #[cfg(test)]
 mod list_books;
 #[cfg(test)]
+mod look_ups;
+#[cfg(test)]
 mod names;
 #[cfg(test)]
 mod observer;
