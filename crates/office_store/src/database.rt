@@ -13,11 +13,13 @@ ghost use Rattle.store_files.specs.NewFile.{Makes};
 ghost use Rattle.store_files.specs.Meta.{Meta, IsMarked};
 ghost use Rattle.store_files.specs.OpenedFile.{TellsOpening};
 ghost use Rattle.store_files.specs.Zones.{IsZone};
+ghost use Rattle.office_books.specs.Faults.{no_failures};
 ghost use Rattle.office_store.specs.Made.{HandsBackUntouched, connection_in, told_by};
 ghost use Rattle.office_store.specs.Database.{HasFile, HoldsAlone, KeepsFile};
 
 use crate::books::{SqlBooks, Unopened};
 use crate::laws::{new_files_have_none, opened_files_keep_theirs};
+use office_books::Failures;
 use sqlite::{Alter, Connection};
 use std::alloc::Global;
 use store_files::OpenFault;
@@ -40,7 +42,7 @@ impl<S: Alter> SqlBooks<S> {
             → IfErr result (λ e. (e.fault ≡ OpenFault.Store) ⊎ (e.fault ≡ OpenFault.Memory)) }
         ensures refused { IfErr result (HandsBackUntouched connection) }
         ensures zone { IfOk result (λ books. HasRule zone.now books.zone) }
-        ensures faults { IfOk result (λ books. books.faults ≡ 0) }
+        ensures failures { IfOk result (λ books. books.failures ≡ no_failures) }
         ensures none { IfOk result (λ books. HoldsAlone S.Store zone.now books.connection []) }
         ensures does { TransactsTo (state S.Store connection)
             (state S.Store (connection_in result)) (told_by result) (Makes zone.now) }
@@ -51,7 +53,7 @@ impl<S: Alter> SqlBooks<S> {
             Ok(zone) => Ok(SqlBooks {
                 connection,
                 zone,
-                faults: 0,
+                failures: Failures::new(),
                 alloc,
             }),
             Err(fault) => Err(Unopened { connection, fault }),
@@ -69,7 +71,7 @@ impl<S: Alter> SqlBooks<S> {
             → (told_by result ≡ Err OpenFault.NotOurs) × (connection_in result ≡ connection) }
         ensures clean { HasCleanDisk (state S.Store (connection_in result))
             → HasCleanDisk (state S.Store connection) }
-        ensures faults { IfOk result (λ books. books.faults ≡ 0) }
+        ensures failures { IfOk result (λ books. books.failures ≡ no_failures) }
         ensures told { HasCleanDisk (state S.Store (connection_in result))
             → connection.in_transaction ≡ false → IsTrue (state S.Store connection).is_open
             → (layout : TheLayout) (content : Content)
@@ -93,7 +95,7 @@ impl<S: Alter> SqlBooks<S> {
             Ok(zone) => Ok(SqlBooks {
                 connection,
                 zone,
-                faults: 0,
+                failures: Failures::new(),
                 alloc,
             }),
             Err(fault) => Err(Unopened { connection, fault }),

@@ -33,6 +33,8 @@ mod look_ups;
 #[cfg(test)]
 mod names;
 #[cfg(test)]
+mod noted_failures;
+#[cfg(test)]
 mod observer;
 #[cfg(test)]
 mod offices;

@@ -17,5 +17,5 @@ over g past found left Does zone is alone tells = record {
   found = found;
   holds = alone;
   left = left;
-  does = λ clean. tells (stands_alone g zone found.connection found.faults found.zone past is alone) clean;
+  does = λ clean. tells (stands_alone g zone found.connection found.failures found.zone past is alone) clean;
 }

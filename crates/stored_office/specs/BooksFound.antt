@@ -24,7 +24,7 @@ module _ {S : Type 0} (g : Ghosts S) where
 
   -- what is known of books in a database
   abbrev pub ledger_in : SqlBooks S g → Ledger
-  ledger_in books = ledger_of g books.connection books.faults books.zone
+  ledger_in books = ledger_of g books.connection books.failures books.zone
 
   -- Books were found that hold the facts of what was accepted before, and a stop leaves nothing else; and this was done
   -- between them and the books that were left, if the store gave back what was written until then.
