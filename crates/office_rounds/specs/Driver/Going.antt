@@ -1,6 +1,7 @@
 -- How far a turn has come.
 use Rattle.std.specs.Prelude.{◌≡◌, ◌⊎◌, ◌≤◌, ℕ, List, [], ◌∷◌, length, Option, Some, None}
 use Rattle.office_rules.specs.History.{History}
+use Rattle.office_books.specs.declared.failures.Failures.{Failures}
 use Rattle.office_books.specs.Ledgers.{Ledger}
 use Rattle.office_core.specs.EventRun.{Answered}
 use Rattle.office_core.specs.Standing.{After, books_in}
@@ -14,7 +15,7 @@ use Rattle.office_rounds.specs.Driver.Turns.{AreNext, AreShown, Table, Wished, f
 -- the office, how often its books have failed, the rounds, and the witness
 pub record Scene (B V : Type 0) : Type 0 where
   pub office : Office B
-  pub failures : ℕ
+  pub failures : Failures
   pub rounds : List Round
   pub observer : V
 
@@ -24,7 +25,7 @@ scene office failures rounds observer =
 
 -- where a turn began: how often the books had failed, what was to be fed, and the witness
 pub record Start (V : Type 0) : Type 0 where
-  pub failures : ℕ
+  pub failures : Failures
   pub table : Table
   pub observer : V
 
