@@ -20,7 +20,7 @@ returns-in_default-clause-found c = λ numbers account.
     let is : c.installed-meter.result ≡ installed c.args.opening.now = c.installed-meter.ensures in
     let es : List Entry = entries_in (latest_first c.args.rows.now) in
     let of : HasAccount c.installed-meter.result es = subst (λ (m : Installed). HasAccount m es) (sym is) account in
-    absurd (let bad : IsTrue false = c.checked_tally.ensures.if_so of in cc)
+    absurd (let bad : IsTrue false = c.in_default.ensures.if_so of in cc)
 
 pub returns-clause-found : goal.returns-clause-found
 returns-clause-found c = λ numbers has.
