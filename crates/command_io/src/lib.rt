@@ -5,9 +5,11 @@ mod buffer;
 mod calls;
 mod input;
 mod lines;
+mod printer;
 mod status;
 
 pub use buffer::Buffered;
 pub use input::{MOST_BYTES, ReadFault, read_input, read_whole};
 pub use lines::{InputLine, InputLines};
+pub use printer::{NotedWriter, Printer};
 pub use status::ExitStatus;

@@ -1,20 +1,22 @@
 //! Lines that stand alone.
-ghost use Rattle.std.specs.Prelude.{◌≡◌, ◌≤◌, ◌+◌, ◌++◌, flat_map, length};
+ghost use Rattle.std.specs.Prelude.{◌≡◌, ◌≤◌, ◌+◌, ◌++◌, flat_map, length, OnErr};
 ghost use Rattle.sun_points.specs.Writing.{GotText};
 ghost use Rattle.script_text.specs.AnswerText as text;
 
 use crate::notes::push_outcome;
 use crate::parts::{write_named, write_text};
 use crate::row_lines::Line;
+use command_io::Printer;
 use energy_core::Last;
 use office_events::{EndedPoll, Installation, PollRow, Refusal};
 use point_list::FaultyRow;
-use std::io::{self, Write};
+use std::io;
 
 /// Writes `refused N`.
-pub fn write_refusal<W: Write>(refusal: Refusal, output: &mut W) -> io::Result<()>
-    ensures { GotText result (text.refused_line refusal)
-        (W.contents output.old) (W.contents output.new) }
+pub fn write_refusal<P: Printer>(refusal: Refusal, output: &mut P) -> io::Result<()>
+    ensures bytes { GotText result (text.refused_line refusal)
+        (P.contents output.old) (P.contents output.new) }
+    ensures failed { OnErr result (P.has_failed output.new) }
 {
     write_text(refused_line(refusal).bytes(), output)
 }
@@ -29,9 +31,10 @@ fn refused_line(refusal: Refusal) -> Line
 }
 
 /// Writes `meter NAME last RAW sf SF at MOMENT total MWH open`, whose last word is `ended` after a closing.
-pub fn write_meter<W: Write>(row: &Installation, output: &mut W) -> io::Result<()>
-    ensures { GotText result (text.meter_line row.now)
-        (W.contents output.old) (W.contents output.new) }
+pub fn write_meter<P: Printer>(row: &Installation, output: &mut P) -> io::Result<()>
+    ensures bytes { GotText result (text.meter_line row.now)
+        (P.contents output.old) (P.contents output.new) }
+    ensures failed { OnErr result (P.has_failed output.new) }
 {
     write_named(
         b"meter ",
@@ -62,9 +65,10 @@ fn end_word(ended: bool) -> &'static [u8]
 }
 
 /// Writes `poll N OUTCOME`, where the outcome of a poll that has not ended is `pending`.
-pub fn write_poll<W: Write>(row: &PollRow, output: &mut W) -> io::Result<()>
-    ensures { GotText result (text.poll_line row.now)
-        (W.contents output.old) (W.contents output.new) }
+pub fn write_poll<P: Printer>(row: &PollRow, output: &mut P) -> io::Result<()>
+    ensures bytes { GotText result (text.poll_line row.now)
+        (P.contents output.old) (P.contents output.new) }
+    ensures failed { OnErr result (P.has_failed output.new) }
 {
     write_text(poll_line(row).bytes(), output)
 }
@@ -92,9 +96,10 @@ fn push_ending(line: &mut Line, ended: &Option<EndedPoll>)
 }
 
 /// Writes `row R fault N` for each row; the header is row 1.
-pub fn write_faults<W: Write>(faults: &[FaultyRow], output: &mut W) -> io::Result<()>
-    ensures { GotText result (flat_map text.fault_line faults.now)
-        (W.contents output.old) (W.contents output.new) }
+pub fn write_faults<P: Printer>(faults: &[FaultyRow], output: &mut P) -> io::Result<()>
+    ensures bytes { GotText result (flat_map text.fault_line faults.now)
+        (P.contents output.old) (P.contents output.new) }
+    ensures failed { OnErr result (P.has_failed output.new) }
 {
     for faulty in faults {
         write_fault(faulty, output)?;
@@ -102,9 +107,10 @@ pub fn write_faults<W: Write>(faults: &[FaultyRow], output: &mut W) -> io::Resul
     Ok(())
 }
 
-fn write_fault<W: Write>(faulty: &FaultyRow, output: &mut W) -> io::Result<()>
-    ensures { GotText result (text.fault_line faulty.now)
-        (W.contents output.old) (W.contents output.new) }
+fn write_fault<P: Printer>(faulty: &FaultyRow, output: &mut P) -> io::Result<()>
+    ensures bytes { GotText result (text.fault_line faulty.now)
+        (P.contents output.old) (P.contents output.new) }
+    ensures failed { OnErr result (P.has_failed output.new) }
 {
     write_text(fault_line(faulty).bytes(), output)
 }
@@ -120,9 +126,10 @@ fn fault_line(faulty: &FaultyRow) -> Line
 }
 
 /// Writes `bad line N`.
-pub fn write_bad_line<W: Write>(number: u64, output: &mut W) -> io::Result<()>
-    ensures { GotText result (text.bad_line number)
-        (W.contents output.old) (W.contents output.new) }
+pub fn write_bad_line<P: Printer>(number: u64, output: &mut P) -> io::Result<()>
+    ensures bytes { GotText result (text.bad_line number)
+        (P.contents output.old) (P.contents output.new) }
+    ensures failed { OnErr result (P.has_failed output.new) }
 {
     write_text(bad_line(number).bytes(), output)
 }

@@ -1,18 +1,20 @@
 //! The lines of what the office tells of an event.
-ghost use Rattle.std.specs.Prelude.{◌≡◌, ◌≤◌, ◌+◌, ◌++◌, length};
+ghost use Rattle.std.specs.Prelude.{◌≡◌, ◌≤◌, ◌+◌, ◌++◌, length, OnErr};
 ghost use Rattle.sun_points.specs.Writing.{GotText};
 ghost use Rattle.script_text.specs.AnswerText as text;
 
 use crate::parts::{write_named, write_text};
 use crate::row_lines::Line;
+use command_io::Printer;
 use office_events::Note;
 use poll_core::Outcome;
-use std::io::{self, Write};
+use std::io;
 
 /// Writes `poll N OUTCOME`, `reading METER RAW rolls R step MWH` or `held METER RAW cause N`.
-pub fn write_note<W: Write>(note: &Note, output: &mut W) -> io::Result<()>
-    ensures { GotText result (text.note_line note.now)
-        (W.contents output.old) (W.contents output.new) }
+pub fn write_note<P: Printer>(note: &Note, output: &mut P) -> io::Result<()>
+    ensures bytes { GotText result (text.note_line note.now)
+        (P.contents output.old) (P.contents output.new) }
+    ensures failed { OnErr result (P.has_failed output.new) }
 {
     match *note {
         Note::Outcome { poll, outcome } => write_text(outcome_line(poll, outcome).bytes(), output),

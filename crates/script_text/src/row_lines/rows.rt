@@ -1,14 +1,15 @@
 //! The lines of rows.
-ghost use Rattle.std.specs.Prelude.{◌≡◌, ◌≤◌, ◌<◌, ◌+◌, ◌++◌, codes, length};
+ghost use Rattle.std.specs.Prelude.{◌≡◌, ◌≤◌, ◌<◌, ◌+◌, ◌++◌, codes, length, OnErr};
 ghost use Rattle.jiff.specs.Words.{date_text};
 ghost use Rattle.jiff_core.specs.Calendar.{IsYear};
 ghost use Rattle.jiff_fmt.specs.Text.{pad2, year_text};
 ghost use Rattle.script_text.specs.RowLines.Rows as rows;
+ghost use Rattle.sun_points.specs.Writing.{GotText};
 
 use crate::row_lines::line::Line;
+use command_io::Printer;
 use interval_core::{Day, DayTotal, Share};
 use std::io;
-use sun_points::Sink;
 
 /// `START MWH`: the start of an interval, in seconds since 1970-01-01 UTC, and its energy.
 pub fn interval_line(row: Share) -> Line
@@ -100,22 +101,28 @@ fn day_of_month(day: Day) -> u8
 }
 
 /// Writes the line of an interval.
-pub fn write_interval<S: Sink>(row: Share, output: &mut S) -> io::Result<()>
-    ensures { S.takes output.old (rows.share_line row) result output.new }
+pub fn write_interval<P: Printer>(row: Share, output: &mut P) -> io::Result<()>
+    ensures bytes { GotText result (rows.share_line row)
+        (P.contents output.old) (P.contents output.new) }
+    ensures failed { OnErr result (P.has_failed output.new) }
 {
-    output.take_text(interval_line(row).bytes())
+    output.print(interval_line(row).bytes())
 }
 
 /// Writes the line of a day.
-pub fn write_day<S: Sink>(total: &DayTotal, output: &mut S) -> io::Result<()>
-    ensures { S.takes output.old (rows.day_line total.now) result output.new }
+pub fn write_day<P: Printer>(total: &DayTotal, output: &mut P) -> io::Result<()>
+    ensures bytes { GotText result (rows.day_line total.now)
+        (P.contents output.old) (P.contents output.new) }
+    ensures failed { OnErr result (P.has_failed output.new) }
 {
-    output.take_text(day_line(total).bytes())
+    output.print(day_line(total).bytes())
 }
 
 /// Writes the line that tells how many rows there were.
-pub fn write_end<S: Sink>(count: u64, output: &mut S) -> io::Result<()>
-    ensures { S.takes output.old (rows.end_line count) result output.new }
+pub fn write_end<P: Printer>(count: u64, output: &mut P) -> io::Result<()>
+    ensures bytes { GotText result (rows.end_line count)
+        (P.contents output.old) (P.contents output.new) }
+    ensures failed { OnErr result (P.has_failed output.new) }
 {
-    output.take_text(end_line(count).bytes())
+    output.print(end_line(count).bytes())
 }

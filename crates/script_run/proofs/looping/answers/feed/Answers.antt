@@ -11,11 +11,11 @@ returns-in-Ok-write_notes g c = λ past stands.
     let replied = was_replied past c.args.at c.args.event.now (Ok c.in-Ok.field-0) c.args.office.now c.feed.new.self
     (c.in-Ok.ensures.answers past stands tt) c.in-Ok.ensures.ends (c.in-Ok.ensures.quiet past stands) (c.in-Ok.ensures.stands past stands tt) in
     was_fed past c.args.at c.args.event.now (Ok c.in-Ok.field-0) c.args.office.now c.feed.new.self true _ _ _ replied refl
-    (ap (flat_map note_line) (c.notes.ensures ∙ told.notes)) c.in-Ok-write_notes.ensures
+    (ap (flat_map note_line) (c.notes.ensures ∙ told.notes)) c.in-Ok-write_notes.ensures.bytes
 
 pub returns-in-Ok-write_refusal : goal.returns-in-Ok-write_refusal
 returns-in-Ok-write_refusal g c = λ past stands.
     let replied = was_replied past c.args.at c.args.event.now (Err c.in-Err.why) c.args.office.now c.feed.new.self
     (c.in-Err.ensures.answers past stands tt) c.in-Err.ensures.ends (c.in-Err.ensures.quiet past stands) (c.in-Err.ensures.stands past stands tt) in
     was_fed past c.args.at c.args.event.now (Err c.in-Err.why) c.args.office.now c.feed.new.self false _ _ _ replied refl
-    refl c.in-Ok-write_refusal.ensures
+    refl c.in-Ok-write_refusal.ensures.bytes

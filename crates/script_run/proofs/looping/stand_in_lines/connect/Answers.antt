@@ -16,7 +16,7 @@ returns-in-Ok g c =
     let old = g.W.Write.contents c.args.output.now in
     let new = g.W.Write.contents c.write_accepted.new.output in
     writing c.write_accepted.result (accepted_text answer c.notes.result.now c.outgoing.result.now) c.args.office.now c.feed.new.self old new
-    (λ now printed next. EventPrints now c.args.at e printed next) c.write_accepted.ensures
+    (λ now printed next. EventPrints now c.args.at e printed next) c.write_accepted.ensures.bytes
     (λ past stands appended.
     let told = c.in-Ok.ensures.told past stands tt in
     was_printed past c.args.at e (Ok answer) c.args.office.now c.feed.new.self old new
@@ -34,7 +34,7 @@ returns g c =
     let old = g.W.Write.contents c.args.output.now in
     let new = g.W.Write.contents c.write_refusal.new.output in
     writing c.write_refusal.result (refused_line why) c.args.office.now c.feed.new.self old new
-    (λ now printed next. EventPrints now c.args.at e printed next) c.write_refusal.ensures
+    (λ now printed next. EventPrints now c.args.at e printed next) c.write_refusal.ensures.bytes
     (λ past stands appended.
     was_printed past c.args.at e (Err why) c.args.office.now c.feed.new.self old new
     (was_replied past c.args.at e (Err why) c.args.office.now c.feed.new.self (c.in-Err.ensures.answers past stands tt) c.in-Err.ensures.ends

@@ -36,7 +36,7 @@ returns-in-Err g c = λ connected.
     let new = g.W.Write.contents c.write_refusal.new.output in
     writing_out c.write_refusal.result (refused_line why) (loop_state c.args.office.now c.args.bank.now connected old)
     (loop_state c.feed.new.self c.args.bank.now connected new) (λ now printed next. StartsPrint c.args.at c.args.device.now e now printed next)
-    c.write_refusal.ensures
+    c.write_refusal.ensures.bytes
     (λ past stands appended.
     not_started past c.args.at c.args.device.now e why c.args.office.now c.feed.new.self c.args.bank.now connected old new
     (was_replied past c.args.at e (Err why) c.args.office.now c.feed.new.self (c.in-Err.ensures.answers past stands tt) c.in-Err.ensures.ends

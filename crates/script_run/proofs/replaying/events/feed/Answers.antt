@@ -15,10 +15,10 @@ returns-in-Ok g c = λ past stands.
     (got_this c.write_accepted.result _ _ _ _
     (ap (λ notes. accepted_text answer notes c.outgoing.result.now) (c.notes.ensures ∙ told.notes)
     ∙ ap (λ frames. accepted_text answer (notes_after past c.args.at c.args.event.now (Ok answer)) frames) (c.outgoing.ensures ∙ told.outgoing))
-    c.write_accepted.ensures)
+    c.write_accepted.ensures.bytes)
 
 pub returns-in-Err : goal.returns-in-Err
 returns-in-Err g c = λ past stands.
     replied past c.args.at c.args.event.now c.args.office.now c.feed.new.self _ c.write_refusal.result _ _
     (c.in-Err.ensures.answers past stands tt) c.in-Err.ensures.ends (c.in-Err.ensures.quiet past stands) (c.in-Err.ensures.stands past stands tt)
-    c.write_refusal.ensures
+    c.write_refusal.ensures.bytes

@@ -7,8 +7,8 @@ use Rattle.script_run.proofs.replaying.events.refuse_list.Goals as goal
 
 pub returns-in_err-write_faults : goal.returns-in_err-write_faults
 returns-in_err-write_faults g c =
-    got_first c.from_residual.result _ _ (flat_map fault_line c.args.rows.now) (refused_line Limit) _ c.from_residual.ensures.0 c.in_err-write_faults.ensures refl
+    got_first c.from_residual.result _ _ (flat_map fault_line c.args.rows.now) (refused_line Limit) _ c.from_residual.ensures.0 c.in_err-write_faults.ensures.bytes refl
 
 pub returns : goal.returns
 returns g c =
-    got_both c.write_refusal.result _ _ _ (flat_map fault_line c.args.rows.now) (refused_line Limit) _ c.in_ok-write_faults.ensures c.write_refusal.ensures refl
+    got_both c.write_refusal.result _ _ _ (flat_map fault_line c.args.rows.now) (refused_line Limit) _ c.in_ok-write_faults.ensures.bytes c.write_refusal.ensures.bytes refl

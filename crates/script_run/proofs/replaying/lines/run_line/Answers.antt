@@ -15,4 +15,4 @@ returns-in-Err g c = λ past stands.
 pub returns-in-Err-write_bad_line : goal.returns-in-Err-write_bad_line
 returns-in-Err-write_bad_line g c = λ past stands.
     let none : (said : ScriptLine) → IsLine (words_of c.args.line.now) said → ⊥ = rw c.in-Err-Bad.field-0-is at c.in-Err-Bad.ensures in
-    bad_broken past _ c.args.office.now _ _ none c.in-Err-write_bad_line.ensures
+    bad_broken past _ c.args.office.now _ _ none c.in-Err-write_bad_line.ensures.bytes

@@ -9,9 +9,9 @@ use Rattle.script_run.proofs.replaying.questions.tell_meter.Goals as goal
 pub returns-in-Ok : goal.returns-in-Ok
 returns-in-Ok g c = λ past stands.
     row_told (λ now. option_and_then (meter_of (facts_of now.past)) c.args.name.now) meter_line past _ _ _ c.write_meter.result _ _
-    (c.in-Ok.ensures.found past stands tt) c.in-Ok.ensures.asks stands c.write_meter.ensures
+    (c.in-Ok.ensures.found past stands tt) c.in-Ok.ensures.asks stands c.write_meter.ensures.bytes
 
 pub returns-in-Err : goal.returns-in-Err
 returns-in-Err g c = λ past stands.
     row_told (λ now. option_and_then (meter_of (facts_of now.past)) c.args.name.now) meter_line past _ _ _ c.write_refusal.result _ _
-    (c.in-Err.ensures.found past stands tt) c.in-Err.ensures.asks stands c.write_refusal.ensures
+    (c.in-Err.ensures.found past stands tt) c.in-Err.ensures.asks stands c.write_refusal.ensures.bytes

@@ -16,9 +16,9 @@ returns-in-Err g c =
     (c.in-Err.ensures.refused [] (empty_books c.new.result c.new.ensures.empty) tt) in
     let same = ap refused_line memory in
     elim c.match-write_refusal.branch [
-      | in-Ok-write_refusal w ↦ rw w.result-is (refused_line why, w.in-Ok-write_refusal.ensures, inl (same, refl))
+      | in-Ok-write_refusal w ↦ rw w.result-is (refused_line why, w.in-Ok-write_refusal.ensures.bytes, inl (same, refl))
       | in-Err-write_refusal w ↦
-          let got = w.in-Err-write_refusal.ensures in
+          let got = w.in-Err-write_refusal.ensures.bytes in
           rw w.result-is (got.0, got.3, inl (got.1, sym same ∙ got.2))
     ]
 
