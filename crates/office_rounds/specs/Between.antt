@@ -2,7 +2,7 @@
 -- the writer. A result comes last.
 use Rattle.std.specs.Prelude.{◌≡◌, ℕ, Bool, List, ◌∷◌, ◌++◌, Option, Result, Ok, Err}
 use Rattle.std.specs.Io.KnownBytes.{Appends, Consumes}
-use Rattle.std.specs.declared.io.Write as writers
+use Rattle.command_io.specs.declared.printer.Printer as printers
 use Rattle.mb_wire.specs.declared.link.Link as links
 use Rattle.socket_link.specs.declared.clock.Clock as clocks
 use Rattle.script_text.specs.AnswerText.{accepted_text}
@@ -29,7 +29,7 @@ abbrev pub wire_of : {L : Type 0} → links.Ghosts L → L → Wire
 wire_of l link = wire (l.remaining link) (l.given link)
 
 -- What the office tells of an event that it accepted is printed.
-abbrev pub PrintsTold : {B W : Type 0} → writers.Ghosts W → Office B → Answer → (had holds : W)
+abbrev pub PrintsTold : {B W : Type 0} → printers.Ghosts W → Office B → Answer → (had holds : W)
     → Result Answer RoundFault → Type 0
 PrintsTold w office given had holds result =
     Prints given (accepted_text given (notes_in office) (outgoing_in office))
@@ -43,7 +43,7 @@ EndsSilently b at gone old new = (printed moments later : Option (List ℕ))
     (round_state printed moments (failures_of b.ledger old))
     (round_state printed later (failures_of b.ledger new)) old new)
 
-module _ {B W : Type 0} (b : stores.Ghosts B) (w : writers.Ghosts W) where
+module _ {B W : Type 0} (b : stores.Ghosts B) (w : printers.Ghosts W) where
   -- An event is fed, and what is told of it is printed, whatever a clock told meanwhile.
   abbrev pub FeedsAndPrints : (at : ℕ) → Event → (old new : Office B) → (had holds : W)
       → Result Answer RoundFault → Type 0
@@ -60,7 +60,7 @@ module _ {B W : Type 0} (b : stores.Ghosts B) (w : writers.Ghosts W) where
       (round_state (w.contents had) moments (failures_of b.ledger old))
       (round_state (w.contents holds) later (failures_of b.ledger new)) old new fault)
 
-module _ {B C W : Type 0} (b : stores.Ghosts B) (c : clocks.Ghosts C) (w : writers.Ghosts W) where
+module _ {B C W : Type 0} (b : stores.Ghosts B) (c : clocks.Ghosts C) (w : printers.Ghosts W) where
   -- what is known of the writer, the clock and the books
   abbrev pub desk_of : Office B → C → W → RoundState
   desk_of office clock output =
@@ -109,7 +109,7 @@ module _ {B C W : Type 0} (b : stores.Ghosts B) (c : clocks.Ghosts C) (w : write
       (Err fault)
 
 module _ {L B C W : Type 0} (l : links.Ghosts L) (b : stores.Ghosts B) (c : clocks.Ghosts C)
-    (w : writers.Ghosts W) where
+    (w : printers.Ghosts W) where
   -- where a step finds a round, or leaves it
   abbrev pub scene_of : Progress → L → Office B → C → W → Scene B
   scene_of progress link office clock output =

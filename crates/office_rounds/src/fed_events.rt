@@ -1,5 +1,5 @@
 //! Events that are fed to the office, and what it tells of them.
-ghost use Rattle.std.specs.Prelude.{◌≡◌};
+ghost use Rattle.std.specs.Prelude.{◌≡◌, Err};
 ghost use Rattle.office_core.specs.Standing.{is_stopped};
 ghost use Rattle.office_rounds.specs.Between.{FeedsAndPrints, PrintsTold, TellsFirst, TellsNext};
 ghost use Rattle.office_rounds.specs.Faults.{OfOffice};
@@ -10,21 +10,22 @@ ghost use Rattle.office_rounds.specs.Stepping.{FeedStops};
 use crate::fault::RoundFault;
 use crate::laws::rounds_hold;
 use crate::progress::Progress;
+use command_io::Printer;
 use office_books::Books;
 use office_core::Office;
 use office_events::{Answer, Event};
 use script_text::write_accepted;
 use socket_link::Clock;
-use std::io::Write;
 
 // Prints what the office tells of an event that it has accepted.
-fn print<B: Books, W: Write>(
+fn print<B: Books, P: Printer>(
     office: &Office<B>,
     answer: Answer,
-    output: &mut W,
+    output: &mut P,
 ) -> Result<Answer, RoundFault>
-    ensures prints { PrintsTold W.Write office.now answer output.old output.new result }
+    ensures prints { PrintsTold P.Printer office.now answer output.old output.new result }
     ensures kind { OfOffice result }
+    ensures output { result ≡ Err RoundFault.Output → P.has_failed output.new }
 {
     match write_accepted(&answer, office.notes(), office.outgoing(), output) {
         Ok(()) => Ok(answer),
@@ -33,17 +34,18 @@ fn print<B: Books, W: Write>(
 }
 
 /// Feeds an event, and prints what is told of it where it is accepted.
-pub(crate) fn feed<B: Books, W: Write>(
+pub(crate) fn feed<B: Books, P: Printer>(
     office: &mut Office<B>,
     at: u64,
     event: &Event,
-    output: &mut W,
+    output: &mut P,
 ) -> Result<Answer, RoundFault>
-    ensures feeds { FeedsAndPrints B.Books W.Write at event.now office.old office.new
+    ensures feeds { FeedsAndPrints B.Books P.Printer at event.now office.old office.new
         output.old output.new result }
     ensures stops { FeedStops (is_stopped office.old) event.now result (is_stopped office.new) }
     ensures kind { OfOffice result }
     ensures lasts { Lasts B.ledger office.old office.new }
+    ensures output { result ≡ Err RoundFault.Output → P.has_failed output.new }
 {
     match office.feed(at, event) {
         Ok(answer) => print(office, answer, output),
@@ -64,19 +66,20 @@ pub(crate) fn latest_after(fault: RoundFault, at: u64, latest: u64) -> u64
 }
 
 /// Feeds the next event of a round at the moment that the clock tells.
-pub(crate) fn tell<B: Books, C: Clock, W: Write>(
+pub(crate) fn tell<B: Books, C: Clock, P: Printer>(
     progress: &mut Progress,
     event: &Event,
     office: &mut Office<B>,
     clock: &mut C,
-    output: &mut W,
+    output: &mut P,
 ) -> Result<(), RoundFault>
-    ensures tells { TellsNext B.Books C.Clock W.Write event.now progress.old progress.new
+    ensures tells { TellsNext B.Books C.Clock P.Printer event.now progress.old progress.new
         office.old office.new clock.old clock.new output.old output.new result }
-    ensures connects { TellsFirst B.Books C.Clock W.Write event.now progress.old progress.new
+    ensures connects { TellsFirst B.Books C.Clock P.Printer event.now progress.old progress.new
         office.old office.new clock.old clock.new output.old output.new result }
     ensures kind { OfOffice result }
     ensures lasts { Lasts B.ledger office.old office.new }
+    ensures output { result ≡ Err RoundFault.Output → P.has_failed output.new }
 {
     rounds_hold();
     let at = clock.now();

@@ -1,5 +1,5 @@
 //! A round.
-ghost use Rattle.std.specs.Prelude.{◌≡◌, Err};
+ghost use Rattle.std.specs.Prelude.{◌≡◌, ◌⊎◌, Err};
 ghost use Rattle.mb_wire.specs.Links.{risen};
 ghost use Rattle.office_rounds.specs.Between.{EndsUnconnected, PollsOut, PollsToEnd, RoundsOver, TakesTurns, TellsConnection};
 ghost use Rattle.office_rounds.specs.Faults.{OfOffice, is_link_fault};
@@ -12,29 +12,30 @@ use crate::fed_events::tell;
 use crate::progress::Progress;
 use crate::round_end::close;
 use crate::steps::{go_on, turn};
+use command_io::Printer;
 use mb_wire::Link;
 use office_books::Books;
 use office_core::Office;
 use office_events::Name;
 use socket_link::Clock;
 use std::alloc::Global;
-use std::io::Write;
 
 /// How many takes a round may have.
 pub const MOST_TAKES: u32 = 100_000;
 
 // Tells the office that the device is connected.
-fn connect<B: Books, C: Clock, W: Write>(
+fn connect<B: Books, C: Clock, P: Printer>(
     progress: &mut Progress,
     office: &mut Office<B>,
     clock: &mut C,
-    output: &mut W,
+    output: &mut P,
 ) -> Result<(), RoundFault>
     requires { IsNew progress.old }
-    ensures connects { TellsConnection B.Books C.Clock W.Write progress.old progress.new
+    ensures connects { TellsConnection B.Books C.Clock P.Printer progress.old progress.new
         office.old office.new clock.old clock.new output.old output.new result }
     ensures kind { OfOffice result }
     ensures lasts { Lasts B.ledger office.old office.new }
+    ensures output { result ≡ Err RoundFault.Output → P.has_failed output.new }
 {
     match progress.round.event_wanted() {
         Some(connected) => tell(progress, &connected, office, clock, output),
@@ -43,21 +44,22 @@ fn connect<B: Books, C: Clock, W: Write>(
 }
 
 // Takes turns, until the round is over.
-fn take_turns<L: Link, B: Books, C: Clock, W: Write>(
+fn take_turns<L: Link, B: Books, C: Clock, P: Printer>(
     alloc: Global,
     progress: &mut Progress,
     link: &mut L,
     office: &mut Office<B>,
     clock: &mut C,
-    output: &mut W,
+    output: &mut P,
 ) -> Result<(), RoundFault>
-    ensures steps { TakesTurns L.Link B.Books C.Clock W.Write progress.old progress.new
+    ensures steps { TakesTurns L.Link B.Books C.Clock P.Printer progress.old progress.new
         link.old link.new office.old office.new clock.old clock.new output.old output.new result }
     ensures failures { L.failed link.new ≡ risen (is_link_fault result) (L.failed link.old) }
     ensures takes { AreAtMost 100000 (L.taken link.old) (L.taken link.new) }
     ensures used { result ≡ Err RoundFault.TurnsUsed
         → AreTakes 100000 (L.taken link.old) (L.taken link.new) }
     ensures lasts { Lasts B.ledger office.old office.new }
+    ensures output { result ≡ Err RoundFault.Output → P.has_failed output.new }
 {
     for _turn in 0..MOST_TAKES {
         let is_over = turn(alloc, progress, link, office, clock, output)?;
@@ -69,21 +71,22 @@ fn take_turns<L: Link, B: Books, C: Clock, W: Write>(
 }
 
 // Polls a device that is connected, until the round is over.
-fn poll_connected<L: Link, B: Books, C: Clock, W: Write>(
+fn poll_connected<L: Link, B: Books, C: Clock, P: Printer>(
     alloc: Global,
     progress: &mut Progress,
     link: &mut L,
     office: &mut Office<B>,
     clock: &mut C,
-    output: &mut W,
+    output: &mut P,
 ) -> Result<(), RoundFault>
-    ensures steps { PollsOut L.Link B.Books C.Clock W.Write progress.old progress.new
+    ensures steps { PollsOut L.Link B.Books C.Clock P.Printer progress.old progress.new
         link.old link.new office.old office.new clock.old clock.new output.old output.new result }
     ensures failures { L.failed link.new ≡ risen (is_link_fault result) (L.failed link.old) }
     ensures takes { AreAtMost 100000 (L.taken link.old) (L.taken link.new) }
     ensures used { result ≡ Err RoundFault.TurnsUsed
         → AreTakes 100000 (L.taken link.old) (L.taken link.new) }
     ensures lasts { Lasts B.ledger office.old office.new }
+    ensures output { result ≡ Err RoundFault.Output → P.has_failed output.new }
 {
     match go_on(progress, link, office, clock, output) {
         Ok(()) => take_turns(alloc, progress, link, office, clock, output),
@@ -92,21 +95,22 @@ fn poll_connected<L: Link, B: Books, C: Clock, W: Write>(
 }
 
 // Polls a device that is connected, and tells that it is gone where the round is broken off.
-fn poll_to_end<L: Link, B: Books, C: Clock, W: Write>(
+fn poll_to_end<L: Link, B: Books, C: Clock, P: Printer>(
     alloc: Global,
     progress: &mut Progress,
     link: &mut L,
     office: &mut Office<B>,
     clock: &mut C,
-    output: &mut W,
+    output: &mut P,
 ) -> Result<(), RoundFault>
-    ensures polls { PollsToEnd L.Link B.Books C.Clock W.Write progress.old link.old link.new
+    ensures polls { PollsToEnd L.Link B.Books C.Clock P.Printer progress.old link.old link.new
         office.old office.new clock.old clock.new output.old output.new result }
     ensures turns { AreAtMost 100000 (L.taken link.old) (L.taken link.new) }
     ensures used { result ≡ Err RoundFault.TurnsUsed
         → AreTakes 100000 (L.taken link.old) (L.taken link.new) }
     ensures failures { CountsFailures result (L.failed link.old) (L.failed link.new) }
     ensures lasts { Lasts B.ledger office.old office.new }
+    ensures output { result ≡ Err RoundFault.Output → P.has_failed output.new }
 {
     match poll_connected(alloc, progress, link, office, clock, output) {
         Ok(()) => Ok(()),
@@ -115,17 +119,19 @@ fn poll_to_end<L: Link, B: Books, C: Clock, W: Write>(
 }
 
 // Tells that a device is gone, unless its connection was refused.
-fn end_unconnected<B: Books, C: Clock, W: Write>(
+fn end_unconnected<B: Books, C: Clock, P: Printer>(
     progress: &Progress,
     fault: RoundFault,
     office: &mut Office<B>,
     clock: &mut C,
-    output: &mut W,
+    output: &mut P,
 ) -> RoundFault
-    ensures ends { EndsUnconnected B.Books C.Clock W.Write progress.now fault
+    ensures ends { EndsUnconnected B.Books C.Clock P.Printer progress.now fault
         office.old office.new clock.old clock.new output.old output.new result }
     ensures told { IsToldOf fault result }
     ensures lasts { Lasts B.ledger office.old office.new }
+    ensures output { result ≡ RoundFault.Output
+        → ((fault ≡ RoundFault.Output) × (output.new ≡ output.old)) ⊎ P.has_failed output.new }
 {
     match fault {
         RoundFault::Refused(_) => fault,
@@ -147,21 +153,22 @@ fn end_unconnected<B: Books, C: Clock, W: Write>(
 /// told of that is printed too, save where the office refused the connection: then nothing else is fed. Where the clock
 /// was set back, or is past the last moment of all, it is gone at the moment of the latest event. So at the end none of
 /// the device's polls waits, unless the books or memory failed and the office has stopped.
-pub fn round_over<L: Link, B: Books, C: Clock, W: Write>(
+pub fn round_over<L: Link, B: Books, C: Clock, P: Printer>(
     alloc: Global,
     link: &mut L,
     office: &mut Office<B>,
     device: Option<Name>,
     clock: &mut C,
-    output: &mut W,
+    output: &mut P,
 ) -> Result<(), RoundFault>
-    ensures rounds { RoundsOver L.Link B.Books C.Clock W.Write device link.old link.new
+    ensures rounds { RoundsOver L.Link B.Books C.Clock P.Printer device link.old link.new
         office.old office.new clock.old clock.new output.old output.new result }
     ensures turns { AreAtMost 100000 (L.taken link.old) (L.taken link.new) }
     ensures used { result ≡ Err RoundFault.TurnsUsed
         → AreTakes 100000 (L.taken link.old) (L.taken link.new) }
     ensures failures { CountsFailures result (L.failed link.old) (L.failed link.new) }
     ensures lasts { Lasts B.ledger office.old office.new }
+    ensures output { result ≡ Err RoundFault.Output → P.has_failed output.new }
 {
     let mut progress = Progress::new(device);
     match connect(&mut progress, office, clock, output) {

@@ -1,5 +1,5 @@
 //! The end of a round that was broken off.
-ghost use Rattle.std.specs.Prelude.{◌≡◌};
+ghost use Rattle.std.specs.Prelude.{◌≡◌, ◌⊎◌};
 ghost use Rattle.office_rounds.specs.Between.{ClosesBroken, EndsAndPrints, EndsSilently};
 ghost use Rattle.office_rounds.specs.Passing.{Lasts};
 ghost use Rattle.office_rounds.specs.Rounds as rounds;
@@ -9,12 +9,12 @@ ghost use Rattle.office_rounds.specs.Stepping as stepping;
 use crate::fault::RoundFault;
 use crate::fed_events::feed;
 use crate::progress::Progress;
+use command_io::Printer;
 use office_books::Books;
 use office_core::Office;
 use office_events::Event;
 use poll_core::{Closing, LAST_MOMENT};
 use socket_link::Clock;
-use std::io::Write;
 
 // The moment at which a device is gone: the clock's, or where that was set back, or is past the last moment of all, that
 // of the latest event.
@@ -53,17 +53,19 @@ fn is_output(fault: RoundFault) -> bool
 }
 
 // Tells the end, and prints what is told of it.
-fn end_printed<B: Books, W: Write>(
+fn end_printed<B: Books, P: Printer>(
     at: u64,
     gone: &Event,
     cause: RoundFault,
     office: &mut Office<B>,
-    output: &mut W,
+    output: &mut P,
 ) -> RoundFault
-    ensures ends { EndsAndPrints B.Books W.Write at gone.now cause office.old office.new
+    ensures ends { EndsAndPrints B.Books P.Printer at gone.now cause office.old office.new
         output.old output.new result }
     ensures told { IsToldOf cause result }
     ensures lasts { Lasts B.ledger office.old office.new }
+    ensures output { result ≡ RoundFault.Output
+        → (cause ≡ RoundFault.Output) ⊎ P.has_failed output.new }
 {
     match feed(office, at, gone, output) {
         Ok(_) => cause,
@@ -81,17 +83,19 @@ fn end_unprinted<B: Books>(at: u64, gone: &Event, office: &mut Office<B>)
 
 /// Feeds that the device is gone, as by a failed read or write, and prints what is told of it, unless a writing was what
 /// failed. It answers the fault, or that a writing has failed now.
-pub(crate) fn close<B: Books, C: Clock, W: Write>(
+pub(crate) fn close<B: Books, C: Clock, P: Printer>(
     progress: &Progress,
     cause: RoundFault,
     office: &mut Office<B>,
     clock: &mut C,
-    output: &mut W,
+    output: &mut P,
 ) -> RoundFault
-    ensures closes { ClosesBroken B.Books C.Clock W.Write progress.now cause
+    ensures closes { ClosesBroken B.Books C.Clock P.Printer progress.now cause
         office.old office.new clock.old clock.new output.old output.new result }
     ensures told { IsToldOf cause result }
     ensures lasts { Lasts B.ledger office.old office.new }
+    ensures output { result ≡ RoundFault.Output
+        → ((cause ≡ RoundFault.Output) × (output.new ≡ output.old)) ⊎ P.has_failed output.new }
 {
     let moment = clock.now();
     let at = gone_at(progress.latest, moment);

@@ -1,5 +1,5 @@
 //! The steps of a round.
-ghost use Rattle.std.specs.Prelude.{◌≡◌, IfOk};
+ghost use Rattle.std.specs.Prelude.{◌≡◌, IfOk, Err};
 ghost use Rattle.std.specs.Io.KnownBytes.{Consumes, Keeps};
 ghost use Rattle.mb_wire.specs.Links.{risen};
 ghost use Rattle.office_rounds.specs.Between.{FeedsTaken, Follows, GoesOn, Puts, TakesTurn};
@@ -12,6 +12,7 @@ use crate::fault::RoundFault;
 use crate::fed_events::tell;
 use crate::gives::give_all;
 use crate::progress::Progress;
+use command_io::Printer;
 use mb_wire::{Link, LinkFailed, Took};
 use office_books::Books;
 use office_core::Office;
@@ -19,7 +20,6 @@ use office_events::{Event, Name, Piece, Refusal};
 use poll_core::Closing;
 use socket_link::Clock;
 use std::alloc::Global;
-use std::io::Write;
 
 // Gives frames.
 fn send<L: Link>(link: &mut L, frames: &[u8]) -> Result<(), RoundFault>
@@ -62,20 +62,21 @@ pub(crate) fn take_event<L: Link>(
 }
 
 // Feeds the next event of a round, and gives the frames that the office wants sent.
-fn put<L: Link, B: Books, C: Clock, W: Write>(
+fn put<L: Link, B: Books, C: Clock, P: Printer>(
     event: &Event,
     progress: &mut Progress,
     link: &mut L,
     office: &mut Office<B>,
     clock: &mut C,
-    output: &mut W,
+    output: &mut P,
 ) -> Result<(), RoundFault>
-    ensures steps { Puts L.Link B.Books C.Clock W.Write event.now progress.old progress.new
+    ensures steps { Puts L.Link B.Books C.Clock P.Printer event.now progress.old progress.new
         link.old link.new office.old office.new clock.old clock.new output.old output.new result }
     ensures failures { L.failed link.new ≡ risen (is_link_fault result) (L.failed link.old) }
     ensures takes { L.taken link.new ≡ L.taken link.old }
     ensures on { TakesOn result }
     ensures lasts { Lasts B.ledger office.old office.new }
+    ensures output { result ≡ Err RoundFault.Output → P.has_failed output.new }
 {
     match tell(progress, event, office, clock, output) {
         Ok(()) => send(link, office.outgoing()),
@@ -84,19 +85,20 @@ fn put<L: Link, B: Books, C: Clock, W: Write>(
 }
 
 /// Feeds what the round wants the office to be told, if anything.
-pub(crate) fn go_on<L: Link, B: Books, C: Clock, W: Write>(
+pub(crate) fn go_on<L: Link, B: Books, C: Clock, P: Printer>(
     progress: &mut Progress,
     link: &mut L,
     office: &mut Office<B>,
     clock: &mut C,
-    output: &mut W,
+    output: &mut P,
 ) -> Result<(), RoundFault>
-    ensures steps { GoesOn L.Link B.Books C.Clock W.Write progress.old progress.new
+    ensures steps { GoesOn L.Link B.Books C.Clock P.Printer progress.old progress.new
         link.old link.new office.old office.new clock.old clock.new output.old output.new result }
     ensures failures { L.failed link.new ≡ risen (is_link_fault result) (L.failed link.old) }
     ensures takes { L.taken link.new ≡ L.taken link.old }
     ensures on { TakesOn result }
     ensures lasts { Lasts B.ledger office.old office.new }
+    ensures output { result ≡ Err RoundFault.Output → P.has_failed output.new }
 {
     match progress.round.event_wanted() {
         Some(event) => put(&event, progress, link, office, clock, output),
@@ -105,19 +107,20 @@ pub(crate) fn go_on<L: Link, B: Books, C: Clock, W: Write>(
 }
 
 // After what the link has brought: feeds what the round wants, and says whether it is over.
-fn follow<L: Link, B: Books, C: Clock, W: Write>(
+fn follow<L: Link, B: Books, C: Clock, P: Printer>(
     progress: &mut Progress,
     link: &mut L,
     office: &mut Office<B>,
     clock: &mut C,
-    output: &mut W,
+    output: &mut P,
 ) -> Result<bool, RoundFault>
-    ensures steps { Follows L.Link B.Books C.Clock W.Write progress.old progress.new
+    ensures steps { Follows L.Link B.Books C.Clock P.Printer progress.old progress.new
         link.old link.new office.old office.new clock.old clock.new output.old output.new result }
     ensures failures { L.failed link.new ≡ risen (is_link_fault result) (L.failed link.old) }
     ensures takes { L.taken link.new ≡ L.taken link.old }
     ensures on { TakesOn result }
     ensures lasts { Lasts B.ledger office.old office.new }
+    ensures output { result ≡ Err RoundFault.Output → P.has_failed output.new }
 {
     match go_on(progress, link, office, clock, output) {
         Ok(()) => Ok(progress.is_over()),
@@ -126,20 +129,21 @@ fn follow<L: Link, B: Books, C: Clock, W: Write>(
 }
 
 // Feeds what the link has brought, and then what the round wants.
-fn feed_taken<L: Link, B: Books, C: Clock, W: Write>(
+fn feed_taken<L: Link, B: Books, C: Clock, P: Printer>(
     event: &Event,
     progress: &mut Progress,
     link: &mut L,
     office: &mut Office<B>,
     clock: &mut C,
-    output: &mut W,
+    output: &mut P,
 ) -> Result<bool, RoundFault>
-    ensures steps { FeedsTaken L.Link B.Books C.Clock W.Write event.now progress.old progress.new
+    ensures steps { FeedsTaken L.Link B.Books C.Clock P.Printer event.now progress.old progress.new
         link.old link.new office.old office.new clock.old clock.new output.old output.new result }
     ensures failures { L.failed link.new ≡ risen (is_link_fault result) (L.failed link.old) }
     ensures takes { L.taken link.new ≡ L.taken link.old }
     ensures on { TakesOn result }
     ensures lasts { Lasts B.ledger office.old office.new }
+    ensures output { result ≡ Err RoundFault.Output → P.has_failed output.new }
 {
     match put(event, progress, link, office, clock, output) {
         Ok(()) => follow(progress, link, office, clock, output),
@@ -148,19 +152,20 @@ fn feed_taken<L: Link, B: Books, C: Clock, W: Write>(
 }
 
 /// A turn of a round: what the link brings is fed, and then what the round wants. It answers whether the round is over.
-pub(crate) fn turn<L: Link, B: Books, C: Clock, W: Write>(
+pub(crate) fn turn<L: Link, B: Books, C: Clock, P: Printer>(
     alloc: Global,
     progress: &mut Progress,
     link: &mut L,
     office: &mut Office<B>,
     clock: &mut C,
-    output: &mut W,
+    output: &mut P,
 ) -> Result<bool, RoundFault>
-    ensures steps { TakesTurn L.Link B.Books C.Clock W.Write progress.old progress.new
+    ensures steps { TakesTurn L.Link B.Books C.Clock P.Printer progress.old progress.new
         link.old link.new office.old office.new clock.old clock.new output.old output.new result }
     ensures failures { L.failed link.new ≡ risen (is_link_fault result) (L.failed link.old) }
     ensures takes { TurnTakes result (L.taken link.old) (L.taken link.new) }
     ensures lasts { Lasts B.ledger office.old office.new }
+    ensures output { result ≡ Err RoundFault.Output → P.has_failed output.new }
 {
     match take_event(alloc, progress.round.device, link) {
         Ok(event) => feed_taken(&event, progress, link, office, clock, output),

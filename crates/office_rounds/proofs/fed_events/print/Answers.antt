@@ -16,7 +16,7 @@ returns-in-Ok-clause-prints g c = (
 
 pub returns-in-Err-clause-prints : goal.returns-in-Err-clause-prints
 returns-in-Err-clause-prints g c =
-    let P : List ℕ → Type 0 = λ text. GotPart text (g.W.Write.contents c.args.output.now) (g.W.Write.contents c.write_accepted.new.output) in
+    let P : List ℕ → Type 0 = λ text. GotPart text (g.P.Printer.contents c.args.output.now) (g.P.Printer.contents c.write_accepted.new.output) in
     subst P
     (ap (λ notes. accepted_text c.args.answer notes c.outgoing.result.now) c.notes.ensures
     ∙ ap (λ frames. accepted_text c.args.answer (notes_in c.args.office.now) frames) c.outgoing.ensures)

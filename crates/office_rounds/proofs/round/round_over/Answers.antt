@@ -12,8 +12,8 @@ connect-requires g c = let P : Progress → Type 0 = IsNew in subst P (sym c.new
 pub returns-in-Ok-clause-rounds : goal.returns-in-Ok-clause-rounds
 returns-in-Ok-clause-rounds g c = λ past stands clean.
     let device = c.args.device in
-    let begun = desk_of g.B.Books g.C.Clock g.W.Write c.args.office.now c.args.clock.now c.args.output.now in
-    let now = desk_of g.B.Books g.C.Clock g.W.Write c.connect.new.office c.connect.new.clock c.connect.new.output in
+    let begun = desk_of g.B.Books g.C.Clock g.P.Printer c.args.office.now c.args.clock.now c.args.output.now in
+    let now = desk_of g.B.Books g.C.Clock g.P.Printer c.connect.new.office c.connect.new.clock c.connect.new.output in
     let w = wire_of g.L.Link c.args.link.now in
     let h =
     connects_same g.B.Books.ledger device c.new-progress.result.round.device past begun now c.connect.new.office c.connect.new.progress (Ok c.in-Ok.field-0)
@@ -24,8 +24,8 @@ returns-in-Ok-clause-rounds g c = λ past stands clean.
 pub returns-in-Err-clause-rounds : goal.returns-in-Err-clause-rounds
 returns-in-Err-clause-rounds g c = λ past stands clean.
     let device = c.args.device in
-    let begun = desk_of g.B.Books g.C.Clock g.W.Write c.args.office.now c.args.clock.now c.args.output.now in
-    let now = desk_of g.B.Books g.C.Clock g.W.Write c.connect.new.office c.connect.new.clock c.connect.new.output in
+    let begun = desk_of g.B.Books g.C.Clock g.P.Printer c.args.office.now c.args.clock.now c.args.output.now in
+    let now = desk_of g.B.Books g.C.Clock g.P.Printer c.connect.new.office c.connect.new.clock c.connect.new.output in
     let w = wire_of g.L.Link c.args.link.now in
     let h =
     connects_same g.B.Books.ledger device c.new-progress.result.round.device past begun now c.connect.new.office c.connect.new.progress (Err c.in-Err.fault)

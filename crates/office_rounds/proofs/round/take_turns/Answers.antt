@@ -13,11 +13,11 @@ loop-turn-preserved g c =
     let so_far = c.loop-turn.invariant in
     let one = c.in_ok-is_over.ensures in
     let old =
-    scene_of g.L.Link g.B.Books g.C.Clock g.W.Write c.args.progress.now c.args.link.now c.args.office.now c.args.clock.now c.args.output.now in
+    scene_of g.L.Link g.B.Books g.C.Clock g.P.Printer c.args.progress.now c.args.link.now c.args.office.now c.args.clock.now c.args.output.now in
     let mid =
-    scene_of g.L.Link g.B.Books g.C.Clock g.W.Write c.loop-turn.progress c.loop-turn.link c.loop-turn.office c.loop-turn.clock c.loop-turn.output in
+    scene_of g.L.Link g.B.Books g.C.Clock g.P.Printer c.loop-turn.progress c.loop-turn.link c.loop-turn.office c.loop-turn.clock c.loop-turn.output in
     let new =
-    scene_of g.L.Link g.B.Books g.C.Clock g.W.Write c.turn.new.progress c.turn.new.link c.turn.new.office c.turn.new.clock c.turn.new.output in
+    scene_of g.L.Link g.B.Books g.C.Clock g.P.Printer c.turn.new.progress c.turn.new.link c.turn.new.office c.turn.new.clock c.turn.new.output in
     record {
       steps =
           as_turn g.B.Books.ledger old new Take c.in_ok-is_over.is_over false
@@ -35,11 +35,11 @@ returns-in_err-is_over-clause-steps g c =
     let is : c.from_residual.result ≡ Err fault = search rules in
     let one = c.in_err-is_over.ensures in
     let old =
-    scene_of g.L.Link g.B.Books g.C.Clock g.W.Write c.args.progress.now c.args.link.now c.args.office.now c.args.clock.now c.args.output.now in
+    scene_of g.L.Link g.B.Books g.C.Clock g.P.Printer c.args.progress.now c.args.link.now c.args.office.now c.args.clock.now c.args.output.now in
     let mid =
-    scene_of g.L.Link g.B.Books g.C.Clock g.W.Write c.loop-turn.progress c.loop-turn.link c.loop-turn.office c.loop-turn.clock c.loop-turn.output in
+    scene_of g.L.Link g.B.Books g.C.Clock g.P.Printer c.loop-turn.progress c.loop-turn.link c.loop-turn.office c.loop-turn.clock c.loop-turn.output in
     let new =
-    scene_of g.L.Link g.B.Books g.C.Clock g.W.Write c.turn.new.progress c.turn.new.link c.turn.new.office c.turn.new.clock c.turn.new.output in
+    scene_of g.L.Link g.B.Books g.C.Clock g.P.Printer c.turn.new.progress c.turn.new.link c.turn.new.office c.turn.new.clock c.turn.new.output in
     let P : Result (Unit {0}) RoundFault → Type 0 = λ r. StepsFrom g.B.Books.ledger old new Take r (λ done. Over) in
     subst P (sym is)
     (compose g.B.Books.ledger old mid new Take (tt {0}) (λ done. Take) Take (Err fault) over_or_take
@@ -53,11 +53,11 @@ pub returns-then-is_over-clause-steps : goal.returns-then-is_over-clause-steps
 returns-then-is_over-clause-steps g c =
     let one = c.in_ok-is_over.ensures in
     let old =
-    scene_of g.L.Link g.B.Books g.C.Clock g.W.Write c.args.progress.now c.args.link.now c.args.office.now c.args.clock.now c.args.output.now in
+    scene_of g.L.Link g.B.Books g.C.Clock g.P.Printer c.args.progress.now c.args.link.now c.args.office.now c.args.clock.now c.args.output.now in
     let mid =
-    scene_of g.L.Link g.B.Books g.C.Clock g.W.Write c.loop-turn.progress c.loop-turn.link c.loop-turn.office c.loop-turn.clock c.loop-turn.output in
+    scene_of g.L.Link g.B.Books g.C.Clock g.P.Printer c.loop-turn.progress c.loop-turn.link c.loop-turn.office c.loop-turn.clock c.loop-turn.output in
     let new =
-    scene_of g.L.Link g.B.Books g.C.Clock g.W.Write c.turn.new.progress c.turn.new.link c.turn.new.office c.turn.new.clock c.turn.new.output in
+    scene_of g.L.Link g.B.Books g.C.Clock g.P.Printer c.turn.new.progress c.turn.new.link c.turn.new.office c.turn.new.clock c.turn.new.output in
     as_turn g.B.Books.ledger old new Take c.in_ok-is_over.is_over true
     (compose g.B.Books.ledger old mid new Take (tt {0}) (λ done. Take) Take (Ok c.in_ok-is_over.is_over) over_or_take
     c.loop-turn.invariant.steps refl one.steps one.lasts.clean)
@@ -70,7 +70,7 @@ returns-then-is_over-clause-takes g c =
 pub returns-clause-steps : goal.returns-clause-steps
 returns-clause-steps g c =
     let old =
-    scene_of g.L.Link g.B.Books g.C.Clock g.W.Write c.args.progress.now c.args.link.now c.args.office.now c.args.clock.now c.args.output.now in
+    scene_of g.L.Link g.B.Books g.C.Clock g.P.Printer c.args.progress.now c.args.link.now c.args.office.now c.args.clock.now c.args.output.now in
     let mid =
-    scene_of g.L.Link g.B.Books g.C.Clock g.W.Write c.loop-turn.progress c.loop-turn.link c.loop-turn.office c.loop-turn.clock c.loop-turn.output in
+    scene_of g.L.Link g.B.Books g.C.Clock g.P.Printer c.loop-turn.progress c.loop-turn.link c.loop-turn.office c.loop-turn.clock c.loop-turn.output in
     used_up {Y = Unit {0}} g.B.Books.ledger old mid Take (tt {0}) (λ done. Take) (λ done. Over) c.loop-turn.invariant.steps

@@ -8,8 +8,8 @@ use Rattle.office_rounds.proofs.round.take_turns.Given as goal
 abbrev pub invariant-loop-turn : goal.invariant-loop-turn
 invariant-loop-turn g l = record {
   steps : StepsFrom {X = Unit {0}} g.B.Books.ledger
-      (scene_of g.L.Link g.B.Books g.C.Clock g.W.Write l.fn.progress l.fn.link l.fn.office l.fn.clock l.fn.output)
-      (scene_of g.L.Link g.B.Books g.C.Clock g.W.Write l.progress l.link l.office l.clock l.output)
+      (scene_of g.L.Link g.B.Books g.C.Clock g.P.Printer l.fn.progress l.fn.link l.fn.office l.fn.clock l.fn.output)
+      (scene_of g.L.Link g.B.Books g.C.Clock g.P.Printer l.progress l.link l.office l.clock l.output)
       Take (Ok tt) (λ done. Take);
   failures : g.L.Link.failed l.link ≡ g.L.Link.failed l.fn.link;
   takes : AreTakes l._turn (g.L.Link.taken l.fn.link) (g.L.Link.taken l.link);

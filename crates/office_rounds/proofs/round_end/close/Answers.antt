@@ -7,7 +7,7 @@ pub returns-then-is_output-clause-closes : goal.returns-then-is_output-clause-cl
 returns-then-is_output-clause-closes g c = λ device past begun fed broken clean.
     closes_as g.B.Books.ledger device c.args.progress.now.round.device past begun _ _ c.args.office.now c.end_unprinted.new.office fed c.args.progress.now c.args.cause
     c.now-moment.result c.gone_at-at.result (sym c.is_output.ensures ∙ c.if-is_output.true) broken.device_is broken c.now-moment.ensures c.gone_at-at.ensures refl
-    (c.end_unprinted.ensures.ends (g.W.Write.contents c.args.output.now) (g.C.Clock.moments c.args.clock.now) (g.C.Clock.moments c.now-moment.new.self)
+    (c.end_unprinted.ensures.ends (g.P.Printer.contents c.args.output.now) (g.C.Clock.moments c.args.clock.now) (g.C.Clock.moments c.now-moment.new.self)
     (history_behind past fed) broken.leaves.stands clean)
 
 pub returns-clause-closes : goal.returns-clause-closes
