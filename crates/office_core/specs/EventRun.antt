@@ -46,7 +46,7 @@ history_after past (fed ∷ later) =
 abbrev pub accepted_by : {B : Type 0} → History → (opened : ℕ) → List (ℕ × Event) → Run B → History
 accepted_by past opened events run = history_after (Opened opened ∷ past) (events_of events run)
 
--- An event is answered as its definition says, and the count of the books' failures stays; or it failed outside. One
+-- An event is answered as its definition says, and the books did not fail; or it failed outside. One
 -- that settles nothing does not fail.
 pub record IsAnswered (past : History) (before after : Failures) (fed : Answered) : Type 0 where
   pub answer : IsAnswer past fed.at fed.event before after fed.result
@@ -73,7 +73,7 @@ StopsInTurn before after (fed ∷ later) =
     ((fed.result ≡ Err refusal.Stopped) ↔ (before ≡ true))
     × StopsInTurn (before || stops fed.event fed.result) after later
 
--- The count of the books' failures goes on with each answer.
+-- How the books failed goes on with each answer.
 abbrev pub CountInTurn : (before after : Failures) → List Answered → Type 0
 CountInTurn before after [] = after ≡ before
 CountInTurn before after (fed ∷ later) =
@@ -120,7 +120,7 @@ LeavesInTurn ledger books opened events past run =
     Leaves (ledger books) (ledger (books_in run.office))
     (LeftByRun past opened (events_of events run))
 
--- Its answers: the count of the books' failures goes on with them.
+-- Its answers: how the books failed goes on with them.
 abbrev pub AnswersEach : {B : Type 0} → (B → Ledger) → (books : B)
     → History → List (ℕ × Event) → Run B → Type 0
 AnswersEach ledger books begun events run =

@@ -47,7 +47,7 @@ abbrev pub Reopens : History → (at : ℕ) → (old new : Ledger) → Result (V
 Reopens past at old new (Ok slots) = IsReopened past at old new slots.items
 Reopens past at old new (Err why) = IsNotOpened past at old new why
 
--- Whatever the books hold: the count of their failures goes up by those alone, a wrong answer of a store that was taken
+-- Whatever the books hold: their failures are told, and no others; a wrong answer of a store that was taken
 -- as true stays one, and so does the zone. It isn't refused since an office had stopped, nor since a row has no civil
 -- day.
 pub record Passed {T : Type 0} (old new : Ledger) (result : Result T Refusal) : Type 0 where

@@ -105,7 +105,7 @@ TakesAccepted ledger at e old new result =
     → (ledger (books_in new)).is_clean
     → Takes ledger past at e old new result
 
--- The count of the books' failures rises by those alone, whatever they hold; a wrong answer of a store that was taken
+-- The books' failures are told, and no others, whatever they hold; a wrong answer of a store that was taken
 -- as true stays one, and so do the zone and that the office goes on. It isn't refused since the office had stopped, nor
 -- since a row has no civil day.
 pub record Passes {B : Type 0} (ledger : B → Ledger) (old new : Office B)

@@ -21,7 +21,7 @@ use Rattle.office_rounds.specs.FedEvents.{AreAnswered, AreTimed, frames_after, h
 use Rattle.office_rounds.specs.declared.fault.RoundFault.{RoundFault}
 use Rattle.office_rounds.specs.declared.fault.RoundFault.TheVariants.{Refused, Link, Output, TurnsUsed}
 
--- what is known of the writer and the clock, and how often the books have failed
+-- what is known of the writer and the clock, and how the books failed so far
 pub record RoundState : Type 0 where
   pub printed : Option (List ℕ)
   pub moments : Option (List ℕ)
