@@ -1,6 +1,6 @@
 -- A round over books.
 use Rattle.std.specs.Prelude.{◌≡◌, ℕ, List, Option, Result}
-use Rattle.std.specs.declared.io.Write as writers
+use Rattle.command_io.specs.declared.printer.Printer as printers
 use Rattle.socket_link.specs.declared.clock.Clock as clocks
 use Rattle.office_events.specs.Names.{named}
 use Rattle.office_rules.specs.History.{History}
@@ -42,7 +42,7 @@ PollsPort ledger device later had holds Unconnected behind then opened left =
 PollsPort ledger device later had holds (Unopened status) behind then opened left = ⊥
 
 -- So it is of an office that is open, the clock and the writer, each as it was found and as it was left.
-abbrev pub PollsPortOf : {B C W : Type 0} → stores.Ghosts B → clocks.Ghosts C → writers.Ghosts W
+abbrev pub PollsPortOf : {B C W : Type 0} → stores.Ghosts B → clocks.Ghosts C → printers.Ghosts W
     → (device : List ℕ) → (old new : Office B) → (before after : C) → (had holds : W) → PollEnd
     → Type 0
 PollsPortOf b c w device old new before after had holds end =
@@ -59,7 +59,7 @@ TellsPolling ledger past device moments later books back had holds end =
     WithOffice ledger past moments back (PollsPort ledger device later had holds end)
 
 -- So it is of the books, the clock and the writer, each as it was found and as it was left.
-abbrev pub PollsOver : {B C W : Type 0} → stores.Ghosts B → clocks.Ghosts C → writers.Ghosts W
+abbrev pub PollsOver : {B C W : Type 0} → stores.Ghosts B → clocks.Ghosts C → printers.Ghosts W
     → (device : List ℕ) → (books back : B) → (before after : C) → (had holds : W) → PollEnd → Type 0
 PollsOver b c w device books back before after had holds end =
     OverStanding b.ledger books back (λ past. TellsPolling b.ledger past device (c.moments before)

@@ -1,6 +1,6 @@
 -- A report over books.
 use Rattle.std.specs.Prelude.{◌≡◌, ◌⊎◌, ℕ, List, Option}
-use Rattle.std.specs.declared.io.Write as writers
+use Rattle.command_io.specs.declared.printer.Printer as printers
 use Rattle.socket_link.specs.declared.clock.Clock as clocks
 use Rattle.command_io.specs.declared.status.ExitStatus.{ExitStatus}
 use Rattle.office_events.specs.Names.{named}
@@ -34,7 +34,7 @@ TellsReport ledger past register moments later books back had holds status =
     (Reports ledger (named register) later had holds status)
 
 -- So it is of the books, the clock and the writer, each as it was found and as it was left.
-abbrev pub ReportsOver : {B C W : Type 0} → stores.Ghosts B → clocks.Ghosts C → writers.Ghosts W
+abbrev pub ReportsOver : {B C W : Type 0} → stores.Ghosts B → clocks.Ghosts C → printers.Ghosts W
     → (register : List ℕ) → (books back : B) → (before after : C) → (had holds : W) → ExitStatus
     → Type 0
 ReportsOver b c w register books back before after had holds end =

@@ -9,13 +9,12 @@ ghost use Rattle.office_program.specs.HttpPort.{ServesPort, TellsServing, port};
 
 use crate::command_end::CommandEnd;
 use crate::texts::open_office;
-use command_io::ExitStatus;
+use command_io::{ExitStatus, Printer};
 use office_books::Books;
 use office_core::Office;
 use office_http::serve_named_on;
 use socket_link::Clock;
 use std::alloc::Global;
-use std::io::Write;
 use std::net::{Net, TcpListener};
 
 /// How serving ended.
@@ -66,7 +65,7 @@ fn serve_port<R: Net + std::rt::Clock, B: Books, C: Clock>(
 /// Opens an office over books at the moment that the clock tells, and then serves requests by HTTP/1.1 on so many connections
 /// at a port of a host, as `serve_named_on` does by these names. Where the opening is refused, `refused N` is printed, and the port stays
 /// untouched; nothing else is printed. The books are handed back.
-pub fn serve_books<R: Net + std::rt::Clock, B: Books, C: Clock, W: Write>(
+pub fn serve_books<R: Net + std::rt::Clock, B: Books, C: Clock, P: Printer>(
     rt: &R,
     alloc: Global,
     books: B,
@@ -74,13 +73,13 @@ pub fn serve_books<R: Net + std::rt::Clock, B: Books, C: Clock, W: Write>(
     names: &[&str],
     connections: u32,
     clock: &mut C,
-    output: &mut W,
+    output: &mut P,
 ) -> CommandEnd<B, ServeEnd>
     ensures tells { (past : History) → BooksStand (B.ledger books) past
         → (B.ledger result.books).is_clean
         → TellsServing B.ledger past (port (texts names.now) connections)
         (C.moments clock.old) (C.moments clock.new)
-        books result.books (W.contents output.old) (W.contents output.new) result.end }
+        books result.books (P.contents output.old) (P.contents output.new) result.end }
     ensures lasts { Lasts (B.ledger books) (B.ledger result.books) }
 {
     match open_office(alloc, books, clock, output) {

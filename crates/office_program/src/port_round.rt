@@ -5,14 +5,14 @@ ghost use Rattle.office_program.specs.PortRound.{PollsOver, PollsPortOf};
 
 use crate::command_end::CommandEnd;
 use crate::texts::{open_office, poll_round};
-use command_io::ExitStatus;
+use command_io::{ExitStatus, Printer};
 use office_books::Books;
 use office_core::Office;
 use office_events::Name;
 use office_rounds::RoundFault;
 use socket_link::{Clock, SocketLink};
 use std::alloc::Global;
-use std::io::{self, Write};
+use std::io;
 use std::net::{Net, TcpStream, ToSocketAddrs};
 use std::time::Duration;
 
@@ -45,16 +45,16 @@ fn connect<R: Net>(net: &R, place: (&str, u16)) -> io::Result<SocketLink<R::Stre
 }
 
 // Polls a device at a port.
-fn poll_port<R: Net, B: Books, C: Clock, W: Write>(
+fn poll_port<R: Net, B: Books, C: Clock, P: Printer>(
     net: &R,
     alloc: Global,
     office: &mut Office<B>,
     device: &str,
     place: (&str, u16),
     clock: &mut C,
-    output: &mut W,
+    output: &mut P,
 ) -> PollEnd
-    ensures polls { PollsPortOf B.Books C.Clock W.Write device.now
+    ensures polls { PollsPortOf B.Books C.Clock P.Printer device.now
         office.old office.new clock.old clock.new output.old output.new result }
     ensures lasts { rounds.Lasts B.ledger office.old office.new }
 {
@@ -68,16 +68,16 @@ fn poll_port<R: Net, B: Books, C: Clock, W: Write>(
 /// Opens an office over books at the moment that the clock tells, and then polls the whole plan of a device at a port of a
 /// host once, as `poll_round` does. Where the opening is refused, `refused N` alone is printed, and the device stays
 /// untouched. A text that is no name is a device that isn't there. The books are handed back.
-pub fn poll_books<R: Net, B: Books, C: Clock, W: Write>(
+pub fn poll_books<R: Net, B: Books, C: Clock, P: Printer>(
     net: &R,
     alloc: Global,
     books: B,
     device: &str,
     place: (&str, u16),
     clock: &mut C,
-    output: &mut W,
+    output: &mut P,
 ) -> CommandEnd<B, PollEnd>
-    ensures tells { PollsOver B.Books C.Clock W.Write device.now books result.books
+    ensures tells { PollsOver B.Books C.Clock P.Printer device.now books result.books
         clock.old clock.new output.old output.new result.end }
     ensures lasts { Lasts (B.ledger books) (B.ledger result.books) }
 {

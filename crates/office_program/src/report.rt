@@ -4,24 +4,23 @@ ghost use Rattle.office_program.specs.Report.{ReportsOver};
 
 use crate::command_end::CommandEnd;
 use crate::texts::{open_office, report_days};
-use command_io::ExitStatus;
+use command_io::{ExitStatus, Printer};
 use office_books::Books;
 use office_events::Name;
 use socket_link::Clock;
 use std::alloc::Global;
-use std::io::Write;
 
 /// Opens an office over books at the moment that the clock tells, and prints the energy of a register by civil days, a line
 /// a day, and then how many they are. Where the opening or the report is refused, `refused N` alone is printed. A text that
 /// is no name is a register that isn't there. The books are handed back.
-pub fn report_books<B: Books, C: Clock, W: Write>(
+pub fn report_books<B: Books, C: Clock, P: Printer>(
     alloc: Global,
     books: B,
     register: &str,
     clock: &mut C,
-    output: &mut W,
+    output: &mut P,
 ) -> CommandEnd<B, ExitStatus>
-    ensures tells { ReportsOver B.Books C.Clock W.Write register.now books result.books
+    ensures tells { ReportsOver B.Books C.Clock P.Printer register.now books result.books
         clock.old clock.new output.old output.new result.end }
     ensures lasts { Lasts (B.ledger books) (B.ledger result.books) }
 {

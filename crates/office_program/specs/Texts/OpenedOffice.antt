@@ -1,6 +1,6 @@
 -- The opening of an office at the moment that a clock tells.
 use Rattle.std.specs.Prelude.{ℕ, List, ◌∷◌, Option, Result, IfOk, IfErr, MatchResult}
-use Rattle.std.specs.declared.io.Write as writers
+use Rattle.command_io.specs.declared.printer.Printer as printers
 use Rattle.socket_link.specs.declared.clock.Clock as a_clock
 use Rattle.command_io.specs.declared.status.ExitStatus.{ExitStatus}
 use Rattle.command_io.specs.declared.status.ExitStatus.TheVariants.{Refused}
@@ -58,7 +58,7 @@ OpensOver b c books before after result =
     → IfOk result (OpensWhereClean b.ledger past (c.moments before) (c.moments after))
 
 -- Over such books an opening that is refused is told so.
-abbrev pub RefusesOver : {B C W : Type 0} → stores.Ghosts B → a_clock.Ghosts C → writers.Ghosts W
+abbrev pub RefusesOver : {B C W : Type 0} → stores.Ghosts B → a_clock.Ghosts C → printers.Ghosts W
     → (books : B) → (before after : C) → (had holds : W) → Result (Office B) (Unopened B) → Type 0
 RefusesOver b c w books before after had holds result =
     (past : History) → BooksStand (b.ledger books) past

@@ -1,7 +1,7 @@
 -- The report of a register: its days, or why there are none.
 use Rattle.std.specs.Prelude.{◌≡◌, ℕ, List, map, Option, Some, Result, Ok, Err}
 use Rattle.std.specs.Option.{option_and_then}
-use Rattle.std.specs.declared.io.Write as writers
+use Rattle.command_io.specs.declared.printer.Printer as printers
 use Rattle.command_io.specs.declared.status.ExitStatus.{ExitStatus}
 use Rattle.command_io.specs.declared.status.ExitStatus.TheVariants.{Fine, Refused}
 use Rattle.interval_core.specs.Days.{account_of}
@@ -52,7 +52,7 @@ pub record ReportPrints (zone : Zone) (past : History) (register : Option (List 
   pub means : meant ≡ meant_by reply
 
 -- It is printed so by an office over what it had accepted, or a part of it, since a write failed.
-abbrev pub ReportsDays : {B W : Type 0} → stores.Ghosts B → writers.Ghosts W
+abbrev pub ReportsDays : {B W : Type 0} → stores.Ghosts B → printers.Ghosts W
     → (register : Option (List ℕ)) → (old new : Office B) → (had holds : W) → ExitStatus → Type 0
 ReportsDays b w register old new had holds status = After b.ledger old new
     (λ past. TellsEnd (ReportPrints (b.ledger (books_in old)).zone past register

@@ -1,7 +1,7 @@
 -- The round of a device, and the refusal that broke it off.
 use Rattle.std.specs.Prelude.{◌≡◌, ◌⊎◌, ℕ, List, [], Option, Result, Ok, Err}
 use Rattle.std.specs.Io.KnownBytes.{Appends}
-use Rattle.std.specs.declared.io.Write as writers
+use Rattle.command_io.specs.declared.printer.Printer as printers
 use Rattle.mb_wire.specs.declared.link.Link as links
 use Rattle.socket_link.specs.declared.clock.Clock as clocks
 use Rattle.command_io.specs.declared.status.ExitStatus.{ExitStatus}
@@ -47,7 +47,7 @@ pub record PollsRound {B : Type 0} (ledger : B → Ledger) (device : Option (Lis
 
 -- So it is of the link, the office, the clock and the writer, each as it was found and as it was left.
 abbrev pub PollsRoundOver : {L B C W : Type 0} → links.Ghosts L → stores.Ghosts B → clocks.Ghosts C
-    → writers.Ghosts W → (device : Option (List ℕ)) → (from to : L) → (old new : Office B)
+    → printers.Ghosts W → (device : Option (List ℕ)) → (from to : L) → (old new : Office B)
     → (before after : C) → (had holds : W) → Result (Unit {0}) RoundFault → Type 0
 PollsRoundOver l b c w device from to old new before after had holds result =
     After b.ledger old new (λ past. PollsRound b.ledger device past

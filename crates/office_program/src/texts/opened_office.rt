@@ -4,12 +4,11 @@ ghost use Rattle.office_core.specs.Standing.{IsFresh};
 ghost use Rattle.office_program.specs.Texts.OpenedOffice.{LastsInside, OpensOver, RefusesOver};
 
 use crate::texts::end_texts::print_refusal;
-use command_io::ExitStatus;
+use command_io::{ExitStatus, Printer};
 use office_books::Books;
 use office_core::Office;
 use socket_link::Clock;
 use std::alloc::Global;
-use std::io::Write;
 
 /// Books over which no office was opened, and how the command ends.
 #[derive(Drop)]
@@ -20,16 +19,16 @@ pub struct Unopened<B> {
 
 /// Opens an office over books at the moment that the clock tells. Where that is refused, `refused N` is printed, and the
 /// command ends.
-pub fn open_office<B: Books, C: Clock, W: Write>(
+pub fn open_office<B: Books, C: Clock, P: Printer>(
     alloc: Global,
     books: B,
     clock: &mut C,
-    output: &mut W,
+    output: &mut P,
 ) -> Result<Office<B>, Unopened<B>>
     ensures opened { OpensOver B.Books C.Clock books clock.old clock.new result }
     ensures fresh { IfOk result (λ office. IsFresh office) }
     ensures silent { IfOk result (λ office. output.new ≡ output.old) }
-    ensures refused { RefusesOver B.Books C.Clock W.Write books clock.old clock.new
+    ensures refused { RefusesOver B.Books C.Clock P.Printer books clock.old clock.new
         output.old output.new result }
     ensures ends { IfErr result (λ e. e.status ≢ ExitStatus.Fine) }
     ensures lasts { LastsInside B.ledger books result }

@@ -8,5 +8,5 @@ pub returns-in-Ok-clause-tells : goal.returns-in-Ok-clause-tells
 returns-in-Ok-clause-tells g c = λ past stand clean.
     served g.B.Books.ledger past (port (texts c.args.names.now) c.args.connections) _ (g.C.Clock.moments c.open_office.new.clock) _ c.args.books c.into_books.result
     c.in-Ok.office c.serve_port-end.new.office _ _ c.serve_port-end.result (c.in-Ok.ensures.opened past stand)
-    c.serve_port-end.ensures.lasts.clean c.serve_port-end.ensures.serves (ap g.W.Write.contents c.in-Ok.ensures.silent)
+    c.serve_port-end.ensures.lasts.clean c.serve_port-end.ensures.serves (ap g.P.Printer.contents c.in-Ok.ensures.silent)
     c.into_books.ensures clean

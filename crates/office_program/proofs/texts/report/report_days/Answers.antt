@@ -14,14 +14,14 @@ returns-then-days-clause-prints g c = λ past stands clean.
     let to = c.days-told.new.sink in
     let zone = (g.B.Books.ledger (books_in c.args.office.now)).zone in
     let shown = reported _ zone past c.args.register.now _ _ from to reply hands in
-    let name = same_output g.W.Write.contents day_line shown.0 from to c.to-days.ensures.works c.to-days.ensures.none shown.1 in
+    let name = same_output g.P.Printer.contents day_line shown.0 from to c.to-days.ensures.works c.to-days.ensures.none shown.1 in
     let last = c.output-1.given in
     let end : c.output-1.given.0 ≡ to.output.now = search rules in
     record {
       text = _;
       meant = meant_by reply;
       prints = record { reply = reply; answer = hands.answer; is = shown.2; means = refl };
-      told = told_part g.W.Write.contents day_line shown.0 _ from to (meant_by reply) c.args.output.now c.output-1.given.0 c.to-days.ensures.works c.to-days.ensures.none shown.1 c.if-days.true
+      told = told_part g.P.Printer.contents day_line shown.0 _ from to (meant_by reply) c.args.output.now c.output-1.given.0 c.to-days.ensures.works c.to-days.ensures.none shown.1 c.if-days.true
           c.to-days.ensures.same end;
     }
 
@@ -33,13 +33,13 @@ returns-clause-prints g c = λ past stands clean.
     let to = c.days-told.new.sink in
     let zone = (g.B.Books.ledger (books_in c.args.office.now)).zone in
     let shown = reported _ zone past c.args.register.now _ _ from to reply hands in
-    let name = same_output g.W.Write.contents day_line shown.0 from to c.to-days.ensures.works c.to-days.ensures.none shown.1 in
+    let name = same_output g.P.Printer.contents day_line shown.0 from to c.to-days.ensures.works c.to-days.ensures.none shown.1 in
     let last = c.output-2-1.given in
     let end : c.output-2-1.given.0 ≡ c.print_last.new.output = search rules in
     record {
       text = _;
       meant = meant_by reply;
       prints = record { reply = reply; answer = hands.answer; is = shown.2; means = refl };
-      told = rw end (told_all g.W.Write.contents day_line shown.0 (λ n. last_line n reply) from to (meant_by reply) c.print_last.result _ _
-          c.to-days.ensures.works c.to-days.ensures.none shown.1 c.if-days.false c.to-days.ensures.same c.print_last.ensures);
+      told = rw end (told_all g.P.Printer.contents day_line shown.0 (λ n. last_line n reply) from to (meant_by reply) c.print_last.result _ _
+          c.to-days.ensures.works c.to-days.ensures.none shown.1 c.if-days.false c.to-days.ensures.same c.print_last.ensures.told);
     }
