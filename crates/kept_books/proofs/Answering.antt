@@ -38,7 +38,7 @@ put_in (Ok was) old new name x ok err other = inserted old new name other x ok
 put_in {T = T} (Err e) old new name x ok err other = inl (ap (λ (es : List (Key × T)). lookup (is_at (key_cmp (named other))) es) err)
 
 pub none_and_some : {T P : Type 0} (o : Option T) (x : T) → o ≡ None → o ≡ Some x → P
-pub none_and_some o x n s = absurd (let e : None ≡ Some x = sym n ∙ s in cc)
+none_and_some o x n s = absurd (let e : None ≡ Some x = sym n ∙ s in cc)
 
 -- where nothing is kept each is so
 pub none_kept : {T : Type 0} (so : List ℕ → T → Type 0) (answers : Answers T) → ((name : List ℕ) → answer_to answers name ≡ None) → EachIs so answers
