@@ -6,6 +6,8 @@ use Rattle.command_io.specs.declared.status.ExitStatus.{ExitStatus}
 use Rattle.office_rules.specs.History.{History, facts_of}
 use Rattle.office_rules.specs.Lawfulness.{IsPast}
 use Rattle.office_books.specs.Ledgers.{Ledger}
+use Rattle.kept_books.specs.declared.kept.KeptBooks.{KeptBooks}
+use Rattle.kept_books.specs.Keeping.{beneath, ledger_over}
 use Rattle.office_store.specs.Stored.{ledger_of}
 use Rattle.office_store.specs.Database.{HasFile, HoldsAlone}
 use Rattle.office_store.specs.declared.books.SqlBooks.{SqlBooks}
@@ -23,16 +25,21 @@ module _ {S : Type 0} (g : Ghosts S) where
     pub has : HasFile g zone h (facts_of past)
 
   -- what is known of books in a database
-  abbrev pub ledger_in : SqlBooks S g → Ledger
-  ledger_in books = ledger_of g books.connection books.faults books.zone
+  abbrev pub ledger_beneath : SqlBooks S g → Ledger
+  ledger_beneath books = ledger_of g books.connection books.faults books.zone
+
+  -- ... that keep what look-ups answered
+  abbrev pub ledger_in : KeptBooks (SqlBooks S g) → Ledger
+  ledger_in books = ledger_over ledger_beneath books
 
   -- Books were found that hold the facts of what was accepted before, and a stop leaves nothing else; and this was done
   -- between them and the books that were left, if the store gave back what was written until then.
-  pub record OverBooks (past : History) (Does : (found left : SqlBooks S g) → Type 0) : Type 0 where
+  pub record OverBooks (past : History)
+      (Does : (found left : KeptBooks (SqlBooks S g)) → Type 0) : Type 0 where
     pub zone : List ℕ
-    pub found : SqlBooks S g
-    pub holds : HoldsAlone g zone found.connection (facts_of past)
-    pub left : SqlBooks S g
+    pub found : KeptBooks (SqlBooks S g)
+    pub holds : HoldsAlone g zone (beneath found).connection (facts_of past)
+    pub left : KeptBooks (SqlBooks S g)
     pub does : (ledger_in left).is_clean → Does found left
 
   -- the report of a register, HTTP on a port, and a round, over such books

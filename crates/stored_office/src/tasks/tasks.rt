@@ -8,6 +8,7 @@ ghost use Rattle.stored_office.specs.Tasks.Tasks.{IsOf, Does};
 
 use crate::files::Closes;
 use command_io::ExitStatus;
+use kept_books::KeptBooks;
 use office_program::{PollEnd, ServeEnd, poll_books, report_books, serve_books};
 use office_running::{RunFault, Settings, Site, run_office};
 use office_store::{OpenFault, SqlBooks};
@@ -73,33 +74,36 @@ pub fn carry_out_stored<R: Net + std::rt::Clock, S: Closes, C: Clock, W: Write, 
         (W.contents output.old) (W.contents output.new) task.entry) }
 {
     match SqlBooks::open(alloc, connection) {
-        Ok(books) => match task {
-            Task::Report { register } => {
-                let done = report_books(alloc, books, register, clock, output);
-                Ok(Done::Reported(done.end))
+        Ok(opened) => {
+            let books = KeptBooks::new(alloc, opened);
+            match task {
+                Task::Report { register } => {
+                    let done = report_books(alloc, books, register, clock, output);
+                    Ok(Done::Reported(done.end))
+                }
+                Task::Serve {
+                    host,
+                    port,
+                    names,
+                    connections,
+                } => {
+                    let at = (host, port);
+                    let done = serve_books(rt, alloc, books, at, names, connections, clock, output);
+                    S::close(done.books.into_books().into_connection());
+                    Ok(Done::Served(done.end))
+                }
+                Task::Round { device, host, port } => {
+                    let done = poll_books(rt, alloc, books, device, (host, port), clock, output);
+                    S::close(done.books.into_books().into_connection());
+                    Ok(Done::Polled(done.end))
+                }
+                Task::Run { settings, sites } => {
+                    let done = run_office(rt, alloc, books, settings, sites, clock, output, errors);
+                    S::close(done.books.into_books().into_connection());
+                    Ok(Done::Ran(done.end))
+                }
             }
-            Task::Serve {
-                host,
-                port,
-                names,
-                connections,
-            } => {
-                let place = (host, port);
-                let done = serve_books(rt, alloc, books, place, names, connections, clock, output);
-                S::close(done.books.into_connection());
-                Ok(Done::Served(done.end))
-            }
-            Task::Round { device, host, port } => {
-                let done = poll_books(rt, alloc, books, device, (host, port), clock, output);
-                S::close(done.books.into_connection());
-                Ok(Done::Polled(done.end))
-            }
-            Task::Run { settings, sites } => {
-                let done = run_office(rt, alloc, books, settings, sites, clock, output, errors);
-                S::close(done.books.into_connection());
-                Ok(Done::Ran(done.end))
-            }
-        },
+        }
         Err(unopened) => Err(unopened.fault),
     }
 }

@@ -11,8 +11,8 @@ unfolding Does
 returns-in-Ok-in-Report-clause-does g c = λ past has.
     let P : Task → Type 0 = λ t. Does g.S.Store past (g.C.Clock.moments c.args.clock.now) (g.C.Clock.moments c.report_books-done.new.clock)
     (g.W.Write.contents c.args.output.now) (g.W.Write.contents c.report_books-done.new.output) t (Reported c.report_books-done.result.end) in
-    subst P (sym c.in-Report.is) (over g.S.Store past c.in-Ok.books c.report_books-done.result.books _ has.zone has.is_past
-    (c.in-Ok.ensures.again has.zone (facts_of past) has.has)
+    subst P (sym c.in-Report.is) (over g.S.Store past c.in-Ok.opened c.new-books.result c.report_books-done.result.books _ has.zone has.is_past
+    (c.in-Ok.ensures.again has.zone (facts_of past) has.has) c.new-books.ensures.books c.new-books.ensures.stands
     (λ stands clean. c.report_books-done.ensures.tells past stands clean))
 
 pub returns-in-Ok-in-Serve-clause-does : goal.returns-in-Ok-in-Serve-clause-does
@@ -20,8 +20,8 @@ unfolding Does
 returns-in-Ok-in-Serve-clause-does g c = λ past has.
     let P : Task → Type 0 = λ t. Does g.S.Store past (g.C.Clock.moments c.args.clock.now) (g.C.Clock.moments c.serve_books-done.new.clock)
     (g.W.Write.contents c.args.output.now) (g.W.Write.contents c.serve_books-done.new.output) t (Served c.serve_books-done.result.end) in
-    subst P (sym c.in-Serve.is) (over g.S.Store past c.in-Ok.books c.serve_books-done.result.books _ has.zone has.is_past
-    (c.in-Ok.ensures.again has.zone (facts_of past) has.has)
+    subst P (sym c.in-Serve.is) (over g.S.Store past c.in-Ok.opened c.new-books.result c.serve_books-done.result.books _ has.zone has.is_past
+    (c.in-Ok.ensures.again has.zone (facts_of past) has.has) c.new-books.ensures.books c.new-books.ensures.stands
     (λ stands clean. c.serve_books-done.ensures.tells past stands clean))
 
 pub returns-in-Ok-in-Round-clause-does : goal.returns-in-Ok-in-Round-clause-does
@@ -29,8 +29,8 @@ unfolding Does
 returns-in-Ok-in-Round-clause-does g c = λ past has.
     let P : Task → Type 0 = λ t. Does g.S.Store past (g.C.Clock.moments c.args.clock.now) (g.C.Clock.moments c.poll_books-done.new.clock)
     (g.W.Write.contents c.args.output.now) (g.W.Write.contents c.poll_books-done.new.output) t (Polled c.poll_books-done.result.end) in
-    subst P (sym c.in-Round.is) (over g.S.Store past c.in-Ok.books c.poll_books-done.result.books _ has.zone has.is_past
-    (c.in-Ok.ensures.again has.zone (facts_of past) has.has)
+    subst P (sym c.in-Round.is) (over g.S.Store past c.in-Ok.opened c.new-books.result c.poll_books-done.result.books _ has.zone has.is_past
+    (c.in-Ok.ensures.again has.zone (facts_of past) has.has) c.new-books.ensures.books c.new-books.ensures.stands
     (λ stands clean. c.poll_books-done.ensures.tells past stands clean))
 
 pub returns-in-Ok-in-Run-clause-does : goal.returns-in-Ok-in-Run-clause-does
@@ -38,6 +38,6 @@ unfolding Does
 returns-in-Ok-in-Run-clause-does g c = λ past has.
     let P : Task → Type 0 = λ t. Does g.S.Store past (g.C.Clock.moments c.args.clock.now) (g.C.Clock.moments c.run_office-done.new.clock)
     (g.W.Write.contents c.args.output.now) (g.W.Write.contents c.run_office-done.new.output) t (Ran c.run_office-done.result.end) in
-    subst P (sym c.in-Run.is) (over g.S.Store past c.in-Ok.books c.run_office-done.result.books _ has.zone has.is_past
-    (c.in-Ok.ensures.again has.zone (facts_of past) has.has)
+    subst P (sym c.in-Run.is) (over g.S.Store past c.in-Ok.opened c.new-books.result c.run_office-done.result.books _ has.zone has.is_past
+    (c.in-Ok.ensures.again has.zone (facts_of past) has.has) c.new-books.ensures.books c.new-books.ensures.stands
     (λ stands clean. c.run_office-done.ensures.books past stands clean))
