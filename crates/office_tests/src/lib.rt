@@ -23,6 +23,8 @@ mod fault_texts;
 #[cfg(test)]
 mod headline;
 #[cfg(test)]
+mod kept_books;
+#[cfg(test)]
 mod kept_rows;
 #[cfg(test)]
 mod links;

@@ -1,0 +1,7 @@
+mod Examples
+pub mod Answering
+pub mod Latest
+pub mod Adding
+pub mod Reading
+pub mod Booking
+pub mod Beneath

@@ -1,0 +1,4 @@
+pub mod Answers
+pub mod Changes
+pub mod Known
+pub mod Keeping
