@@ -37,7 +37,7 @@ pub put_in : {T E : Type 0} (r : Result (Option T) E) (old new : BTreeMap Key T)
 put_in (Ok was) old new name x ok err other = inserted old new name other x ok
 put_in {T = T} (Err e) old new name x ok err other = inl (ap (λ (es : List (Key × T)). lookup (is_at (key_cmp (named other))) es) err)
 
-none_and_some : {T P : Type 0} (o : Option T) (x : T) → o ≡ None → o ≡ Some x → P
+pub none_and_some : {T P : Type 0} (o : Option T) (x : T) → o ≡ None → o ≡ Some x → P
 none_and_some o x n s = absurd (let e : None ≡ Some x = sym n ∙ s in cc)
 
 -- where nothing is kept each is so

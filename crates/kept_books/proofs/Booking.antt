@@ -18,9 +18,10 @@ keeps old new kept clean k = record {
 pub nothing_booked : (old new : Ledger) (kept : Known) (facts : List Fact) (result : Result (Unit {0}) BooksFault) → facts ≡ []
     → Books old new facts result → Books (keeping kept old) (keeping kept new) facts result
 nothing_booked old new kept facts (Ok done) none books = record {
-  booked = λ known holds lawful.
-      (books.booked known holds.0 lawful,
-      λ clean. subst (λ (fs : List Fact). AreTrue kept (with_facts fs known)) (sym none) (holds.1 (books.goes.clean clean)));
+  booked = λ known holds lawful. (
+    books.booked known holds.0 lawful,
+    λ clean. subst (λ (fs : List Fact). AreTrue kept (with_facts fs known)) (sym none) (holds.1 (books.goes.clean clean)),
+  );
   settled = λ some known holds lawful. absurd (some none);
   refused = λ known holds. tt;
   under_way = λ known left holds lawful may. tt;

@@ -165,11 +165,8 @@ impl Known {
             Fact::Void(voided) => {
                 self.standing.take(&voided.meter);
             }
-            Fact::Device(_)
-            | Fact::Hold(_)
-            | Fact::Poll(_)
-            | Fact::Outcome(_)
-            | Fact::Reply(_) => {}
+            Fact::Device(_) | Fact::Hold(_) | Fact::Poll(_) | Fact::Outcome(_) | Fact::Reply(_) =>
+                {}
         }
     }
 

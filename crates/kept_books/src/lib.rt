@@ -2,9 +2,9 @@
 #![tactic(auto)]
 
 mod answers;
-mod known;
-mod keys;
 mod kept;
+mod keys;
+mod known;
 mod standing;
 
 pub use kept::KeptBooks;
