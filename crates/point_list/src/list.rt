@@ -41,7 +41,7 @@ impl PointList {
     }
 
     /// The list of points that are known to keep what every list keeps.
-    pub(crate) fn of_lawful(points: Vec<ListedPoint>) -> Self
+    pub fn of_lawful(points: Vec<ListedPoint>) -> Self
         requires { IsPointList points.items }
         ensures { result ≡ points.items }
     {
