@@ -1,5 +1,6 @@
 pub mod Opened
 pub mod Report
+pub mod RangedReport
 pub mod HttpPort
 pub mod PortRound
 pub mod Texts

@@ -1,0 +1,18 @@
+//! What the rows of an energy report are, for a range of civil days and by periods, and how they are written.
+#![tactic(auto)]
+
+mod form;
+mod laws;
+mod line;
+mod range;
+mod read_day;
+mod report_rows;
+mod row;
+mod row_text;
+
+pub use form::{EnergyUnit, Format, Period, ReportForm};
+pub use laws::{plain_reports_are_lists_of_days, ranges_add_up, rows_add_up, rows_are_whole};
+pub use range::DayRange;
+pub use read_day::read_day;
+pub use report_rows::ReportRows;
+pub use row::Row;
