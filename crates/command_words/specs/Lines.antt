@@ -1,11 +1,11 @@
 -- The command that the words spell.
-use Rattle.std.specs.Prelude.{ℕ, Bool, ◌&&◌, is_some, List, Option, Some, None, codes, map, option_map, if◌then◌else◌}
+use Rattle.std.specs.Prelude.{ℕ, Bool, ◌&&◌, is_some, List, [], Option, Some, None, codes, map, option_map, if◌then◌else◌}
 use Rattle.std.specs.Str.{bytes_eq}
 use Rattle.clap.specs.Words.{Row, Text}
 use Rattle.command_words.specs.Values.Devices.{Place, devices_in, place_of}
 use Rattle.command_words.specs.Values.Given.{given}
 use Rattle.command_words.specs.ClapTable.Table.{texts}
-use Rattle.command_words.specs.Options.{is_set, number_at, number_if, number_or, text_at, text_or, texts_at}
+use Rattle.command_words.specs.Options.{is_set, number_at, number_if, number_or, or_else, text_at, text_or, texts_at}
 use Rattle.command_words.specs.declared.line.CommandLine.{CommandLine}
 use Rattle.command_words.specs.declared.line.CommandLine.TheVariants as line
 
@@ -15,30 +15,39 @@ pub data Line : Type 0 where
   Plan : Line
   Chain : Line
   Create : (db zone : Text) → Line
+  Enter : (db caller : Text) (devices : List Place) (only_read : Bool) → Line
   Serve : (db : Text) (port connections : ℕ) (hosts : List Text) → Line
   Round : (db device host : Text) (port : ℕ) → Line
   Report : (db register : Text) → Line
+  Backup : (db to : Text) → Line
   Scan : (host : Text) (port unit timeout : ℕ) (list : Bool) (setup : Option Text) → Line
   StandIn : (host : Text) (port connections : ℕ) → Line
   Loop : (zone : Text) → Line
   Run : (db : Text) (listen every : ℕ) (devices : List Place) (lasts : Option ℕ)
       (hosts : List Text) (verbose : Bool) → Line
+  Explain : (what number : Text) → Line
+  Completions : Line
 
 abbrev pub seen : CommandLine → Line
 seen (line.Replay zone) = Replay zone.now
 seen line.Plan = Plan
 seen line.Chain = Chain
 seen (line.Create db zone) = Create db.now zone.now
+seen (line.Enter db caller devices only_read) =
+    Enter db.now caller.now (map place_of devices.items) only_read
 seen (line.Serve db port connections hosts) =
     Serve db.now port connections (texts hosts.items)
 seen (line.Round db device host port) = Round db.now device.now host.now port
 seen (line.Report db register) = Report db.now register.now
+seen (line.Backup db to) = Backup db.now to.now
 seen (line.Scan host port unit timeout list setup) =
     Scan host.now port unit timeout list (option_map (λ text. text.now) setup)
 seen (line.StandIn host port connections) = StandIn host.now port connections
 seen (line.Loop zone) = Loop zone.now
 seen (line.Run db listen every devices lasts hosts verbose) =
     Run db.now listen every (map place_of devices.items) lasts (texts hosts.items) verbose
+seen (line.Explain what number) = Explain what.now number.now
+seen line.Completions = Completions
 
 -- ---- the options that several commands have
 
@@ -68,6 +77,17 @@ create_in rows =
     given (db_in rows) (λ db.
     given (text_at (codes "zone") rows) (λ zone. Some (Create db zone)))
 
+-- devices that may lack, but that are devices where they stand
+abbrev pub devices_if : List Row → Option (List Place)
+devices_if rows = or_else [] devices_in (text_at (codes "devices") rows)
+
+abbrev pub enter_in : List Row → Option Line
+enter_in rows =
+    given (db_in rows) (λ db.
+    given (text_at (codes "caller") rows) (λ caller.
+    given (devices_if rows) (λ devices.
+    Some (Enter db caller devices (is_set (codes "only-read") rows)))))
+
 abbrev pub serve_in : List Row → Option Line
 serve_in rows =
     given (db_in rows) (λ db.
@@ -85,6 +105,11 @@ abbrev pub report_in : List Row → Option Line
 report_in rows =
     given (db_in rows) (λ db.
     given (text_at (codes "register") rows) (λ register. Some (Report db register)))
+
+abbrev pub backup_in : List Row → Option Line
+backup_in rows =
+    given (db_in rows) (λ db.
+    given (text_at (codes "to") rows) (λ to. Some (Backup db to)))
 
 -- of a list and lines to set a device up only one is printed
 abbrev pub one_of : (list : Bool) (setup : Option Text) → Line → Option Line
@@ -116,6 +141,17 @@ run_in rows =
     given (devices_at rows) (λ devices.
     Some (Run db listen every devices lasts (hosts_in rows) (is_set (codes "verbose") rows)))))))
 
+abbrev pub explain_in : List Row → Option Line
+explain_in rows =
+    given (text_at (codes "what") rows) (λ what.
+    given (text_at (codes "number") rows) (λ number. Some (Explain what number)))
+
+-- bash alone has completions
+abbrev pub completions_in : List Row → Option Line
+completions_in rows =
+    given (text_at (codes "shell") rows)
+    (λ shell. if bytes_eq shell (codes "bash") then Some Completions else None)
+
 -- the command of a name, with what was found of its options
 unfoldable pub command_in : Text → List Row → Option Line
 command_in name rows =
@@ -130,7 +166,11 @@ command_in name rows =
     else (if bytes_eq name (codes "loop") then Some (Loop (zone_in rows))
     else (if bytes_eq name (codes "run") then run_in rows
     else (if bytes_eq name (codes "scan") then scan_in rows
-    else None))))))))))
+    else (if bytes_eq name (codes "enter") then enter_in rows
+    else (if bytes_eq name (codes "backup") then backup_in rows
+    else (if bytes_eq name (codes "explain") then explain_in rows
+    else (if bytes_eq name (codes "completions") then completions_in rows
+    else None))))))))))))))
 
 -- no command is `replay` without options
 abbrev pub line_in : Option (Text × List Row) → Option Line

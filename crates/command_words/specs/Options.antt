@@ -53,6 +53,7 @@ IsDue (fault.Missing option) due = None ≡ due
 IsDue (fault.Number option word) due = None ≡ due
 IsDue (fault.Both one other) due = None ≡ due
 IsDue (fault.Command name) due = None ≡ due
+IsDue (fault.Shell word) due = None ≡ due
 IsDue (fault.Device part fault) due = None ≡ due
 
 -- what reading answers of the value that is due, which `seen` compares

@@ -1,7 +1,11 @@
 -- The program's commands and options.
-use Rattle.std.specs.Prelude.{List, [], ◌∷◌, codes}
+use Rattle.std.specs.Prelude.{ℕ, List, [], ◌∷◌, codes}
 use Rattle.clap.specs.Words.{App}
-use Rattle.command_words.specs.ClapTable.Table.{command_with, flag, optional_option, program_with, repeated_option, required_option}
+use Rattle.command_words.specs.ClapTable.Table.{command_with, flag, lettered_flag, optional_option, program_with, repeated_option, required_option, word}
+
+-- the code of `n`
+abbrev pub letter_n : ℕ
+letter_n = 110
 
 abbrev pub commands : List App
 commands =
@@ -14,6 +18,9 @@ commands =
     ∷ flag (codes "list") ∷ optional_option (codes "setup") ∷ [])
     ∷ command_with (codes "create")
     (required_option (codes "db") ∷ required_option (codes "zone") ∷ [])
+    ∷ command_with (codes "enter")
+    (required_option (codes "db") ∷ required_option (codes "caller")
+    ∷ optional_option (codes "devices") ∷ lettered_flag letter_n (codes "only-read") ∷ [])
     ∷ command_with (codes "serve")
     (required_option (codes "db") ∷ required_option (codes "port")
     ∷ required_option (codes "connections") ∷ repeated_option (codes "host-name") ∷ [])
@@ -22,6 +29,8 @@ commands =
     ∷ optional_option (codes "host") ∷ required_option (codes "port") ∷ [])
     ∷ command_with (codes "report")
     (required_option (codes "db") ∷ required_option (codes "register") ∷ [])
+    ∷ command_with (codes "backup")
+    (required_option (codes "db") ∷ required_option (codes "to") ∷ [])
     ∷ command_with (codes "stand-in")
     (optional_option (codes "host") ∷ required_option (codes "port")
     ∷ required_option (codes "connections") ∷ [])
@@ -31,6 +40,8 @@ commands =
     ∷ required_option (codes "every") ∷ required_option (codes "devices")
     ∷ optional_option (codes "for") ∷ repeated_option (codes "host-name")
     ∷ flag (codes "verbose") ∷ [])
+    ∷ command_with (codes "explain") (word (codes "what") ∷ word (codes "number") ∷ [])
+    ∷ command_with (codes "completions") (word (codes "shell") ∷ [])
     ∷ []
 
 abbrev pub program : App

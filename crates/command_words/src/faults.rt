@@ -26,6 +26,10 @@ pub enum ValueFault<'a> {
     Command {
         name: &'a str,
     },
+    /// There are no completions for the shell.
+    Shell {
+        word: &'a str,
+    },
     /// A part of the list is no device of it.
     Device {
         part: &'a str,
@@ -41,6 +45,8 @@ pub enum WordsFault {
     Wrong(String),
     /// Help was asked for; the text is for standard output.
     Help(String),
+    /// The version was asked for.
+    Version,
     Memory,
 }
 
@@ -62,6 +68,10 @@ impl<'a> Display for ValueFault<'a> {
                 "error: the argument '--{one}' cannot be used with '--{other}'"
             )?,
             ValueFault::Command { name } => write!(f, "error: unrecognized subcommand '{name}'")?,
+            ValueFault::Shell { word } => write!(
+                f,
+                "error: invalid value '{word}' for '<SHELL>': there are completions for bash alone"
+            )?,
             ValueFault::Device { part, fault } => {
                 write!(
                     f,
@@ -80,6 +90,7 @@ impl Display for WordsFault {
         match self {
             WordsFault::Wrong(text) => write!(f, "{text}"),
             WordsFault::Help(text) => write!(f, "{text}"),
+            WordsFault::Version => write!(f, "the version was asked for"),
             WordsFault::Memory => write!(f, "memory ran out"),
         }
     }

@@ -11,7 +11,9 @@ mod values;
 mod words;
 
 pub use crate::values::Device;
+pub use clap_table::{CommandText, OptionText, ProgramText, Value};
 pub use faults::WordsFault;
 pub use line::CommandLine;
+pub use table::program;
 pub use values::{DeviceFault, ListFault};
 pub use words::command_of;

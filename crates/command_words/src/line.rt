@@ -18,6 +18,14 @@ pub enum CommandLine<'a> {
         db: &'a str,
         zone: &'a str,
     },
+    /// The commands in lines of standard input, each under a number of its own by a caller. `@read` is what a register
+    /// shows, asked of these devices. Where it is only read, nothing is asked of the office.
+    Enter {
+        db: &'a str,
+        caller: &'a str,
+        devices: Vec<Device<'a>>,
+        only_read: bool,
+    },
     /// HTTP, for a number of connections. It may be asked by the names of this machine alone, and by these.
     Serve {
         db: &'a str,
@@ -36,6 +44,11 @@ pub enum CommandLine<'a> {
     Report {
         db: &'a str,
         register: &'a str,
+    },
+    /// A whole copy of an office's file.
+    Backup {
+        db: &'a str,
+        to: &'a str,
     },
     /// The SunSpec models of a live device: listed, as a point list, or as the lines that set the device up under a name.
     Scan {
@@ -66,4 +79,11 @@ pub enum CommandLine<'a> {
         host_names: Vec<&'a str>,
         verbose: bool,
     },
+    /// What a number means that stands behind a word.
+    Explain {
+        what: &'a str,
+        number: &'a str,
+    },
+    /// What bash completes the words of a command line by.
+    Completions,
 }

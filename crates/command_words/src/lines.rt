@@ -1,8 +1,9 @@
 //! The command of what was found.
 ghost use Rattle.clap.specs.Words.{subcommand_rows_of};
-ghost use Rattle.command_words.specs.Values.Devices.{places_of};
-ghost use Rattle.command_words.specs.Lines.{command_in, create_in, devices_at, line_in, report_in};
-ghost use Rattle.command_words.specs.Lines.{round_in, run_in, scan_in, seen, serve_in, stand_in_in};
+ghost use Rattle.command_words.specs.Values.Devices.{devices_in, places_of};
+ghost use Rattle.command_words.specs.Lines.{backup_in, command_in, completions_in, create_in, devices_at, devices_if};
+ghost use Rattle.command_words.specs.Lines.{enter_in, explain_in, line_in, report_in, round_in, run_in, scan_in, seen};
+ghost use Rattle.command_words.specs.Lines.{serve_in, stand_in_in};
 ghost use Rattle.command_words.specs.Options.{Reads, rows_in};
 
 use crate::faults::ValueFault;
@@ -22,6 +23,20 @@ fn create_line<'a>(found: &ArgMatches<'a>) -> Result<CommandLine<'a>, ValueFault
     let db = text(found, "db")?;
     let zone = text(found, "zone")?;
     Ok(CommandLine::Create { db, zone })
+}
+
+fn enter_line<'a>(alloc: Global, found: &ArgMatches<'a>) -> Result<CommandLine<'a>, ValueFault<'a>>
+    ensures { Reads seen (enter_in (rows_in found.now)) result }
+{
+    let db = text(found, "db")?;
+    let caller = text(found, "caller")?;
+    let devices = devices_if(alloc, found)?;
+    Ok(CommandLine::Enter {
+        db,
+        caller,
+        devices,
+        only_read: is_set(found, "only-read"),
+    })
 }
 
 fn serve_line<'a>(alloc: Global, found: &ArgMatches<'a>) -> Result<CommandLine<'a>, ValueFault<'a>>
@@ -61,6 +76,14 @@ fn report_line<'a>(found: &ArgMatches<'a>) -> Result<CommandLine<'a>, ValueFault
     Ok(CommandLine::Report { db, register })
 }
 
+fn backup_line<'a>(found: &ArgMatches<'a>) -> Result<CommandLine<'a>, ValueFault<'a>>
+    ensures { Reads seen (backup_in (rows_in found.now)) result }
+{
+    let db = text(found, "db")?;
+    let to = text(found, "to")?;
+    Ok(CommandLine::Backup { db, to })
+}
+
 fn scan_line<'a>(found: &ArgMatches<'a>) -> Result<CommandLine<'a>, ValueFault<'a>>
     ensures { Reads seen (scan_in (rows_in found.now)) result }
 {
@@ -97,15 +120,32 @@ fn stand_in_line<'a>(found: &ArgMatches<'a>) -> Result<CommandLine<'a>, ValueFau
     })
 }
 
+// The devices that a list names.
+fn listed<'a>(alloc: Global, list: &'a str) -> Result<Vec<Device<'a>>, ValueFault<'a>>
+    ensures { Reads (λ devices. places_of devices.items) (devices_in list.now) result }
+{
+    match devices_in(alloc, list) {
+        Ok(devices) => Ok(devices),
+        Err(ListFault::Part { part, fault }) => Err(ValueFault::Device { part, fault }),
+        Err(ListFault::Memory) => Err(ValueFault::Memory),
+    }
+}
+
 // The devices that the option names.
 fn devices<'a>(alloc: Global, found: &ArgMatches<'a>) -> Result<Vec<Device<'a>>, ValueFault<'a>>
     ensures { Reads (λ devices. places_of devices.items) (devices_at (rows_in found.now)) result }
 {
     let list = text(found, "devices")?;
-    match devices_in(alloc, list) {
-        Ok(devices) => Ok(devices),
-        Err(ListFault::Part { part, fault }) => Err(ValueFault::Device { part, fault }),
-        Err(ListFault::Memory) => Err(ValueFault::Memory),
+    listed(alloc, list)
+}
+
+// The devices that the option names; none where it isn't given.
+fn devices_if<'a>(alloc: Global, found: &ArgMatches<'a>) -> Result<Vec<Device<'a>>, ValueFault<'a>>
+    ensures { Reads (λ devices. places_of devices.items) (devices_if (rows_in found.now)) result }
+{
+    match text_if(found, "devices") {
+        Some(list) => listed(alloc, list),
+        None => Ok(Vec::new(alloc)),
     }
 }
 
@@ -127,6 +167,24 @@ fn run_line<'a>(alloc: Global, found: &ArgMatches<'a>) -> Result<CommandLine<'a>
         host_names,
         verbose: is_set(found, "verbose"),
     })
+}
+
+fn explain_line<'a>(found: &ArgMatches<'a>) -> Result<CommandLine<'a>, ValueFault<'a>>
+    ensures { Reads seen (explain_in (rows_in found.now)) result }
+{
+    let what = text(found, "what")?;
+    let number = text(found, "number")?;
+    Ok(CommandLine::Explain { what, number })
+}
+
+fn completions_line<'a>(found: &ArgMatches<'a>) -> Result<CommandLine<'a>, ValueFault<'a>>
+    ensures { Reads seen (completions_in (rows_in found.now)) result }
+{
+    let shell = text(found, "shell")?;
+    if shell != "bash" {
+        return Err(ValueFault::Shell { word: shell });
+    }
+    Ok(CommandLine::Completions)
 }
 
 // The command of a name, with what was found of its options.
@@ -154,6 +212,10 @@ fn command_line<'a>(
         }),
         "run" => run_line(alloc, found),
         "scan" => scan_line(found),
+        "enter" => enter_line(alloc, found),
+        "backup" => backup_line(found),
+        "explain" => explain_line(found),
+        "completions" => completions_line(found),
         _ => Err(ValueFault::Command { name }),
     }
 }

@@ -1,4 +1,8 @@
 //! The program's commands and options, with their help.
+ghost use Rattle.std.specs.Prelude.{◌≡◌};
+ghost use Rattle.command_words.specs.ClapTable.Table.{program_app};
+ghost use Rattle.command_words.specs.Program.{program};
+
 use crate::clap_table::{CommandText, OptionText, ProgramText, Value};
 
 /// An option whose value is a number from 1 to the most; the help shows `value` for it.
@@ -132,6 +136,18 @@ const ASKED_NAME: OptionText<'static> = OptionText {
     help: "Another name that Host may say; may stand several times",
 };
 
+const COPY: OptionText<'static> = OptionText {
+    name: "to",
+    value: Value::Required("COPY"),
+    help: "File that gets the copy; there must be none of that name yet",
+};
+
+const CALLER: OptionText<'static> = OptionText {
+    name: "caller",
+    value: Value::Required("NAME"),
+    help: "Who asks: a line's number acts once for a caller",
+};
+
 const DEVICE: OptionText<'static> = OptionText {
     name: "device",
     value: Value::Required("NAME"),
@@ -172,6 +188,26 @@ const CREATE: CommandText<'static> = CommandText {
     options: &[NEW_DB, NEW_ZONE],
 };
 
+const ENTER: CommandText<'static> = CommandText {
+    name: "enter",
+    about: "Sets an office up from lines of standard input, each of which acts once",
+    after: "Example: sunreg enter --db office.db --caller site < site.txt",
+    options: &[
+        DB,
+        CALLER,
+        OptionText {
+            name: "devices",
+            value: Value::Optional("LIST"),
+            help: "Where @read asks: 1 to 64 of NAME=HOST:PORT, joined by commas",
+        },
+        OptionText {
+            name: "only-read",
+            value: Value::Letter('n'),
+            help: "Only tells which lines are bad, and which would repeat",
+        },
+    ],
+};
+
 const SERVE: CommandText<'static> = CommandText {
     name: "serve",
     about: "Answers HTTP on 127.0.0.1, one connection after the other",
@@ -191,6 +227,13 @@ const REPORT: CommandText<'static> = CommandText {
     about: "Prints a register's energy by days",
     after: "Example: sunreg report --db office.db --register main",
     options: &[DB, REGISTER],
+};
+
+const BACKUP: CommandText<'static> = CommandText {
+    name: "backup",
+    about: "Makes one whole file of an office",
+    after: "Example: sunreg backup --db office.db --to copy.db",
+    options: &[DB, COPY],
 };
 
 const SCAN: CommandText<'static> = CommandText {
@@ -272,14 +315,82 @@ const RUN: CommandText<'static> = CommandText {
     ],
 };
 
+const EXPLAIN: CommandText<'static> = CommandText {
+    name: "explain",
+    about: "Tells what a printed number means, its usual cause, and what to do",
+    after: "Example: sunreg explain refused 12",
+    options: &[
+        OptionText {
+            name: "what",
+            value: Value::Word {
+                shown: "WHAT",
+                choices: &[
+                    "refused",
+                    "held",
+                    "lost",
+                    "malformed",
+                    "exception",
+                    "fault",
+                    "status",
+                ],
+            },
+            help: "refused, held, lost, malformed, exception, fault or status",
+        },
+        OptionText {
+            name: "number",
+            value: Value::Word {
+                shown: "NUMBER",
+                choices: &[],
+            },
+            help: "The number that stands behind it",
+        },
+    ],
+};
+
+const COMPLETIONS: CommandText<'static> = CommandText {
+    name: "completions",
+    about: "Prints what a shell completes the words of sunreg by",
+    after: "Example: sunreg completions bash > sunreg.bash",
+    options: &[OptionText {
+        name: "shell",
+        value: Value::Word {
+            shown: "SHELL",
+            choices: &["bash"],
+        },
+        help: "bash",
+    }],
+};
+
 /// The program.
 pub const PROGRAM: ProgramText<'static> = ProgramText {
     name: "sunreg",
+    version: "1.0",
     about: "Polls SunSpec meters by Modbus TCP; keeps their energy by quarter hours and days",
     after: "Without a command it is replay. Help on a command: sunreg help COMMAND\n\
             Example: sunreg replay < script.txt\n\
             Exit status: 0 fine, 1 refused, 2 wrong words, 3 a file, stream or socket failed",
     commands: &[
-        REPLAY, PLAN, CHAIN, SCAN, CREATE, SERVE, ROUND, REPORT, STAND_IN, LOOP, RUN,
+        REPLAY,
+        PLAN,
+        CHAIN,
+        SCAN,
+        CREATE,
+        ENTER,
+        SERVE,
+        ROUND,
+        REPORT,
+        BACKUP,
+        STAND_IN,
+        LOOP,
+        RUN,
+        EXPLAIN,
+        COMPLETIONS,
     ],
 };
+
+/// The program's commands and options, as its words are read by them.
+pub fn program() -> ProgramText<'static>
+    ensures { program_app result ≡ program }
+{
+    PROGRAM
+}

@@ -29,6 +29,9 @@ fn refusal(alloc: Global, error: &Error) -> WordsFault
     if error.kind() == ErrorKind::OutOfMemory {
         return WordsFault::Memory;
     }
+    if error.kind() == ErrorKind::DisplayVersion {
+        return WordsFault::Version;
+    }
     let Ok(text) = format!(in alloc; "{error}") else {
         return WordsFault::Memory;
     };

@@ -1,4 +1,6 @@
 //! The commands, over the streams and sockets of the process.
+use crate::completions::completions;
+use crate::explain::explain;
 use crate::offices::{create, report, round, run, serve};
 use crate::run_words::settings_of;
 use crate::scans::{Target, scan};
@@ -67,6 +69,8 @@ pub(crate) fn carry_out<'a>(rt: &HostRuntime, line: &CommandLine<'a>) -> Ending<
             let settings = settings_of(*listen, *every, *lasts, host_names.as_slice(), *verbose);
             run(rt, *db, devices, &settings)
         }
+        CommandLine::Explain { what, number } => explain(rt, *what, *number),
+        CommandLine::Completions => completions(rt),
     }
 }
 

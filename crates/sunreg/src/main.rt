@@ -7,13 +7,19 @@ ghost use Rattle.stored_office.specs.Ends.Endings.{ending_number};
 
 mod command_output;
 mod commands;
+mod completions;
 mod escaped;
+mod explain;
 mod offices;
 mod run_words;
 mod scans;
+mod version;
+mod waiting;
 
 use crate::commands::carry_out;
 use crate::escaped::Escaped;
+use crate::version::version;
+use crate::waiting::say_waiting;
 use command_words::{WordsFault, command_of};
 use std::alloc::{AllocError, Global};
 use std::env;
@@ -35,9 +41,13 @@ fn main(rt: HostRuntime) -> ExitCode {
     let Ok(texts) = texts_of(rt.alloc(), &words) else {
         return ended(&rt, &Ending::Failed(Failure::Memory));
     };
+    if texts.is_empty() {
+        say_waiting(&rt);
+    }
     match command_of(rt.alloc(), &texts) {
         Ok(line) => ended(&rt, &carry_out(&rt, &line)),
         Err(WordsFault::Help(text)) => ended(&rt, &print_help(&rt, text.as_str())),
+        Err(WordsFault::Version) => ended(&rt, &version(&rt)),
         Err(WordsFault::Wrong(text)) => ended(&rt, &Ending::Wrong(text)),
         Err(WordsFault::Memory) => ended(&rt, &Ending::Failed(Failure::Memory)),
     }

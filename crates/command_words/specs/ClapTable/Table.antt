@@ -1,5 +1,5 @@
 -- What `clap` takes a program to be that is described by tables.
-use Rattle.std.specs.Prelude.{◌≡◌, Some, List, Result, true, fold, map}
+use Rattle.std.specs.Prelude.{◌≡◌, ℕ, Some, List, Result, true, fold, map}
 use Rattle.std.specs.Borrow.{Bor}
 use Rattle.clap.specs.Words.{App, FailsBy, Rule, Text, fault_of, new_app, new_rule, subcommand_of, subcommand_rows_of, with_rule, with_subcommand}
 use Rattle.clap.specs.declared.builder.action.ArgAction.TheVariants.{Append, SetTrue}
@@ -28,18 +28,26 @@ repeated_option name = record (long_rule name) { value_names = 1; action = Some 
 abbrev pub flag : Text → Rule
 flag name = record (long_rule name) { action = Some SetTrue }
 
+-- a flag that has a letter too
+abbrev pub lettered_flag : ℕ → Text → Rule
+lettered_flag letter name = record (flag name) { short = Some letter }
+
+-- a word without a name before it, which must stand
+abbrev pub word : Text → Rule
+word name = record (new_rule name) { value_names = 1; required = true }
+
 -- a command with these options
 abbrev pub command_with : Text → List Rule → App
 command_with name options = fold with_rule (new_app name) options
 
--- a program whose words do not begin with its name
-abbrev pub without_name : App → App
-without_name a = record a { top = record a.top { no_binary_name = true } }
+-- a program whose words do not begin with its name, and that tells its version
+abbrev pub as_program : App → App
+as_program a = record a { top = record a.top { no_binary_name = true; has_version = true } }
 
 -- a program with these commands
 abbrev pub program_with : Text → List App → App
 program_with name commands =
-    without_name (fold (λ a c. with_subcommand a c.top) (new_app name) commands)
+    as_program (fold (λ a c. with_subcommand a c.top) (new_app name) commands)
 
 -- ---- what the tables describe
 
@@ -48,6 +56,8 @@ rule_by name (value.Required shown) = required_option name
 rule_by name (value.Optional shown) = optional_option name
 rule_by name (value.Repeated shown) = repeated_option name
 rule_by name value.Absent = flag name
+rule_by name (value.Letter letter) = lettered_flag letter name
+rule_by name (value.Word shown choices) = word name
 
 abbrev pub option_rule : OptionText → Rule
 option_rule o = rule_by o.name.now o.value
@@ -69,7 +79,7 @@ abbrev pub with_commands : App → List CommandText → App
 with_commands a commands = fold with_command a commands
 
 abbrev pub program_app : ProgramText → App
-program_app p = without_name (with_commands (new_app p.name.now) p.commands.now)
+program_app p = as_program (with_commands (new_app p.name.now) p.commands.now)
 
 -- ---- what `clap` finds
 

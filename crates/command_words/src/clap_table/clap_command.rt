@@ -14,14 +14,20 @@ fn argument<'a>(alloc: Global, option: OptionText<'a>) -> Arg<'a>
     ensures rule { rule_of result ≡ option_rule option.entry }
     ensures local { result.global ≡ false }
 {
-    let argument = Arg::new(alloc, option.name)
-        .long(option.name)
-        .help(option.help);
+    let argument = Arg::new(alloc, option.name).help(option.help);
     match option.value {
-        Value::Required(shown) => argument.value_name(shown).required(true),
-        Value::Optional(shown) => argument.value_name(shown),
-        Value::Repeated(shown) => argument.value_name(shown).action(ArgAction::Append),
-        Value::Absent => argument.action(ArgAction::SetTrue),
+        Value::Required(shown) => argument.long(option.name).value_name(shown).required(true),
+        Value::Optional(shown) => argument.long(option.name).value_name(shown),
+        Value::Repeated(shown) => argument
+            .long(option.name)
+            .value_name(shown)
+            .action(ArgAction::Append),
+        Value::Absent => argument.long(option.name).action(ArgAction::SetTrue),
+        Value::Letter(letter) => argument
+            .long(option.name)
+            .short(letter)
+            .action(ArgAction::SetTrue),
+        Value::Word { shown, .. } => argument.value_name(shown).required(true),
     }
 }
 
@@ -105,5 +111,6 @@ pub(crate) fn command<'a>(alloc: Global, text: ProgramText<'a>) -> Result<Comman
         .after_help(text.after);
     let program = with_commands(alloc, program, text.commands)?;
     let program = program.no_binary_name(true);
+    let program = program.version(text.version);
     program.bin_name(text.name)
 }

@@ -11,9 +11,16 @@ pub enum Value<'a> {
     Repeated(&'a str),
     /// The option is a flag, which has no value and may lack.
     Absent,
+    /// So it is, and has a letter too: `-n`.
+    Letter(char),
+    /// It is no option, but a word that must stand, in the order of the table; where it is one of some, these are they.
+    Word {
+        shown: &'a str,
+        choices: &'a [&'a str],
+    },
 }
 
-/// An option `--name`, and a sentence of help.
+/// An option `--name`, or a word, and a sentence of help.
 #[derive(Clone, Copy)]
 pub struct OptionText<'a> {
     pub name: &'a str,
@@ -30,10 +37,11 @@ pub struct CommandText<'a> {
     pub options: &'a [OptionText<'a>],
 }
 
-/// A program with its commands.
+/// A program with its commands. It tells its version where that is asked for.
 #[derive(Clone, Copy)]
 pub struct ProgramText<'a> {
     pub name: &'a str,
+    pub version: &'a str,
     pub about: &'a str,
     pub after: &'a str,
     pub commands: &'a [CommandText<'a>],

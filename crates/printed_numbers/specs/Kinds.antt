@@ -1,0 +1,25 @@
+-- The words that stand before numbers.
+use Rattle.std.specs.Prelude.{ℕ, List, [], ◌∷◌, Option, codes}
+use Rattle.std.specs.List.{find}
+use Rattle.std.specs.Str.{bytes_eq}
+use Rattle.printed_numbers.specs.declared.kind.Kind.{Kind}
+use Rattle.printed_numbers.specs.declared.kind.Kind.TheVariants.{Refused, Held, Lost, Malformed, Exception, RowFault, ChainFault, HttpFault, Status}
+
+abbrev pub word_of : Kind → List ℕ
+word_of Refused = codes "refused"
+word_of Held = codes "held"
+word_of Lost = codes "lost"
+word_of Malformed = codes "malformed"
+word_of Exception = codes "exception"
+word_of RowFault = codes "fault"
+word_of ChainFault = codes "fault"
+word_of HttpFault = codes "fault"
+word_of Status = codes "status"
+
+abbrev pub kinds : List Kind
+kinds =
+    Refused ∷ Held ∷ Lost ∷ Malformed ∷ Exception ∷ RowFault ∷ ChainFault ∷ HttpFault ∷ Status ∷ []
+
+-- the first kind that has the word
+abbrev pub kind_named : List ℕ → Option Kind
+kind_named word = find (λ kind. bytes_eq word (word_of kind)) kinds

@@ -1,0 +1,37 @@
+//! The meaning of a number.
+ghost use Rattle.std.specs.Prelude.{◌≡◌, IfSome, is_some};
+ghost use Rattle.printed_numbers.specs.Numbers.{IsMeaningOf, has_number};
+
+use crate::kind::Kind;
+use crate::tables::{
+    chain_fault, exception, exit_status, hold, http_fault, loss, malformation, refusal, row_fault,
+};
+
+/// What a number of a kind means, what usually causes it, and what to do: each a sentence without its full stop, that begins
+/// with a small letter.
+#[derive(Clone, Copy, Debug, PartialEq, Eq)]
+pub struct Meaning {
+    pub kind: Kind,
+    pub number: u32,
+    pub means: &'static str,
+    pub cause: &'static str,
+    pub remedy: &'static str,
+}
+
+/// The meaning of a number, where the kind has the number.
+pub fn meaning_of(kind: Kind, number: u32) -> Option<&'static Meaning>
+    ensures has { is_some result ≡ has_number kind number }
+    ensures own { IfSome result (IsMeaningOf kind number) }
+{
+    match kind {
+        Kind::Refused => refusal(number),
+        Kind::Held => hold(number),
+        Kind::Lost => loss(number),
+        Kind::Malformed => malformation(number),
+        Kind::Exception => exception(number),
+        Kind::RowFault => row_fault(number),
+        Kind::ChainFault => chain_fault(number),
+        Kind::HttpFault => http_fault(number),
+        Kind::Status => exit_status(number),
+    }
+}

@@ -1,0 +1,96 @@
+//! Exceptions of devices (MODBUS Application Protocol V1.1b3, section 7).
+ghost use Rattle.printed_numbers.specs.Numbers.{Answers};
+ghost use Rattle.printed_numbers.specs.declared.kind.Kind.TheVariants.{Exception};
+
+use crate::kind::Kind;
+use crate::meaning::Meaning;
+
+static ILLEGAL_FUNCTION: Meaning = Meaning {
+    kind: Kind::Exception,
+    number: 1,
+    means: "illegal function: the device doesn't have the request's function",
+    cause: "function 4 at a device that has only 3, or the other way round",
+    remedy: "give the other function, 3 or 4, in the point list and at the register",
+};
+
+static ILLEGAL_DATA_ADDRESS: Meaning = Meaning {
+    kind: Kind::Exception,
+    number: 2,
+    means: "illegal data address: the device doesn't have all of the registers",
+    cause: "an address of another model, or counted from 1 in the maker's table",
+    remedy: "have the device scanned, and compare addresses; take 1 from those that are counted from 1",
+};
+
+static ILLEGAL_DATA_VALUE: Meaning = Meaning {
+    kind: Kind::Exception,
+    number: 3,
+    means: "illegal data value: the device doesn't take so many registers",
+    cause: "a device that answers fewer registers at a time than the standard allows",
+    remedy: "have it asked for fewer at a time, by areas of its point list",
+};
+
+static DEVICE_FAILURE: Meaning = Meaning {
+    kind: Kind::Exception,
+    number: 4,
+    means: "server device failure: the device failed at it",
+    cause: "a device that is starting, or out of order",
+    remedy: "wait for the next round; else look at the device",
+};
+
+static ACKNOWLEDGE: Meaning = Meaning {
+    kind: Kind::Exception,
+    number: 5,
+    means: "acknowledge: the device will need long for it",
+    cause: "a device that is busy with what another program asked of it",
+    remedy: "wait for the next round",
+};
+
+static DEVICE_BUSY: Meaning = Meaning {
+    kind: Kind::Exception,
+    number: 6,
+    means: "server device busy",
+    cause: "a device that is asked by several programs, or too often",
+    remedy: "have it asked less often, or by fewer programs",
+};
+
+static PARITY_ERROR: Meaning = Meaning {
+    kind: Kind::Exception,
+    number: 8,
+    means: "memory parity error",
+    cause: "a device whose memory fails",
+    remedy: "look at the device",
+};
+
+static PATH_UNAVAILABLE: Meaning = Meaning {
+    kind: Kind::Exception,
+    number: 10,
+    means: "gateway path unavailable: the gateway doesn't reach that unit",
+    cause: "a wrong unit identifier, or a gateway that is set up wrongly",
+    remedy: "compare the unit of the device with the gateway's settings",
+};
+
+static TARGET_SILENT: Meaning = Meaning {
+    kind: Kind::Exception,
+    number: 11,
+    means: "gateway target device failed to respond",
+    cause: "a device behind the gateway that is off, or a wrong unit identifier",
+    remedy: "see that the device is on, and compare its unit with the gateway's settings",
+};
+
+/// What a device answers in place of registers, by the Modbus standard.
+pub fn exception(number: u32) -> Option<&'static Meaning>
+    ensures { Answers Exception number result }
+{
+    match number {
+        1 => Some(&ILLEGAL_FUNCTION),
+        2 => Some(&ILLEGAL_DATA_ADDRESS),
+        3 => Some(&ILLEGAL_DATA_VALUE),
+        4 => Some(&DEVICE_FAILURE),
+        5 => Some(&ACKNOWLEDGE),
+        6 => Some(&DEVICE_BUSY),
+        8 => Some(&PARITY_ERROR),
+        10 => Some(&PATH_UNAVAILABLE),
+        11 => Some(&TARGET_SILENT),
+        _ => None,
+    }
+}

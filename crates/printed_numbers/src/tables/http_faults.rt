@@ -1,0 +1,78 @@
+//! Requests by HTTP.
+ghost use Rattle.printed_numbers.specs.Numbers.{Answers};
+ghost use Rattle.printed_numbers.specs.declared.kind.Kind.TheVariants.{HttpFault};
+
+use crate::kind::Kind;
+use crate::meaning::Meaning;
+
+static BAD_REQUEST: Meaning = Meaning {
+    kind: Kind::HttpFault,
+    number: 400,
+    means: "the head, a header of it or the body is not well formed",
+    cause: "a body that is no JSON, a member that is missing, or no Office-Caller or Office-Request",
+    remedy: "compare the request with the table in docs/HTTP.md",
+};
+
+static NO_ROUTE: Meaning = Meaning {
+    kind: Kind::HttpFault,
+    number: 404,
+    means: "no route has that target",
+    cause: "a misspelt target, or one with a question mark",
+    remedy: "compare the target with the table in docs/HTTP.md",
+};
+
+static OTHER_METHOD: Meaning = Meaning {
+    kind: Kind::HttpFault,
+    number: 405,
+    means: "the route has another method",
+    cause: "a GET of a command, or a POST of a question",
+    remedy: "post commands, and get questions",
+};
+
+static NO_LENGTH: Meaning = Meaning {
+    kind: Kind::HttpFault,
+    number: 411,
+    means: "a command has no Content-Length",
+    cause: "a client that sends its body in chunks",
+    remedy: "send the body with its length",
+};
+
+static BODY_TOO_LARGE: Meaning = Meaning {
+    kind: Kind::HttpFault,
+    number: 413,
+    means: "the body is larger than 65,536 bytes",
+    cause: "a point list with many points",
+    remedy: "leave the points out that aren't needed",
+};
+
+static OTHER_HOST: Meaning = Meaning {
+    kind: Kind::HttpFault,
+    number: 421,
+    means: "its Host is none that may ask",
+    cause: "a name of this machine or of a proxy that was not told, or a page of the internet that tries to ask",
+    remedy: "ask by 127.0.0.1 or localhost, or give the name by --host-name",
+};
+
+static HEAD_TOO_LARGE: Meaning = Meaning {
+    kind: Kind::HttpFault,
+    number: 431,
+    means: "the head passes its limits",
+    cause: "a head of more than 8,192 bytes or 64 headers, such as cookies of another page",
+    remedy: "send fewer headers",
+};
+
+/// What is wrong with a request by HTTP; its number is the reply's status.
+pub fn http_fault(number: u32) -> Option<&'static Meaning>
+    ensures { Answers HttpFault number result }
+{
+    match number {
+        400 => Some(&BAD_REQUEST),
+        404 => Some(&NO_ROUTE),
+        405 => Some(&OTHER_METHOD),
+        411 => Some(&NO_LENGTH),
+        413 => Some(&BODY_TOO_LARGE),
+        421 => Some(&OTHER_HOST),
+        431 => Some(&HEAD_TOO_LARGE),
+        _ => None,
+    }
+}

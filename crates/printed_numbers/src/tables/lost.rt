@@ -1,0 +1,51 @@
+//! Lost polls.
+ghost use Rattle.printed_numbers.specs.Numbers.{Answers};
+ghost use Rattle.printed_numbers.specs.declared.kind.Kind.TheVariants.{Lost};
+
+use crate::kind::Kind;
+use crate::meaning::Meaning;
+
+static GONE: Meaning = Meaning {
+    kind: Kind::Lost,
+    number: 1,
+    means: "the device closed the connection",
+    cause: "a device that restarted, or that takes fewer connections than it has",
+    remedy: "nothing where it answers again; else see which other programs are connected to it",
+};
+
+static GARBLED: Meaning = Meaning {
+    kind: Kind::Lost,
+    number: 2,
+    means: "the stream was garbled",
+    cause: "a gateway or device whose frames are no Modbus TCP",
+    remedy: "see that the port speaks Modbus TCP; the device is connected anew at its next round",
+};
+
+static CONNECTION_FAILED: Meaning = Meaning {
+    kind: Kind::Lost,
+    number: 3,
+    means: "the connection failed",
+    cause: "a network, gateway or device that was cut off",
+    remedy: "nothing where it answers again; else look at the cables, the gateway and the device",
+};
+
+static RESTART: Meaning = Meaning {
+    kind: Kind::Lost,
+    number: 4,
+    means: "the office was opened anew",
+    cause: "a program that was ended and started while the poll was pending",
+    remedy: "nothing: the next round polls again",
+};
+
+/// Why a poll has no outcome of its own.
+pub fn loss(number: u32) -> Option<&'static Meaning>
+    ensures { Answers Lost number result }
+{
+    match number {
+        1 => Some(&GONE),
+        2 => Some(&GARBLED),
+        3 => Some(&CONNECTION_FAILED),
+        4 => Some(&RESTART),
+        _ => None,
+    }
+}

@@ -1,0 +1,116 @@
+//! What bash completes the words of a command line by, made of the table of commands.
+use command_io::Buffered;
+use command_words::{CommandText, OptionText, Value, program};
+use std::io::{self, Write};
+use stored_office::{Ending, Failure};
+
+const HEAD: &str = "\
+# The words of sunreg, for bash. Have them now by: source <(sunreg completions bash)
+_sunreg() {
+    local word=${COMP_WORDS[COMP_CWORD]} words=
+    COMPREPLY=()
+";
+
+const TAIL: &str = "\
+    while IFS= read -r word; do
+        COMPREPLY+=(\"$word\")
+    done < <(compgen -W \"$words\" -- \"$word\")
+}
+complete -F _sunreg sunreg
+";
+
+// What the help shows for an option's value, where it has one.
+fn value_of<'a>(value: Value<'a>) -> Option<&'a str> {
+    match value {
+        Value::Required(shown) | Value::Optional(shown) | Value::Repeated(shown) => Some(shown),
+        Value::Absent | Value::Letter(_) | Value::Word { .. } => None,
+    }
+}
+
+fn is_file(shown: &str) -> bool {
+    shown == "FILE" || shown == "COPY"
+}
+
+fn write_names<W: Write>(commands: &[CommandText<'_>], output: &mut W) -> io::Result<()> {
+    for command in commands {
+        write!(output, "{} ", command.name)?;
+    }
+    output.write_all(b"help")
+}
+
+// Where a command's option stands before the word that is completed: its value is a file, or is not known here.
+fn write_value<W: Write>(
+    command: &str,
+    option: &OptionText<'_>,
+    output: &mut W,
+) -> io::Result<()> {
+    match value_of(option.value) {
+        Some(shown) if is_file(shown) => write!(
+            output,
+            "    '{command} --{}') compopt -o default; return ;;\n",
+            option.name
+        ),
+        Some(_) => write!(output, "    '{command} --{}') return ;;\n", option.name),
+        None => Ok(()),
+    }
+}
+
+fn write_values<W: Write>(command: &CommandText<'_>, output: &mut W) -> io::Result<()> {
+    for option in command.options {
+        write_value(command.name, option, output)?;
+    }
+    Ok(())
+}
+
+fn write_choices<W: Write>(choices: &[&str], output: &mut W) -> io::Result<()> {
+    for choice in choices {
+        write!(output, "{choice} ")?;
+    }
+    Ok(())
+}
+
+fn write_option<W: Write>(option: &OptionText<'_>, output: &mut W) -> io::Result<()> {
+    match option.value {
+        Value::Word { choices, .. } => write_choices(choices, output),
+        Value::Letter(letter) => write!(output, "-{letter} --{} ", option.name),
+        Value::Required(_) | Value::Optional(_) | Value::Repeated(_) | Value::Absent => {
+            write!(output, "--{} ", option.name)
+        }
+    }
+}
+
+fn write_options<W: Write>(command: &CommandText<'_>, output: &mut W) -> io::Result<()> {
+    write!(output, "    {}) words='", command.name)?;
+    for option in command.options {
+        write_option(option, output)?;
+    }
+    output.write_all(b"--help' ;;\n")
+}
+
+fn write_script<W: Write>(output: &mut W) -> io::Result<()> {
+    let commands = program().commands;
+    output.write_all(HEAD.as_bytes())?;
+    output.write_all(b"    case $COMP_CWORD in\n    1) words='")?;
+    write_names(commands, output)?;
+    output.write_all(b" --help --version' ;;\n    *) case ${COMP_WORDS[1]}\" \"${COMP_WORDS[COMP_CWORD - 1]} in\n")?;
+    for command in commands {
+        write_values(command, output)?;
+    }
+    output.write_all(b"    esac\n    case ${COMP_WORDS[1]} in\n")?;
+    for command in commands {
+        write_options(command, output)?;
+    }
+    output.write_all(b"    help) words='")?;
+    write_names(commands, output)?;
+    output.write_all(b"' ;;\n    esac ;;\n    esac\n")?;
+    output.write_all(TAIL.as_bytes())
+}
+
+/// Prints it.
+pub(crate) fn completions(rt: &HostRuntime) -> Ending<'static> {
+    let mut output = Buffered::new(io::writer(rt));
+    match (write_script(&mut output), output.flush()) {
+        (Ok(()), Ok(())) => Ending::Fine,
+        _ => Ending::Failed(Failure::Streams),
+    }
+}

@@ -1,0 +1,126 @@
+//! What a printed number means.
+use command_io::Buffered;
+use printed_numbers::{Kind, Meaning, kinds, meaning_of};
+use std::io::{self, Write};
+use stored_office::{Ending, Failure};
+
+/// No printed number is greater.
+const MOST_NUMBER: u32 = 999;
+
+// What a number is of, where its word alone doesn't tell.
+fn owner(kind: Kind) -> &'static str {
+    match kind {
+        Kind::RowFault => " of a row of a point list",
+        Kind::ChainFault => " of a chain of models",
+        Kind::HttpFault => " of a request by HTTP",
+        Kind::Refused
+        | Kind::Held
+        | Kind::Lost
+        | Kind::Malformed
+        | Kind::Exception
+        | Kind::Status => "",
+    }
+}
+
+// The meaning of a number of a kind, where its word is this one.
+fn meaning_at(kind: Kind, what: &str, number: u32) -> Option<&'static Meaning> {
+    if kind.word() == what {
+        meaning_of(kind, number)
+    } else {
+        None
+    }
+}
+
+fn write_meaning<W: Write>(meaning: &Meaning, output: &mut W) -> io::Result<()> {
+    let Meaning {
+        kind,
+        number,
+        means,
+        cause,
+        remedy,
+    } = meaning;
+    write!(output, "{} {number}{}: {means}\n", kind.word(), owner(*kind))?;
+    write!(output, "Usual cause: {cause}.\n")?;
+    write!(output, "What to do: {remedy}.\n")
+}
+
+// Writes the meanings of the number behind the word, with an empty line between two, and answers how many they are.
+fn write_meanings<W: Write>(what: &str, number: u32, output: &mut W) -> io::Result<u32> {
+    let mut count: u32 = 0;
+    for kind in kinds() {
+        if let Some(meaning) = meaning_at(*kind, what, number) {
+            if count > 0 {
+                output.write_all(b"\n")?;
+            }
+            write_meaning(meaning, output)?;
+            count = count.saturating_add(1);
+        }
+    }
+    Ok(count)
+}
+
+fn is_word(what: &str) -> bool {
+    kinds().iter().any(|kind| kind.word() == what)
+}
+
+fn has_number(what: &str, number: u32) -> bool {
+    kinds()
+        .iter()
+        .any(|kind| meaning_at(*kind, what, number).is_some())
+}
+
+// Writes the numbers that stand behind a word.
+fn write_numbers<W: Write>(what: &str, output: &mut W) -> io::Result<()> {
+    for number in 0..=MOST_NUMBER {
+        if has_number(what, number) {
+            write!(output, " {number}")?;
+        }
+    }
+    Ok(())
+}
+
+// What is wrong with the words, and what there is.
+fn write_fault<W: Write>(what: &str, number: &str, output: &mut W) -> io::Result<()> {
+    if is_word(what) {
+        write!(
+            output,
+            "error: invalid value '{number}' for '<NUMBER>': the numbers of {what} are"
+        )?;
+        write_numbers(what, output)?;
+        if what == Kind::Exception.word() {
+            output.write_all(b"; a device may have others, which its maker tells")?;
+        }
+    } else {
+        write!(
+            output,
+            "error: invalid value '{what}' for '<WHAT>': not refused, held, lost, malformed, exception, fault or status"
+        )?;
+    }
+    output.write_all(b"\n\nFor more information, try '--help'.\n")
+}
+
+fn wrong(rt: &HostRuntime, what: &str, number: &str) -> Ending<'static> {
+    let mut text = Vec::new(rt.alloc());
+    match write_fault(what, number, &mut text) {
+        Ok(()) => match String::from_utf8(text) {
+            Ok(text) => Ending::Wrong(text),
+            Err(_) => Ending::Failed(Failure::Memory),
+        },
+        Err(_) => Ending::Failed(Failure::Memory),
+    }
+}
+
+/// Prints what a number means that stands behind a word.
+pub(crate) fn explain(rt: &HostRuntime, what: &str, number: &str) -> Ending<'static> {
+    let Ok(value) = number.parse::<u32>() else {
+        return wrong(rt, what, number);
+    };
+    let mut output = Buffered::new(io::writer(rt));
+    let written = write_meanings(what, value, &mut output);
+    let flushed = output.flush();
+    match (written, flushed) {
+        (Ok(0), Ok(())) => wrong(rt, what, number),
+        (Ok(_), Ok(())) => Ending::Fine,
+        _ => Ending::Failed(Failure::Streams),
+    }
+}

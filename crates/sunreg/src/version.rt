@@ -1,0 +1,21 @@
+//! The program's version, and by what its sources are proved.
+use command_words::program;
+use std::io::{self, Write};
+use stored_office::{Ending, Failure};
+
+/// The logic of the kit: what `rt version` ends on.
+const LOGIC: &str = "dac8208d650f15bf";
+
+/// Prints them.
+pub(crate) fn version(rt: &HostRuntime) -> Ending<'static> {
+    let text = program();
+    let mut output = io::writer(rt);
+    match write!(
+        output,
+        "{} {}\nproved by the Rattle kit, logic {LOGIC}\n",
+        text.name, text.version
+    ) {
+        Ok(()) => Ending::Fine,
+        Err(_) => Ending::Failed(Failure::Streams),
+    }
+}

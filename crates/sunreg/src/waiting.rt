@@ -1,0 +1,13 @@
+//! What a person is told who gives no word at a terminal.
+use std::io::{IsTerminal, Write};
+
+const WAITS: &[u8] =
+    b"sunreg: reads a script from this terminal, up to Ctrl-D; help is at: sunreg --help\n";
+
+/// Says that a script is read, where standard input is a terminal.
+pub(crate) fn say_waiting(rt: &HostRuntime) {
+    if rt.stdin().is_terminal() {
+        let mut errors = rt.stderr();
+        let _said = errors.write_all(WAITS);
+    }
+}
