@@ -151,6 +151,7 @@ done
 kill -9 "$round"
 wait "$round" 2> /dev/null
 kill -CONT "$child"
+# (sqlite3 moves the log, and removes it)
 same 'a poll waits behind the stop' "$(sqlite3 office.db 'SELECT (SELECT count(*) FROM polls) - (SELECT count(*) FROM outcomes)')" 1
 run round --db office.db --device inv --port "$device"
 is 'a round behind the stop' 0 'ok
@@ -158,7 +159,7 @@ started 3 1 1 00000000000601039c9e0002
 poll 3 answered
 reading m1 5300 rolls 0 step 100000
 ok
-ok' ''
+ok' 'sunreg: office.db: it had no log beside it, office.db-wal: a backup needs none, and a file copied alone lacks what stood there'
 same 'the poll that waited is lost' "$(sqlite3 office.db 'SELECT outcome, code FROM outcomes WHERE poll = 2')" '5|4'
 run report --db office.db --register main
 same 'the energy behind the stop' "$status $(awk '!/^end/ { sum += $3 } END { print sum }' out)" '0 300000'

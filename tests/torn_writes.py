@@ -23,6 +23,7 @@ COPIES = int(os.environ.get("TORN_COPIES", "300"))
 SEED = int(os.environ.get("TORN_SEED", time.time_ns() % 1_000_000_007))
 HEADER, FRAME = 32, 24  # bytes of the log's header, and of a frame's
 OFFICES = 3
+LEAST, ROUNDS = 24, 100  # so many commits stand in a log, after at most so many rounds
 Frames = collections.namedtuple("Frames", "size commits end")
 
 
@@ -103,14 +104,16 @@ class Torn:
         it = soak.Soak(self.program, room)
         it.office.set_up()
         polls = 0
-        for left in range(3, -1, -1):
+        for turn in range(ROUNDS):  # (a round that ends moves the log into the file)
             at = int(time.time())
-            it.next_stop = time.monotonic() + (60.0 if left else self.chance.uniform(0.1, 0.3))
+            it.next_stop = time.monotonic() + self.chance.uniform(0.1, 0.3) * (1 + turn / 10)
             it.usual = 0.01
-            it.round(polls + 1)
+            was_stopped = it.round(polls + 1)
             polls = it.office.polls()
             while int(time.time()) == at:
                 time.sleep(0.02)
+            if was_stopped and len(frames_of(open(f"{it.office.file}-wal", "rb").read()).commits) >= LEAST:
+                break
         return open(it.office.file, "rb").read(), open(f"{it.office.file}-wal", "rb").read(), it.told
 
     def write(self, name, file, log):
@@ -175,7 +178,7 @@ class Torn:
         for name in ("polls", "entries", "holds"):
             soak.holds(f"{what}: its {name} are the first ones", rows[name] == whole[name][: len(rows[name])])
         soak.holds(f"{what}: its outcomes are the untorn copy's", set(rows["outcomes"]) <= set(whole["outcomes"]))
-        soak.holds(f"{what}: it is what a cut behind its last commit leaves", rows == self.cut_behind(file, log, commits[-1]))
+        soak.holds(f"{what}: it is what a cut behind its last commit leaves", rows == self.cut_behind(file, log, commits[-1] if commits else HEADER))
         for it in (rows, after):
             soak.holds(f"{what}: its energy is exact", energy_is_exact(it))
             ended = [poll for poll, *_ in it["outcomes"]]

@@ -4,18 +4,17 @@ use crate::files::Connects;
 use command_io::ExitStatus;
 use office_store::{OpenFault, SqlBooks};
 use socket_link::FixedClock;
-use std::alloc::Global;
 use std::test::Fail;
-use stored_office::{create_stored, report_stored};
+use stored_office::{Done, Task, carry_out_stored, create_stored};
 
 /// How a report ends, and what it prints.
 type Report = (Result<ExitStatus, OpenFault>, Vec<u8>);
 
 /// A register, a moment, how the report of it ends, and what it prints.
-type Row = (&'static str, u64, ExitStatus, &'static [u8]);
+pub(crate) type Row = (&'static str, u64, ExitStatus, &'static [u8]);
 
 /// Reports of the day, where the clock was set back to before its last event, and after it.
-static KNOWN: [Row; 2] = [
+pub(crate) static KNOWN: [Row; 2] = [
     ("main", 3699, ExitStatus::Refused, b"refused 3\n"),
     ("main", 5000, ExitStatus::Fine, REPORTED),
 ];
@@ -34,22 +33,22 @@ static MADE: [(&str, Option<OpenFault>, bool); 3] = [
 ];
 
 /// Makes an office, and tells why it was not made.
-fn create<C: Connects>(
-    alloc: Global,
+pub(crate) fn create<C: Connects>(
+    rt: &HostRuntime,
     connects: &C,
     path: &str,
     zone: &str,
 ) -> Result<Option<OpenFault>, Fail> {
-    Ok(create_stored(alloc, connects.make(path)?, zone).err())
+    Ok(create_stored(rt.alloc(), connects.make(path)?, zone).err())
 }
 
 /// Makes an office, and books the day in it.
-fn fill<C: Connects>(alloc: Global, connects: &C, path: &str) -> Result<(), Fail> {
-    if create(alloc, connects, path, "UTC0")?.is_some() {
+pub(crate) fn fill<C: Connects>(rt: &HostRuntime, connects: &C, path: &str) -> Result<(), Fail> {
+    if create(rt, connects, path, "UTC0")?.is_some() {
         return Err(Fail::from("not made"));
     }
-    match SqlBooks::open(alloc, connects.open(path)?) {
-        Ok(books) => book_day(alloc, books),
+    match SqlBooks::open(rt.alloc(), connects.open(path)?) {
+        Ok(books) => book_day(rt.alloc(), books),
         Err(_) => Err(Fail::from("no books")),
     }
 }
@@ -63,7 +62,7 @@ fn set_version<C: Connects>(connects: &C, path: &str) -> Result<(), Fail> {
 
 /// Reports a register at a moment.
 fn report<C: Connects>(
-    alloc: Global,
+    rt: &HostRuntime,
     connects: &C,
     path: &str,
     register: &str,
@@ -72,20 +71,33 @@ fn report<C: Connects>(
     let connection = connects.open(path)?;
     let moments = [moment];
     let mut clock = FixedClock::new(&moments);
-    let mut printed = Vec::new(alloc);
-    let end = report_stored(alloc, connection, register, &mut clock, &mut printed);
-    Ok((end, printed))
+    let mut printed = Vec::new(rt.alloc());
+    let mut said = Vec::new(rt.alloc());
+    let task = Task::Report { register };
+    match carry_out_stored(
+        rt,
+        rt.alloc(),
+        connection,
+        task,
+        &mut clock,
+        &mut printed,
+        &mut said,
+    ) {
+        Ok(Done::Reported(end)) if said.is_empty() => Ok((Ok(end), printed)),
+        Ok(_) => Err(Fail::from("no report")),
+        Err(fault) => Ok((Err(fault), printed)),
+    }
 }
 
 /// Whether each report comes as its row says.
-fn are_reported<C: Connects>(
-    alloc: Global,
+pub(crate) fn are_reported<C: Connects>(
+    rt: &HostRuntime,
     connects: &C,
     path: &str,
     rows: &[Row],
 ) -> Result<bool, Fail> {
     for (register, moment, status, text) in rows {
-        let (end, printed) = report(alloc, connects, path, register, *moment)?;
+        let (end, printed) = report(rt, connects, path, register, *moment)?;
         if end != Ok(*status) || printed.as_slice() != *text {
             return Ok(false);
         }
@@ -94,21 +106,23 @@ fn are_reported<C: Connects>(
 }
 
 /// Whether a database has no office, and nothing is printed of it.
-fn is_none<C: Connects>(alloc: Global, connects: &C, path: &str) -> Result<bool, Fail> {
-    let (end, printed) = report(alloc, connects, path, "main", 5000)?;
+pub(crate) fn is_none<C: Connects>(
+    rt: &HostRuntime,
+    connects: &C,
+    path: &str,
+) -> Result<bool, Fail> {
+    let (end, printed) = report(rt, connects, path, "main", 5000)?;
     Ok(end == Err(OpenFault::NotOurs) && printed.is_empty())
 }
 
 /// Whether an office is made once, and for a zone alone.
 pub(crate) fn is_made_once<C: Connects>(
-    alloc: Global,
+    rt: &HostRuntime,
     connects: &C,
     path: &str,
 ) -> Result<bool, Fail> {
     for (zone, why, none) in &MADE {
-        if create(alloc, connects, path, zone)? != *why
-            || is_none(alloc, connects, path)? != *none
-        {
+        if create(rt, connects, path, zone)? != *why || is_none(rt, connects, path)? != *none {
             return Ok(false);
         }
     }
@@ -117,24 +131,24 @@ pub(crate) fn is_made_once<C: Connects>(
 
 /// Whether what was booked is reported.
 pub(crate) fn is_reported<C: Connects>(
-    alloc: Global,
+    rt: &HostRuntime,
     connects: &C,
     path: &str,
 ) -> Result<bool, Fail> {
-    fill(alloc, connects, path)?;
-    are_reported(alloc, connects, path, &KNOWN)
+    fill(rt, connects, path)?;
+    are_reported(rt, connects, path, &KNOWN)
 }
 
 /// Whether a name that is no register's is refused, and an office of a version that isn't known is none.
 pub(crate) fn is_unknown<C: Connects>(
-    alloc: Global,
+    rt: &HostRuntime,
     connects: &C,
     path: &str,
 ) -> Result<bool, Fail> {
-    fill(alloc, connects, path)?;
-    if !are_reported(alloc, connects, path, &UNKNOWN)? {
+    fill(rt, connects, path)?;
+    if !are_reported(rt, connects, path, &UNKNOWN)? {
         return Ok(false);
     }
     set_version(connects, path)?;
-    is_none(alloc, connects, path)
+    is_none(rt, connects, path)
 }

@@ -3,7 +3,7 @@ use office_store::OpenFault;
 use std::alloc::Global;
 use std::process::Abort;
 use std::test::Fail;
-use stored_office::{Failure, FileFault};
+use stored_office::{CopyFault, Failure, FileFault};
 
 // What stands after the name of a file where its tables were not made, or where no office was opened in it.
 const UNMADE: [(OpenFault, &str); 4] = [
@@ -36,6 +36,51 @@ const UNOPENED: [(OpenFault, &str); 4] = [
         "the database in it failed: look at its rights and the disk's room",
     ),
     (OpenFault::Memory, "memory ran out"),
+];
+
+// What stands behind the name of a file of which there is no backup, or of its copy.
+const UNCOPIED: [(CopyFault, &str); 7] = [
+    (
+        CopyFault::Exists,
+        "there is a file of this name already, or one with -wal behind it: give another name",
+    ),
+    (
+        CopyFault::Unfinished,
+        "a backup to it runs, or was cut off: then remove the file with .part behind this name",
+    ),
+    (
+        CopyFault::Unwritable,
+        "it can't be written: look at its folder's rights and the disk's room",
+    ),
+    (
+        CopyFault::Changing,
+        "its log was moved into it while it was copied, so there is no backup: try again",
+    ),
+    (
+        CopyFault::Torn,
+        "it is no SQLite database, or a damaged one, so there is no backup of it",
+    ),
+    (
+        CopyFault::NotOurs,
+        "it holds no office, or one of a later program",
+    ),
+    (CopyFault::Memory, "memory ran out"),
+];
+
+// Files whose log is missed, or alone.
+const LOGS: [(Failure<'static>, &str); 3] = [
+    (
+        Failure::Occupied { path: "a.db" },
+        "a.db: it isn't empty, though it has no tables: an office's may stand in its log: give a new file",
+    ),
+    (
+        Failure::Bare { path: "a.db" },
+        "a.db: it has no tables: an office's may stand in the log that belongs to it, a.db-wal: give both, or a backup",
+    ),
+    (
+        Failure::LogAlone { path: "a.db" },
+        "a.db: it is missing or empty, and its log a.db-wal is not: give the file that belongs to it, or remove the log",
+    ),
 ];
 
 const STREAMS: [(Failure<'static>, &str); 5] = [
@@ -141,6 +186,24 @@ fn offices_that_were_not_opened(rt: HostRuntime) -> Result<(), Fail> {
             Failure::Unopened { path, fault },
             text.as_str(),
         )?;
+    }
+    Ok(())
+}
+
+#[test]
+fn offices_that_were_not_backed_up(rt: HostRuntime) -> Result<(), Fail> {
+    let path = "a.db";
+    for (fault, why) in UNCOPIED {
+        let text = format!(in rt.alloc(); "a.db: {why}")?;
+        tells(
+            &rt,
+            rt.alloc(),
+            Failure::Uncopied { path, fault },
+            text.as_str(),
+        )?;
+    }
+    for (failure, text) in LOGS {
+        tells(&rt, rt.alloc(), failure, text)?;
     }
     Ok(())
 }

@@ -1,13 +1,13 @@
 //! Connections to databases, whatever makes them; those to files of the system; and a file that no other test has.
-use sqlite::{Alter, Connection, FileFrom, FileStore, Unknown};
+use sqlite::{Connection, FileFrom, FileStore, Unknown};
 use std::hash::{BuildHasher, RandomState};
 use std::test::Fail;
 use std::{env, fs};
-use stored_office::{FileConnection, FileFault, make_file, open_file};
+use stored_office::{Closes, FileConnection, FileFault, make_file, open_file};
 
 /// Makes connections. What is tried over them names no file, since a function that holds a connection to one is dear to prove.
 pub(crate) trait Connects {
-    type Store: Alter + Drop;
+    type Store: Closes;
 
     /// Opens the database at a path, or makes an empty one where there is none.
     fn make(&self, path: &str) -> Result<Connection<Self::Store>, FileFault>;

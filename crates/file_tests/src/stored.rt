@@ -6,20 +6,20 @@ use std::test::Fail;
 #[test]
 fn an_office_is_made_once(rt: HostRuntime) -> Result<(), Fail> {
     let path = path(&rt)?;
-    assert!(rt; is_made_once(rt.alloc(), &Files { rt: &rt }, &path)?);
+    assert!(rt; is_made_once(&rt, &Files { rt: &rt }, &path)?);
     remove(&rt, &path)
 }
 
 #[test]
 fn a_day_is_reported(rt: HostRuntime) -> Result<(), Fail> {
     let path = path(&rt)?;
-    assert!(rt; is_reported(rt.alloc(), &Files { rt: &rt }, &path)?);
+    assert!(rt; is_reported(&rt, &Files { rt: &rt }, &path)?);
     remove(&rt, &path)
 }
 
 #[test]
 fn a_name_or_version_that_is_unknown_is_told(rt: HostRuntime) -> Result<(), Fail> {
     let path = path(&rt)?;
-    assert!(rt; is_unknown(rt.alloc(), &Files { rt: &rt }, &path)?);
+    assert!(rt; is_unknown(&rt, &Files { rt: &rt }, &path)?);
     remove(&rt, &path)
 }

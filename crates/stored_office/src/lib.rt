@@ -1,13 +1,15 @@
 //! The program's commands over an office in a database: over any store, clock, sockets and writer.
 #![tactic(auto)]
 
-mod commands;
+mod backups;
 mod ends;
 mod files;
+mod new_office;
 mod runs;
 mod tasks;
 
-pub use commands::{create_stored, poll_stored, report_stored, serve_stored};
+pub use backups::{CopyFault, whole_file, whole_files};
 pub use ends::{Ending, Failure, ending_of, say};
-pub use files::{FileConnection, FileFault, make_file, open_file};
+pub use files::{Closes, FileConnection, FileFault, is_bare, is_office, make_file, open_file};
+pub use new_office::create_stored;
 pub use tasks::{Done, Task, carry_out_stored, ending_of_done};

@@ -1,7 +1,7 @@
 //! The commands, over the streams and sockets of the process.
 use crate::completions::completions;
 use crate::explain::explain;
-use crate::offices::{create, report, round, run, serve};
+use crate::offices::{Files, OWN_HOST, create, over_office, run};
 use crate::run_words::settings_of;
 use crate::scans::{Target, scan};
 use command_io::{Buffered, ExitStatus};
@@ -12,7 +12,7 @@ use script_run::{Loopback, SetupParts, loop_text, replay, set_up};
 use std::io;
 use std::io::Write;
 use std::net::TcpListener;
-use stored_office::{Ending, Failure, ending_of};
+use stored_office::{Ending, Failure, Task, ending_of, ending_of_done};
 use sunspec_text::{chain_text, plan_text};
 
 /// Carries a command out.
@@ -49,14 +49,34 @@ pub(crate) fn carry_out<'a>(rt: &HostRuntime, line: &CommandLine<'a>) -> Ending<
             port,
             connections,
             host_names,
-        } => serve(rt, *db, *port, host_names.as_slice(), *connections),
+        } => {
+            let task = Task::Serve {
+                host: OWN_HOST,
+                port: *port,
+                names: host_names.as_slice(),
+                connections: *connections,
+            };
+            ending_of_done(over_office(rt, &Files { rt }, *db, task), OWN_HOST, *port)
+        }
         CommandLine::Round {
             db,
             device,
             host,
             port,
-        } => round(rt, *db, *device, *host, *port),
-        CommandLine::Report { db, register } => report(rt, *db, *register),
+        } => {
+            let task = Task::Round {
+                device: *device,
+                host: *host,
+                port: *port,
+            };
+            ending_of_done(over_office(rt, &Files { rt }, *db, task), *host, *port)
+        }
+        CommandLine::Report { db, register } => {
+            let task = Task::Report {
+                register: *register,
+            };
+            ending_of_done(over_office(rt, &Files { rt }, *db, task), OWN_HOST, 0)
+        }
         CommandLine::Run {
             db,
             listen,

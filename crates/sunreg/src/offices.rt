@@ -3,51 +3,51 @@ ghost use Rattle.std.specs.Prelude.{IfOk};
 ghost use Rattle.stored_office.specs.Tasks.Tasks.{IsOf};
 
 use crate::command_output::CommandOutput;
+use crate::escaped::Escaped;
 use crate::run_words::sites_of;
 use command_words::Device;
 use interval_core::Zone;
 use office_running::Settings;
 use socket_link::SystemClock;
-use sqlite::{Alter, Connection, FileFrom, FileStore, Unknown};
+use sqlite::{Connection, FileFrom, FileStore, Unknown};
 use std::fs::{self, Permissions};
-use std::io::{self, Printer, Write};
+use std::io::{self, ErrorKind, Printer, Write};
 use std::os::unix::fs::PermissionsExt;
 use stored_office::{
-    Done, Ending, Failure, FileFault, Task, carry_out_stored, create_stored, ending_of_done,
-    make_file, open_file,
+    Closes, Done, Ending, Failure, FileFault, Task, carry_out_stored, create_stored,
+    ending_of_done, is_bare, is_office, make_file, open_file,
 };
 
 /// The host on which HTTP is answered.
-const OWN_HOST: &str = "127.0.0.1";
+pub(crate) const OWN_HOST: &str = "127.0.0.1";
 
 // Where a database comes from. What holds a connection is proved over any of these, since over a connection to a file it
 // would cost minutes.
-trait Databases {
-    type Store: Alter + Drop;
+pub(crate) trait Databases {
+    type Store: Closes;
 
-    // A connection to the database, which is made where there is none.
-    fn make(&self) -> Result<Connection<Self::Store>, FileFault>;
+    // A connection to the database at a path, which is made where there is none.
+    fn make(&self, path: &str) -> Result<Connection<Self::Store>, FileFault>;
 
     // A connection to a database that is there.
-    fn open(&self) -> Result<Connection<Self::Store>, FileFault>;
+    fn open(&self, path: &str) -> Result<Connection<Self::Store>, FileFault>;
 }
 
-// The file of an office.
+/// The files of the system.
 #[derive(Clone, Copy)]
-struct OfficeFile<'a> {
-    rt: &'a HostRuntime,
-    path: &'a str,
+pub(crate) struct Files<'r> {
+    pub(crate) rt: &'r HostRuntime,
 }
 
-impl<'a> Databases for OfficeFile<'a> {
+impl Databases for Files<'_> {
     type Store = FileStore<FileFrom<Unknown>>;
 
-    fn make(&self) -> Result<Connection<FileStore<FileFrom<Unknown>>>, FileFault> {
-        make_file(self.rt, self.path, Unknown)
+    fn make(&self, path: &str) -> Result<Connection<FileStore<FileFrom<Unknown>>>, FileFault> {
+        make_file(self.rt, path, Unknown)
     }
 
-    fn open(&self) -> Result<Connection<FileStore<FileFrom<Unknown>>>, FileFault> {
-        open_file(self.rt, self.path, Unknown)
+    fn open(&self, path: &str) -> Result<Connection<FileStore<FileFrom<Unknown>>>, FileFault> {
+        open_file(self.rt, path, Unknown)
     }
 }
 
@@ -56,79 +56,173 @@ fn keep_private(rt: &HostRuntime, path: &str) {
     let _set = fs::set_permissions(rt, path, Permissions::from_mode(0o600));
 }
 
-// So it does with a database and its log.
-fn keep_files_private(rt: &HostRuntime, path: &str) {
-    keep_private(rt, path);
-    if let Ok(log) = format!(in rt.alloc(); "{path}-wal") {
-        keep_private(rt, log.as_str());
+/// Where a file lies to which links may lead; the path as it is where there is none.
+pub(crate) fn real_path<'a>(rt: &HostRuntime, path: &str) -> Result<String, Failure<'a>> {
+    let text = match fs::canonicalize(rt, path) {
+        Ok(real) => String::from_str(rt.alloc(), real.as_str()),
+        Err(_) => String::from_str(rt.alloc(), path),
+    };
+    match text {
+        Ok(text) => Ok(text),
+        Err(_) => Err(Failure::Memory),
     }
 }
 
+/// The name of the log of a file, which lies beside it.
+pub(crate) fn log_of<'a>(rt: &HostRuntime, path: &str) -> Result<String, Failure<'a>> {
+    let real = real_path(rt, path)?;
+    match format!(in rt.alloc(); "{}-wal", real.as_str()) {
+        Ok(log) => Ok(log),
+        Err(_) => Err(Failure::Memory),
+    }
+}
+
+/// How many bytes a file has. None: there is none.
+pub(crate) fn length_of(rt: &HostRuntime, path: &str) -> Option<u64> {
+    match fs::metadata(rt, path) {
+        Ok(found) => Some(found.len()),
+        Err(error) if error.kind() == ErrorKind::NotFound => None,
+        Err(_) => Some(0),
+    }
+}
+
+/// Whether a file is missing or empty.
+pub(crate) fn is_blank(length: Option<u64>) -> bool {
+    length.unwrap_or(0) == 0
+}
+
 // Makes the tables of a new office in the database at a path.
+fn make_office<'a, D: Databases>(
+    rt: &HostRuntime,
+    databases: &D,
+    path: &'a str,
+    zone: &str,
+    was_blank: bool,
+) -> Result<(), Failure<'a>> {
+    let connection = match databases.make(path) {
+        Ok(connection) => connection,
+        Err(fault) => return Err(Failure::File { path, fault }),
+    };
+    if !was_blank && is_bare(&connection) {
+        return Err(Failure::Occupied { path });
+    }
+    match create_stored(rt.alloc(), connection, zone) {
+        Ok(()) => Ok(()),
+        Err(fault) => Err(Failure::Unmade { path, fault }),
+    }
+}
+
+// The same, where no log stands alone. A file that was made is its owner's alone, and goes again where no office is made in it.
 fn create_in<'a, D: Databases>(
     rt: &HostRuntime,
     databases: &D,
     path: &'a str,
     zone: &str,
 ) -> Result<(), Failure<'a>> {
-    let is_new = matches!(fs::exists(rt, path), Ok(false));
-    let connection = match databases.make() {
-        Ok(connection) => connection,
-        Err(fault) => return Err(Failure::File { path, fault }),
-    };
-    let made = create_stored(rt.alloc(), connection, zone);
-    if is_new {
-        keep_files_private(rt, path);
+    let log = log_of(rt, path)?;
+    let length = length_of(rt, path);
+    if is_blank(length) && !is_blank(length_of(rt, log.as_str())) {
+        return Err(Failure::LogAlone { path });
     }
-    match made {
-        Ok(()) => Ok(()),
-        Err(fault) => Err(Failure::Unmade { path, fault }),
+    let made = make_office(rt, databases, path, zone, is_blank(length));
+    if length.is_none() {
+        match &made {
+            Ok(()) => {
+                keep_private(rt, path);
+                keep_private(rt, log.as_str());
+            }
+            Err(
+                Failure::File {
+                    fault: FileFault::Busy,
+                    ..
+                },
+            ) => {}
+            Err(_) => {
+                let _gone = fs::remove_file(rt, path);
+                let _gone = fs::remove_file(rt, log.as_str());
+            }
+        }
+    }
+    made
+}
+
+// Says that a file had no log beside it.
+fn say_no_log(rt: &HostRuntime, path: &str) {
+    let mut errors = Escaped::new(rt.stderr());
+    let _said = write!(
+        errors,
+        "sunreg: {path}: it had no log beside it, {path}-wal: a backup needs none, and a file copied alone lacks what stood there\n"
+    );
+}
+
+// A connection to the office in the database at a path. That a log is missing, or stands alone, is told.
+fn open_in<'a, D: Databases>(
+    rt: &HostRuntime,
+    databases: &D,
+    path: &'a str,
+) -> Result<Connection<D::Store>, Failure<'a>> {
+    let log = log_of(rt, path)?;
+    let (length, log_length) = (length_of(rt, path), length_of(rt, log.as_str()));
+    if is_blank(length) && !is_blank(log_length) {
+        return Err(Failure::LogAlone { path });
+    }
+    if length == Some(0) {
+        return Err(Failure::Bare { path });
+    }
+    match databases.open(path) {
+        Ok(connection) if is_bare(&connection) => Err(Failure::Bare { path }),
+        Ok(connection) => {
+            if log_length.is_none() && is_office(&connection) {
+                say_no_log(rt, path);
+            }
+            Ok(connection)
+        }
+        Err(fault) => Err(Failure::File { path, fault }),
     }
 }
 
-// Carries a task out over the office in the database at a path.
-fn carry_out_in<'a, D: Databases, W: Write>(
+/// Carries a task out over the office in the database at a path, and gives out all that it printed.
+pub(crate) fn over_office<'a, D: Databases>(
     rt: &HostRuntime,
     databases: &D,
     path: &'a str,
     task: Task<'_>,
-    output: &mut W,
 ) -> Result<Done, Failure<'a>>
     ensures same { IfOk result (IsOf task.entry) }
 {
-    let connection = match databases.open() {
-        Ok(connection) => connection,
-        Err(fault) => return Err(Failure::File { path, fault }),
+    let Ok(mut output) = output_of(rt, task) else {
+        return Err(Failure::Memory);
     };
+    let connection = open_in(rt, databases, path)?;
     let mut clock = SystemClock::new(rt);
     let mut errors = rt.stderr();
-    match carry_out_stored(
+    let done = carry_out_stored(
         rt,
         rt.alloc(),
         connection,
         task,
         &mut clock,
-        output,
+        &mut output,
         &mut errors,
-    ) {
-        Ok(done) => Ok(done),
-        Err(fault) => Err(Failure::Unopened { path, fault }),
+    );
+    match (output.flush(), done) {
+        (Err(_), _) => Err(Failure::Streams),
+        (Ok(()), Ok(done)) => Ok(done),
+        (Ok(()), Err(fault)) => Err(Failure::Unopened { path, fault }),
     }
 }
 
-// Carries a task out over the office in a file, and gives out all that it printed.
-fn carry_out_at<'a>(
-    rt: &HostRuntime,
-    path: &'a str,
+// Where a task prints: a round and a run each line at its end, the others in pieces.
+fn output_of<'r>(
+    rt: &'r HostRuntime,
     task: Task<'_>,
-    output: &mut CommandOutput<Printer<'_, HostRuntime>>,
-) -> Result<Done, Failure<'a>>
-    ensures same { IfOk result (IsOf task.entry) }
-{
-    let done = carry_out_in(rt, &OfficeFile { rt, path }, path, task, output);
-    match output.flush() {
-        Ok(()) => done,
-        Err(_) => Err(Failure::Streams),
+) -> io::Result<CommandOutput<Printer<'r, HostRuntime>>> {
+    match task {
+        Task::Report { .. } | Task::Serve { .. } => Ok(CommandOutput::in_pieces(io::writer(rt))),
+        Task::Round { .. } | Task::Run { .. } => CommandOutput::by_lines(
+            rt.alloc(),
+            io::writer(rt),
+        ),
     }
 }
 
@@ -137,60 +231,10 @@ pub(crate) fn create<'a>(rt: &HostRuntime, path: &'a str, zone: &'a str) -> Endi
     if Zone::read(zone).is_err() {
         return Ending::NoZone(zone);
     }
-    match create_in(rt, &OfficeFile { rt, path }, path, zone) {
+    match create_in(rt, &Files { rt }, path, zone) {
         Ok(()) => Ending::Fine,
         Err(failure) => Ending::Failed(failure),
     }
-}
-
-/// Prints the energy of a register by days.
-pub(crate) fn report<'a>(rt: &HostRuntime, path: &'a str, register: &str) -> Ending<'a> {
-    let mut output = CommandOutput::in_pieces(io::writer(rt));
-    let done = carry_out_at(rt, path, Task::Report { register }, &mut output);
-    ending_of_done(done, OWN_HOST, 0)
-}
-
-/// Answers HTTP on so many connections.
-pub(crate) fn serve<'a>(
-    rt: &HostRuntime,
-    path: &'a str,
-    port: u16,
-    names: &[&str],
-    connections: u32,
-) -> Ending<'a> {
-    let task = Task::Serve {
-        host: OWN_HOST,
-        port,
-        names,
-        connections,
-    };
-    let mut output = CommandOutput::in_pieces(io::writer(rt));
-    ending_of_done(carry_out_at(rt, path, task, &mut output), OWN_HOST, port)
-}
-
-// Carries a task out over the office in a file, and gives out each line that it prints at once.
-fn carry_out_by_lines<'a>(
-    rt: &HostRuntime,
-    path: &'a str,
-    task: Task<'_>,
-    host: &'a str,
-    port: u16,
-) -> Ending<'a> {
-    let Ok(mut output) = CommandOutput::by_lines(rt.alloc(), io::writer(rt)) else {
-        return Ending::Failed(Failure::Memory);
-    };
-    ending_of_done(carry_out_at(rt, path, task, &mut output), host, port)
-}
-
-/// Polls the whole plan of a device once.
-pub(crate) fn round<'a>(
-    rt: &HostRuntime,
-    path: &'a str,
-    device: &str,
-    host: &'a str,
-    port: u16,
-) -> Ending<'a> {
-    carry_out_by_lines(rt, path, Task::Round { device, host, port }, host, port)
 }
 
 /// Polls devices on a schedule and answers HTTP, as the settings say.
@@ -208,5 +252,6 @@ pub(crate) fn run<'a>(
         settings,
         sites: sites.as_slice(),
     };
-    carry_out_by_lines(rt, path, task, OWN_HOST, settings.listen.port())
+    let done = over_office(rt, &Files { rt }, path, task);
+    ending_of_done(done, OWN_HOST, settings.listen.port())
 }

@@ -1,4 +1,5 @@
 //! Why a command failed.
+use crate::backups::CopyFault;
 use crate::files::FileFault;
 use device_scan::ScanFault;
 use office_store::OpenFault;
@@ -31,10 +32,27 @@ pub enum Failure<'a> {
         path: &'a str,
         fault: OpenFault,
     },
+    /// A new office is made in an empty file alone, and this one isn't, though it has no tables.
+    Occupied {
+        path: &'a str,
+    },
     /// A file holds no office that could be opened.
     Unopened {
         path: &'a str,
         fault: OpenFault,
+    },
+    /// A file holds no tables, so that those of an office may stand in its log.
+    Bare {
+        path: &'a str,
+    },
+    /// A file is missing or empty, and its log isn't.
+    LogAlone {
+        path: &'a str,
+    },
+    /// There is no backup.
+    Uncopied {
+        path: &'a str,
+        fault: CopyFault,
     },
     /// A device was not connected.
     Unconnected {
@@ -86,6 +104,19 @@ impl<'a> Display for Failure<'a> {
                 write!(f, "{path}: ")?;
                 f.write_str(why_unmade(*fault))
             }
+            Failure::Occupied { path } => write!(
+                f,
+                "{path}: it isn't empty, though it has no tables: an office's may stand in its log: give a new file"
+            ),
+            Failure::Bare { path } => write!(
+                f,
+                "{path}: it has no tables: an office's may stand in the log that belongs to it, {path}-wal: give both, or a backup"
+            ),
+            Failure::LogAlone { path } => write!(
+                f,
+                "{path}: it is missing or empty, and its log {path}-wal is not: give the file that belongs to it, or remove the log"
+            ),
+            Failure::Uncopied { path, fault } => write!(f, "{path}: {fault}"),
             Failure::Unopened { path, fault } => {
                 write!(f, "{path}: ")?;
                 f.write_str(why_unopened(*fault))

@@ -6,14 +6,13 @@ ghost use Rattle.store_files.specs.Layouts.{IsNamedAs};
 ghost use Rattle.stored_office.specs.BooksFound.{HasPast};
 ghost use Rattle.stored_office.specs.Tasks.Tasks.{IsOf, Does};
 
-use crate::tasks::stored_run::run_stored;
-use crate::{poll_stored, report_stored, serve_stored};
+use crate::files::Closes;
 use command_io::ExitStatus;
-use office_program::{PollEnd, ServeEnd};
-use office_running::{RunFault, Settings, Site};
-use office_store::OpenFault;
+use office_program::{PollEnd, ServeEnd, poll_books, report_books, serve_books};
+use office_running::{RunFault, Settings, Site, run_office};
+use office_store::{OpenFault, SqlBooks};
 use socket_link::Clock;
-use sqlite::{Alter, Connection};
+use sqlite::Connection;
 use std::alloc::Global;
 use std::io::Write;
 use std::net::Net;
@@ -21,24 +20,24 @@ use std::net::Net;
 /// What is done over the books of an office.
 #[derive(Clone, Copy)]
 pub enum Task<'a> {
-    /// A register is reported, as `report_stored` does.
+    /// A register is reported, as `report_books` does.
     Report {
         register: &'a str,
     },
-    /// HTTP is answered on so many connections at a port of a host, by these names too, as `serve_stored` does.
+    /// HTTP is answered on so many connections at a port of a host, by these names too, as `serve_books` does.
     Serve {
         host: &'a str,
         port: u16,
         names: &'a [&'a str],
         connections: u32,
     },
-    /// A device at a port of a host is polled, as `poll_stored` does.
+    /// A device at a port of a host is polled, as `poll_books` does.
     Round {
         device: &'a str,
         host: &'a str,
         port: u16,
     },
-    /// Devices are polled on a schedule and HTTP is answered, as `run_stored` does.
+    /// Devices are polled on a schedule and HTTP is answered, as `run_office` does.
     Run {
         settings: &'a Settings<'a>,
         sites: &'a [Site],
@@ -54,8 +53,9 @@ pub enum Done {
     Ran(Result<(), RunFault>),
 }
 
-/// Finds the books of a database, and carries a task out over them. Where there are no books, nothing is printed.
-pub fn carry_out_stored<R: Net + std::rt::Clock, S: Alter + Drop, C: Clock, W: Write, E: Write>(
+/// Finds the books of a database, and carries a task out over them. Where there are no books, nothing is printed. What was
+/// booked is moved from the log into the file, as far as that can be done; a report leaves the file as it finds it.
+pub fn carry_out_stored<R: Net + std::rt::Clock, S: Closes, C: Clock, W: Write, E: Write>(
     rt: &R,
     alloc: Global,
     connection: Connection<S>,
@@ -72,48 +72,34 @@ pub fn carry_out_stored<R: Net + std::rt::Clock, S: Alter + Drop, C: Clock, W: W
         → IfOk result (Does S.Store past (C.moments clock.old) (C.moments clock.new)
         (W.contents output.old) (W.contents output.new) task.entry) }
 {
-    match task {
-        Task::Report { register } => {
-            match report_stored(alloc, connection, register, clock, output) {
-                Ok(end) => Ok(Done::Reported(end)),
-                Err(fault) => Err(fault),
+    match SqlBooks::open(alloc, connection) {
+        Ok(books) => match task {
+            Task::Report { register } => {
+                let done = report_books(alloc, books, register, clock, output);
+                Ok(Done::Reported(done.end))
             }
-        }
-        Task::Serve {
-            host,
-            port,
-            names,
-            connections,
-        } => {
-            let place = (host, port);
-            match serve_stored(
-                rt,
-                alloc,
-                connection,
-                place,
+            Task::Serve {
+                host,
+                port,
                 names,
                 connections,
-                clock,
-                output,
-            ) {
-                Ok(end) => Ok(Done::Served(end)),
-                Err(fault) => Err(fault),
+            } => {
+                let place = (host, port);
+                let done = serve_books(rt, alloc, books, place, names, connections, clock, output);
+                S::close(done.books.into_connection());
+                Ok(Done::Served(done.end))
             }
-        }
-        Task::Round { device, host, port } => {
-            let place = (host, port);
-            match poll_stored(rt, alloc, connection, device, place, clock, output) {
-                Ok(end) => Ok(Done::Polled(end)),
-                Err(fault) => Err(fault),
+            Task::Round { device, host, port } => {
+                let done = poll_books(rt, alloc, books, device, (host, port), clock, output);
+                S::close(done.books.into_connection());
+                Ok(Done::Polled(done.end))
             }
-        }
-        Task::Run { settings, sites } => {
-            match run_stored(
-                rt, alloc, connection, settings, sites, clock, output, errors,
-            ) {
-                Ok(end) => Ok(Done::Ran(end)),
-                Err(fault) => Err(fault),
+            Task::Run { settings, sites } => {
+                let done = run_office(rt, alloc, books, settings, sites, clock, output, errors);
+                S::close(done.books.into_connection());
+                Ok(Done::Ran(done.end))
             }
-        }
+        },
+        Err(unopened) => Err(unopened.fault),
     }
 }

@@ -1,33 +1,43 @@
 use Rattle.std.proofs.Common.{sym, subst}
+use Rattle.office_rules.specs.History.{facts_of}
 use Rattle.stored_office.specs.Tasks.Tasks.{Does}
 use Rattle.stored_office.specs.declared.tasks.tasks.Task.{Task}
 use Rattle.stored_office.specs.declared.tasks.tasks.Done.TheVariants.{Reported, Served, Polled, Ran}
+use Rattle.stored_office.proofs.Found.{over}
 use Rattle.stored_office.proofs.tasks.tasks.carry_out_stored.Goals as goal
 
-pub returns-in-Ok-clause-does : goal.returns-in-Ok-clause-does
+pub returns-in-Ok-in-Report-clause-does : goal.returns-in-Ok-in-Report-clause-does
 unfolding Does
-returns-in-Ok-clause-does g c = λ past has.
-    let P : Task → Type 0 = λ t. Does g.S.Store past (g.C.Clock.moments c.args.clock.now) (g.C.Clock.moments c.report_stored.new.clock)
-    (g.W.Write.contents c.args.output.now) (g.W.Write.contents c.report_stored.new.output) t (Reported c.in-Ok.end) in
-    subst P (sym c.in-Report.is) (c.in-Ok.ensures.reports past has)
+returns-in-Ok-in-Report-clause-does g c = λ past has.
+    let P : Task → Type 0 = λ t. Does g.S.Store past (g.C.Clock.moments c.args.clock.now) (g.C.Clock.moments c.report_books-done.new.clock)
+    (g.W.Write.contents c.args.output.now) (g.W.Write.contents c.report_books-done.new.output) t (Reported c.report_books-done.result.end) in
+    subst P (sym c.in-Report.is) (over g.S.Store past c.in-Ok.books c.report_books-done.result.books _ has.zone has.is_past
+    (c.in-Ok.ensures.again has.zone (facts_of past) has.has)
+    (λ stands clean. c.report_books-done.ensures.tells past stands clean))
 
-pub returns-in-Ok-serve_stored-clause-does : goal.returns-in-Ok-serve_stored-clause-does
+pub returns-in-Ok-in-Serve-clause-does : goal.returns-in-Ok-in-Serve-clause-does
 unfolding Does
-returns-in-Ok-serve_stored-clause-does g c = λ past has.
-    let P : Task → Type 0 = λ t. Does g.S.Store past (g.C.Clock.moments c.args.clock.now) (g.C.Clock.moments c.serve_stored.new.clock)
-    (g.W.Write.contents c.args.output.now) (g.W.Write.contents c.serve_stored.new.output) t (Served c.in-Ok-serve_stored.end) in
-    subst P (sym c.in-Serve.is) (c.in-Ok-serve_stored.ensures.serves past has)
+returns-in-Ok-in-Serve-clause-does g c = λ past has.
+    let P : Task → Type 0 = λ t. Does g.S.Store past (g.C.Clock.moments c.args.clock.now) (g.C.Clock.moments c.serve_books-done.new.clock)
+    (g.W.Write.contents c.args.output.now) (g.W.Write.contents c.serve_books-done.new.output) t (Served c.serve_books-done.result.end) in
+    subst P (sym c.in-Serve.is) (over g.S.Store past c.in-Ok.books c.serve_books-done.result.books _ has.zone has.is_past
+    (c.in-Ok.ensures.again has.zone (facts_of past) has.has)
+    (λ stands clean. c.serve_books-done.ensures.tells past stands clean))
 
-pub returns-in-Ok-poll_stored-clause-does : goal.returns-in-Ok-poll_stored-clause-does
+pub returns-in-Ok-in-Round-clause-does : goal.returns-in-Ok-in-Round-clause-does
 unfolding Does
-returns-in-Ok-poll_stored-clause-does g c = λ past has.
-    let P : Task → Type 0 = λ t. Does g.S.Store past (g.C.Clock.moments c.args.clock.now) (g.C.Clock.moments c.poll_stored.new.clock)
-    (g.W.Write.contents c.args.output.now) (g.W.Write.contents c.poll_stored.new.output) t (Polled c.in-Ok-poll_stored.end) in
-    subst P (sym c.in-Round.is) (c.in-Ok-poll_stored.ensures.polls past has)
+returns-in-Ok-in-Round-clause-does g c = λ past has.
+    let P : Task → Type 0 = λ t. Does g.S.Store past (g.C.Clock.moments c.args.clock.now) (g.C.Clock.moments c.poll_books-done.new.clock)
+    (g.W.Write.contents c.args.output.now) (g.W.Write.contents c.poll_books-done.new.output) t (Polled c.poll_books-done.result.end) in
+    subst P (sym c.in-Round.is) (over g.S.Store past c.in-Ok.books c.poll_books-done.result.books _ has.zone has.is_past
+    (c.in-Ok.ensures.again has.zone (facts_of past) has.has)
+    (λ stands clean. c.poll_books-done.ensures.tells past stands clean))
 
-pub returns-in-Ok-run_stored-clause-does : goal.returns-in-Ok-run_stored-clause-does
+pub returns-in-Ok-in-Run-clause-does : goal.returns-in-Ok-in-Run-clause-does
 unfolding Does
-returns-in-Ok-run_stored-clause-does g c = λ past has.
-    let P : Task → Type 0 = λ t. Does g.S.Store past (g.C.Clock.moments c.args.clock.now) (g.C.Clock.moments c.run_stored.new.clock)
-    (g.W.Write.contents c.args.output.now) (g.W.Write.contents c.run_stored.new.output) t (Ran c.in-Ok-run_stored.end) in
-    subst P (sym c.in-Run.is) (c.in-Ok-run_stored.ensures.runs past has)
+returns-in-Ok-in-Run-clause-does g c = λ past has.
+    let P : Task → Type 0 = λ t. Does g.S.Store past (g.C.Clock.moments c.args.clock.now) (g.C.Clock.moments c.run_office-done.new.clock)
+    (g.W.Write.contents c.args.output.now) (g.W.Write.contents c.run_office-done.new.output) t (Ran c.run_office-done.result.end) in
+    subst P (sym c.in-Run.is) (over g.S.Store past c.in-Ok.books c.run_office-done.result.books _ has.zone has.is_past
+    (c.in-Ok.ensures.again has.zone (facts_of past) has.has)
+    (λ stands clean. c.run_office-done.ensures.books past stands clean))

@@ -1,5 +1,5 @@
 use Rattle.stored_office.proofs.Told.{not_both, same_fault}
-use Rattle.stored_office.proofs.commands.create_stored.Goals as goal
+use Rattle.stored_office.proofs.new_office.create_stored.Goals as goal
 
 pub returns-in-Ok-clause-no_zone : goal.returns-in-Ok-clause-no_zone
 returns-in-Ok-clause-no_zone g c = λ idle none other. absurd (not_both _ _ (c.in-Ok.ensures.no_zone idle none other))

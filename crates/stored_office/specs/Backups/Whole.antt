@@ -1,0 +1,34 @@
+-- Files that hold an office, and a file that holds it alone.
+use Rattle.std.specs.Prelude.{◌≡◌, ℕ, List}
+use Rattle.sqlite_disk.specs.declared.Disk.{Ghosts}
+use Rattle.sqlite_disk.specs.declared.Files.{Files}
+use Rattle.sqlite_wal.specs.Recovery.{Image}
+use Rattle.sqlite_wal.specs.Files.{outcomes}
+use Rattle.sqlite.specs.Tree.{Trees}
+use Rattle.sqlite.specs.Effect.{Database, IsDatabase}
+use Rattle.sqlite.specs.Files.{HoldsDatabase, image_of}
+use Rattle.sqlite.specs.Closing.{HoldsAlone}
+use Rattle.office_rules.specs.History.{History, facts_of}
+use Rattle.office_rules.specs.Lawfulness.{IsPast}
+use Rattle.store_files.specs.declared.layouts.Layout.{Layout}
+use Rattle.office_store.specs.Laws.Files.{HasFactsIn}
+
+-- Each database of these trees, as the next open finds it, has the facts of what was accepted before.
+pub record TreesHavePast (trees : Trees) (past : History) : Type 0 where
+  pub zone : List ℕ
+  pub is_past : IsPast past
+  pub has : (found : Database) → IsDatabase found → found.trees ≡ trees
+      → (layout : Layout) × HasFactsIn layout zone (facts_of past) found
+
+-- The bytes of a file and its log hold the facts of what was accepted before.
+pub record HasPastIn (image : Image) (past : History) : Type 0 where
+  pub trees : Trees
+  pub holds : HoldsDatabase image trees
+  pub has : TreesHavePast trees past
+
+-- The database file holds them alone, and also with its log, as both read now and after a crash.
+pub record HasPastAlone {D : Type 0} (g : Ghosts D) (files : Files D) (past : History) : Type 0 where
+  pub trees : Trees
+  pub seen : HoldsAlone (image_of g files) trees
+  pub left : (image : Image) → outcomes g files.log files.db image → HoldsAlone image trees
+  pub has : TreesHavePast trees past

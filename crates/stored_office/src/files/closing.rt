@@ -1,0 +1,39 @@
+//! How a connection is left.
+ghost use Rattle.std.specs.Prelude.{◌↔◌, ◌≡◌, false, IsTrue};
+ghost use Rattle.store_files.specs.declared.layouts.Layout.{Layout as TheLayout};
+ghost use Rattle.store_files.specs.Layouts.{no_schema, IsNamedAs};
+
+use sqlite::{Alter, Connection, FileStore};
+use sqlite_disk::Disk;
+use store_files::layout_of;
+
+/// A store whose log can be moved into its file.
+pub trait Closes: Alter + Drop {
+    /// Ends a connection. What was committed stays, and is moved from the log into the file as far as that can be done.
+    fn close(connection: Connection<Self>);
+}
+
+impl<D: Disk + Drop> Closes for FileStore<D> {
+    fn close(connection: Connection<FileStore<D>>) {
+        let _closed = connection.close();
+    }
+}
+
+/// Whether a database has neither tables nor views.
+pub fn is_bare<S: Alter>(connection: &Connection<S>) -> bool
+    ensures { IsTrue result ↔ (connection.now.schema ≡ no_schema) }
+{
+    let schema = connection.schema();
+    schema.tables.as_slice().is_empty()
+        && schema.indexes.as_slice().is_empty()
+        && schema.views.as_slice().is_empty()
+}
+
+/// Whether the tables of a database are those of an office of some version, by their names and order.
+pub fn is_office<S: Alter>(connection: &Connection<S>) -> bool
+    ensures named { IsTrue result → (layout : TheLayout) × IsNamedAs connection.now.schema layout }
+    ensures foreign { result ≡ false → (layout : TheLayout)
+        → ¬ IsNamedAs connection.now.schema layout }
+{
+    layout_of(connection.schema()).is_some()
+}

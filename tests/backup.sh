@@ -1,0 +1,254 @@
+#!/bin/bash
+# Loses, mixes up and backs up the files of offices, also of one that runs and books meanwhile, with curl and sqlite3:
+# `tests/backup.sh [PROGRAM]`, out/sunreg by default, which `./sunreg-build` makes. BACKUPS says how many are made beside the
+# office that books, 40 by default. It ends on 'N passed, M failed'.
+set -u
+here=$(dirname "$(readlink -f "$0")")
+program=${1:-$here/../out/sunreg}
+[ -x "$program" ] || { echo "backup.sh: $program is not built: run ./sunreg-build" >&2; exit 2; }
+program=$(readlink -f "$program")
+for tool in curl sqlite3; do
+    command -v $tool > /dev/null || { echo "backup.sh: $tool is not installed (apt-get install $tool)" >&2; exit 2; }
+done
+room=$(mktemp -d) || exit 2
+children=''
+trap 'for it in $children; do kill -9 "$it" 2> /dev/null; done; rm -rf "$room"' EXIT
+cd "$room" || exit 2
+passed=0
+failed=0
+port=${BACKUP_PORT:-18531}
+
+# same WHAT GOT WANTED: holds what came to what is wanted
+same() {
+    if [ "$2" = "$3" ]; then
+        passed=$((passed + 1))
+    else
+        failed=$((failed + 1))
+        echo "$1: '$2', and not '$3'"
+    fi
+}
+
+# run WORDS..: runs the program, and keeps what comes
+run() {
+    "$program" "$@" > out 2> err < /dev/null
+    status=$?
+}
+
+# refused WHAT TEXT: holds the last run to status 3 and a sentence, and nothing on standard output
+refused() {
+    same "$1" "$status $(cat out)$(cat err)" "3 failed
+sunreg: $2"
+}
+
+# sums NAME..: what the files of these names hold, and which are there
+sums() {
+    sha256sum "$@" 2> /dev/null
+}
+
+# dump FILE: all rows of a file and its log, which stay as they are
+dump() {
+    rm -rf dumped
+    mkdir dumped
+    cp "$1" dumped/it
+    [ ! -e "$1-wal" ] || cp "$1-wal" dumped/it-wal
+    sqlite3 dumped/it .dump
+}
+
+# ask PATH [WORDS..]: asks the serving program, once it listens, and prints the reply's status
+ask() {
+    path=$1
+    shift
+    for turn in $(seq 100); do
+        code=$(curl -s -w '%{http_code}' -o body --max-time 30 "$@" "http://127.0.0.1:$port$path")
+        [ $? = 7 ] || break
+        sleep 0.2
+    done
+    echo "$code"
+}
+
+# put PATH NUMBER BODY: asks a command
+put() {
+    ask "$1" -H 'Office-Caller: desk' -H "Office-Request: $2" --data-binary "$3"
+}
+
+# serve FILE COUNT: serves so many connections in the background
+serve() {
+    "$program" serve --db "$1" --port "$port" --connections "$2" > served 2>&1 < /dev/null &
+    child=$!
+    children="$children $child"
+}
+
+no_log() {
+    echo "sunreg: $1: it had no log beside it, $1-wal: a backup needs none, and a file copied alone lacks what stood there"
+}
+
+# The log is moved into the file where a command ends.
+run create --db office.db --zone UTC0
+same 'create' "$status $(cat out err)" '0 '
+cp office.db alone.db
+run report --db alone.db --register main
+same 'a new file holds its tables without its log' "$status $(cat out err)" "1 refused 1
+$(no_log alone.db)"
+run report --db alone.db --register main
+same 'a log that was missed is told once' "$status $(cat out err)" '1 refused 1'
+serve office.db 2
+same 'a device' "$(put /devices 1 '{"name":"inv","unit":1,"timeout":60,"window":1}')" 200
+list='name,function,area,address,type,scale
+wh,3,0,40094,acc32,
+'
+same 'its list' "$(put /devices/inv/list 2 "$list")" 200
+wait "$child"
+same 'what was served is in the file without its log' "$(cp office.db served.db && sqlite3 served.db 'SELECT count(*) FROM replies')" 2
+
+# Files without tables, and logs without their file.
+sqlite3 bare.db 'CREATE TABLE t (n); DROP TABLE t'
+before=$(sums bare.db bare.db-wal)
+run create --db bare.db --zone UTC0
+refused 'create over a file that is not empty' "bare.db: it isn't empty, though it has no tables: an office's may stand in its log: give a new file"
+run report --db bare.db --register main
+refused 'a file without tables' "bare.db: it has no tables: an office's may stand in the log that belongs to it, bare.db-wal: give both, or a backup"
+run create --db alone.db --zone UTC0
+refused 'create over a file copied alone' 'alone.db: it has tables already: give another file, or leave out create'
+serve office.db 9
+same 'one more' "$(put /devices 3 '{"name":"two","unit":1,"timeout":60,"window":1}')" 200
+kill -9 "$child"
+wait "$child" 2> /dev/null
+same 'what a kill leaves in the log' "$(dump office.db | grep -c "'two'")" 1
+cp office.db-wal lost.db-wal
+before=$(sums lost.db-wal)
+for words in 'create --zone UTC0' 'report --register main' "serve --port $port --connections 1"; do
+    run ${words%% *} --db lost.db ${words#* }
+    refused "${words%% *}: a log alone" 'lost.db: it is missing or empty, and its log lost.db-wal is not: give the file that belongs to it, or remove the log'
+    same "${words%% *}: a log alone stays" "$(sums lost.db lost.db-wal)" "$before"
+done
+: > lost.db
+run create --db lost.db --zone UTC0
+refused 'create in an empty file beside a log' 'lost.db: it is missing or empty, and its log lost.db-wal is not: give the file that belongs to it, or remove the log'
+same 'the log stays' "$(sums lost.db-wal)" "$before"
+: > empty.db
+run report --db empty.db --register main
+refused 'an empty file' "empty.db: it has no tables: an office's may stand in the log that belongs to it, empty.db-wal: give both, or a backup"
+same 'it stays empty' "$(ls -s empty.db empty.db-wal 2> /dev/null)" '0 empty.db'
+run create --db empty.db --zone UTC0
+same 'create in an empty file' "$status $(cat out err)" '0 '
+ln -s office.db link.db
+run report --db link.db --register main
+same 'the log of a link is where it leads' "$status $(cat out err)" '1 refused 1'
+
+# A backup, and what is refused.
+before=$(sums office.db office.db-wal)
+rows=$(dump office.db)
+run backup --db office.db --to copy.db
+same 'backup' "$status $(cat out err)" '0 '
+same 'no other file is left' "$(ls copy.db*)" 'copy.db'
+same 'it is its owner'\''s alone' "$(stat -c %a copy.db)" 600
+same 'its rows' "$(dump copy.db)" "$rows"
+same 'what is backed up stays as it is' "$(sums office.db office.db-wal)" "$before"
+run backup --db link.db --to of-link.db
+same 'backup by a link' "$status $(dump of-link.db)" "0 $rows"
+before=$(sums copy.db)
+run backup --db office.db --to copy.db
+refused 'backup over a file' 'copy.db: there is a file of this name already, or one with -wal behind it: give another name'
+run backup --db office.db --to office.db
+refused 'backup over itself' 'office.db: there is a file of this name already, or one with -wal behind it: give another name'
+: > beside.db-wal
+run backup --db office.db --to beside.db
+refused 'backup beside a log' 'beside.db: there is a file of this name already, or one with -wal behind it: give another name'
+: > cut.db.part
+run backup --db office.db --to cut.db
+refused 'backup where one was cut off' 'cut.db: a backup to it runs, or was cut off: then remove the file with .part behind this name'
+run backup --db none.db --to new.db
+refused 'backup of no file' 'none.db: there is no such file: sunreg create makes it'
+echo text > text.db
+run backup --db text.db --to new.db
+refused 'backup of a text' 'text.db: it is no SQLite database, or a damaged one, so there is no backup of it'
+sqlite3 other.db 'CREATE TABLE other (n INTEGER)'
+run backup --db other.db --to new.db
+refused 'backup of the tables of another' 'other.db: it holds no office, or one of a later program'
+run backup --db bare.db --to new.db
+refused 'backup of no tables' 'bare.db: it holds no office, or one of a later program'
+mkdir folder
+run backup --db folder --to new.db
+same 'backup of a folder' "$status $(head -n 1 err)" '3 failed'
+run backup --db office.db --to none/new.db
+refused 'backup into no folder' "none/new.db: it can't be written: look at its folder's rights and the disk's room"
+head -c 20000 office.db > torn.db
+cp office.db-wal torn.db-wal
+run backup --db torn.db --to new.db
+refused 'backup of a torn file' 'torn.db: it is no SQLite database, or a damaged one, so there is no backup of it'
+same 'nothing is left of those' "$(ls new.db* none 2> /dev/null)" ''
+same 'what was there stays' "$(sums copy.db)" "$before"
+
+# It is restored.
+mkdir restored
+cp copy.db restored/office.db
+run report --db restored/office.db --register main
+same 'a backup that is restored' "$status $(cat out err)" "1 refused 1
+$(no_log restored/office.db)"
+same 'with its rows' "$(dump restored/office.db)" "$rows"
+
+# Backups beside an office that books: each list that it takes is one commit of some 300 rows, so the log is moved into the
+# file about each fourth time. A backup has the list of its last request, and no request that was acknowledged before is missing.
+list_of() {
+    echo 'name,function,area,address,type,scale'
+    echo "n$1,3,0,0,uint16,"
+    for row in $(seq 300); do
+        echo "x$row,3,0,$row,uint16,"
+    done
+}
+many=${BACKUPS:-40}
+serve office.db 100000
+same 'it serves' "$(ask /devices)" 405
+(
+    for turn in $(seq 4 100000); do
+        [ ! -e stop ] || break
+        list_of "$turn" > list
+        echo "$turn" > asked.new && mv asked.new asked
+        until [ "$(put /devices/inv/list "$turn" @list)" = 200 ]; do
+            [ ! -e stop ] || exit 1
+            sleep 0.1
+        done
+        echo "$turn" > booked.new && mv booked.new booked
+    done
+) &
+writer=$!
+for turn in $(seq 100); do
+    [ -e booked ] && break
+    sleep 0.1
+done
+made=0
+right=0
+busy=0
+for turn in $(seq "$many"); do
+    before=$(cat booked)
+    run backup --db office.db --to "beside$turn.db"
+    after=$(cat asked)
+    if grep -q 'its log was moved into it' err; then
+        busy=$((busy + 1))
+        continue
+    fi
+    [ "$status" = 0 ] && made=$((made + 1))
+    found=$(sqlite3 "beside$turn.db" 'PRAGMA integrity_check; SELECT max(number), count(*) FROM replies; SELECT name FROM points WHERE place = (SELECT min(place) FROM points); SELECT count(*) FROM points')
+    last=$(echo "$found" | sed -n 2p | cut -d '|' -f 1)
+    if [ "$found" = "ok
+$last|$last
+n$last
+301" ] && [ "$last" -ge "$before" ] && [ "$last" -le "$after" ]; then
+        right=$((right + 1))
+    else
+        echo "backup $turn, between $before and $after: $found"
+    fi
+    rm -f "beside$turn.db"
+done
+: > stop
+wait "$writer"
+same 'backups beside an office that books' "$made $right" "$((many - busy)) $((many - busy))"
+same 'most are made' "$((busy * 4 <= many))" 1
+echo "of $many backups $busy were refused since the log was moved; $(cat booked) requests were booked"
+kill -9 "$child"
+wait "$child" 2> /dev/null
+run backup --db office.db --to killed.db
+same 'the backup of an office that was killed' "$status $(dump killed.db | sha256sum)" "0 $(dump office.db | sha256sum)"
+
+echo "$passed passed, $failed failed"
+[ "$failed" = 0 ]
