@@ -136,11 +136,11 @@ def main():
         same(f"no register: {form}", run(db, "none", ["--format", form]), (1, "refused 1\n", []))
     for word in ("2024-02-30", "2023-02-29", "24-02-01", "2024-2-1", "2024-02-01 ", "20240201", "2024-13-01", "2024-00-01"):
         for option in ("--from", "--till"):
-            refused(db, [option, word], f"error: invalid value '{word}' for '{option} <DAY>': not a day, as 2026-11-25")
-    refused(db, ["--from", "2024-02-02", "--till", "2024-02-01"], "error: '--from <DAY>' is after '--till <DAY>'")
-    refused(db, ["--unit", "wh"], "error: invalid value 'wh' for '--unit <UNIT>': not one of mwh, kwh")
-    refused(db, ["--by", "week"], "error: invalid value 'week' for '--by <PERIOD>': not one of day, month, year")
-    refused(db, ["--format", "xml"], "error: invalid value 'xml' for '--format <FORMAT>': not one of text, csv, json")
+            refused(db, [option, word], f"error: invalid value '{word}' for '{option} <DAY>': no day, as 2026-11-25")
+    refused(db, ["--from", "2024-02-02", "--till", "2024-02-01"], "error: '--till <DAY>' is before '--from <DAY>'")
+    refused(db, ["--unit", "wh"], "error: invalid value 'wh' for '--unit <UNIT>': none of mwh, kwh")
+    refused(db, ["--by", "week"], "error: invalid value 'week' for '--by <PERIOD>': none of day, month, year")
+    refused(db, ["--format", "xml"], "error: invalid value 'xml' for '--format <FORMAT>': none of text, csv, json")
     room.cleanup()
     print(f"{counts['passed']} passed, {counts['failed']} failed")
     sys.exit(1 if counts["failed"] else 0)

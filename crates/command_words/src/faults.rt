@@ -22,6 +22,13 @@ pub enum ValueFault<'a> {
         one: &'a str,
         other: &'a str,
     },
+    /// The word is none of those that the option takes.
+    Choice {
+        option: &'a str,
+        value: &'a str,
+        choices: &'a str,
+        word: &'a str,
+    },
     /// No command has the name.
     Command {
         name: &'a str,
@@ -66,6 +73,15 @@ impl<'a> Display for ValueFault<'a> {
             ValueFault::Both { one, other } => write!(
                 f,
                 "error: the argument '--{one}' cannot be used with '--{other}'"
+            )?,
+            ValueFault::Choice {
+                option,
+                value,
+                choices,
+                word,
+            } => write!(
+                f,
+                "error: invalid value '{word}' for '--{option} <{value}>': none of {choices}"
             )?,
             ValueFault::Command { name } => write!(f, "error: unrecognized subcommand '{name}'")?,
             ValueFault::Shell { word } => write!(

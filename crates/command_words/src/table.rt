@@ -225,8 +225,36 @@ const ROUND: CommandText<'static> = CommandText {
 const REPORT: CommandText<'static> = CommandText {
     name: "report",
     about: "Prints a register's energy by days",
-    after: "Example: sunreg report --db office.db --register main",
-    options: &[DB, REGISTER],
+    after: "Example:\n  sunreg report --db office.db --register main --by month --unit kwh --format csv",
+    options: &[
+        DB,
+        REGISTER,
+        OptionText {
+            name: "from",
+            value: Value::Optional("DAY"),
+            help: "The first day, as 2026-11-25",
+        },
+        OptionText {
+            name: "till",
+            value: Value::Optional("DAY"),
+            help: "The day behind the last",
+        },
+        OptionText {
+            name: "by",
+            value: Value::Optional("PERIOD"),
+            help: "day, month or year; day where it is left out",
+        },
+        OptionText {
+            name: "unit",
+            value: Value::Optional("UNIT"),
+            help: "mwh or kwh; mwh where it is left out",
+        },
+        OptionText {
+            name: "format",
+            value: Value::Optional("FORMAT"),
+            help: "text, csv or json; text where it is left out",
+        },
+    ],
 };
 
 const BACKUP: CommandText<'static> = CommandText {

@@ -1,9 +1,14 @@
 -- Which day a text spells.
-use Rattle.std.specs.Prelude.{◌≡◌, ℕ, ◌+◌, ◌<◌, pos, ◌≤ℤ◌, List, [], ◌∷◌, ◌++◌, codes, Option, Some, None}
+use Rattle.std.specs.Prelude.{◌≡◌, ℕ, ◌+◌, ◌<◌, pos, ◌≤ℤ◌, List, [], ◌∷◌, ◌++◌, codes, true, false, Option, Some, None}
+use Rattle.std.specs.Borrow.{Bor}
 use Rattle.jiff.specs.Words.{date_text}
 use Rattle.jiff_fmt.specs.Text.{pad2}
 use Rattle.jiff_core.specs.declared.civil.date.Date.{Date}
+use Rattle.energy_report.specs.Ranges.{is_backward}
+use Rattle.energy_report.specs.declared.range.DayRange.{DayRange}
 use Rattle.energy_report.specs.declared.read_day.Parts.{Parts}
+use Rattle.energy_report.specs.declared.read_range.RangeFault.{RangeFault}
+use Rattle.energy_report.specs.declared.read_range.RangeFault.TheVariants as fault
 
 -- The text is that of a day, as `2026-11-25`, whose year has four digits.
 abbrev pub Spells : List ℕ → Date → Type 0
@@ -12,6 +17,38 @@ Spells text day = (date_text day ≡ text) × (pos 0 ≤ℤ day.year)
 abbrev pub IsReadAs : List ℕ → Option Date → Type 0
 IsReadAs text (Some day) = Spells text day
 IsReadAs text None = (day : Date) → ¬ Spells text day
+
+-- the end of a range that a word spells, if there is a word
+abbrev pub IsEnd : Option (Bor (List ℕ)) → Option Date → Type 0
+IsEnd None None = Unit {0}
+IsEnd None (Some day) = ⊥
+IsEnd (Some word) None = ⊥
+IsEnd (Some word) (Some day) = Spells word.now day
+
+-- there is a word, and it spells no day
+abbrev pub IsNoEnd : Option (Bor (List ℕ)) → Type 0
+IsNoEnd None = ⊥
+IsNoEnd (Some word) = (day : Date) → ¬ Spells word.now day
+
+-- the range from one day until another
+pub record IsRange (from till : Option (Bor (List ℕ))) (range : DayRange) : Type 0 where
+  pub from : IsEnd from range.from
+  pub till : IsEnd till range.till
+  pub forward : is_backward range ≡ false
+
+-- two days, of which the second is before the first
+pub record AreBackward (from till : Option (Bor (List ℕ))) : Type 0 where
+  pub range : DayRange
+  pub from : IsEnd from range.from
+  pub till : IsEnd till range.till
+  pub backward : is_backward range ≡ true
+
+abbrev pub IsRangeFault : (from till : Option (Bor (List ℕ))) → RangeFault → Type 0
+IsRangeFault from till fault.From = IsNoEnd from
+IsRangeFault from till fault.Till = IsNoEnd till
+IsRangeFault from till fault.Backward = AreBackward from till
+
+-- ---- digits
 
 -- a digit spells a number below 10
 abbrev pub DigitIs : (byte : ℕ) → Option ℕ → Type 0

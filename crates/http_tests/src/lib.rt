@@ -42,6 +42,8 @@ mod program_commands;
 #[cfg(test)]
 mod replies;
 #[cfg(test)]
+mod report_forms;
+#[cfg(test)]
 mod reports;
 #[cfg(test)]
 mod requests;

@@ -227,7 +227,7 @@ fn reports(
 ) {
     let mut printed = Vec::new(alloc);
     let form = form(Period::Month, EnergyUnit::KilowattHours, format);
-    let ended = report_range(office, &Name::new(register), form, &mut printed);
+    let ended = report_range(office, &Name::new(register), &form, &mut printed);
     assert_eq!(rt; ended, wanted.0);
     assert_eq!(rt; printed.as_slice(), wanted.1);
 }
@@ -272,7 +272,7 @@ fn a_row_that_is_not_written_is_told(rt: HostRuntime) -> Result<(), Fail> {
     for (room, register) in &NARROW {
         let mut narrow = Narrow { room: *room };
         let form = form(Period::Month, EnergyUnit::KilowattHours, Format::Text);
-        let status = report_range(&mut office, &Name::new(register), form, &mut narrow);
+        let status = report_range(&mut office, &Name::new(register), &form, &mut narrow);
         assert_eq!(rt; status.number(), 3);
     }
     Ok(())
@@ -289,7 +289,7 @@ fn a_report_in_a_form_is_refused(rt: HostRuntime) -> Result<(), Fail> {
         let mut clock = FixedClock::new(&moments);
         let mut printed = Vec::new(rt.alloc());
         let form = ReportForm::plain();
-        let done = report_range_books(rt.alloc(), books, "none", form, &mut clock, &mut printed);
+        let done = report_range_books(rt.alloc(), books, "none", &form, &mut clock, &mut printed);
         assert_eq!(rt; done.end, ExitStatus::Refused);
         assert_eq!(rt; printed.as_slice(), *text);
     }

@@ -20,11 +20,11 @@ pub fn report_range_books<B: Books, C: Clock, W: Write>(
     alloc: Global,
     books: B,
     register: &str,
-    form: ReportForm,
+    form: &ReportForm,
     clock: &mut C,
     output: &mut W,
 ) -> CommandEnd<B, ExitStatus>
-    ensures tells { RangeOver B.Books C.Clock W.Write register.now form books result.books
+    ensures tells { RangeOver B.Books C.Clock W.Write register.now form.now books result.books
         clock.old clock.new output.old output.new result.end }
     ensures lasts { Lasts (B.ledger books) (B.ledger result.books) }
 {

@@ -9,7 +9,9 @@ use Rattle.office_books.specs.Ledgers.{Ledger}
 use Rattle.office_store.specs.Stored.{ledger_of}
 use Rattle.office_store.specs.Database.{HasFile, HoldsAlone}
 use Rattle.office_store.specs.declared.books.SqlBooks.{SqlBooks}
+use Rattle.energy_report.specs.declared.form.ReportForm.{ReportForm}
 use Rattle.office_program.specs.Report.{TellsReport}
+use Rattle.office_program.specs.RangedReport.{TellsRange}
 use Rattle.office_program.specs.HttpPort.{Port, TellsServing}
 use Rattle.office_program.specs.PortRound.{TellsPolling}
 use Rattle.office_program.specs.declared.http_port.ServeEnd.{ServeEnd}
@@ -40,6 +42,12 @@ module _ {S : Type 0} (g : Ghosts S) where
       → (moments later had holds : Option (List ℕ)) → ExitStatus → Type 0
   Reports past register moments later had holds status = OverBooks past (λ found left.
       TellsReport ledger_in past register moments later found left had holds status)
+
+  -- the same on a range of days, in a form
+  abbrev pub ReportsRange : (past : History) → (register : List ℕ) → ReportForm
+      → (moments later had holds : Option (List ℕ)) → ExitStatus → Type 0
+  ReportsRange past register form moments later had holds status = OverBooks past (λ found left.
+      TellsRange ledger_in past register form moments later found left had holds status)
 
   abbrev pub Serves : (past : History) → Port
       → (moments later had holds : Option (List ℕ)) → ServeEnd → Type 0

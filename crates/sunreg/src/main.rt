@@ -12,6 +12,7 @@ mod completions;
 mod escaped;
 mod explain;
 mod offices;
+mod reports;
 mod run_words;
 mod scans;
 mod version;

@@ -218,7 +218,9 @@ fn output_of<'r>(
     task: Task<'_>,
 ) -> io::Result<CommandOutput<Printer<'r, HostRuntime>>> {
     match task {
-        Task::Report { .. } | Task::Serve { .. } => Ok(CommandOutput::in_pieces(io::writer(rt))),
+        Task::Report { .. } | Task::ReportRange { .. } | Task::Serve { .. } => Ok(
+            CommandOutput::in_pieces(io::writer(rt)),
+        ),
         Task::Round { .. } | Task::Run { .. } => CommandOutput::by_lines(
             rt.alloc(),
             io::writer(rt),

@@ -32,14 +32,14 @@ fn print_rest<W: Write>(told: Result<(), Refusal>, rows: &mut ReportRows<'_, W>)
 pub fn report_range<B: Books, W: Write>(
     office: &mut Office<B>,
     register: &Option<Name>,
-    form: ReportForm,
+    form: &ReportForm,
     output: &mut W,
 ) -> ExitStatus
-    ensures prints { ReportsRange B.Books W.Write register.now form office.old office.new
+    ensures prints { ReportsRange B.Books W.Write register.now form.now office.old office.new
         output.old output.new result }
     ensures asks { Asks B.ledger office.old office.new }
 {
-    let mut rows = ReportRows::to(form, output);
+    let mut rows = ReportRows::to(*form, output);
     let told = office.days(register, &mut rows);
     print_rest(told, &mut rows)
 }

@@ -8,7 +8,10 @@ ghost use Rattle.stored_office.specs.Tasks.Tasks.{IsOf, Does};
 
 use crate::files::Closes;
 use command_io::ExitStatus;
-use office_program::{PollEnd, ServeEnd, poll_books, report_books, serve_books};
+use energy_report::ReportForm;
+use office_program::{
+    PollEnd, ServeEnd, poll_books, report_books, report_range_books, serve_books,
+};
 use office_running::{RunFault, Settings, Site, run_office};
 use office_store::{OpenFault, SqlBooks};
 use socket_link::Clock;
@@ -23,6 +26,11 @@ pub enum Task<'a> {
     /// A register is reported, as `report_books` does.
     Report {
         register: &'a str,
+    },
+    /// A register is reported on the days of a range, in a form, as `report_range_books` does.
+    ReportRange {
+        register: &'a str,
+        form: &'a ReportForm,
     },
     /// HTTP is answered on so many connections at a port of a host, by these names too, as `serve_books` does.
     Serve {
@@ -76,6 +84,10 @@ pub fn carry_out_stored<R: Net + std::rt::Clock, S: Closes, C: Clock, W: Write, 
         Ok(books) => match task {
             Task::Report { register } => {
                 let done = report_books(alloc, books, register, clock, output);
+                Ok(Done::Reported(done.end))
+            }
+            Task::ReportRange { register, form } => {
+                let done = report_range_books(alloc, books, register, form, clock, output);
                 Ok(Done::Reported(done.end))
             }
             Task::Serve {

@@ -15,6 +15,15 @@ returns-in-Ok-in-Report-clause-does g c = λ past has.
     (c.in-Ok.ensures.again has.zone (facts_of past) has.has)
     (λ stands clean. c.report_books-done.ensures.tells past stands clean))
 
+pub returns-in-Ok-in-ReportRange-clause-does : goal.returns-in-Ok-in-ReportRange-clause-does
+unfolding Does
+returns-in-Ok-in-ReportRange-clause-does g c = λ past has.
+    let P : Task → Type 0 = λ t. Does g.S.Store past (g.C.Clock.moments c.args.clock.now) (g.C.Clock.moments c.report_range_books-done.new.clock)
+    (g.W.Write.contents c.args.output.now) (g.W.Write.contents c.report_range_books-done.new.output) t (Reported c.report_range_books-done.result.end) in
+    subst P (sym c.in-ReportRange.is) (over g.S.Store past c.in-Ok.books c.report_range_books-done.result.books _ has.zone has.is_past
+    (c.in-Ok.ensures.again has.zone (facts_of past) has.has)
+    (λ stands clean. c.report_range_books-done.ensures.tells past stands clean))
+
 pub returns-in-Ok-in-Serve-clause-does : goal.returns-in-Ok-in-Serve-clause-does
 unfolding Does
 returns-in-Ok-in-Serve-clause-does g c = λ past has.
