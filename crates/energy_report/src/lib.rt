@@ -3,7 +3,6 @@
 
 mod form;
 mod laws;
-mod line;
 mod range;
 mod read_day;
 mod read_range;

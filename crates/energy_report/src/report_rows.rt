@@ -2,11 +2,11 @@
 ghost use Rattle.std.specs.Prelude.{◌≡◌};
 
 use crate::form::ReportForm;
-use crate::line::Line;
 use crate::row::Row;
 use crate::row_text::{last_piece, row_piece};
 use interval_core::DayTotal;
 use office_books::RowSink;
+use script_text::Line;
 use std::io::Write;
 use sun_points::Sink;
 

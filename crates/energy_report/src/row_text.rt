@@ -7,9 +7,9 @@ ghost use Rattle.interval_core.specs.Report.{right};
 ghost use Rattle.energy_report.specs.Texts as text;
 
 use crate::form::{EnergyUnit, Format, Period, ReportForm};
-use crate::line::{Line, Text};
 use crate::row::Row;
 use interval_core::Day;
+use script_text::{Line, Text};
 
 // The text of an energy, which has at most 46 characters.
 type Energy = Text<48>;
