@@ -15,27 +15,27 @@ use Rattle.interval_core.specs.declared.totals.DayTotal.{DayTotal}
 use Rattle.energy_report.specs.Laws.{energy_of_days, range}
 use Rattle.energy_report.specs.Ranges.{begins_by, days_in, ends_after, ends_before, is_in}
 
-le_of : (r : Ordering) (a b : ℤ) → MatchOrdering r (a <ℤ b) (a ≡ b) (b <ℤ a) → is_le r ≡ true → a ≤ℤ b
+pub le_of : (r : Ordering) (a b : ℤ) → MatchOrdering r (a <ℤ b) (a ≡ b) (b <ℤ a) → is_le r ≡ true → a ≤ℤ b
 le_of Less a b is le = omega (arith, signed_arith, is)
 le_of Equal a b is le = omega (arith, signed_arith, is)
 le_of Greater a b is le = absurd (let h : false ≡ true = le in cc)
 
-of_le : (r : Ordering) (a b : ℤ) → MatchOrdering r (a <ℤ b) (a ≡ b) (b <ℤ a) → a ≤ℤ b → is_le r ≡ true
+pub of_le : (r : Ordering) (a b : ℤ) → MatchOrdering r (a <ℤ b) (a ≡ b) (b <ℤ a) → a ≤ℤ b → is_le r ≡ true
 of_le Less a b is le = refl
 of_le Equal a b is le = refl
 of_le Greater a b is le = absurd (omega (arith, signed_arith, is, le))
 
-not_le : (r : Ordering) (a b : ℤ) → MatchOrdering r (a <ℤ b) (a ≡ b) (b <ℤ a) → b <ℤ a → is_le r ≡ false
+pub not_le : (r : Ordering) (a b : ℤ) → MatchOrdering r (a <ℤ b) (a ≡ b) (b <ℤ a) → b <ℤ a → is_le r ≡ false
 not_le Less a b is lt = absurd (omega (arith, signed_arith, is, lt))
 not_le Equal a b is lt = absurd (omega (arith, signed_arith, is, lt))
 not_le Greater a b is lt = refl
 
-of_lt : (r : Ordering) (a b : ℤ) → MatchOrdering r (a <ℤ b) (a ≡ b) (b <ℤ a) → a <ℤ b → is_lt r ≡ true
+pub of_lt : (r : Ordering) (a b : ℤ) → MatchOrdering r (a <ℤ b) (a ≡ b) (b <ℤ a) → a <ℤ b → is_lt r ≡ true
 of_lt Less a b is lt = refl
 of_lt Equal a b is lt = absurd (omega (arith, signed_arith, is, lt))
 of_lt Greater a b is lt = absurd (omega (arith, signed_arith, is, lt))
 
-not_lt : (r : Ordering) (a b : ℤ) → MatchOrdering r (a <ℤ b) (a ≡ b) (b <ℤ a) → b ≤ℤ a → is_lt r ≡ false
+pub not_lt : (r : Ordering) (a b : ℤ) → MatchOrdering r (a <ℤ b) (a ≡ b) (b <ℤ a) → b ≤ℤ a → is_lt r ≡ false
 not_lt Less a b is le = absurd (omega (arith, signed_arith, is, le))
 not_lt Equal a b is le = refl
 not_lt Greater a b is le = refl

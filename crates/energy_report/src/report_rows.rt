@@ -22,6 +22,7 @@ pub struct ReportRows<'o, W> {
 }
 
 impl<'o, W: Write> ReportRows<'o, W> {
+    ghost use Rattle.energy_report.specs.Texts.{last_text};
     ghost use Rattle.energy_report.specs.Writing.{Finishes, IsFresh, WritesRow, WritesText};
 
     /// No days yet.
@@ -49,10 +50,13 @@ impl<'o, W: Write> ReportRows<'o, W> {
     pub fn finish(&mut self)
         ensures { Finishes W.contents self.old self.new }
     {
-        if let Some(row) = self.pending {
-            self.write_row(&row);
+        match self.pending {
+            None => self.write_last(),
+            Some(row) => {
+                self.write_row(&row);
+                self.write_last();
+            }
         }
-        self.write(&last_piece(&self.form, self.count));
     }
 
     // Writes a row, and counts it.
@@ -61,6 +65,14 @@ impl<'o, W: Write> ReportRows<'o, W> {
     {
         self.write(&row_piece(&self.form, self.count == 0, row));
         self.count = self.count.saturating_add(1);
+    }
+
+    // Writes what stands after the rows.
+    fn write_last(&mut self)
+        ensures { WritesText W.contents (last_text self.old.form self.old.count)
+            self.old self.new }
+    {
+        self.write(&last_piece(&self.form, self.count));
     }
 
     // Writes a text, unless a write failed before.
@@ -83,7 +95,10 @@ impl<'o, W: Write> RowSink<DayTotal> for ReportRows<'o, W> {
     ghost takes = { λ old total new. TakesDay W.contents old total new };
 
     fn put(&mut self, total: DayTotal) {
-        if self.failed || !self.form.range.has(total.day) {
+        if self.failed {
+            return;
+        }
+        if !self.form.range.has(total.day) {
             return;
         }
         let Some(open) = self.pending else {
