@@ -17,6 +17,7 @@ pub enum RangeFault {
     Backward,
 }
 
+#[derive(Clone, Copy)]
 struct NoDay;
 
 // The end of a range that a word spells, if there is a word.
