@@ -8,7 +8,7 @@ use Rattle.jiff_core.specs.Date.{IsYmd}
 use Rattle.jiff_core.specs.declared.civil.date.Date.{Date}
 use Rattle.jiff_core.proofs.CalendarLemmas.{days_in_month_bounds}
 use Rattle.jiff_core.proofs.SignedLemmas.{signed_arith}
-use Rattle.energy_report.specs.declared.read_day.Parts.{Parts}
+use Rattle.energy_report.specs.declared.spelled_day.Parts.{Parts}
 use Rattle.energy_report.specs.Days.{AreFew, DigitIs, IsReadAs, PairIs, PartsAre, Spells, parts_text}
 
 -- ---- pairs of digits
@@ -58,7 +58,11 @@ pub spelled : (parts : Parts) (text : List ℕ) → length text ≡ 10 → get_o
     → PartsAre text (Some parts)
 spelled parts text size first second century year month day = (
   record { century = century.0; year = year.0; month = month.0; day = day.0 },
-  rw (century.1, year.1, month.1, day.1) (ten text size first second),
+  ap (λ (a : List ℕ). a ++ pad2 parts.year ++ codes "-" ++ pad2 parts.month ++ codes "-" ++ pad2 parts.day) century.1
+      ∙ ap (λ (a : List ℕ). (get_or text 0 0 ∷ get_or text 1 0 ∷ []) ++ a ++ codes "-" ++ pad2 parts.month ++ codes "-" ++ pad2 parts.day) year.1
+      ∙ ap (λ (a : List ℕ). (get_or text 0 0 ∷ get_or text 1 0 ∷ []) ++ (get_or text 2 0 ∷ get_or text 3 0 ∷ []) ++ codes "-" ++ a ++ codes "-" ++ pad2 parts.day) month.1
+      ∙ ap (λ (a : List ℕ). (get_or text 0 0 ∷ get_or text 1 0 ∷ []) ++ (get_or text 2 0 ∷ get_or text 3 0 ∷ []) ++ codes "-" ++ (get_or text 5 0 ∷ get_or text 6 0 ∷ []) ++ codes "-" ++ a) day.1
+      ∙ ten text size first second,
 )
 
 -- ---- days
@@ -68,11 +72,11 @@ natural (pos n) le = refl
 natural (negsuc n) le = absurd (omega (arith, signed_arith, le))
 
 -- the parts of a day
-pub record IsOf (parts : Parts) (day : Date) : Type 0 where
+pub record IsOf (parts : Parts) (date : Date) : Type 0 where
   pub few : AreFew parts
-  pub year : day.year ≡ pos (parts.century * 100 + parts.year)
-  pub month : day.month ≡ parts.month
-  pub day : day.day ≡ parts.day
+  pub year : date.year ≡ pos (parts.century * 100 + parts.year)
+  pub month : date.month ≡ parts.month
+  pub day : date.day ≡ parts.day
 
 pub text_of : (parts : Parts) (day : Date) → IsOf parts day → date_text day ≡ parts_text parts
 text_of parts day is =
@@ -104,9 +108,9 @@ has_parts day le =
 
 -- a text without parts spells no day
 pub none : (text : List ℕ) → PartsAre text None → IsReadAs text None
-none text no day spells =
+none text lacks day spells =
     let parts = has_parts day spells.1 in
-    no (parts_in day) parts.few (sym (text_of (parts_in day) day parts) ∙ spells.0)
+    lacks (parts_in day) parts.few (sym (text_of (parts_in day) day parts) ∙ spells.0)
 
 same_pair : (a b : ℕ) → pad2 a ≡ pad2 b → a ≡ b
 same_pair a b is =
@@ -139,7 +143,7 @@ read text parts day are is =
 -- the calendar has each day that is spelled
 pub unread : (text : List ℕ) (parts : Parts) → PartsAre text (Some parts)
     → ¬ IsDate (pos (parts.century * 100 + parts.year)) (pos parts.month) (pos parts.day) → IsReadAs text None
-unread text parts are no day spells =
+unread text parts are lacks day spells =
     let its = has_parts day spells.1 in
     let same = same_parts parts (parts_in day) text are.1 (sym (text_of (parts_in day) day its) ∙ spells.0) in
     let year : pos (parts.century * 100 + parts.year) ≡ day.year =
@@ -148,7 +152,7 @@ unread text parts are no day spells =
     let high = day.month_in.1 in
     let first = day.day_in.0 in
     let last = day.day_in.1 in
-    no (rw (year, same.2, same.3) (
+    lacks (rw (year, same.2, same.3) (
       day.year_in,
       (omega (arith, signed_arith, low), omega (arith, signed_arith, high)),
       (omega (arith, signed_arith, first), omega (arith, signed_arith, last)),

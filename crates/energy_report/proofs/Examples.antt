@@ -2,6 +2,7 @@
 use Rattle.std.proofs.Common.{◌≡◌, ℕ, true, false, [], ◌∷◌, Some, refl}
 use Rattle.std.specs.Prelude.{pos, codes}
 use Rattle.std.specs.Cmp.{int_ranks}
+use Rattle.std.specs.Fmt.{digits}
 use Rattle.std.specs.Ordering.{int_cmp}
 use Rattle.std.proofs.lemmas.Bool.{and_left, and_right}
 use Rattle.std.proofs.lemmas.Int.{by_lt_z}
@@ -20,21 +21,27 @@ use Rattle.energy_report.proofs.RangeLemmas.{not_le, not_lt}
 -- ---- energies: nothing, one mWh, the last below 1 kWh, 1 kWh, and the greatest number of 128 bits
 
 no_energy : energy_text KilowattHours 0 ≡ codes "0.000000"
+unfolding digits
 no_energy = refl
 
 least_energy : energy_text KilowattHours 1 ≡ codes "0.000001"
+unfolding digits
 least_energy = refl
 
 below_one_kwh : energy_text KilowattHours 999999 ≡ codes "0.999999"
+unfolding digits
 below_one_kwh = refl
 
 one_kwh : energy_text KilowattHours 1000000 ≡ codes "1.000000"
+unfolding digits
 one_kwh = refl
 
 in_mwh : energy_text MilliwattHours 1000000 ≡ codes "1000000"
+unfolding digits
 in_mwh = refl
 
 greatest_energy : energy_text KilowattHours 340282366920938463463374607431768211455 ≡ codes "340282366920938463463374607431768.211455"
+unfolding digits
 greatest_energy = refl
 
 -- ---- days: a 29 February and the day after it, a 31 December and the day after it

@@ -14,7 +14,7 @@ use Rattle.energy_report.specs.Periods.{is_same}
 use Rattle.energy_report.specs.Ranges.{is_in}
 use Rattle.energy_report.specs.Rows.{joined, row_of, rows_in, shown}
 use Rattle.energy_report.specs.Texts.{last_text, lead, report_text, row_text}
-use Rattle.energy_report.specs.Writing.{AreWritten, GotUnless, HasTaken, IsBroken, IsFinished, IsWritten, WritesRow, WritesText, begun_text}
+use Rattle.energy_report.specs.Writing.{AreWritten, GotUnless, Finishes, HasTaken, IsBroken, IsFinished, IsWritten, WritesRow, WritesText, begun_text}
 use Rattle.energy_report.proofs.SnocLemmas.{after, after-push, few, shown-joined, with_day, without_day}
 use Rattle.energy_report.proofs.TextLemmas.{begun-append, begun-push, behind, longer, whole}
 use Rattle.std.specs.List.{flat_map}
@@ -313,3 +313,39 @@ module _ {W : Type 0} (contents : W → Option (List ℕ)) where
         written = λ again less. record { done = []; rows = subst P (sym none) (refl, refl); count = count; text = Appends-nil (contents new.output.now) };
         broken = λ failed less. clash new.failed works failed;
       }
+
+module _ {W : Type 0} (contents : W → Option (List ℕ)) where
+  none_finished : (days : List DayTotal) (from old new : ReportRows W) (b : Bool) → old.failed ≡ b → old.pending ≡ None
+      → WritesText contents (last_text old.form old.count) old new → HasTaken contents days from old → length days < 2 ^ 64
+      → IsFinished contents days from new
+  none_finished days from old new false works none writes h less = ends_empty contents days from old new works none writes h less
+  none_finished days from old new true failed none writes h less =
+      let gone = writes.dropped failed in
+      ends_broken contents days from old new failed gone.0 gone.1 h less
+
+  pub finished_empty : (old new : ReportRows W) → old.pending ≡ None → WritesText contents (last_text old.form old.count) old new
+      → Finishes contents old new
+  finished_empty old new none writes = record {
+    output = writes.output;
+    finished = λ from days h less. none_finished days from old new old.failed refl none writes h less;
+  }
+
+  some_finished : (days : List DayTotal) (from old mid new : ReportRows W) (o : Row) (b : Bool) → old.failed ≡ b → old.pending ≡ Some o
+      → WritesRow contents o old mid → WritesText contents (last_text mid.form mid.count) mid new → HasTaken contents days from old
+      → length days < 2 ^ 64 → IsFinished contents days from new
+  some_finished days from old mid new o false works is row writes h less = ends_row contents days from old mid new o works is row writes h less
+  some_finished days from old mid new o true failed is row writes h less =
+      let first = row.dropped failed in
+      let second = writes.dropped first.0 in
+      ends_broken contents days from old new failed second.0 (second.1 ∙ first.1) h less
+
+  pub finished_row : (old mid new : ReportRows W) (o : Row) → old.pending ≡ Some o → WritesRow contents o old mid
+      → WritesText contents (last_text mid.form mid.count) mid new → Finishes contents old new
+  finished_row old mid new o is row writes = record {
+    output = writes.output ∙ row.output;
+    finished = λ from days h less. some_finished days from old mid new o old.failed refl is row writes h less;
+  }
+
+pub none_left : (o : Option Row) → ((x : Row) → o ≡ Some x → ⊥) → o ≡ None
+none_left None other = refl
+none_left (Some x) other = absurd (other x refl)

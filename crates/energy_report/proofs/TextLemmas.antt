@@ -3,6 +3,7 @@ use Rattle.std.proofs.Common.{◌≡◌, ℕ, zero, suc, ◌+◌, ◌==◌, Bool
 use Rattle.std.specs.List.{flat_map, join_by}
 use Rattle.std.specs.Io.KnownBytes.{Appends}
 use Rattle.std.proofs.KnownBytes.{Appends-nil, Appends-trans}
+use Rattle.std.proofs.lemmas.Bool.{ne_eqb}
 use Rattle.std.proofs.lemmas.Grind.{flat_map-append}
 use Rattle.std.proofs.lemmas.List.{length-map}
 use Rattle.interval_core.specs.declared.totals.DayTotal.{DayTotal}
@@ -44,6 +45,7 @@ begun-push form [] row = ap (λ text. opening form ++ text) (append-nil (row_tex
 begun-push form (x ∷ done) row =
     begun-append form x done (row ∷ [])
     ∙ ap (λ text. begun_text form (x ∷ done) ++ text) (append-nil (next_text form (shown row)))
+    ∙ ap (λ b. begun_text form (x ∷ done) ++ (lead b form ++ row_text form (shown row))) (sym (ne_eqb (suc (length done)) 0 (λ e. omega (arith, e))))
 
 -- the whole text is what was begun of all rows, and what is left then
 pub whole : (form : ReportForm) (days : List DayTotal) (rows : List Row) → rows_in form days ≡ rows

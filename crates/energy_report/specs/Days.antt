@@ -6,9 +6,9 @@ use Rattle.jiff_fmt.specs.Text.{pad2}
 use Rattle.jiff_core.specs.declared.civil.date.Date.{Date}
 use Rattle.energy_report.specs.Ranges.{is_backward}
 use Rattle.energy_report.specs.declared.range.DayRange.{DayRange}
-use Rattle.energy_report.specs.declared.read_day.Parts.{Parts}
-use Rattle.energy_report.specs.declared.read_range.RangeFault.{RangeFault}
-use Rattle.energy_report.specs.declared.read_range.RangeFault.TheVariants as fault
+use Rattle.energy_report.specs.declared.spelled_day.Parts.{Parts}
+use Rattle.energy_report.specs.declared.spelled_range.RangeFault.{RangeFault}
+use Rattle.energy_report.specs.declared.spelled_range.RangeFault.TheVariants as fault
 
 -- The text is that of a day, as `2026-11-25`, whose year has four digits.
 abbrev pub Spells : List ℕ → Date → Type 0
@@ -31,16 +31,16 @@ IsNoEnd None = ⊥
 IsNoEnd (Some word) = (day : Date) → ¬ Spells word.now day
 
 -- the range from one day until another
-pub record IsRange (from till : Option (Bor (List ℕ))) (range : DayRange) : Type 0 where
-  pub from : IsEnd from range.from
-  pub till : IsEnd till range.till
+pub record IsRange (first last : Option (Bor (List ℕ))) (range : DayRange) : Type 0 where
+  pub from : IsEnd first range.from
+  pub till : IsEnd last range.till
   pub forward : is_backward range ≡ false
 
 -- two days, of which the second is before the first
-pub record AreBackward (from till : Option (Bor (List ℕ))) : Type 0 where
+pub record AreBackward (first last : Option (Bor (List ℕ))) : Type 0 where
   pub range : DayRange
-  pub from : IsEnd from range.from
-  pub till : IsEnd till range.till
+  pub from : IsEnd first range.from
+  pub till : IsEnd last range.till
   pub backward : is_backward range ≡ true
 
 abbrev pub IsRangeFault : (from till : Option (Bor (List ℕ))) → RangeFault → Type 0

@@ -83,10 +83,10 @@ pub record TakesDay {W : Type 0} (contents : W → Option (List ℕ)) (old : Rep
       → HasTaken contents days from old → HasTaken contents (days ++ total ∷ []) from new
 
 -- No day was taken yet.
-pub record IsFresh {W : Type 0} (contents : W → Option (List ℕ)) (form : ReportForm)
-    (output : W) (new : ReportRows W) : Type 0 where
-  pub form : new.form ≡ form
-  pub output : new.output.now ≡ output
+pub record IsFresh {W : Type 0} (contents : W → Option (List ℕ)) (asked : ReportForm)
+    (writer : W) (new : ReportRows W) : Type 0 where
+  pub form : new.form ≡ asked
+  pub output : new.output.now ≡ writer
   pub works : new.failed ≡ false
   pub taken : HasTaken contents [] new new
 

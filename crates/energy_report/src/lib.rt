@@ -4,16 +4,16 @@
 mod form;
 mod laws;
 mod range;
-mod read_day;
-mod read_range;
 mod report_rows;
 mod row;
 mod row_text;
+mod spelled_day;
+mod spelled_range;
 
 pub use form::{EnergyUnit, Format, Period, ReportForm};
 pub use laws::{plain_reports_are_lists_of_days, ranges_add_up, rows_add_up, rows_are_whole};
 pub use range::DayRange;
-pub use read_day::read_day;
-pub use read_range::{RangeFault, read_range};
 pub use report_rows::ReportRows;
 pub use row::Row;
+pub use spelled_day::read_day;
+pub use spelled_range::{RangeFault, read_range};

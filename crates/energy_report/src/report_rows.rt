@@ -63,7 +63,9 @@ impl<'o, W: Write> ReportRows<'o, W> {
     fn write_row(&mut self, row: &Row)
         ensures { WritesRow W.contents row.now self.old self.new }
     {
-        self.write(&row_piece(&self.form, self.count == 0, row));
+        let form = self.form;
+        let text = row_piece(&form, self.count == 0, row);
+        self.write(&text);
         self.count = self.count.saturating_add(1);
     }
 
@@ -72,7 +74,9 @@ impl<'o, W: Write> ReportRows<'o, W> {
         ensures { WritesText W.contents (last_text self.old.form self.old.count)
             self.old self.new }
     {
-        self.write(&last_piece(&self.form, self.count));
+        let form = self.form;
+        let text = last_piece(&form, self.count);
+        self.write(&text);
     }
 
     // Writes a text, unless a write failed before.

@@ -17,11 +17,12 @@ impl Row {
     pub fn of(total: &DayTotal) -> Row
         ensures { result ≡ shown (row_of total.now) }
     {
-        Row {
+        let none = Row {
             first: total.day,
-            count: u64::from(total.count),
-            mwh: total.mwh,
-        }
+            count: 0,
+            mwh: 0,
+        };
+        none.and(total)
     }
 
     /// The row with one more day. Past the greatest number of its bits a sum stays there.

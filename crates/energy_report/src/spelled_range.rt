@@ -3,7 +3,7 @@ ghost use Rattle.std.specs.Prelude.{MatchResult};
 ghost use Rattle.energy_report.specs.Days.{IsEnd, IsNoEnd, IsRange, IsRangeFault};
 
 use crate::range::DayRange;
-use crate::read_day::read_day;
+use crate::spelled_day::read_day;
 use interval_core::Day;
 
 /// Why two words are no range.
