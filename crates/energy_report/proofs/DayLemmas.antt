@@ -140,6 +140,9 @@ read text parts day are is =
     let year = is.0 in
     (text_of parts day here ∙ are.1, omega (arith, signed_arith, year))
 
+upward : (a b : ℕ) → a ≤ b → pos a ≤ℤ pos b
+upward a b le = omega (arith, signed_arith, le)
+
 -- the calendar has each day that is spelled
 pub unread : (text : List ℕ) (parts : Parts) → PartsAre text (Some parts)
     → ¬ IsDate (pos (parts.century * 100 + parts.year)) (pos parts.month) (pos parts.day) → IsReadAs text None
@@ -148,12 +151,12 @@ unread text parts are lacks day spells =
     let same = same_parts parts (parts_in day) text are.1 (sym (text_of (parts_in day) day its) ∙ spells.0) in
     let year : pos (parts.century * 100 + parts.year) ≡ day.year =
     ap (λ n. pos (n * 100 + parts.year)) same.0 ∙ ap (λ n. pos ((parts_in day).century * 100 + n)) same.1 ∙ sym its.year in
-    let low = day.month_in.0 in
-    let high = day.month_in.1 in
-    let first = day.day_in.0 in
-    let last = day.day_in.1 in
-    lacks (rw (year, same.2, same.3) (
+    let here : IsDate day.year (pos day.month) (pos day.day) = (
       day.year_in,
-      (omega (arith, signed_arith, low), omega (arith, signed_arith, high)),
-      (omega (arith, signed_arith, first), omega (arith, signed_arith, last)),
-    ))
+      (upward 1 day.month day.month_in.0, upward day.month 12 day.month_in.1),
+      (upward 1 day.day day.day_in.0, upward day.day (days_in_month day.year day.month) day.day_in.1),
+    ) in
+    let P : ℤ → Type 0 = λ y. IsDate y (pos parts.month) (pos parts.day) in
+    let Q : ℕ → Type 0 = λ m. IsDate day.year (pos m) (pos parts.day) in
+    let R : ℕ → Type 0 = λ d. IsDate day.year (pos day.month) (pos d) in
+    lacks (subst P (sym year) (subst Q (sym same.2) (subst R (sym same.3) here)))
