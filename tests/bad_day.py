@@ -417,8 +417,8 @@ def stuffed_pipes(db):
     reader, writer = os.pipe()
     fcntl.fcntl(writer, 1031, 4096)  # F_SETPIPE_SZ
     child = subprocess.Popen(
-        [PROGRAM, "run", "--db", db, "--listen", str(port), "--every", "1", "--verbose", "--devices", f"inv=127.0.0.1:{device.port}"]
-        + [f"long-name-of-{k:03}=127.0.0.1:{device.port}" for k in range(60)],
+        [PROGRAM, "run", "--db", db, "--listen", str(port), "--every", "1", "--verbose", "--devices",
+         ",".join(f"{name}=127.0.0.1:{device.port}" for name in ("inv", *(f"long-name-of-{k:03}" for k in range(60))))],
         stdin=subprocess.DEVNULL, stdout=writer, stderr=writer,
     )
     CHILDREN.append(child)
