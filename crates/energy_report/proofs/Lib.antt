@@ -1,0 +1,12 @@
+pub mod PeriodLemmas
+pub mod SumLemmas
+pub mod RangeLemmas
+pub mod WholeLemmas
+pub mod PlainLemmas
+pub mod SnocLemmas
+pub mod TextLemmas
+pub mod TakenLemmas
+pub mod DecimalLemmas
+pub mod DayLemmas
+pub mod ShownLemmas
+pub mod Examples

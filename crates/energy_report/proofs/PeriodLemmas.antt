@@ -1,0 +1,79 @@
+-- Days that fall in one period.
+use Rattle.std.proofs.Common.{◌≡◌, inl, inr, true, false, refl, sym, ◌∙◌, ap, arith}
+use Rattle.std.specs.Prelude.{ℤ, pos, ◌≤ℤ◌, ◌&&◌}
+use Rattle.std.specs.Ordering.{int_eq}
+use Rattle.std.proofs.lemmas.Bool.{and_parts, false_from_ne_true}
+use Rattle.std.proofs.lemmas.Bool.Decides.{Decides-int_eq}
+use Rattle.jiff_core.specs.declared.civil.date.Date.{Date}
+use Rattle.jiff_core.proofs.DateLemmas.{cases_date, epoch_day-lt}
+use Rattle.jiff_core.proofs.SignedLemmas.{signed_arith}
+use Rattle.jiff.specs.Words.{epoch_day}
+use Rattle.energy_report.specs.declared.form.Period.{Period}
+use Rattle.energy_report.specs.declared.form.Period.TheVariants as period
+use Rattle.energy_report.specs.Periods.{is_same}
+
+pub equal : (a b : ℤ) → int_eq a b ≡ true → a ≡ b
+equal a b e = (Decides-int_eq a b).0 e
+
+pub equals : (a b : ℤ) → a ≡ b → int_eq a b ≡ true
+equals a b e = (Decides-int_eq a b).1 e
+
+flipped : (a b : ℤ) → int_eq a b ≡ int_eq b a
+flipped a b =
+    elim (int_eq a b) as (λ v. v ≡ int_eq a b → v ≡ int_eq b a) [
+      | true ↦ λ e. sym (equals b a (sym (equal a b (sym e))))
+      | false ↦ λ e. sym (false_from_ne_true (int_eq b a) (λ f. let h : false ≡ true = e ∙ equals a b (sym (equal b a f)) in absurd (cc h)))
+    ] refl
+
+pub same-flipped : (p : Period) (a b : Date) → is_same p a b ≡ is_same p b a
+same-flipped period.Day a b = flipped (epoch_day a) (epoch_day b)
+same-flipped period.Month a b =
+    ap (λ v. v && int_eq (pos a.month) (pos b.month)) (flipped a.year b.year)
+    ∙ ap (λ v. int_eq b.year a.year && v) (flipped (pos a.month) (pos b.month))
+same-flipped period.Year a b = flipped a.year b.year
+
+-- days of one period are of one period with the same days
+pub same-like : (p : Period) (a b x : Date) → is_same p a b ≡ true → is_same p a x ≡ is_same p b x
+same-like period.Day a b x same = ap (λ day. int_eq day (epoch_day x)) (equal (epoch_day a) (epoch_day b) same)
+same-like period.Month a b x same =
+    let parts = and_parts (int_eq a.year b.year) (int_eq (pos a.month) (pos b.month)) same in
+    ap (λ year. int_eq year x.year && int_eq (pos a.month) (pos x.month)) (equal a.year b.year parts.0)
+    ∙ ap (λ month. int_eq b.year x.year && int_eq month (pos x.month)) (equal (pos a.month) (pos b.month) parts.1)
+same-like period.Year a b x same = ap (λ year. int_eq year x.year) (equal a.year b.year same)
+
+-- in the order of days years don't fall, nor the months of one year
+years : (a b : Date) → epoch_day a ≤ℤ epoch_day b → a.year ≤ℤ b.year
+years a b le = elim (cases_date a b) [
+  | inl (inl year) ↦ omega (arith, signed_arith, year)
+  | inl (inr rest) ↦ omega (arith, signed_arith, rest.0)
+  | inr (inl late) ↦ let lt = epoch_day-lt b a late in absurd (omega (arith, signed_arith, lt, le))
+  | inr (inr same) ↦ omega (arith, signed_arith, same.0)
+]
+
+months : (a b : Date) → epoch_day a ≤ℤ epoch_day b → a.year ≡ b.year → pos a.month ≤ℤ pos b.month
+months a b le year = elim (cases_date a b) [
+  | inl (inl lt) ↦ absurd (omega (arith, signed_arith, lt, year))
+  | inl (inr (same, inl month)) ↦ omega (arith, signed_arith, month)
+  | inl (inr (same, inr day)) ↦ omega (arith, signed_arith, day.0)
+  | inr (inl late) ↦ let lt = epoch_day-lt b a late in absurd (omega (arith, signed_arith, lt, le))
+  | inr (inr same) ↦ omega (arith, signed_arith, same.1)
+]
+
+-- a day between two of one period is of it
+pub between : (p : Period) (a b c : Date) → epoch_day a ≤ℤ epoch_day b → epoch_day b ≤ℤ epoch_day c → is_same p a c ≡ true
+    → is_same p a b ≡ true
+between period.Day a b c first second same =
+    let ends = equal (epoch_day a) (epoch_day c) same in
+    equals (epoch_day a) (epoch_day b) (omega (arith, signed_arith, first, second, ends))
+between period.Month a b c first second same =
+    let parts = and_parts (int_eq a.year c.year) (int_eq (pos a.month) (pos c.month)) same in
+    let ends = equal a.year c.year parts.0 in
+    let month_ends = equal (pos a.month) (pos c.month) parts.1 in
+    let year : a.year ≡ b.year = omega (arith, signed_arith, years a b first, years b c second, ends) in
+    let next : b.year ≡ c.year = omega (arith, signed_arith, years a b first, years b c second, ends) in
+    let month : pos a.month ≡ pos b.month =
+    omega (arith, signed_arith, months a b first year, months b c second next, month_ends) in
+    ap (λ v. v && int_eq (pos a.month) (pos b.month)) (equals a.year b.year year) ∙ equals (pos a.month) (pos b.month) month
+between period.Year a b c first second same =
+    let ends = equal a.year c.year same in
+    equals a.year b.year (omega (arith, signed_arith, years a b first, years b c second, ends))

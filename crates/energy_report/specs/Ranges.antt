@@ -1,0 +1,35 @@
+-- Which civil days a range has.
+use Rattle.std.specs.Prelude.{Bool, true, false, not, ◌&&◌, Option, Some, None, List, filter}
+use Rattle.std.specs.Ordering.{int_cmp, is_le, is_lt}
+use Rattle.jiff_core.specs.declared.civil.date.Date.{Date}
+use Rattle.jiff.specs.Words.{epoch_day}
+use Rattle.interval_core.specs.declared.totals.DayTotal.{DayTotal}
+use Rattle.energy_report.specs.declared.range.DayRange.{DayRange}
+
+-- A range that begins so has begun by the day: that day is the first one that it has.
+abbrev pub begins_by : (from : Option Date) → Date → Bool
+begins_by None day = true
+begins_by (Some from) day = is_le (int_cmp (epoch_day from) (epoch_day day))
+
+-- A range that ends so ends after the day: that day is the first one behind it.
+abbrev pub ends_after : (till : Option Date) → Date → Bool
+ends_after None day = true
+ends_after (Some till) day = is_lt (int_cmp (epoch_day day) (epoch_day till))
+
+abbrev pub is_in : DayRange → Date → Bool
+is_in range day = begins_by range.from day && ends_after range.till day
+
+abbrev pub all_days : DayRange
+all_days = record { from = None; till = None }
+
+-- it ends before it begins
+abbrev pub ends_before : (from till : Option Date) → Bool
+ends_before from None = false
+ends_before from (Some till) = not (begins_by from till)
+
+abbrev pub is_backward : DayRange → Bool
+is_backward range = ends_before range.from range.till
+
+-- The days of a list that a range has, in their order.
+abbrev pub days_in : DayRange → List DayTotal → List DayTotal
+days_in range days = filter (λ total. is_in range total.day) days

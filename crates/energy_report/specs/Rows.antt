@@ -1,0 +1,46 @@
+-- The rows that days are added up to.
+use Rattle.std.specs.Prelude.{◌+◌, ◌-◌, ◌^◌, min, List, [], ◌∷◌, map, if◌then◌else◌}
+use Rattle.interval_core.specs.declared.totals.DayTotal.{DayTotal}
+use Rattle.energy_report.specs.declared.form.Period.{Period}
+use Rattle.energy_report.specs.declared.form.ReportForm.{ReportForm}
+use Rattle.energy_report.specs.declared.row.Row.{Row}
+use Rattle.energy_report.specs.Ranges.{days_in}
+use Rattle.energy_report.specs.Periods.{is_same}
+
+-- the row of a day alone
+abbrev pub row_of : DayTotal → Row
+row_of total = record { first = total.day; count = total.count; mwh = total.mwh }
+
+-- two rows as one, the earlier first
+abbrev pub joined : Row → Row → Row
+joined row next = record {
+  first = row.first;
+  count = row.count + next.count;
+  mwh = row.mwh + next.mwh;
+}
+
+-- A row before others: one with the next, where they are of one period.
+abbrev pub before : Period → Row → List Row → List Row
+before period row [] = row ∷ []
+before period row (next ∷ rows) =
+    if is_same period row.first next.first then joined row next ∷ rows else row ∷ next ∷ rows
+
+-- Consecutive days of one period are one row.
+abbrev pub rows_by : Period → List DayTotal → List Row
+rows_by period [] = []
+rows_by period (total ∷ days) = before period (row_of total) (rows_by period days)
+
+-- the rows of a report on a list of days
+abbrev pub rows_in : ReportForm → List DayTotal → List Row
+rows_in form days = rows_by form.period (days_in form.range days)
+
+-- A row as numbers of 64 and of 128 bits hold it: past the greatest a sum stays there.
+abbrev pub shown : Row → Row
+shown row = record {
+  first = row.first;
+  count = min row.count (2 ^ 64 - 1);
+  mwh = min row.mwh (2 ^ 128 - 1);
+}
+
+abbrev pub shown_rows : ReportForm → List DayTotal → List Row
+shown_rows form days = map shown (rows_in form days)

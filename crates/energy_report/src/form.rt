@@ -1,0 +1,110 @@
+//! The form of a report.
+ghost use Rattle.std.specs.Prelude.{◌≡◌};
+ghost use Rattle.energy_report.specs.Periods.{is_same};
+ghost use Rattle.energy_report.specs.Words.{period_of, unit_of, format_of, plain_form};
+
+use crate::range::DayRange;
+use interval_core::Day;
+
+/// What days are added up to a row.
+#[derive(Clone, Copy, Debug, PartialEq, Eq)]
+pub enum Period {
+    Day,
+    Month,
+    Year,
+}
+
+/// The unit of energy.
+#[derive(Clone, Copy, Debug, PartialEq, Eq)]
+pub enum EnergyUnit {
+    /// Whole mWh.
+    MilliwattHours,
+    /// kWh with six decimals, which are exact.
+    KilowattHours,
+}
+
+/// How rows are written.
+#[derive(Clone, Copy, Debug, PartialEq, Eq)]
+pub enum Format {
+    /// Lines for a reader, and then how many there are.
+    Text,
+    /// A table as RFC 4180 has it, with a header.
+    Csv,
+    /// One array of objects.
+    Json,
+}
+
+/// Which days a report is of, and how it is written.
+#[derive(Clone, Copy, Debug, PartialEq, Eq)]
+pub struct ReportForm {
+    pub range: DayRange,
+    pub period: Period,
+    pub unit: EnergyUnit,
+    pub format: Format,
+}
+
+impl ReportForm {
+    /// All days, a line a day, in mWh.
+    pub fn plain() -> ReportForm
+        ensures { result ≡ plain_form }
+    {
+        ReportForm {
+            range: DayRange::all(),
+            period: Period::Day,
+            unit: EnergyUnit::MilliwattHours,
+            format: Format::Text,
+        }
+    }
+}
+
+impl Period {
+    /// The period of a word: `day`, `month` or `year`.
+    pub fn read(word: &str) -> Option<Period>
+        ensures { result ≡ period_of word.now }
+    {
+        match word {
+            "day" => Some(Period::Day),
+            "month" => Some(Period::Month),
+            "year" => Some(Period::Year),
+            _ => None,
+        }
+    }
+
+    /// Whether two days fall in one such period.
+    pub fn has_both(self, one: Day, other: Day) -> bool
+        ensures { result ≡ is_same self one other }
+    {
+        match self {
+            Period::Day => one == other,
+            Period::Month => one.year() == other.year() && one.month() == other.month(),
+            Period::Year => one.year() == other.year(),
+        }
+    }
+}
+
+impl EnergyUnit {
+    /// The unit of a word: `mwh` or `kwh`.
+    pub fn read(word: &str) -> Option<EnergyUnit>
+        ensures { result ≡ unit_of word.now }
+    {
+        match word {
+            "mwh" => Some(EnergyUnit::MilliwattHours),
+            "kwh" => Some(EnergyUnit::KilowattHours),
+            _ => None,
+        }
+    }
+}
+
+impl Format {
+    /// The format of a word: `text`, `csv` or `json`.
+    pub fn read(word: &str) -> Option<Format>
+        ensures { result ≡ format_of word.now }
+    {
+        match word {
+            "text" => Some(Format::Text),
+            "csv" => Some(Format::Csv),
+            "json" => Some(Format::Json),
+            _ => None,
+        }
+    }
+}

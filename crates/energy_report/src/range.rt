@@ -1,0 +1,61 @@
+//! Ranges of civil days.
+ghost use Rattle.std.specs.Prelude.{◌≡◌};
+ghost use Rattle.energy_report.specs.Ranges.{all_days, begins_by, ends_after, is_backward, is_in};
+
+use interval_core::Day;
+
+/// The civil days from one on until another, which is none of them. Without the one or the other there is no bound there.
+#[derive(Clone, Copy, Debug, PartialEq, Eq)]
+pub struct DayRange {
+    pub from: Option<Day>,
+    pub till: Option<Day>,
+}
+
+impl DayRange {
+    /// All days.
+    pub fn all() -> DayRange
+        ensures { result ≡ all_days }
+    {
+        DayRange {
+            from: None,
+            till: None,
+        }
+    }
+
+    /// Whether the range has the day.
+    pub fn has(&self, day: Day) -> bool
+        ensures { result ≡ is_in self.now day }
+    {
+        begins_by_day(self.from, day) && ends_after_day(self.till, day)
+    }
+
+    /// Whether it ends before it begins. Such a range has no day, as one that ends on the day on which it begins.
+    pub fn is_backward(&self) -> bool
+        ensures { result ≡ is_backward self.now }
+    {
+        match self.till {
+            None => false,
+            Some(till) => !begins_by_day(self.from, till),
+        }
+    }
+}
+
+// Whether a range that begins so has begun by the day.
+fn begins_by_day(from: Option<Day>, day: Day) -> bool
+    ensures { result ≡ begins_by from day }
+{
+    match from {
+        None => true,
+        Some(from) => from <= day,
+    }
+}
+
+// Whether a range that ends so ends after the day.
+fn ends_after_day(till: Option<Day>, day: Day) -> bool
+    ensures { result ≡ ends_after till day }
+{
+    match till {
+        None => true,
+        Some(till) => day < till,
+    }
+}

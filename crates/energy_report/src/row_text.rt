@@ -1,0 +1,270 @@
+//! The texts of rows, and of what stands around them. No call takes memory.
+ghost use Rattle.std.specs.Prelude.{◌≡◌, ◌≤◌, ◌<◌, ◌+◌, ◌++◌, codes, length, replicate};
+ghost use Rattle.jiff_core.specs.Calendar.{IsYear};
+ghost use Rattle.jiff_fmt.specs.Text.{pad2, year_text};
+ghost use Rattle.sun_points.specs.Decimal.{low_digits};
+ghost use Rattle.interval_core.specs.Report.{right};
+ghost use Rattle.energy_report.specs.Texts as text;
+
+use crate::form::{EnergyUnit, Format, Period, ReportForm};
+use crate::row::Row;
+use interval_core::Day;
+use script_text::{Line, Text};
+
+// The text of an energy, which has at most 46 characters.
+type Energy = Text<48>;
+
+/// A row, and before it what stands before the first one or between two.
+pub(crate) fn row_piece(form: &ReportForm, is_first: bool, row: &Row) -> Line
+    ensures { result ≡ text.lead is_first form.now ++ text.row_text form.now row.now }
+{
+    let mut line = Line::new();
+    push_lead(&mut line, is_first, form);
+    push_row(&mut line, form, row);
+    line
+}
+
+/// What stands after so many rows. Where there are none, what stands before the first comes before it.
+pub(crate) fn last_piece(form: &ReportForm, count: u64) -> Line
+    ensures { result ≡ text.last_text form.now count }
+{
+    let mut line = Line::new();
+    if count == 0 {
+        push_lead(&mut line, true, form);
+    }
+    push_ending(&mut line, form.format, count);
+    line
+}
+
+fn push_lead(line: &mut Line, is_first: bool, form: &ReportForm)
+    requires { length line.old ≡ 0 }
+    ensures bytes { line.new ≡ line.old ++ text.lead is_first form.now }
+    ensures size { length line.new ≤ 20 }
+{
+    match form.format {
+        Format::Text => {}
+        Format::Csv => {
+            if is_first {
+                push_header(line, form.period, form.unit);
+            }
+        }
+        Format::Json => line.push(if is_first { b"[" } else { b",\n" }),
+    }
+}
+
+fn push_header(line: &mut Line, period: Period, unit: EnergyUnit)
+    requires { length line.old ≡ 0 }
+    ensures bytes { line.new ≡ line.old ++ text.csv_header period unit }
+    ensures size { length line.new ≤ 20 }
+{
+    line.push(period_word(period));
+    line.push(b",energy_");
+    line.push(unit_word(unit));
+    line.push(b"\r\n");
+}
+
+fn push_ending(line: &mut Line, format: Format, count: u64)
+    requires { length line.old ≤ 20 }
+    ensures { line.new ≡ line.old ++ text.ending_by format count }
+{
+    match format {
+        Format::Text => {
+            line.push_number(b"end ", count);
+            line.push(b"\n");
+        }
+        Format::Csv => {}
+        Format::Json => line.push(b"]\n"),
+    }
+}
+
+fn push_row(line: &mut Line, form: &ReportForm, row: &Row)
+    requires { length line.old ≤ 20 }
+    ensures { line.new ≡ line.old ++ text.row_text form.now row.now }
+{
+    match form.format {
+        Format::Text => push_text_row(line, form, row),
+        Format::Csv => push_csv_row(line, form, row),
+        Format::Json => push_json_row(line, form, row),
+    }
+}
+
+fn push_text_row(line: &mut Line, form: &ReportForm, row: &Row)
+    requires { length line.old ≤ 20 }
+    ensures { line.new ≡ line.old ++ text.text_row form.now row.now }
+{
+    push_period(line, form.period, row.first);
+    line.push(b" ");
+    line.push_right(count_width(form.period), row.count);
+    line.push(b" ");
+    push_energy_right(line, form.unit, row.mwh);
+    line.push(b"\n");
+}
+
+fn push_csv_row(line: &mut Line, form: &ReportForm, row: &Row)
+    requires { length line.old ≤ 20 }
+    ensures { line.new ≡ line.old ++ text.csv_row form.now row.now }
+{
+    push_period(line, form.period, row.first);
+    line.push(b",");
+    line.push(energy(form.unit, row.mwh).bytes());
+    line.push(b"\r\n");
+}
+
+fn push_json_row(line: &mut Line, form: &ReportForm, row: &Row)
+    requires { length line.old ≤ 20 }
+    ensures { line.new ≡ line.old ++ text.json_row form.now row.now }
+{
+    line.push(b"{\"");
+    line.push(period_word(form.period));
+    line.push(b"\":\"");
+    push_period(line, form.period, row.first);
+    line.push(b"\",\"");
+    line.push(unit_word(form.unit));
+    line.push(b"\":\"");
+    line.push(energy(form.unit, row.mwh).bytes());
+    line.push(b"\"}");
+}
+
+fn period_word(period: Period) -> &'static [u8]
+    ensures word { result.now ≡ text.period_word period }
+    ensures size { length result.now ≤ 5 }
+{
+    match period {
+        Period::Day => b"day",
+        Period::Month => b"month",
+        Period::Year => b"year",
+    }
+}
+
+fn unit_word(unit: EnergyUnit) -> &'static [u8]
+    ensures word { result.now ≡ text.unit_word unit }
+    ensures size { length result.now ≡ 3 }
+{
+    match unit {
+        EnergyUnit::MilliwattHours => b"mwh",
+        EnergyUnit::KilowattHours => b"kwh",
+    }
+}
+
+fn count_width(period: Period) -> usize
+    ensures width { result ≡ text.count_width period }
+    ensures few { result ≤ 5 }
+{
+    match period {
+        Period::Day => 3,
+        Period::Month => 4,
+        Period::Year => 5,
+    }
+}
+
+// ---- periods
+
+fn push_period(line: &mut Line, period: Period, day: Day)
+    requires { length line.old ≤ 64 }
+    ensures bytes { line.new ≡ line.old ++ text.period_text period day }
+    ensures size { length line.new ≤ length line.old + 13 }
+{
+    push_year(line, day.year());
+    match period {
+        Period::Day => {
+            push_part(line, month_of(day));
+            push_part(line, day_of_month(day));
+        }
+        Period::Month => push_part(line, month_of(day)),
+        Period::Year => {}
+    }
+}
+
+// Four digits of a year, after a sign and two zeros where it is before the year 0.
+fn push_year(line: &mut Line, year: i16)
+    requires room { length line.old ≤ 64 }
+    requires few { IsYear year }
+    ensures bytes { line.new ≡ line.old ++ year_text year }
+    ensures size { length line.new ≤ length line.old + 7 }
+{
+    if year < 0 {
+        line.push(b"-00");
+    }
+    let number = year.unsigned_abs();
+    line.push_pair((number / 100) as u8);
+    line.push_pair((number % 100) as u8);
+}
+
+// A hyphen, and a number below 100 in two digits.
+fn push_part(line: &mut Line, number: u8)
+    requires room { length line.old ≤ 124 }
+    requires few { number < 100 }
+    ensures bytes { line.new ≡ line.old ++ codes "-" ++ pad2 number }
+    ensures size { length line.new ≤ length line.old + 3 }
+{
+    line.push(b"-");
+    line.push_pair(number);
+}
+
+fn month_of(day: Day) -> u8
+    ensures value { result ≡ day.month }
+    ensures few { result < 100 }
+{
+    day.month() as u8
+}
+
+fn day_of_month(day: Day) -> u8
+    ensures value { result ≡ day.day }
+    ensures few { result < 100 }
+{
+    day.day() as u8
+}
+
+// ---- energy
+
+fn energy(unit: EnergyUnit, mwh: u128) -> Energy
+    ensures bytes { result ≡ text.energy_text unit mwh }
+    ensures size { length result ≤ 46 }
+{
+    let mut energy = Energy::new();
+    match unit {
+        EnergyUnit::MilliwattHours => energy.push_number(b"", mwh),
+        EnergyUnit::KilowattHours => {
+            energy.push_number(b"", mwh / 1_000_000);
+            energy.push(b".");
+            push_decimals(&mut energy, (mwh % 1_000_000) as u32);
+        }
+    }
+    energy
+}
+
+// A number below a million in six digits.
+fn push_decimals(energy: &mut Energy, number: u32)
+    requires room { length energy.old ≤ 40 }
+    requires few { number < 1_000_000 }
+    ensures bytes { energy.new ≡ energy.old ++ low_digits 10 6 number }
+    ensures size { length energy.new ≡ length energy.old + 6 }
+{
+    energy.push_pair((number / 10_000) as u8);
+    energy.push_pair((number / 100 % 100) as u8);
+    energy.push_pair((number % 100) as u8);
+}
+
+// The energy with so many spaces before it that it takes 24 places.
+fn push_energy_right(line: &mut Line, unit: EnergyUnit, mwh: u128)
+    requires { length line.old ≤ 70 }
+    ensures bytes { line.new ≡ line.old ++ right 24 (text.energy_text unit mwh) }
+    ensures size { length line.new ≤ length line.old + 46 }
+{
+    let text = energy(unit, mwh);
+    let bytes = text.bytes();
+    if bytes.len() < 24 {
+        push_spaces(line, 24 - bytes.len());
+    }
+    line.push(bytes);
+}
+
+// At most 24 spaces.
+fn push_spaces(line: &mut Line, count: usize)
+    requires few { count ≤ 24 }
+    requires room { length line.old + count ≤ 128 }
+    ensures bytes { line.new ≡ line.old ++ replicate count 32 }
+    ensures size { length line.new ≡ length line.old + count }
+{
+    line.push(&[b' '; 24][..count]);
+}

@@ -1,0 +1,27 @@
+-- Books that keep answers stand as those beneath.
+use Rattle.std.proofs.Common.{List, refl}
+use Rattle.office_events.specs.declared.facts.Fact.{Fact}
+use Rattle.office_books.specs.Ledgers.{Ledger}
+use Rattle.kept_books.specs.declared.known.Known.{Known}
+use Rattle.kept_books.specs.Known.{AreTrue}
+use Rattle.kept_books.specs.Keeping.{keeping, StandsAs}
+
+pub begins : (under : Ledger) (kept : Known) → ((facts : List Fact) → AreTrue kept facts) → StandsAs under (keeping kept under)
+begins under kept are = record {
+  facts = λ facts holds. (holds, λ clean. are facts);
+  left = λ left may. may;
+  clean = (λ clean. clean, λ clean. clean);
+  is_open = (λ there. there, λ there. there);
+  failures = refl;
+  zone = refl;
+}
+
+pub ends : (under : Ledger) (kept : Known) → StandsAs (keeping kept under) under
+ends under kept = record {
+  facts = λ facts holds. holds.0;
+  left = λ left may. may;
+  clean = (λ clean. clean, λ clean. clean);
+  is_open = (λ there. there, λ there. there);
+  failures = refl;
+  zone = refl;
+}

@@ -1,0 +1,32 @@
+-- Look-ups, asked of the books beneath or answered by what is kept.
+use Rattle.std.proofs.Common.{refl, Result, Ok, List}
+use Rattle.office_events.specs.declared.facts.Fact.{Fact}
+use Rattle.office_books.specs.declared.faults.BooksFault.{BooksFault}
+use Rattle.office_books.specs.Ledgers.{Ledger, OnlyReads}
+use Rattle.kept_books.specs.declared.known.Known.{Known}
+use Rattle.kept_books.specs.Known.{AreTrue}
+use Rattle.kept_books.specs.Keeping.{keeping}
+
+-- the books beneath were asked, and what is kept stays so or is true of what they hold
+pub asked : {T : Type 0} (old new : Ledger) (kept after : Known) (result : Result T BooksFault)
+    → ((facts : List Fact) → old.holds facts → new.is_clean → AreTrue kept facts → AreTrue after facts)
+    → OnlyReads old new result → OnlyReads (keeping kept old) (keeping after new) result
+asked old new kept after result true_too reads = record {
+  goes = record { clean = reads.goes.clean; faults = reads.goes.faults; zone = reads.goes.zone };
+  keeps = record {
+    facts = λ facts holds.
+        (reads.keeps.facts facts holds.0, λ clean. true_too facts holds.0 clean (holds.1 (reads.goes.clean clean)));
+    left = reads.keeps.left;
+  };
+}
+
+pub passed_on : {T : Type 0} (old new : Ledger) (kept : Known) (result : Result T BooksFault)
+    → OnlyReads old new result → OnlyReads (keeping kept old) (keeping kept new) result
+passed_on old new kept result reads = asked old new kept kept result (λ facts holds clean are. are) reads
+
+-- nothing was asked
+pub unasked : {T : Type 0} (ledger : Ledger) (x : T) → OnlyReads ledger ledger (Ok x)
+unasked ledger x = record {
+  goes = record { clean = λ clean. clean; faults = refl; zone = refl };
+  keeps = record { facts = λ facts holds. holds; left = λ left may. may };
+}

@@ -1,0 +1,13 @@
+use Rattle.std.proofs.Common.{◌≡◌, ◌∙◌}
+use Rattle.office_rules.specs.Facts.{registers_of}
+use Rattle.kept_books.proofs.Answering.{kept_too}
+use Rattle.kept_books.proofs.known.Known.keep_registers.Goals as goal
+
+pub returns-in-Ok : goal.returns-in-Ok
+returns-in-Ok c = λ known is are. record {
+  lists = are.lists;
+  registers = kept_too (λ device v. v.items ≡ registers_of known device) c.args.self.now.registers c.put.new.self c.args.device.now c.in-Ok.copy c.put.ensures
+      (c.in-Ok.ensures.items_if_clones_equal (λ x y same. same) ∙ is) are.registers;
+  standing = are.standing;
+  polls = are.polls;
+}

@@ -1,0 +1,66 @@
+-- What facts change of what is kept.
+use Rattle.std.specs.Prelude.{◌≡◌, ℕ, false, List, Some, None, Ok}
+use Rattle.energy_core.specs.declared.entries.Entry.{Entry}
+use Rattle.energy_core.specs.Account.{after, step_to}
+use Rattle.energy_core.specs.Admission.{entered}
+use Rattle.office_events.specs.declared.facts.BookedEntry.{BookedEntry}
+use Rattle.office_events.specs.declared.facts.Fact.{Fact}
+use Rattle.office_events.specs.declared.facts.Fact.TheVariants as fact
+use Rattle.office_events.specs.declared.questions.Installation.{Installation}
+use Rattle.office_rules.specs.Facts.{same}
+use Rattle.office_rules.specs.Ranges.{IsSound}
+use Rattle.office_rules.specs.Steps.{moved_by}
+use Rattle.kept_books.specs.declared.answers.Answers.{Answers}
+use Rattle.kept_books.specs.declared.known.Known.{Known}
+use Rattle.kept_books.specs.Answers.{answer_to, Forgets}
+
+-- the entry may be booked where the counter stands
+abbrev pub MayEnter : Installation → Entry → Type 0
+MayEnter row e =
+    entered row.opening.range row.total row.last e
+    ≡ Ok (after row.last e, step_to row.opening.range row.last e)
+
+-- An installation that is kept of the meter of an entry is one that was and went on by it; the others stay.
+pub record GoesOn (booked : BookedEntry) (old new : Answers Installation) : Type 0 where
+  pub own : (row : Installation) → answer_to new booked.meter ≡ Some row
+      → (before : Installation) × (answer_to old booked.meter ≡ Some before)
+      × (IsSound before → MayEnter before booked.entry
+      → row ≡ moved_by booked.kind booked.entry before)
+  pub others : (other : List ℕ) → same booked.meter other ≡ false
+      → answer_to new other ≡ answer_to old other
+
+-- the lists, the registers and the installations that are kept
+abbrev pub SameLists : (old new : Known) → Type 0
+SameLists old new = new.lists ≡ old.lists
+
+abbrev pub SameRegisters : (old new : Known) → Type 0
+SameRegisters old new = new.registers ≡ old.registers
+
+abbrev pub SameStanding : (old new : Known) → Type 0
+SameStanding old new = new.standing ≡ old.standing
+
+-- nothing changes of them
+pub record StaysKept (old new : Known) : Type 0 where
+  pub lists : SameLists old new
+  pub registers : SameRegisters old new
+  pub standing : SameStanding old new
+
+-- What a fact changes: a list that is put drops that of its device; a register drops those of its device; a meter that is
+-- installed drops all installations, and a void that of its meter; an entry moves that of its meter on.
+abbrev pub Changes : Fact → (old new : Known) → Type 0
+Changes (fact.List put) old new =
+    Forgets put.device old.lists new.lists × SameRegisters old new × SameStanding old new
+Changes (fact.Register register) old new =
+    SameLists old new × Forgets register.device old.registers new.registers × SameStanding old new
+Changes (fact.Opening opening) old new =
+    SameLists old new × SameRegisters old new
+    × ((name : List ℕ) → answer_to new.standing name ≡ None)
+Changes (fact.Entry booked) old new =
+    SameLists old new × SameRegisters old new × GoesOn booked old.standing new.standing
+Changes (fact.Void voided) old new =
+    SameLists old new × SameRegisters old new × Forgets voided.meter old.standing new.standing
+Changes (fact.Device device) old new = StaysKept old new
+Changes (fact.Hold held) old new = StaysKept old new
+Changes (fact.Poll poll) old new = StaysKept old new
+Changes (fact.Outcome ended) old new = StaysKept old new
+Changes (fact.Reply reply) old new = StaysKept old new

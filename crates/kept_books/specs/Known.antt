@@ -1,0 +1,23 @@
+-- What is kept is what the facts say.
+use Rattle.std.specs.Prelude.{◌≡◌, ℕ, List, Some}
+use Rattle.office_events.specs.declared.facts.Fact.{Fact}
+use Rattle.office_events.specs.declared.questions.Installation.{Installation}
+use Rattle.office_rules.specs.Facts.{list_of, registers_of, installed_at}
+use Rattle.office_rules.specs.Meters.{installation_of}
+use Rattle.kept_books.specs.Answers.{EachIs}
+use Rattle.kept_books.specs.Polls.{PollsAreTrue}
+use Rattle.kept_books.specs.declared.known.Known.{Known}
+
+-- an installation of the meter is the latest at its register, and stands as these facts say
+pub record IsLatest (facts : List Fact) (meter : List ℕ) (row : Installation) : Type 0 where
+  pub own : row.opening.meter ≡ meter
+  pub there : installed_at facts row.opening.register ≡ Some row.opening
+  pub stands : row ≡ installation_of facts row.opening
+
+-- Each point list, and the registers, that are kept of a device are those that these facts say it has, each installation that
+-- is kept stands so, and what is kept of the polls is so.
+pub record AreTrue (kept : Known) (facts : List Fact) : Type 0 where
+  pub lists : EachIs (λ device list. list_of facts device ≡ Some list) kept.lists
+  pub registers : EachIs (λ device v. v.items ≡ registers_of facts device) kept.registers
+  pub standing : EachIs (IsLatest facts) kept.standing
+  pub polls : PollsAreTrue kept.polls facts

@@ -1,0 +1,57 @@
+-- Polls that are known to wait, and what facts change of them.
+use Rattle.std.specs.Prelude.{◌≡◌, ◌⊎◌, ◌+◌, ◌==◌, ℕ, false, List, length, Option, Some, None}
+use Rattle.std.specs.BTreeMap.{get}
+use Rattle.std.specs.Ordering.{nat_cmp}
+use Rattle.office_events.specs.declared.facts.Poll.{Poll}
+use Rattle.office_events.specs.declared.facts.Fact.{Fact}
+use Rattle.office_events.specs.declared.facts.Fact.TheVariants as fact
+use Rattle.office_events.specs.declared.questions.PollRow.{PollRow}
+use Rattle.office_rules.specs.Facts.{polls_in}
+use Rattle.office_rules.specs.Readings.{poll_row_of}
+use Rattle.kept_books.specs.declared.polls.Polls.{Polls}
+
+-- the poll of a number that is known to wait
+abbrev pub waiting_at : Polls → ℕ → Option Poll
+waiting_at polls number = get nat_cmp polls.waiting number
+
+-- a poll that waits
+abbrev pub waits : Poll → PollRow
+waits poll = record { poll = poll; ended = None }
+
+-- Each poll that is known to wait does so by these facts, and as many polls are among them as were started.
+pub record PollsAreTrue (polls : Polls) (facts : List Fact) : Type 0 where
+  pub waiting : (number : ℕ) (poll : Poll) → waiting_at polls number ≡ Some poll
+      → poll_row_of facts number ≡ Some (waits poll)
+  pub started : (count : ℕ) → polls.started ≡ Some count → count ≡ length (polls_in facts)
+
+-- for each number is known what was, or that this poll waits under its number
+abbrev pub MayWait : Poll → (before after : Polls) → Type 0
+MayWait poll before after = (number : ℕ)
+    → (waiting_at after number ≡ waiting_at before number)
+    ⊎ ((number ≡ poll.number) × (waiting_at after number ≡ Some poll))
+
+-- the poll of a number is no longer known to wait, the others are as they were
+pub record WaitsNoMore (number : ℕ) (before after : Polls) : Type 0 where
+  pub gone : waiting_at after number ≡ None
+  pub others : (other : ℕ) → (number == other) ≡ false
+      → waiting_at after other ≡ waiting_at before other
+
+-- a count that is known is one more than it was
+abbrev pub GoesUp : (before after : Option ℕ) → Type 0
+GoesUp before after = (count : ℕ) → after ≡ Some count
+    → (less : ℕ) × (before ≡ Some less) × (count ≡ less + 1)
+
+-- A poll that starts waits, and one more was started; a poll that ends waits no more. Other facts change nothing.
+abbrev pub PollsChange : Fact → (before after : Polls) → Type 0
+PollsChange (fact.Poll poll) before after =
+    MayWait poll before after × GoesUp before.started after.started
+PollsChange (fact.Outcome ended) before after =
+    WaitsNoMore ended.poll before after × (after.started ≡ before.started)
+PollsChange (fact.Device device) before after = after ≡ before
+PollsChange (fact.List put) before after = after ≡ before
+PollsChange (fact.Register register) before after = after ≡ before
+PollsChange (fact.Opening opening) before after = after ≡ before
+PollsChange (fact.Entry booked) before after = after ≡ before
+PollsChange (fact.Hold held) before after = after ≡ before
+PollsChange (fact.Void voided) before after = after ≡ before
+PollsChange (fact.Reply reply) before after = after ≡ before

@@ -1,0 +1,63 @@
+//! Answers of one kind, by the name that was asked for.
+ghost use Rattle.std.specs.Prelude.{◌≡◌, ℕ, None, List};
+ghost use Rattle.std.specs.Option.{option_copied};
+
+use crate::keys::Key;
+use office_events::Name;
+use std::alloc::Global;
+use std::collections::BTreeMap;
+
+/// What was answered for each of some names, at most so many.
+#[derive(Drop)]
+pub(crate) struct Answers<T> {
+    rows: BTreeMap<Key, T>,
+    most: usize,
+}
+
+impl<T: Drop> Answers<T> {
+    ghost use Rattle.kept_books.specs.Answers.{answer_to, Forgets, MayAnswer};
+
+    /// No answers yet.
+    pub(crate) fn new(alloc: Global, most: usize) -> Answers<T>
+        ensures { (name : List ℕ) → answer_to result name ≡ None }
+    {
+        Answers {
+            rows: BTreeMap::new(alloc),
+            most,
+        }
+    }
+
+    /// The answer that is kept for a name.
+    pub(crate) fn get(&self, name: &Name) -> Option<&T>
+        ensures { option_copied result ≡ answer_to self.now name.now }
+    {
+        let key = Key { name: *name };
+        self.rows.get(&key)
+    }
+
+    /// Keeps an answer, if there is room for it.
+    pub(crate) fn put(&mut self, name: &Name, answer: T)
+        ensures { MayAnswer name.now answer self.old self.new }
+    {
+        if self.rows.len() < self.most {
+            let key = Key { name: *name };
+            let _ = self.rows.insert(key, answer);
+        }
+    }
+
+    /// Takes out the answer that is kept for a name.
+    pub(crate) fn take(&mut self, name: &Name) -> Option<T>
+        ensures taken { result ≡ answer_to self.old name.now }
+        ensures forgets { Forgets name.now self.old self.new }
+    {
+        let key = Key { name: *name };
+        self.rows.remove(&key)
+    }
+
+    /// Takes out all answers.
+    pub(crate) fn clear(&mut self)
+        ensures { (name : List ℕ) → answer_to self.new name ≡ None }
+    {
+        self.rows.clear();
+    }
+}

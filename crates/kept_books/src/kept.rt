@@ -1,0 +1,177 @@
+//! Books that keep what look-ups answered.
+ghost use Rattle.std.specs.Prelude.{◌≡◌};
+ghost use Rattle.kept_books.specs.Keeping.{StandsAs, beneath, ledger_over};
+
+use crate::known::Known;
+use interval_core::{Share, Zone};
+use office_books::{Books, BooksFault, Repeat, RowSink};
+use office_events::{
+    Device, EntryPlace, Fact, Installation, Name, PlannedList, Poll, PollRow, Register,
+};
+use std::alloc::Global;
+
+/// Books over others. What a look-up answered is kept, and the books beneath are not asked for it again; what is booked
+/// changes what is kept with it, or drops it. A booking that fails drops all.
+#[derive(Drop)]
+pub struct KeptBooks<B> {
+    alloc: Global,
+    books: B,
+    known: Known,
+}
+
+impl<B: Books> KeptBooks<B> {
+    /// Nothing is kept yet.
+    pub fn new(alloc: Global, books: B) -> KeptBooks<B>
+        ensures books { beneath result ≡ books }
+        ensures stands { StandsAs (B.ledger books) (ledger_over B.ledger result) }
+    {
+        KeptBooks {
+            alloc,
+            books,
+            known: Known::new(alloc),
+        }
+    }
+
+    /// The books beneath.
+    pub fn into_books(self) -> B
+        ensures books { result ≡ beneath self }
+        ensures stands { StandsAs (ledger_over B.ledger self) (B.ledger result) }
+    {
+        self.books
+    }
+}
+
+impl<B: Books> Books for KeptBooks<B> {
+    ghost use Rattle.kept_books.specs.Keeping.{ledger_over};
+
+    ghost ledger = { ledger_over B.ledger };
+
+    fn faults(&self) -> u64 {
+        self.books.faults()
+    }
+
+    fn zone(&self) -> Zone {
+        self.books.zone()
+    }
+
+    fn tables_are_known(&self) {
+        self.books.tables_are_known();
+    }
+
+    fn devices(&mut self) -> Result<Vec<Device>, BooksFault> {
+        self.books.devices()
+    }
+
+    fn list(&mut self, device: &Name) -> Result<Option<PlannedList>, BooksFault> {
+        if let Some(list) = self.known.list(device) {
+            return Ok(Some(list));
+        }
+        let found = self.books.list(device)?;
+        self.known.keep_list(device, &found);
+        Ok(found)
+    }
+
+    fn register(&mut self, name: &Name) -> Result<Option<Register>, BooksFault> {
+        self.books.register(name)
+    }
+
+    fn registers(&mut self, device: &Name) -> Result<Vec<Register>, BooksFault> {
+        if let Some(registers) = self.known.registers(device) {
+            return Ok(registers);
+        }
+        let found = self.books.registers(device)?;
+        self.known.keep_registers(device, &found);
+        Ok(found)
+    }
+
+    fn register_count(&mut self, device: &Name) -> Result<usize, BooksFault> {
+        match self.known.register_count(device) {
+            Some(count) => Ok(count),
+            None => self.books.register_count(device),
+        }
+    }
+
+    fn meter(&mut self, name: &Name) -> Result<Option<Installation>, BooksFault> {
+        self.books.meter(name)
+    }
+
+    fn installation(&mut self, register: &Name) -> Result<Option<Installation>, BooksFault> {
+        if let Some(row) = self.known.installation(register) {
+            return Ok(Some(row));
+        }
+        let found = self.books.installation(register)?;
+        self.known.keep_installation(register, &found);
+        Ok(found)
+    }
+
+    fn installation_count(&mut self) -> Result<usize, BooksFault> {
+        self.books.installation_count()
+    }
+
+    fn entry(&mut self, meter: &Name, place: u64) -> Result<Option<EntryPlace>, BooksFault> {
+        self.books.entry(meter, place)
+    }
+
+    fn poll(&mut self, number: u64) -> Result<Option<PollRow>, BooksFault> {
+        match self.known.poll(number) {
+            Some(row) => Ok(Some(row)),
+            None => self.books.poll(number),
+        }
+    }
+
+    fn poll_count(&mut self) -> Result<u64, BooksFault> {
+        if let Some(count) = self.known.poll_count() {
+            return Ok(count);
+        }
+        let count = self.books.poll_count()?;
+        self.known.keep_poll_count(count);
+        Ok(count)
+    }
+
+    fn pending(&mut self) -> Result<Vec<Poll>, BooksFault> {
+        self.books.pending()
+    }
+
+    fn latest(&mut self) -> Result<u64, BooksFault> {
+        self.books.latest()
+    }
+
+    fn repeat(
+        &mut self,
+        caller: &Name,
+        number: u64,
+        request: &[u8],
+    ) -> Result<Option<Repeat>, BooksFault> {
+        self.books.repeat(caller, number, request)
+    }
+
+    fn intervals<K: RowSink<Share>>(
+        &mut self,
+        meter: &Name,
+        sink: &mut K,
+    ) -> Result<(), BooksFault> {
+        self.books.intervals(meter, sink)
+    }
+
+    fn register_intervals<K: RowSink<Share>>(
+        &mut self,
+        register: &Name,
+        sink: &mut K,
+    ) -> Result<(), BooksFault> {
+        self.books.register_intervals(register, sink)
+    }
+
+    fn book(&mut self, facts: Vec<Fact>) -> Result<(), BooksFault> {
+        if facts.is_empty() {
+            return self.books.book(facts);
+        }
+        self.known.add_all(&facts);
+        match self.books.book(facts) {
+            Ok(()) => Ok(()),
+            Err(fault) => {
+                self.known = Known::new(self.alloc);
+                Err(fault)
+            }
+        }
+    }
+}

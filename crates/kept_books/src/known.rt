@@ -1,0 +1,238 @@
+//! What is kept, and how facts change it.
+ghost use Rattle.std.specs.Prelude.{◌≡◌, ◌∷◌, List, length, IfSome, Some};
+ghost use Rattle.office_events.specs.declared.facts.Fact.{Fact};
+ghost use Rattle.office_rules.specs.Facts.{list_of, polls_in, registers_of};
+ghost use Rattle.office_rules.specs.Lawful.{AreLawful};
+ghost use Rattle.office_rules.specs.Meters.{installation_at};
+ghost use Rattle.office_rules.specs.Ranges.{IsSound};
+ghost use Rattle.office_rules.specs.Readings.{poll_row_of};
+ghost use Rattle.office_books.specs.Ledgers.{with_facts};
+
+use crate::answers::Answers;
+use crate::polls::Polls;
+use crate::standing::go_on;
+use office_books::is_sound;
+use office_events::{
+    Fact, Installation, MAX_DEVICES, MAX_INSTALLATIONS, MAX_REGISTERS, Name, PlannedList, PollRow,
+    Register,
+};
+use office_rules::{
+    entries_move_on, holds_change_nothing, installations_are_in_range, other_meters_stay,
+};
+use std::alloc::Global;
+
+/// What look-ups answered.
+#[derive(Drop)]
+pub(crate) struct Known {
+    alloc: Global,
+    /// Point lists, by their device.
+    lists: Answers<PlannedList>,
+    /// Registers, by their device.
+    registers: Answers<Vec<Register>>,
+    /// Installations that are the latest at their register, by their meter.
+    standing: Answers<Installation>,
+    /// Which meter was the latest at a register. It may no longer be.
+    meters: Answers<Name>,
+    /// Polls that wait, and how many were started.
+    polls: Polls,
+}
+
+impl Known {
+    ghost use Rattle.kept_books.specs.Changes.{Changes};
+    ghost use Rattle.kept_books.specs.Known.{AreTrue};
+
+    /// Nothing yet.
+    pub(crate) fn new(alloc: Global) -> Known
+        ensures { (known : List Fact) → AreTrue result known }
+    {
+        Known {
+            alloc,
+            lists: Answers::new(alloc, MAX_DEVICES),
+            registers: Answers::new(alloc, MAX_DEVICES),
+            standing: Answers::new(alloc, MAX_INSTALLATIONS),
+            meters: Answers::new(alloc, MAX_DEVICES * MAX_REGISTERS),
+            polls: Polls::new(alloc),
+        }
+    }
+
+    /// The point list of a device, if it is kept, and there is memory for a copy.
+    pub(crate) fn list(&self, device: &Name) -> Option<PlannedList>
+        ensures { (known : List Fact) → AreTrue self.now known
+            → IfSome result (λ list. list_of known device.now ≡ Some list) }
+    {
+        let Some(list) = self.lists.get(device) else {
+            return None;
+        };
+        match list.clone() {
+            Ok(copy) => Some(copy),
+            Err(_) => None,
+        }
+    }
+
+    /// Keeps the point list that was found of a device, if there is one and memory for it.
+    pub(crate) fn keep_list(&mut self, device: &Name, found: &Option<PlannedList>)
+        ensures { (known : List Fact) → found.now ≡ list_of known device.now
+            → AreTrue self.old known → AreTrue self.new known }
+    {
+        let Some(list) = found else {
+            return;
+        };
+        if let Ok(copy) = list.clone() {
+            self.lists.put(device, copy);
+        }
+    }
+
+    /// The registers of a device, if they are kept, and there is memory for a copy.
+    pub(crate) fn registers(&self, device: &Name) -> Option<Vec<Register>>
+        ensures { (known : List Fact) → AreTrue self.now known
+            → IfSome result (λ v. v.items ≡ registers_of known device.now) }
+    {
+        let Some(registers) = self.registers.get(device) else {
+            return None;
+        };
+        match registers.as_slice().to_vec(self.alloc) {
+            Ok(copy) => Some(copy),
+            Err(_) => None,
+        }
+    }
+
+    /// How many registers a device has, if they are kept.
+    pub(crate) fn register_count(&self, device: &Name) -> Option<usize>
+        ensures { (known : List Fact) → AreTrue self.now known
+            → IfSome result (λ n. n ≡ length (registers_of known device.now)) }
+    {
+        match self.registers.get(device) {
+            Some(registers) => Some(registers.len()),
+            None => None,
+        }
+    }
+
+    /// Keeps the registers that were found of a device, if there are some and memory for them.
+    pub(crate) fn keep_registers(&mut self, device: &Name, found: &[Register])
+        ensures { (known : List Fact) → found.now ≡ registers_of known device.now
+            → AreTrue self.old known → AreTrue self.new known }
+    {
+        if found.is_empty() {
+            return;
+        }
+        if let Ok(copy) = found.to_vec(self.alloc) {
+            self.registers.put(device, copy);
+        }
+    }
+
+    /// The installation that is kept of the meter at a register.
+    fn standing_at(&self, register: &Name) -> Option<&Installation>
+        ensures { (known : List Fact) → AreTrue self.now known
+            → IfSome result (λ row. installation_at known row.now.opening.register ≡ Some row.now) }
+    {
+        match self.meters.get(register) {
+            Some(meter) => self.standing.get(meter),
+            None => None,
+        }
+    }
+
+    /// The latest installation at a register, if it is kept.
+    pub(crate) fn installation(&self, register: &Name) -> Option<Installation>
+        ensures found { (known : List Fact) → AreTrue self.now known
+            → IfSome result (λ row. installation_at known register.now ≡ Some row) }
+        ensures sound { IfSome result IsSound }
+    {
+        match self.standing_at(register) {
+            Some(row) => {
+                if row.opening.register.is(register) && is_sound(row) {
+                    Some(*row)
+                } else {
+                    None
+                }
+            }
+            None => None,
+        }
+    }
+
+    /// Keeps the latest installation that was found at a register, if there is one and memory for it.
+    pub(crate) fn keep_installation(&mut self, register: &Name, found: &Option<Installation>)
+        ensures { (known : List Fact) → found.now ≡ installation_at known register.now
+            → AreTrue self.old known → AreTrue self.new known }
+    {
+        if let Some(row) = found {
+            self.meters.take(register);
+            self.meters.put(register, row.opening.meter);
+            self.standing.put(&row.opening.meter, *row);
+        }
+    }
+
+    /// The poll of a number, if it is known to wait.
+    pub(crate) fn poll(&self, number: u64) -> Option<PollRow>
+        ensures { (known : List Fact) → AreTrue self.now known
+            → IfSome result (λ row. poll_row_of known number ≡ Some row) }
+    {
+        match self.polls.get(number) {
+            Some(poll) => Some(PollRow {
+                poll: *poll,
+                ended: None,
+            }),
+            None => None,
+        }
+    }
+
+    /// How many polls were started, if that is kept.
+    pub(crate) fn poll_count(&self) -> Option<u64>
+        ensures { (known : List Fact) → AreTrue self.now known
+            → IfSome result (λ n. n ≡ length (polls_in known)) }
+    {
+        self.polls.started()
+    }
+
+    /// Keeps how many polls were found to be started.
+    pub(crate) fn keep_poll_count(&mut self, found: u64)
+        ensures { (known : List Fact) → found ≡ length (polls_in known)
+            → AreTrue self.old known → AreTrue self.new known }
+    {
+        self.polls.keep_started(found);
+    }
+
+    /// Changes what one more fact changes, or drops it, but for the polls.
+    fn change(&mut self, fact: &Fact)
+        ensures changes { Changes fact.now self.old self.new }
+        ensures polls { self.new.polls ≡ self.old.polls }
+    {
+        match fact {
+            Fact::List(put) => {
+                self.lists.take(&put.device);
+            }
+            Fact::Register(register) => {
+                self.registers.take(&register.device);
+            }
+            Fact::Opening(_) => self.standing.clear(),
+            Fact::Entry(booked) => go_on(&mut self.standing, booked),
+            Fact::Void(voided) => {
+                self.standing.take(&voided.meter);
+            }
+            Fact::Device(_) | Fact::Hold(_) | Fact::Poll(_) | Fact::Outcome(_) | Fact::Reply(_) =>
+                {}
+        }
+    }
+
+    /// One more fact.
+    fn add(&mut self, fact: &Fact)
+        ensures { (known : List Fact) → AreLawful (fact.now ∷ known)
+            → AreTrue self.old known → AreTrue self.new (fact.now ∷ known) }
+    {
+        other_meters_stay();
+        holds_change_nothing();
+        entries_move_on();
+        installations_are_in_range();
+        self.change(fact);
+        self.polls.go_on(fact);
+    }
+
+    /// Facts are added to those that are known.
+    pub(crate) fn add_all(&mut self, facts: &[Fact])
+        ensures { (known : List Fact) → AreLawful (with_facts facts.now known)
+            → AreTrue self.old known → AreTrue self.new (with_facts facts.now known) }
+    {
+        for fact in facts {
+            self.add(fact);
+        }
+    }
+}

@@ -1,0 +1,91 @@
+//! Polls that wait, by their numbers, and how many polls were started.
+ghost use Rattle.std.specs.Prelude.{◌≡◌, ℕ, None, Some};
+ghost use Rattle.std.specs.Option.{option_copied};
+ghost use Rattle.kept_books.specs.Polls.{waiting_at, MayWait, WaitsNoMore, GoesUp, PollsChange};
+
+use office_events::{Fact, MAX_DEVICES, Poll};
+use poll_core::MAX_WINDOW;
+use std::alloc::Global;
+use std::collections::BTreeMap;
+
+/// The polls that are known to wait, and how many were started, if that is known.
+#[derive(Drop)]
+pub(crate) struct Polls {
+    waiting: BTreeMap<u64, Poll>,
+    started: Option<u64>,
+}
+
+impl Polls {
+    /// Nothing is known of them.
+    pub(crate) fn new(alloc: Global) -> Polls
+        ensures waiting { (number : ℕ) → waiting_at result number ≡ None }
+        ensures started { result.started ≡ None }
+    {
+        Polls {
+            waiting: BTreeMap::new(alloc),
+            started: None,
+        }
+    }
+
+    /// The poll of a number, if it is known to wait.
+    pub(crate) fn get(&self, number: u64) -> Option<&Poll>
+        ensures { option_copied result ≡ waiting_at self.now number }
+    {
+        self.waiting.get(&number)
+    }
+
+    /// How many were started, if that is known.
+    pub(crate) fn started(&self) -> Option<u64>
+        ensures { result ≡ self.now.started }
+    {
+        self.started
+    }
+
+    /// So many were started.
+    pub(crate) fn keep_started(&mut self, count: u64)
+        ensures waiting { self.new.waiting ≡ self.old.waiting }
+        ensures started { self.new.started ≡ Some count }
+    {
+        self.started = Some(count);
+    }
+
+    /// One more is started. It is not known to wait where there is no room for it.
+    fn start(&mut self, poll: &Poll)
+        ensures waiting { MayWait poll.now self.old self.new }
+        ensures started { GoesUp self.old.started self.new.started }
+    {
+        self.started = match self.started {
+            Some(count) => count.checked_add(1),
+            None => None,
+        };
+        if self.waiting.len() < MAX_DEVICES * MAX_WINDOW {
+            let _ = self.waiting.insert(poll.number, *poll);
+        }
+    }
+
+    /// One ends.
+    fn end(&mut self, number: u64)
+        ensures waiting { WaitsNoMore number self.old self.new }
+        ensures started { self.new.started ≡ self.old.started }
+    {
+        let _ = self.waiting.remove(&number);
+    }
+
+    /// Changes what one more fact changes.
+    pub(crate) fn go_on(&mut self, fact: &Fact)
+        ensures { PollsChange fact.now self.old self.new }
+    {
+        match fact {
+            Fact::Poll(poll) => self.start(poll),
+            Fact::Outcome(ended) => self.end(ended.poll),
+            Fact::Device(_)
+            | Fact::List(_)
+            | Fact::Register(_)
+            | Fact::Opening(_)
+            | Fact::Entry(_)
+            | Fact::Hold(_)
+            | Fact::Void(_)
+            | Fact::Reply(_) => {}
+        }
+    }
+}

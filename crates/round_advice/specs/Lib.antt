@@ -1,0 +1,4 @@
+pub mod Ends
+pub mod Lacking
+pub mod Remarks
+pub mod PrintedLines

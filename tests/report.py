@@ -1,0 +1,164 @@
+"""Reports on ranges of days, by periods, in both units and three formats: report.py PROGRAM; tests/report.sh calls it.
+
+A file gets quarter hours over the end of a year, a 29 February and a clock change. What the program prints of them is held to what
+Python's own calendar, decimals, CSV and JSON make of the same quarter hours.
+"""
+import csv
+import datetime
+import decimal
+import io
+import itertools
+import json
+import pathlib
+import subprocess
+import sys
+import tempfile
+import zoneinfo
+
+HERE = pathlib.Path(__file__).resolve().parent
+ZONE, PLACE = "CET-1CEST,M3.5.0,M10.5.0/3", zoneinfo.ZoneInfo("Europe/Berlin")
+BEGIN = 1703808000  # 2023-12-29 00:00 UTC
+DAY, DAYS = 86400, 100
+PERIODS = {"day": "%Y-%m-%d", "month": "%Y-%m", "year": "%Y"}
+WIDTHS = {"day": 3, "month": 4, "year": 5}
+counts = {"passed": 0, "failed": 0}
+
+
+def quarter(day):
+    """The energy of each quarter hour of a day of UTC, in mWh: on the first two nothing, and then one mWh."""
+    return (0, 0, 1)[day] if day < 3 else 12_345 * day + 7
+
+
+QUARTERS = [(BEGIN + DAY * day + 900 * at, quarter(day)) for day in range(DAYS) for at in range(96)]
+
+
+def office(db):
+    """A file of one meter that was read once a day, in mWh, and of a register that never had one."""
+    entries, raw = [f"('m1', 1, 1, {BEGIN}, 0, 0, 0, -3)"], 0
+    for day in range(DAYS):
+        raw += 96 * quarter(day)
+        entries.append(f"('m1', {day + 2}, 2, {BEGIN + DAY * (day + 1)}, {raw}, 0, 0, -3)")
+    rows = [f"('m1', {start}, {mwh})" for start, mwh in QUARTERS]
+    text = f"""BEGIN;
+        INSERT INTO devices VALUES (1, 'inv', 1, 5, 1);
+        INSERT INTO registers VALUES (1, 'main', 'inv', 3, 40094, 0, -3), (2, 'spare', 'inv', 3, 40194, 0, -3);
+        INSERT INTO installations VALUES (1, 'm1', 'main', 100000, 0, {BEGIN + DAY * DAYS}, {raw}, -3, {raw});
+        INSERT INTO ranges VALUES ('m1', 4294967296);
+        INSERT INTO entries VALUES {", ".join(entries)};
+        INSERT INTO intervals VALUES {", ".join(rows)};
+        COMMIT;"""
+    subprocess.run(["bash", str(HERE / "schema.sh"), db, ZONE], check=True)
+    subprocess.run(["sqlite3", "-bail", db], input=text, text=True, check=True)
+
+
+def same(what, got, wanted):
+    """Holds what came to what is wanted."""
+    counts["passed" if got == wanted else "failed"] += 1
+    if got != wanted:
+        print(f"{what}: {got!r}\nand not {wanted!r}")
+
+
+def run(db, register, words):
+    """The status of a report, and what it prints."""
+    done = subprocess.run([PROGRAM, "report", "--db", db, "--register", register, *words], capture_output=True, stdin=subprocess.DEVNULL)
+    # (the file is sqlite3's own, so it has no log beside it, which is told)
+    said = [it for it in done.stderr.decode().splitlines() if "it had no log beside it" not in it]
+    return done.returncode, done.stdout.decode(), said[:1]
+
+
+def rows(period, first, till):
+    """Each period of a range, with its count of quarter hours and its energy in mWh."""
+    found = {}
+    for start, mwh in QUARTERS:
+        day = datetime.datetime.fromtimestamp(start, PLACE).date()
+        if (first is None or first <= day) and (till is None or day < till):
+            count, energy = found.get(day.strftime(PERIODS[period]), (0, 0))
+            found[day.strftime(PERIODS[period])] = count + 1, energy + mwh
+    return [(name, count, energy) for name, (count, energy) in found.items()]
+
+
+def energy(unit, mwh):
+    """An energy as a text."""
+    return str(mwh) if unit == "mwh" else str(decimal.Decimal(mwh).scaleb(-6).quantize(decimal.Decimal("0.000001")))
+
+
+def text_of(found, period, unit):
+    lines = [f"{name} {count:{WIDTHS[period]}} {energy(unit, mwh):>24}\n" for name, count, mwh in found]
+    return "".join(lines) + f"end {len(found)}\n"
+
+
+def csv_of(found, period, unit):
+    """A table that Python's writer makes, with the line ends of RFC 4180."""
+    table = io.StringIO()
+    writer = csv.writer(table)
+    writer.writerow([period, f"energy_{unit}"])
+    writer.writerows([name, energy(unit, mwh)] for name, _, mwh in found)
+    return table.getvalue()
+
+
+def objects_of(found, period, unit):
+    return [{period: name, unit: energy(unit, mwh)} for name, _, mwh in found]
+
+
+def hold(db, period, unit, form, first, till):
+    """Holds one report."""
+    words = ["--by", period, "--unit", unit, "--format", form]
+    words += ["--from", str(first)] if first else []
+    words += ["--till", str(till)] if till else []
+    status, printed, said = run(db, "main", words)
+    found = rows(period, first, till)
+    what = " ".join(words)
+    same(f"{what}: its end", (status, said), (0, []))
+    if form == "json":
+        same(what, json.loads(printed), objects_of(found, period, unit))
+    else:
+        same(what, printed, {"text": text_of, "csv": csv_of}[form](found, period, unit))
+
+
+def refused(db, words, said):
+    """Words that are wrong."""
+    status, printed, errors = run(db, "main", words)
+    same(" ".join(words), (status, printed, errors), (2, "", [said]))
+
+
+def entries_stand(db):
+    """Holds the question of docs/REPORTS.md for a meter's entries to what the file was given."""
+    page = (HERE.parent / "docs/REPORTS.md").read_text()
+    question = page.split("```sql\n")[1].split("```")[0].replace("2026-11-01", "2024-01-01").replace("2026-12-01", "2024-02-01")
+    done = subprocess.run(["sqlite3", "-bail", db, question], capture_output=True, text=True, check=True)
+    found = [line.split("|") for line in done.stdout.splitlines()]
+    same("entries of a month", [it[2] for it in found], [f"2024-01-{day:02} 00:00:00" for day in range(1, 32)])
+    wanted = sum(mwh for start, mwh in QUARTERS if 1704067200 <= start < 1704067200 + 30 * DAY)
+    same("what their counter went up by", int(found[-1][3]) - int(found[0][3]), wanted)
+
+
+def main():
+    room = tempfile.TemporaryDirectory()
+    db = str(pathlib.Path(room.name) / "office.db")
+    office(db)
+    day = datetime.date
+    ranges = [(None, None), (day(2023, 12, 31), day(2024, 1, 2)), (day(2024, 2, 29), day(2024, 3, 1)), (None, day(2024, 1, 1)),
+              (day(2024, 3, 30), None), (day(2024, 2, 1), day(2024, 2, 1)), (day(1999, 1, 1), day(2000, 1, 1)), (day(2024, 1, 1), None)]
+    for (first, till), period, unit, form in itertools.product(ranges, PERIODS, ("mwh", "kwh"), ("text", "csv", "json")):
+        hold(db, period, unit, form, first, till)
+    plain = run(db, "main", [])
+    same("a word that is said or not", run(db, "main", ["--by", "day"]), plain)
+    same("the plain report", plain, (0, text_of(rows("day", None, None), "day", "mwh"), []))
+    for form, nothing in (("text", "end 0\n"), ("csv", "day,energy_mwh\r\n"), ("json", "[]\n")):
+        same(f"no meter: {form}", run(db, "spare", ["--format", form]), (0, nothing, []))
+        same(f"no register: {form}", run(db, "none", ["--format", form]), (1, "refused 1\n", []))
+    for word in ("2024-02-30", "2023-02-29", "24-02-01", "2024-2-1", "2024-02-01 ", "20240201", "2024-13-01", "2024-00-01"):
+        for option in ("--from", "--till"):
+            refused(db, [option, word], f"error: invalid value '{word}' for '{option} <DAY>': no day, as 2026-11-25")
+    refused(db, ["--from", "2024-02-02", "--till", "2024-02-01"], "error: '--till <DAY>' is before '--from <DAY>'")
+    refused(db, ["--unit", "wh"], "error: invalid value 'wh' for '--unit <UNIT>': none of mwh, kwh")
+    refused(db, ["--by", "week"], "error: invalid value 'week' for '--by <PERIOD>': none of day, month, year")
+    refused(db, ["--format", "xml"], "error: invalid value 'xml' for '--format <FORMAT>': none of text, csv, json")
+    entries_stand(db)
+    room.cleanup()
+    print(f"{counts['passed']} passed, {counts['failed']} failed")
+    sys.exit(1 if counts["failed"] else 0)
+
+
+PROGRAM = sys.argv[1]
+main()
