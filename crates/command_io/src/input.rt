@@ -1,16 +1,16 @@
 //! Reading a whole input.
-ghost use Rattle.std.specs.Prelude.{◌≡◌, ◌≢◌, ◌≤◌, ◌↔◌, Err, false, true, IfOk, IfErr, length};
+ghost use Rattle.std.specs.Prelude.{◌≡◌, ◌≢◌, ◌≤◌, ◌↔◌, ◌⊎◌, Err, false, true, IfOk, IfErr, length};
 ghost use Rattle.command_io.specs.Input.{AreWholeOf, BlamesLengthRightly, LeavesUnread};
 ghost use Rattle.command_io.specs.Input.{TellsTooLong, most_bytes};
 
 use crate::calls::Calls;
+use crate::printer::Printer;
 use crate::status::ExitStatus;
 use std::alloc::Global;
 use std::error::Error;
 use std::fmt;
 use std::fmt::{Display, Formatter};
-use std::io::{Read, Write};
-use sun_points::Sink;
+use std::io::Read;
 
 /// The most bytes of an input.
 pub const MOST_BYTES: usize = 4_194_304;
@@ -82,17 +82,19 @@ fn read_by<R: Read>(alloc: Global, calls: &mut Calls<'_, R>) -> Result<Vec<u8>, 
 
 /// Reads the input of a command whole. Of one that is too long `too long` is printed; where it is, or was
 /// not read, the command ends with the status, which is Refused or Failed.
-pub fn read_input<R: Read, W: Write>(
+pub fn read_input<R: Read, P: Printer>(
     alloc: Global,
     input: &mut R,
-    output: &mut W,
+    output: &mut P,
 ) -> Result<Vec<u8>, ExitStatus>
     ensures whole { IfOk result (AreWholeOf (R.remaining input.old)) }
     ensures fits { IfOk result (λ text. length text.items ≤ most_bytes) }
     ensures silent { IfOk result (λ text. output.new ≡ output.old) }
     ensures ends { IfErr result (λ status. status ≢ ExitStatus.Fine) }
     ensures unread { IfErr result (LeavesUnread (R.remaining input.old)
-        (W.contents output.old) (W.contents output.new)) }
+        (P.contents output.old) (P.contents output.new)) }
+    ensures failed { IfErr result (λ status. status ≡ ExitStatus.Failed
+        → P.has_failed output.new ⊎ (output.new ≡ output.old)) }
 {
     match read_whole(alloc, input) {
         Ok(text) => Ok(text),
@@ -102,10 +104,11 @@ pub fn read_input<R: Read, W: Write>(
 }
 
 // Prints that an input is too long.
-fn tell_too_long<W: Write>(output: &mut W) -> ExitStatus
-    ensures { TellsTooLong result (W.contents output.old) (W.contents output.new) }
+fn tell_too_long<P: Printer>(output: &mut P) -> ExitStatus
+    ensures told { TellsTooLong result (P.contents output.old) (P.contents output.new) }
+    ensures failed { result ≡ ExitStatus.Failed → P.has_failed output.new }
 {
-    match output.take_text(b"too long\n") {
+    match output.print(b"too long\n") {
         Ok(()) => ExitStatus::Refused,
         Err(_) => ExitStatus::Failed,
     }

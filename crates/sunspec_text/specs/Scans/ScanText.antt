@@ -1,7 +1,8 @@
 -- What is printed of a scan of a device, and the exit status.
 use Rattle.std.specs.Prelude.{◌≡◌, ◌≢◌, ◌⊎◌, ℕ, List, [], flat_map}
 use Rattle.std.specs.declared.option.Option.{Option}
-use Rattle.command_io.specs.Printing.{PrintsAs}
+use Rattle.command_io.specs.Printing.{PrintsOn}
+use Rattle.command_io.specs.declared.printer.Printer as printers
 use Rattle.command_io.specs.declared.status.ExitStatus.{ExitStatus}
 use Rattle.command_io.specs.declared.status.ExitStatus.TheVariants.{Fine, Refused, Failed}
 use Rattle.device_scan.specs.Scans.{Scans}
@@ -64,10 +65,9 @@ FormPrints form.List word printed status = ListPrints word printed status
 FormPrints (form.Setup site) word printed status = SetupPrints word printed status
 
 -- a device was scanned over a link, and what its words print was written
-pub record ScanPrints (unit : ℕ) (form : ScanForm)
-    (old_bytes old_given new_bytes new_given old_output new_output : Option (List ℕ))
-    (status : ExitStatus)
+pub record ScanPrints {P : Type 0} (p : printers.Ghosts P) (unit : ℕ) (form : ScanForm)
+    (old_bytes old_given new_bytes new_given : Option (List ℕ)) (old new : P) (status : ExitStatus)
     : Type 0 where
   pub word : Words
   pub scans : Scans unit old_bytes old_given new_bytes new_given word
-  pub prints : PrintsAs (FormPrints form word) status old_output new_output
+  pub prints : PrintsOn p (FormPrints form word) status old new

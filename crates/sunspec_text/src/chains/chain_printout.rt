@@ -8,10 +8,10 @@ ghost use Rattle.sunspec_text.specs.Chains.ChainText.{ChainPrints, FaultPrints, 
 ghost use Rattle.sunspec_text.specs.Chains.ChainText.{lines_of, model_line, model_lines, point_line};
 ghost use Rattle.sunspec_text.specs.Chains.ImageLines.{nothing_read, words_told};
 ghost use Rattle.command_io.specs.Lines.{speaking_lines};
-ghost use Rattle.command_io.specs.Printing.{PrintsAs, PrintsFor};
+ghost use Rattle.command_io.specs.Printing.{PrintsAs, PrintsFor, PrintsOn};
 
 use crate::chains::image_lines::{LoadFault, load};
-use command_io::{ExitStatus, read_input};
+use command_io::{ExitStatus, Printer, print_end, read_input};
 use script_text::write_bad_line;
 use std::alloc::Global;
 use std::io::{self, Read, Write};
@@ -21,14 +21,24 @@ use sun_chain::{Chain, ChainFault, Image, Model, NamedPoint, walk};
 /// them: `base B`, for each model `model ADDRESS ID L` and its points `point NAME VALUE`, then `end ADDRESS`;
 /// or only `fault N`. A line that is none, or whose words end past address 65535, prints `bad line N` alone,
 /// an input of more than `MOST_BYTES` bytes `too long`.
-pub fn chain_text<R: Read, W: Write>(alloc: Global, input: &mut R, output: &mut W) -> ExitStatus
+pub fn chain_text<R: Read, P: Printer>(alloc: Global, input: &mut R, output: &mut P) -> ExitStatus
     ensures { IfSome (R.remaining input.old)
-        (PrintsFor ChainPrints result (W.contents output.old) (W.contents output.new)) }
+        (PrintsFor P.Printer ChainPrints result output.old output.new) }
 {
     match read_input(alloc, input, output) {
-        Ok(text) => print_lines(alloc, &text, output),
+        Ok(text) => print_said(alloc, &text, output),
         Err(status) => status,
     }
+}
+
+// Makes ready what lines say, and prints it.
+fn print_said<P: Printer>(alloc: Global, text: &[u8], output: &mut P) -> ExitStatus
+    ensures { PrintsOn P.Printer (LinesPrint (words_told nothing_read (speaking_lines text.now)))
+        result output.old output.new }
+{
+    let mut lines = Vec::new(alloc);
+    let meant = print_lines(alloc, text, &mut lines);
+    print_end(&lines, meant, output)
 }
 
 // Prints what lines say.

@@ -2,11 +2,11 @@
 ghost use Rattle.std.specs.Prelude.{◌≡◌, IfOk, IfErr, OnOk, Some, option_map};
 ghost use Rattle.sun_chain.specs.Image.{word_in};
 ghost use Rattle.sunspec_text.specs.Chains.ImageLines.{SpellsWords, address_of, put_of, words_after};
-ghost use Rattle.mb_wire.specs.Bytes.{words_of as words_spelled};
 ghost use Rattle.command_io.specs.Lines.{seen_line};
 ghost use Rattle.sunspec_text.specs.Chains.Seen.{ExplainsLine, ExplainsText, TellsImage, seen_put};
 
 use command_io::{InputLine, InputLines};
+use device_scan::words_of_bytes;
 use script_lines::{Words, hex_bytes, number};
 use std::alloc::{AllocError, Global};
 use sun_chain::{Image, ImageFault};
@@ -95,20 +95,7 @@ fn words_in_hex(alloc: Global, hex: &[u8]) -> Result<Option<Vec<u16>>, AllocErro
     ensures { IfOk result (SpellsWords hex.now) }
 {
     match hex_bytes(alloc, hex)? {
-        Some(bytes) if bytes.len() % 2 == 0 => Ok(Some(words_in(alloc, &bytes)?)),
+        Some(bytes) if bytes.len() % 2 == 0 => Ok(Some(words_of_bytes(alloc, &bytes)?)),
         _ => Ok(None),
     }
-}
-
-// The words in an even count of bytes, the high byte first.
-fn words_in(alloc: Global, bytes: &[u8]) -> Result<Vec<u16>, AllocError>
-    ensures { IfOk result (λ words. words.items ≡ words_spelled bytes.now) }
-{
-    let mut words = Vec::new(alloc);
-    let mut left = bytes;
-    while let [high, low, rest @ ..] = left {
-        words.push(u16::from(*high) * 256 + u16::from(*low))?;
-        left = rest;
-    }
-    Ok(words)
 }

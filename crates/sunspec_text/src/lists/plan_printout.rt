@@ -1,12 +1,12 @@
 //! The plan of a point list.
 ghost use Rattle.std.specs.Prelude.{◌≡◌, ◌+◌, ◌<◌, ◌^◌, OnOk, length, map};
 ghost use Rattle.std.specs.Io.KnownBytes.{Appends};
-ghost use Rattle.command_io.specs.Printing.{PrintsAs};
+ghost use Rattle.command_io.specs.Printing.{PrintsAs, PrintsOn};
 ghost use Rattle.read_plan.specs.Items.{items_of};
 ghost use Rattle.sunspec_text.specs.Lists.PlanText.{LinesPrint, PointsPrint, PrintsPlan, Writes, point_line, read_head};
 ghost use Rattle.sunspec_text.specs.Lists.PlanText.{read_line, read_lines, registers_text, span_line};
 
-use command_io::ExitStatus;
+use command_io::{ExitStatus, Printer, print_end};
 use point_list::{ListedPoint, PointList};
 use read_plan::{Place, Plan, PlannedRead, plan};
 use std::alloc::Global;
@@ -14,7 +14,16 @@ use std::io::{self, Write};
 
 /// Prints the plan of a point list: `read K FUNCTION AREA ADDRESS COUNT`, K from 1, for each read, then
 /// `point NAME K OFFSET` for each point in the list's order.
-pub fn print_plan<W: Write>(alloc: Global, list: &PointList, output: &mut W) -> ExitStatus
+pub fn print_plan<P: Printer>(alloc: Global, list: &PointList, output: &mut P) -> ExitStatus
+    ensures { PrintsOn P.Printer (PrintsPlan list.now) result output.old output.new }
+{
+    let mut lines = Vec::new(alloc);
+    let meant = plan_lines(alloc, list, &mut lines);
+    print_end(&lines, meant, output)
+}
+
+/// Writes the plan of a point list.
+pub(crate) fn plan_lines<W: Write>(alloc: Global, list: &PointList, output: &mut W) -> ExitStatus
     ensures { PrintsAs (PrintsPlan list.now) result
         (W.contents output.old) (W.contents output.new) }
 {

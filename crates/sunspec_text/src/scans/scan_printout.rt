@@ -1,6 +1,6 @@
 //! What is printed of a live device.
 ghost use Rattle.std.specs.Prelude.{◌≡◌, ◌≤◌, ◌+◌, ◌*◌, [], Err, IfOk, OnErr};
-ghost use Rattle.command_io.specs.Printing.{PrintsAs};
+ghost use Rattle.command_io.specs.Printing.{PrintsAs, PrintsOn};
 ghost use Rattle.device_scan.specs.Lines.{Garbles, OnlyInquires, has_failed, is_gone};
 ghost use Rattle.mb_wire.specs.Links.{risen};
 ghost use Rattle.sun_chain.specs.Chain.{models_of, words_of};
@@ -10,7 +10,7 @@ ghost use Rattle.sunspec_text.specs.Scans.ScanText.{SetupPrints};
 
 use crate::chains::{print_image, print_lack};
 use crate::scans::setup_lines::{Site, setup_text};
-use command_io::ExitStatus;
+use command_io::{ExitStatus, Printer, print_end};
 use device_scan::{MOST_READS, MOST_TAKES, ScanFault, ScanObserver, scan_over};
 use mb_wire::Link;
 use point_list::{FaultyRows, ListFault, PointList, from_chain, write_list};
@@ -33,17 +33,17 @@ pub enum ScanForm<'a> {
 /// Scans a unit over a link to it that was just made, and prints the chain of models in the words that it answered, or another form
 /// of it; or only `fault N`, or `row R fault N` where a list would have too many points. A link that fails, ends or
 /// brings what is no Modbus is told as the fault, and nothing is printed then.
-pub fn scan_text<L: Link, V: ScanObserver, W: Write>(
+pub fn scan_text<L: Link, V: ScanObserver, P: Printer>(
     alloc: Global,
     link: &mut L,
     unit: u8,
     form: ScanForm<'_>,
     observer: &mut V,
-    output: &mut W,
+    output: &mut P,
 ) -> Result<ExitStatus, ScanFault>
-    ensures printed { IfOk result (ScanPrints unit form.entry
+    ensures printed { IfOk result (ScanPrints P.Printer unit form.entry
         (L.remaining link.old) (L.given link.old) (L.remaining link.new) (L.given link.new)
-        (W.contents output.old) (W.contents output.new)) }
+        output.old output.new) }
     ensures unprinted { OnErr result (output.new ≡ output.old) }
     ensures asks { OnlyInquires unit result (L.given link.old) (L.given link.new) }
     ensures garbled { result ≡ Err ScanFault.Garbled
@@ -53,9 +53,24 @@ pub fn scan_text<L: Link, V: ScanObserver, W: Write>(
     ensures takes { L.taken link.new ≤ L.taken link.old + 2 * MOST_TAKES * MOST_READS }
 {
     match scan_over(alloc, link, unit, observer) {
-        Ok(image) => Ok(print_form(alloc, &image, form, output)),
+        Ok(image) => Ok(print_scanned(alloc, &image, form, output)),
         Err(fault) => Err(fault),
     }
+}
+
+// Makes ready a form of the words in an image, and prints it.
+fn print_scanned<P: Printer>(
+    alloc: Global,
+    image: &Image,
+    form: ScanForm<'_>,
+    output: &mut P,
+) -> ExitStatus
+    ensures { PrintsOn P.Printer (FormPrints form.entry (word_in image.now)) result
+        output.old output.new }
+{
+    let mut lines = Vec::new(alloc);
+    let meant = print_form(alloc, image, form, &mut lines);
+    print_end(&lines, meant, output)
 }
 
 // Prints a form of the words in an image.

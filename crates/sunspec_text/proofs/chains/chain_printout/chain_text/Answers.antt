@@ -1,5 +1,5 @@
-use Rattle.std.proofs.Common.{List, ℕ, ap, arith}
-use Rattle.command_io.proofs.Printing.{input_prints}
+use Rattle.std.proofs.Common.{List, ℕ, refl, arith}
+use Rattle.command_io.proofs.Printing.{input_prints, unread_prints}
 use Rattle.command_io.specs.Lines.{speaking_lines}
 use Rattle.command_io.specs.declared.status.ExitStatus.{ExitStatus}
 use Rattle.sunspec_text.specs.Chains.ChainText.{ChainPrints, LinesPrint}
@@ -11,7 +11,12 @@ text_prints text printed status = LinesPrint (words_told nothing_read (speaking_
 
 pub returns-in-Ok : goal.returns-in-Ok
 returns-in-Ok g c =
-    input_prints (g.R.Read.remaining c.args.input.now) c.deref.result.now c.in-Ok.text.items text_prints ChainPrints c.print_lines.result
-    _ _ _ c.deref.ensures.value c.in-Ok.ensures.whole c.in-Ok.ensures.fits (ap g.W.Write.contents c.in-Ok.ensures.silent)
-    (λ all printed short prints. record { long = λ long. absurd (omega (arith, short, long)); lines = λ fits. prints })
-    c.print_lines.ensures
+    input_prints g.P.Printer (g.R.Read.remaining c.args.input.now) c.deref.result.now c.in-Ok.text.items text_prints ChainPrints c.print_said.result
+    _ _ _ c.deref.ensures.value c.in-Ok.ensures.whole c.in-Ok.ensures.fits c.in-Ok.ensures.silent
+    (λ all printed meant short prints. record { long = λ long. absurd (omega (arith, short, long)); lines = λ fits. prints })
+    c.print_said.ensures
+
+pub returns-in-Err : goal.returns-in-Err
+returns-in-Err g c =
+    unread_prints g.P.Printer (g.R.Read.remaining c.args.input.now) ChainPrints c.in-Err.status _ _ c.in-Err.ensures.unread c.in-Err.ensures.failed
+    (λ all long. record { long = λ longer. (refl, refl); lines = λ fits. absurd (omega (arith, long, fits)) })
